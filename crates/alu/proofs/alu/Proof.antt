@@ -1,0 +1,284 @@
+-- `alu::alu` meets its contract. Assumes nothing.
+use Rattle.alu.specs.Alu.{aluOf}
+use lib.Bits.{and-lt, or-lt, xor-lt}
+use borrow.Author.Needs.{needs}
+use Rattle.alu.proofs.alu.Statement.{statement}
+use Rattle.alu.proofs.alu.Tie as tie
+
+low-bits-requires : tie.Need-low-bits-requires
+low-bits-requires c κs = search needs
+
+low-bits-requires-2 : tie.Need-low-bits-requires-2
+low-bits-requires-2 c κs = search needs
+
+enum-told : tie.Need-enum-told
+enum-told c = search needs
+
+add-into-requires : tie.Need-add-into-requires
+add-into-requires c κs = search needs
+
+enum-told-2 : tie.Need-enum-told-2
+enum-told-2 c = search needs
+
+add-into-requires-2 : tie.Need-add-into-requires-2
+add-into-requires-2 c κs = search needs
+
+enum-told-3 : tie.Need-enum-told-3
+enum-told-3 c = search needs
+
+subtract-into-requires : tie.Need-subtract-into-requires
+subtract-into-requires c κs = search needs
+
+enum-told-4 : tie.Need-enum-told-4
+enum-told-4 c = search needs
+
+subtract-into-requires-2 : tie.Need-subtract-into-requires-2
+subtract-into-requires-2 c κs = search needs
+
+enum-told-5 : tie.Need-enum-told-5
+enum-told-5 c = search needs
+
+subtract-into-requires-3 : tie.Need-subtract-into-requires-3
+subtract-into-requires-3 c κs = search needs
+
+tested-only-requires : tie.Need-tested-only-requires
+tested-only-requires c κs = search needs
+
+enum-told-6 : tie.Need-enum-told-6
+enum-told-6 c = search needs
+
+decimal-into-requires : tie.Need-decimal-into-requires
+decimal-into-requires c κs = search needs
+
+enum-told-7 : tie.Need-enum-told-7
+enum-told-7 c = search needs
+
+logic-into-requires : tie.Need-logic-into-requires
+logic-into-requires c κs = and-lt _ _ _ (c .before .before .before .low-bits .ensures .1) (c .before .before .low-bits2 .ensures .1)
+
+enum-told-8 : tie.Need-enum-told-8
+enum-told-8 c = search needs
+
+logic-into-requires-2 : tie.Need-logic-into-requires-2
+logic-into-requires-2 c κs = or-lt _ _ _ (c .before .before .before .low-bits .ensures .1) (c .before .before .low-bits2 .ensures .1)
+
+enum-told-9 : tie.Need-enum-told-9
+enum-told-9 c = search needs
+
+logic-into-requires-3 : tie.Need-logic-into-requires-3
+logic-into-requires-3 c κs = xor-lt _ _ _ (c .before .before .before .low-bits .ensures .1) (c .before .before .low-bits2 .ensures .1)
+
+enum-told-10 : tie.Need-enum-told-10
+enum-told-10 c = search needs
+
+logic-into-requires-4 : tie.Need-logic-into-requires-4
+logic-into-requires-4 c κs = and-lt _ _ _ (c .before .before .before .low-bits .ensures .1) (c .before .before .low-bits2 .ensures .1)
+
+tested-only-requires-2 : tie.Need-tested-only-requires-2
+tested-only-requires-2 c κs = search needs
+
+enum-told-11 : tie.Need-enum-told-11
+enum-told-11 c = search needs
+
+mask-of-requires : tie.Need-mask-of-requires
+mask-of-requires c κs = search needs
+
+clear-into-requires : tie.Need-clear-into-requires
+clear-into-requires c κs = search needs
+
+enum-told-12 : tie.Need-enum-told-12
+enum-told-12 c = search needs
+
+mask-of-requires-2 : tie.Need-mask-of-requires-2
+mask-of-requires-2 c κs = search needs
+
+raise-into-requires : tie.Need-raise-into-requires
+raise-into-requires c κs = search needs
+
+enum-told-13 : tie.Need-enum-told-13
+enum-told-13 c = search needs
+
+top-requires : tie.Need-top-requires
+top-requires c κs = search needs
+
+flag-requires : tie.Need-flag-requires
+flag-requires c κs = search needs
+
+shift-into-requires : tie.Need-shift-into-requires
+shift-into-requires c κs = search needs
+
+enum-told-14 : tie.Need-enum-told-14
+enum-told-14 c = search needs
+
+shift-into-requires-2 : tie.Need-shift-into-requires-2
+shift-into-requires-2 c κs = search needs
+
+enum-told-15 : tie.Need-enum-told-15
+enum-told-15 c = search needs
+
+turned-bits-requires : tie.Need-turned-bits-requires
+turned-bits-requires c κs = search needs
+
+logic-into-requires-5 : tie.Need-logic-into-requires-5
+logic-into-requires-5 c κs = search needs
+
+enum-told-16 : tie.Need-enum-told-16
+enum-told-16 c = search needs
+
+mul-t25 : tie.Need-mul-t25
+mul-t25 c = search needs
+
+add-t27 : tie.Need-add-t27
+add-t27 c = search needs
+
+enum-told-17 : tie.Need-enum-told-17
+enum-told-17 c = search needs
+
+extend-requires : tie.Need-extend-requires
+extend-requires c κs = search needs
+
+returns : tie.Need-returns
+unfolding aluOf
+returns c = simp (c .before .enum-told .given .1, c .add-into .ensures)
+
+returns-2 : tie.Need-returns-2
+unfolding aluOf
+returns-2 c = simp (c .before .enum-told2 .given .1, c .add-into2 .ensures)
+
+returns-3 : tie.Need-returns-3
+unfolding aluOf
+returns-3 c = simp (c .before .enum-told3 .given .1, c .subtract-into .ensures)
+
+returns-4 : tie.Need-returns-4
+unfolding aluOf
+returns-4 c = simp (c .before .enum-told4 .given .1, c .subtract-into2 .ensures)
+
+returns-5 : tie.Need-returns-5
+unfolding aluOf
+returns-5 c = simp (c .before .before .enum-told5 .given .1, c .tested-only .ensures, c .before .subtract-into3 .ensures)
+
+returns-6 : tie.Need-returns-6
+unfolding aluOf
+returns-6 c = simp (c .before .enum-told6 .given .1, c .decimal-into .ensures)
+
+returns-7 : tie.Need-returns-7
+unfolding aluOf
+returns-7 c =
+    let o = c .before .before .before in
+    simp (c .before .enum-told7 .given .1, c .logic-into .ensures, o .before .low-bits .ensures .0, o .low-bits2 .ensures .0)
+
+returns-8 : tie.Need-returns-8
+unfolding aluOf
+returns-8 c =
+    let o = c .before .before .before in
+    simp (c .before .enum-told8 .given .1, c .logic-into2 .ensures, o .before .low-bits .ensures .0, o .low-bits2 .ensures .0)
+
+returns-9 : tie.Need-returns-9
+unfolding aluOf
+returns-9 c =
+    let o = c .before .before .before in
+    simp (c .before .enum-told9 .given .1, c .logic-into3 .ensures, o .before .low-bits .ensures .0, o .low-bits2 .ensures .0)
+
+returns-10 : tie.Need-returns-10
+unfolding aluOf
+returns-10 c =
+    let o = c .before .before .before .before in
+    let r = simp (o .before .low-bits .ensures .0, o .low-bits2 .ensures .0) at (c .before .logic-into4 .ensures) in
+    simp (c .before .before .enum-told10 .given .1, c .tested-only2 .ensures, r)
+
+returns-11 : tie.Need-returns-11
+unfolding aluOf
+returns-11 c = simp (c .before .before .enum-told11 .given .1, c .clear-into .ensures, c .before .mask-of .ensures .0)
+
+returns-12 : tie.Need-returns-12
+unfolding aluOf
+returns-12 c = simp (c .before .before .enum-told12 .given .1, c .raise-into .ensures, c .before .mask-of2 .ensures .0)
+
+returns-13 : tie.Need-returns-13
+unfolding aluOf
+returns-13 c =
+    let t = c .before .before in
+    let d = t .before .before .before .before .low-bits .ensures .0 in
+    simp (t .before .enum-told13 .given .1, c .shift-into .ensures, c .before .flag .ensures .0, t .top .ensures, d)
+
+returns-14 : tie.Need-returns-14
+unfolding aluOf
+returns-14 c = simp (c .before .enum-told14 .given .1, c .shift-into2 .ensures)
+
+returns-15 : tie.Need-returns-15
+unfolding aluOf
+returns-15 c = simp (c .before .before .enum-told15 .given .1, c .logic-into5 .ensures, c .before .turned-bits .ensures .0)
+
+returns-16 : tie.Need-returns-16
+unfolding aluOf
+returns-16 c = simp (c .enum-told16 .given .1)
+
+returns-17 : tie.Need-returns-17
+unfolding aluOf
+returns-17 c = simp (c .before .enum-told17 .given .1, c .extend .ensures)
+
+pub alu-spec : {M : Type 1} → statement M
+alu-spec =
+    tie.close
+    (tie.spec
+    low-bits-requires
+    low-bits-requires-2
+    enum-told
+    add-into-requires
+    enum-told-2
+    add-into-requires-2
+    enum-told-3
+    subtract-into-requires
+    enum-told-4
+    subtract-into-requires-2
+    enum-told-5
+    subtract-into-requires-3
+    tested-only-requires
+    enum-told-6
+    decimal-into-requires
+    enum-told-7
+    logic-into-requires
+    enum-told-8
+    logic-into-requires-2
+    enum-told-9
+    logic-into-requires-3
+    enum-told-10
+    logic-into-requires-4
+    tested-only-requires-2
+    enum-told-11
+    mask-of-requires
+    clear-into-requires
+    enum-told-12
+    mask-of-requires-2
+    raise-into-requires
+    enum-told-13
+    top-requires
+    flag-requires
+    shift-into-requires
+    enum-told-14
+    shift-into-requires-2
+    enum-told-15
+    turned-bits-requires
+    logic-into-requires-5
+    enum-told-16
+    mul-t25
+    add-t27
+    enum-told-17
+    extend-requires
+    returns
+    returns-2
+    returns-3
+    returns-4
+    returns-5
+    returns-6
+    returns-7
+    returns-8
+    returns-9
+    returns-10
+    returns-11
+    returns-12
+    returns-13
+    returns-14
+    returns-15
+    returns-16
+    returns-17)

@@ -1,0 +1,101 @@
+use native.Mathlib.Omega.{arith}
+use mathlib.Core.Path.{_≡_}
+use Prim.Native.Nat.{_<_, _≤_}
+use Rattle.isa.proofs.Offset.{mag-back, bits-back}
+use lib.Signed.{mag}
+use Rattle.word.specs.Offset.{bitsOf}
+use borrow.Author.Tests.{lt-ltb, le-ltb}
+use borrow.Author.Needs.{needs}
+use Rattle.isa.proofs.encode_relative.Statement.{statement}
+use Rattle.isa.proofs.encode_relative.Tie as tie
+use Rattle.isa.proofs.encode_relative.Reads as reads
+use Rattle.isa.proofs.encode_relative.Lts as lts
+use Rattle.word.proofs.magnitude.Reads as magnitude-reads
+use Rattle.word.proofs.offset_bits.Reads as offset-bits-reads
+
+magnitude-requires : tie.Need-magnitude-requires
+magnitude-requires c κs = search needs
+
+returns : tie.Need-returns
+returns c =
+    let p = c .before in
+    let z = p .before .args .off in
+    let m : p .magnitude .result ≡ mag z = mag-back z (p .before .fits .off) (p .magnitude .ensures) in
+    let h : 64 ≤ mag z = omega arith in
+    search (needs, lt-ltb, le-ltb)
+
+returns-2 : tie.Need-returns-2
+returns-2 c =
+    let p = c .before .before in
+    let z = p .before .args .off in
+    let m : p .magnitude .result ≡ mag z = mag-back z (p .before .fits .off) (p .magnitude .ensures) in
+    let h : mag z < 64 = omega arith in
+    search (needs, lt-ltb, le-ltb)
+
+returns-3 : tie.Need-returns-3
+returns-3 c =
+    let p = c .before .before .before in
+    let z = p .before .args .off in
+    let m : p .magnitude .result ≡ mag z = mag-back z (p .before .fits .off) (p .magnitude .ensures) in
+    let h : mag z < 64 = omega arith in
+    search (needs, lt-ltb, le-ltb)
+
+returns-4 : tie.Need-returns-4
+returns-4 c =
+    let p = c .before .before .before .before in
+    let z = p .before .args .off in
+    let m : p .magnitude .result ≡ mag z = mag-back z (p .before .fits .off) (p .magnitude .ensures) in
+    let h : mag z < 64 = omega arith in
+    search (needs, lt-ltb, le-ltb)
+
+offset-bits-requires : tie.Need-offset-bits-requires
+offset-bits-requires c κs = search needs
+
+mul-t8 : tie.Need-mul-t8
+mul-t8 c = search needs
+
+add-t9 : tie.Need-add-t9
+add-t9 c = search needs
+
+mul-t11 : tie.Need-mul-t11
+mul-t11 c = search needs
+
+add-t12 : tie.Need-add-t12
+add-t12 c = search needs
+
+mul-t14 : tie.Need-mul-t14
+mul-t14 c = search needs
+
+add-t15 : tie.Need-add-t15
+add-t15 c = search needs
+
+add-t17 : tie.Need-add-t17
+add-t17 c = search needs
+
+returns-5 : tie.Need-returns-5
+returns-5 c =
+    let p = c .before .before .before .before .before in
+    let z = p .before .args .off in
+    let m : p .magnitude .result ≡ mag z = mag-back z (p .before .fits .off) (p .magnitude .ensures) in
+    let h : mag z < 64 = omega arith in
+    let b : c .offset-bits .result ≡ bitsOf 64 z = bits-back z (p .before .fits .off) 64 (c .offset-bits .ensures .0) in
+    search (needs, lt-ltb, le-ltb, b)
+
+pub encode-relative-spec : {M : Type 1} → statement M
+encode-relative-spec =
+    tie.close
+    (tie.spec
+    magnitude-requires
+    returns
+    returns-2
+    returns-3
+    returns-4
+    offset-bits-requires
+    mul-t8
+    add-t9
+    mul-t11
+    add-t12
+    mul-t14
+    add-t15
+    add-t17
+    returns-5)

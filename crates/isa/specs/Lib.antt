@@ -1,0 +1,5 @@
+pub mod Decode
+pub mod Encode
+pub mod Canon
+pub mod Fields
+pub mod Illegal

@@ -1,0 +1,5 @@
+pub mod EncodeDecode
+pub mod All
+pub mod DecodeEncode
+pub mod IllegalCount
+pub mod Numbers

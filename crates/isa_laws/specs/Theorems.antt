@@ -1,0 +1,65 @@
+-- What holds of the instruction set, as statements; the proofs folder has a proof of each. decodeOf and encodeOf are
+-- the decoder and the encoder, numberOf and encodeNumber what the two calls of a C host exchange. Assumes nothing.
+use Prim.Native.Nat.{ℕ, zero, suc, _+_, _/_, _%_, _<_}
+use mathlib.Core.Path.{_≡_}
+use mathlib.Core.Bool.{Bool, true, cond, not}
+use mathlib.Core.Logic.{_↔_}
+use Rattle.isa.specs.declared.Instr.{Instr}
+use Rattle.isa.specs.declared.Instr.the-variants.{Illegal}
+use Rattle.isa.specs.declared.Encoded.{Encoded}
+use Rattle.isa.specs.declared.Encoded.the-variants.{Word, Refused}
+use Rattle.isa.specs.Decode.{decodeOf}
+use Rattle.isa.specs.Encode.{encodeOf}
+use Rattle.isa.specs.Canon.{isLegal, canonOf}
+use Rattle.isa.specs.Fields.{Fields}
+use Rattle.isa.specs.Illegal.{listedIllegal}
+use Rattle.isa_number.specs.Number.{numberOf, instrOf}
+use Rattle.isa_number.specs.Reply.{replyOf, refusalNumber, encodeNumber}
+
+-- ---- words and instructions
+
+-- An instruction encoded without refusal decodes to itself. [003 14]
+abbrev pub EncodeDecode : Type 0
+EncodeDecode = (i : Instr) (w : ℕ) → encodeOf i ≡ Word w → decodeOf w ≡ i
+
+-- A legal word decoded and encoded is that word with its ignored bits zero. [003 14; 01 Arithmetic]
+abbrev pub DecodeEncode : Type 0
+DecodeEncode = (w : ℕ) → w < 65536 → isLegal (decodeOf w) ≡ true → encodeOf (decodeOf w) ≡ Word (canonOf w)
+
+-- A word is illegal exactly if it lies in the listed ranges. [003 14]
+abbrev pub IllegalExactly : Type 0
+IllegalExactly = (w : ℕ) → w < 65536 → (decodeOf w ≡ Illegal) ↔ (listedIllegal w ≡ true)
+
+-- How many numbers below n pass a test. [003 14]
+unfoldable pub countBelow : ℕ → (ℕ → Bool) → ℕ
+countBelow zero f = 0
+countBelow (suc n) f = cond (f n) 1 0 + countBelow n f
+
+-- 1,624 words are illegal. [003 14]
+abbrev pub IllegalCount : Type 0
+IllegalCount = countBelow 65536 (λ w. not (isLegal (decodeOf w))) ≡ 1624
+
+-- ---- numbers, as the two calls exchange them
+
+-- An instruction whose fields fit its format is the one that its number names. [01 State and memory]
+abbrev pub NumberInstr : Type 0
+NumberInstr = (i : Instr) → Fields i → instrOf (numberOf i) ≡ i
+
+-- The low byte of a reply is its refusal: 0 or 8. [01 Who can be turned back]
+abbrev pub ReplyRefusal : Type 0
+ReplyRefusal = (x : Encoded) → replyOf x % 256 ≡ refusalNumber x
+
+-- A legal word's number is encoded by that word with its ignored bits zero. [01 Arithmetic]
+abbrev pub NumberDecodeEncode : Type 0
+NumberDecodeEncode =
+    (w : ℕ) → w < 65536 → isLegal (decodeOf w) ≡ true
+    → encodeNumber (numberOf (decodeOf w)) ≡ replyOf (Word (canonOf w))
+
+-- An illegal word's number is refused. [01 Who can be turned back]
+abbrev pub NumberIllegal : Type 0
+NumberIllegal = (w : ℕ) → decodeOf w ≡ Illegal → encodeNumber (numberOf (decodeOf w)) ≡ replyOf Refused
+
+-- A number that is not refused is that of the instruction which the word in the reply means.
+-- [01 Who can be turned back]
+abbrev pub NumberEncodeDecode : Type 0
+NumberEncodeDecode = (n : ℕ) → encodeNumber n % 256 ≡ 0 → numberOf (decodeOf (encodeNumber n / 65536)) ≡ n

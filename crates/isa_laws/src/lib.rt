@@ -1,0 +1,1 @@
+// Theorems about the definitions of isa and isa_number: specs/Theorems.antt.

@@ -1,0 +1,8 @@
+-- The definitions that the exported calls promise, gathered from the crates below. Assumes nothing.
+
+-- xm23_decode replies numberOf (decodeOf word): the number of the instruction that the word means. [003 14]
+pub use Rattle.isa.specs.Decode.{decodeOf}
+pub use Rattle.isa_number.specs.Number.{numberOf}
+-- xm23_encode replies encodeNumber instruction: replyOf gives the reply for each answer of the encoder, refusalNumber
+-- its refusal. [01 Who can be turned back]
+pub use Rattle.isa_number.specs.Reply.{encodeNumber, replyOf, refusalNumber}

@@ -1,0 +1,32 @@
+// The calls of a C host: numbers in, one number out. Nothing is kept between calls.
+// The definitions that the replies equal are gathered in specs/Api.antt.
+ghost use mathlib.Core.Path.{_≡_};
+ghost use Rattle.xm23.specs.Api.{decodeOf, numberOf, encodeNumber};
+use isa::Encoded;
+use isa::decode;
+use isa::encode;
+use isa_number::from_number;
+use isa_number::number;
+
+// The number of the instruction that a word means; that of the illegal one is 0.
+#[no_mangle]
+pub extern "C" fn xm23_decode(word: u16) -> u64
+    ensures reply { λ r. ⌜ r ≡ numberOf (decodeOf word) ⌝ }
+{
+    number(decode(word))
+}
+
+// The word of the instruction with this number, in bits 31 to 16, or 8 where it is refused.
+#[no_mangle]
+pub extern "C" fn xm23_encode(instruction: u64) -> u32
+    ensures reply { λ r. ⌜ r ≡ encodeNumber instruction ⌝ }
+{
+    let i = from_number(instruction);
+    if number(i) != instruction {
+        return 8;
+    }
+    match encode(i) {
+        Encoded::Word(w) => w as u32 * 65536,
+        Encoded::Refused => 8,
+    }
+}

@@ -1,0 +1,194 @@
+//! libxm23.a beside the oracle: every word, random instruction numbers, and the near misses of every format.
+
+use oracle::number;
+use oracle::random::Random;
+
+#[link(name = "xm23", kind = "static")]
+extern "C" {
+    fn xm23_decode(word: u16) -> u64;
+    fn xm23_encode(instruction: u64) -> u32;
+}
+
+fn decode(word: u16) -> u64 {
+    unsafe { xm23_decode(word) }
+}
+
+fn encode(instruction: u64) -> u32 {
+    unsafe { xm23_encode(instruction) }
+}
+
+/// A format: how many values each of its one-byte fields may take, and half the range of its offset (0: it has none).
+struct Format {
+    limits: &'static [u64],
+    half: i32,
+}
+
+const fn format(limits: &'static [u64], half: i32) -> Format {
+    Format { limits, half }
+}
+
+/// The formats from 0, as docs/FORMATS.md lists them.
+const FORMATS: [Format; 19] = [
+    format(&[], 0),
+    format(&[], 4096),
+    format(&[8], 512),
+    format(&[12, 2, 2, 8, 8], 0),
+    format(&[2, 8, 8], 0),
+    format(&[8, 8], 0),
+    format(&[3, 2, 8], 0),
+    format(&[8], 0),
+    format(&[8], 0),
+    format(&[8], 0),
+    format(&[16], 0),
+    format(&[32], 0),
+    format(&[32], 0),
+    format(&[16, 8, 8], 0),
+    format(&[2, 2, 2, 2, 8, 8], 0),
+    format(&[2, 2, 2, 2, 8, 8], 0),
+    format(&[4, 256, 8], 0),
+    format(&[2, 8, 8], 64),
+    format(&[2, 8, 8], 64),
+];
+
+fn with_byte(number: u64, place: usize, value: u64) -> u64 {
+    number & !(0xFF << (8 * place)) | value << (8 * place)
+}
+
+fn with_offset(number: u64, offset: i32) -> u64 {
+    number & 0xFFFF_FFFF_FFFF | u64::from(offset as u16) << 48
+}
+
+/// An instruction's number of the format, every field in its range.
+fn lawful(random: &mut Random, format: usize) -> u64 {
+    let shape = &FORMATS[format];
+    let mut number = format as u64;
+    for (i, &limit) in shape.limits.iter().enumerate() {
+        number = with_byte(number, 1 + i, random.below(limit));
+    }
+    if shape.half != 0 {
+        number = with_offset(number, random.below(2 * shape.half as u64) as i32 - shape.half);
+    }
+    number
+}
+
+#[track_caller]
+fn same_encoding(number: u64) -> u32 {
+    let expected = number::xm23_encode(number);
+    assert_eq!(encode(number), expected, "instruction {number:016X}");
+    expected
+}
+
+#[track_caller]
+fn refused(number: u64) {
+    assert_eq!(same_encoding(number), 8, "instruction {number:016X}");
+}
+
+#[test]
+fn every_word_decodes_and_comes_back() {
+    for word in 0..=u16::MAX {
+        let number = number::xm23_decode(word);
+        assert_eq!(decode(word), number, "word {word:04X}");
+        let ignored = matches!(number & 0xFF, 5 | 7 | 8);
+        let kept = if ignored { word & !0x40 } else { word };
+        let reply = if number == 0 { 8 } else { u32::from(kept) << 16 };
+        assert_eq!(same_encoding(number), reply, "word {word:04X}");
+    }
+}
+
+#[test]
+fn an_encoded_instruction_decodes_to_itself() {
+    let mut random = Random::new(2);
+    for _ in 0..100_000 {
+        for format in 1..FORMATS.len() {
+            let number = lawful(&mut random, format);
+            let reply = same_encoding(number);
+            assert_eq!(reply & 0xFFFF, 0, "instruction {number:016X}");
+            assert_eq!(decode((reply >> 16) as u16), number);
+        }
+    }
+}
+
+#[test]
+fn random_numbers() {
+    let mut random = Random::new(3);
+    let mut accepted = 0;
+    for _ in 0..1_000_000 {
+        let wild = random.draw();
+        same_encoding(wild);
+        same_encoding(with_byte(wild, 0, random.below(20)));
+        // A lawful number with up to two bytes replaced.
+        let format = random.below(19) as usize;
+        let mut near = lawful(&mut random, format);
+        for _ in 0..random.below(3) {
+            let place = random.below(8) as usize;
+            let value = if random.one_in(2) { random.below(16) } else { random.byte().into() };
+            near = with_byte(near, place, value);
+        }
+        accepted += u32::from(same_encoding(near) != 8);
+    }
+    assert!((250_000..750_000).contains(&accepted), "{accepted} accepted");
+}
+
+#[test]
+fn a_field_out_of_its_range_is_refused() {
+    let mut random = Random::new(4);
+    for (format, shape) in FORMATS.iter().enumerate() {
+        for (i, &limit) in shape.limits.iter().enumerate() {
+            for value in 0..256 {
+                let number = with_byte(lawful(&mut random, format), 1 + i, value);
+                assert_eq!(same_encoding(number) == 8, value >= limit, "instruction {number:016X}");
+            }
+        }
+    }
+    for word in 0..=u16::MAX {
+        let number = number::xm23_decode(word);
+        let shape = &FORMATS[(number & 0xFF) as usize];
+        for (i, &limit) in shape.limits.iter().enumerate().filter(|(_, &limit)| limit < 256) {
+            refused(with_byte(number, 1 + i, limit));
+            refused(with_byte(number, 1 + i, 255));
+        }
+    }
+}
+
+#[test]
+fn an_offset_out_of_its_range_is_refused() {
+    let mut random = Random::new(5);
+    for (format, shape) in FORMATS.iter().enumerate().filter(|(_, shape)| shape.half != 0) {
+        for offset in -32768..32768 {
+            let number = with_offset(lawful(&mut random, format), offset);
+            let inside = -shape.half <= offset && offset < shape.half;
+            assert_eq!(same_encoding(number) == 8, !inside, "instruction {number:016X}");
+        }
+    }
+}
+
+#[test]
+fn anything_in_an_unused_byte_is_refused() {
+    for word in 0..=u16::MAX {
+        let number = number::xm23_decode(word);
+        let shape = &FORMATS[(number & 0xFF) as usize];
+        let end = if shape.half != 0 { 6 } else { 8 };
+        for place in 1 + shape.limits.len()..end {
+            for value in [1, 2, 128, 255] {
+                refused(with_byte(number, place, value));
+            }
+        }
+    }
+}
+
+#[test]
+fn an_unknown_format_and_illegal_are_refused() {
+    let mut random = Random::new(6);
+    refused(0);
+    for unknown in 19..256 {
+        refused(unknown);
+        for format in 0..19 {
+            refused(with_byte(lawful(&mut random, format), 0, unknown));
+        }
+    }
+    for place in 1..8 {
+        for value in 1..256 {
+            refused(with_byte(0, place, value));
+        }
+    }
+}

@@ -1,0 +1,85 @@
+#!/usr/bin/env bash
+# Every test of the repository, part by part, ending at the first part that fails. Each part prints its own count.
+# The very last line is 'N passed, M failed' over all parts; the exit status is 0 only where M is 0. No network.
+set -eu -o pipefail
+cd "$(dirname "$0")/.."
+
+passed=0
+failed=0
+build=build
+log=$build/log
+xm23=target/staticlib/libxm23.a
+warn='-O2 -Wall -Wextra -Werror -Iinclude'
+mkdir -p "$log"
+
+finish() {
+    status=$?
+    trap - EXIT
+    if [ "$status" -ne 0 ] && [ "$failed" -eq 0 ]; then
+        failed=1
+    fi
+    echo "$passed passed, $failed failed"
+    [ "$failed" -eq 0 ] || exit 1
+}
+trap finish EXIT
+
+# 'N passed, M failed', as the last such line of a part has it: rt ci and the C tests.
+count_line() {
+    sed -n 's/^\([0-9][0-9]*\) passed, \([0-9][0-9]*\) failed$/\1 \2/p' "$1" | tail -n 1
+}
+
+# cargo's 'test result: ok. N passed; M failed; ..', one for each test program, added up.
+count_cargo() {
+    sed -n 's/^test result: [a-zA-Z]*\. \([0-9][0-9]*\) passed; \([0-9][0-9]*\) failed;.*/\1 \2/p' "$1" |
+        awk '{ p += $1; f += $2 } END { if (NR) print p, f }'
+}
+
+# One for a command that only succeeds or fails.
+count_status() {
+    echo '1 0'
+}
+
+# part NAME COUNTER COMMAND..: runs the command, adds up what it counted, and stops the script if anything failed.
+part() {
+    local name=$1 counter=$2 out=$log/${1// /_}.out status=0 counts p f
+    shift 2
+    echo "== $name"
+    "$@" 2>&1 | tee "$out" || status=$?
+    counts=$($counter "$out")
+    if [ -z "$counts" ] || [ "$counts" = '0 0' ]; then
+        echo "$name: counted nothing"
+        counts='0 1'
+    fi
+    p=${counts% *} f=${counts#* }
+    if [ "$status" -ne 0 ] && [ "$f" -eq 0 ]; then
+        p=0 f=1
+    fi
+    echo "-- $name: $p passed, $f failed"
+    passed=$((passed + p))
+    failed=$((failed + f))
+    [ "$f" -eq 0 ]
+}
+
+# Joined by && since bash forgets 'set -e' in a command whose status is looked at.
+host_c() {
+    gcc $warn -std=c99 -pedantic -o "$build/host_c" tests/c/host.c "$xm23" && "$build/host_c"
+}
+
+host_cpp() {
+    g++ $warn -std=c++11 -o "$build/host_cpp" -x c++ tests/c/host.c -x none "$xm23" && "$build/host_cpp"
+}
+
+listing() {
+    gcc $warn -std=c99 -pedantic -o "$build/decode_image" examples/decode_image.c "$xm23" &&
+        "$build/decode_image" examples/copy_words.img 1000 | diff examples/copy_words.lst -
+}
+
+part 'layout of proofs and code' count_status rt fmt --check
+part 'proofs and must-fail edits' count_line rt ci
+part 'static library xm23' count_status rt staticlib xm23
+part 'static library probe' count_status rt staticlib probe
+part 'oracle' count_cargo \
+    cargo test --offline --locked --release --manifest-path oracle/Cargo.toml --target-dir oracle/target
+part 'host in C' count_line host_c
+part 'host in C++' count_line host_cpp
+part 'example listing' count_status listing

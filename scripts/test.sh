@@ -23,7 +23,7 @@ finish() {
 }
 trap finish EXIT
 
-# 'N passed, M failed', as the last such line of a part has it: rt ci and the C tests.
+# 'N passed, M failed', as the last such line of a part has it: rt ci, the trace and the C tests.
 count_line() {
     sed -n 's/^\([0-9][0-9]*\) passed, \([0-9][0-9]*\) failed$/\1 \2/p' "$1" | tail -n 1
 }
@@ -74,6 +74,8 @@ listing() {
         "$build/decode_image" examples/copy_words.img 1000 | diff examples/copy_words.lst -
 }
 
+part 'what the trace refuses' count_line python3 -B scripts/trace_test.py
+part 'trace to 01' count_line python3 -B scripts/trace.py
 part 'layout of proofs and code' count_status rt fmt --check
 part 'proofs and must-fail edits' count_line rt ci
 part 'static library xm23' count_status rt staticlib xm23

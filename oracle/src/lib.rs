@@ -2,6 +2,10 @@
 //! ISA paper. It shares no text with the proved crates. Simple comes before fast.
 
 pub mod alu;
+pub mod asm;
 pub mod isa;
+pub mod machine;
 pub mod number;
+pub mod programs;
 pub mod random;
+pub mod resume;

@@ -93,7 +93,7 @@ pub decimal-exact : (n a b c : ℕ) → DecimalDigits n a → DecimalDigits n b 
     → (decimalValue n (decimalSum n a b c .value) + decimalSum n a b c .carry * 10 ^ n ≡ decimalValue n a + decimalValue n b + c)
     × DecimalDigits n (decimalSum n a b c .value)
 unfolding decimalSum
-decimal-exact zero a b c ha hb h = (omega arith, omega arith)
+decimal-exact zero a b c ha hb h = (omega arith, tt)
 decimal-exact (suc n) a b c ha hb h =
     let s = a % 16 + b % 16 + c in
     let k = digitCarry s in

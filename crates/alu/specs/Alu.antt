@@ -47,10 +47,11 @@ decimal w d b p =
     let s = decimalSum (w / 4) (low w d) b (carryOf p) in
     record { value = withLow w d (s .value); psw = zeroFlag (putBit 0 p (eqb (s .carry) 1)) (s .value) }
 
--- the low bits moved down by one with t for the top one, with C, Z and N: SRA, RRC. [01 Arithmetic]
+-- the low bits moved down by one, with t for the top one. [01 Arithmetic]
 abbrev pub halved : (w d t : ℕ) → ℕ
 halved w d t = low w d / 2 + t * 2 ^ (w - 1)
 
+-- the bits so moved, with C the bit that fell out, Z and N: SRA, RRC. [01 Arithmetic]
 abbrev pub shifted : (w d t p : ℕ) → Outcome
 shifted w d t p = logical w d (putBit 0 p (eqb (d % 2) 1)) (halved w d t)
 

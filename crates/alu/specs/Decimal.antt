@@ -32,5 +32,5 @@ decimalValue (suc n) x = x % 16 + 10 * decimalValue n (x / 16)
 
 -- each of the lowest digits of x is at most 9. [01 Arithmetic]
 abbrev pub DecimalDigits : (digits x : ℕ) → Type 0
-DecimalDigits zero x = 0 ≤ x
+DecimalDigits zero x = Unit {0}
 DecimalDigits (suc n) x = (x % 16 ≤ 9) × DecimalDigits n (x / 16)

@@ -26,6 +26,7 @@ pub struct Outcome {
     pub psw: u16,
 }
 
+// The arithmetic and logical instructions.
 pub enum Op {
     Add,
     Addc,

@@ -17,16 +17,19 @@ putBit k p b = p / 2 ^ (k + 1) * 2 ^ (k + 1) + bit b * 2 ^ k + p % 2 ^ k
 abbrev pub carryOf : ℕ → ℕ
 carryOf p = p % 2
 
--- C, Z, N and V are set. [01 State and memory]
+-- C is set. [01 State and memory]
 abbrev pub carry? : ℕ → Bool
 carry? p = bitOf 0 p
 
+-- Z is set. [01 State and memory]
 abbrev pub zero? : ℕ → Bool
 zero? p = bitOf 1 p
 
+-- N is set. [01 State and memory]
 abbrev pub negative? : ℕ → Bool
 negative? p = bitOf 2 p
 
+-- V is set. [01 State and memory]
 abbrev pub overflow? : ℕ → Bool
 overflow? p = bitOf 4 p
 
@@ -38,9 +41,10 @@ asleep? p = bitOf 3 p
 abbrev pub faulted? : ℕ → Bool
 faulted? p = bitOf 8 p
 
--- the current and the previous priority. [01 State and memory]
+-- the current priority. [01 State and memory]
 abbrev pub current : ℕ → ℕ
 current p = p / 32 % 8
 
+-- the previous priority. [01 State and memory]
 abbrev pub previous : ℕ → ℕ
 previous p = p / 8192 % 8

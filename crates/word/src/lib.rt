@@ -51,25 +51,28 @@ pub fn with_low(byte: bool, x: u16, v: u16) -> u16
     if byte { x / 256 * 256 + v } else { v }
 }
 
-// The PSW with b for one flag; its other bits stay.
+// The PSW with b for C; its other bits stay.
 pub fn put_carry(psw: u16, b: bool) -> u16
     ensures { λ r. ⌜ r ≡ putBit 0 psw b ⌝ }
 {
     psw / 2 * 2 + flag(b)
 }
 
+// The PSW with b for Z; its other bits stay.
 pub fn put_zero(psw: u16, b: bool) -> u16
     ensures { λ r. ⌜ r ≡ putBit 1 psw b ⌝ }
 {
     psw / 4 * 4 + flag(b) * 2 + psw % 2
 }
 
+// The PSW with b for N; its other bits stay.
 pub fn put_negative(psw: u16, b: bool) -> u16
     ensures { λ r. ⌜ r ≡ putBit 2 psw b ⌝ }
 {
     psw / 8 * 8 + flag(b) * 4 + psw % 4
 }
 
+// The PSW with b for V; its other bits stay.
 pub fn put_overflow(psw: u16, b: bool) -> u16
     ensures { λ r. ⌜ r ≡ putBit 4 psw b ⌝ }
 {

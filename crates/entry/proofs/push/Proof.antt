@@ -1,0 +1,33 @@
+use native.Mathlib.Omega.{arith}
+use mathlib.Core.Path.{_≡_}
+use borrow.Author.Needs.{needs}
+use denote.Ref.{now}
+use Rattle.machine.specs.State.{down}
+use Rattle.entry.proofs.Laws.{wrapped-down, push-law}
+use Rattle.entry.proofs.push.Statement.{statement}
+use Rattle.entry.proofs.push.Tie as tie
+
+wrapping-sub-u16-requires : tie.Need-wrapping-sub-u16-requires
+wrapping-sub-u16-requires c κs = search needs
+
+word-of-requires : tie.Need-word-of-requires
+word-of-requires c κs = search needs
+
+write-word-requires : tie.Need-write-word-requires
+write-word-requires c κs = search needs
+
+same-length : tie.Need-same-length
+same-length c = search needs
+
+returns : tie.Need-returns
+returns c =
+    let a = c .before .before .before .before .before .before .before .args in
+    let to = c .before .before .before .before .before .wrapping-sub-u16 in
+    let e : to .result ≡ down (a .sp) 2 = wrapped-down (to .result) (a .sp) 2 (omega arith) (omega arith) (to .ensures) in
+    let w = c .before .before .before .word-of .ensures .0 in
+    (e, push-law (now (a .mem)) _ (a .sp) _ _ (a .v) e w (c .before .before .write-word .ensures))
+
+pub push-spec : {M : Type 1} → statement M
+push-spec =
+    tie.close
+    (tie.spec wrapping-sub-u16-requires word-of-requires write-word-requires same-length returns)

@@ -1,0 +1,167 @@
+// Vectors, the best waiting line, entry and return, over the registers lent.
+ghost use mathlib.Core.Path.{_≡_};
+ghost use mathlib.Core.Bool.{true, false};
+ghost use Prim.Native.Nat.{ℕ, _+_, _*_, _<_, _≤_};
+ghost use lib.ListN.{length, getD, set};
+ghost use Rattle.word.specs.Psw.{current, previous, faulted?};
+ghost use Rattle.machine.specs.State.{Core, coreOf, down};
+ghost use Rattle.machine.specs.Memory.{wordAt, wordWrites, commit};
+ghost use Rattle.machine.specs.Entry.{vectorPsw, vectorPc, priority, better, best, enteredPsw, vectored, pushed, pushes, pulled};
+ghost use Rattle.machine.specs.Step.{entered, chained};
+use machine::ByteAddr;
+use machine::WordAddr;
+
+// A machine without its registers.
+pub struct Rest {
+    pub psw: u16,
+    pub cex: u16,
+    pub lines: u8,
+    pub halted: bool,
+    pub count: u32,
+}
+
+// A pulled PSW and CEX state.
+pub struct Pulled {
+    pub psw: u16,
+    pub cex: u16,
+}
+
+// The two words of vector v.
+fn vector_psw(mem: &[u8], v: u8) -> u16
+    requires { ⌜ (length (now mem) ≡ 65536) × (v < 16) ⌝ }
+    ensures { λ r. ⌜ r ≡ vectorPsw (now (mem .entry)) v ⌝ }
+{
+    memory::read_word(mem, WordAddr(0x7FE0 + 2 * v as u16))
+}
+
+fn vector_pc(mem: &[u8], v: u8) -> u16
+    requires { ⌜ (length (now mem) ≡ 65536) × (v < 16) ⌝ }
+    ensures { λ r. ⌜ r ≡ vectorPc (now (mem .entry)) v ⌝ }
+{
+    memory::read_word(mem, WordAddr(0x7FE1 + 2 * v as u16))
+}
+
+// The priority of vector v.
+pub fn priority_of(mem: &[u8], v: u8) -> u16
+    requires { ⌜ (length (now mem) ≡ 65536) × (v < 16) ⌝ }
+    ensures { λ r. ⌜ r ≡ priority (now (mem .entry)) v ⌝ }
+{
+    vector_psw(mem, v) / 32 % 8
+}
+
+// The better of line d and the best e of those after it.
+fn better_of(mem: &[u8], d: u8, e: u8) -> u8
+    requires { ⌜ (length (now mem) ≡ 65536) × (d < 8) × (e ≤ 8) ⌝ }
+    ensures { λ r. ⌜ (r ≡ better (now (mem .entry)) d e) × (r ≤ 8) ⌝ }
+{
+    if e < 8 {
+        if priority_of(mem, d) < priority_of(mem, e) {
+            return e;
+        }
+    }
+    d
+}
+
+// The best waiting line, 8 for none.
+pub fn best_line(mem: &[u8], lines: u8) -> u8
+    requires { ⌜ length (now mem) ≡ 65536 ⌝ }
+    ensures { λ r. ⌜ (r ≡ best lines (now (mem .entry))) × (r ≤ 8) ⌝ }
+{
+    let mut d: u8 = 8;
+    let mut e: u8 = 8;
+    while 0 < d {
+        d -= 1;
+        if devices::waits(lines, d) {
+            e = better_of(mem, d, e);
+        }
+    }
+    e
+}
+
+// The PSW of an entry, from the vector's word.
+fn entered_psw(p: u16, q: u16, flt: bool) -> u16
+    requires { ⌜ q < 8 ⌝ }
+    ensures { λ r. ⌜ r ≡ enteredPsw p q flt ⌝ }
+{
+    p % 8 + p / 16 % 16 * 16 + word::flag(flt) * 256 + q * 8192
+}
+
+// LR, SP and PC written by an entry or a return.
+fn set_three(regs: &mut [u16; 8], lr: u16, sp: u16, pc: u16)
+    ensures { λ r. ⌜ now (regs .exit) ≡ set (set (set (now (regs .entry)) 5 lr) 6 sp) 7 pc ⌝ }
+{
+    regs[5] = lr;
+    regs[6] = sp;
+    regs[7] = pc;
+}
+
+// A word pushed: the SP that it leaves.
+fn push(mem: &mut [u8], sp: u16, v: u16) -> u16
+    requires { ⌜ length (now mem) ≡ 65536 ⌝ }
+    ensures { λ r. ⌜ (r ≡ down sp 2) × (now (mem .exit) ≡ commit (wordWrites (down sp 2) v) (now (mem .entry))) ⌝ }
+{
+    let to = std::num::wrapping_sub_u16(sp, 2);
+    memory::write_word(mem, memory::word_of(ByteAddr(to)), v);
+    to
+}
+
+// The frame pushed: PC, LR, PSW, CEX. The SP that it leaves.
+fn push_frame(regs: &[u16; 8], mem: &mut [u8], psw: u16, cex: u16) -> u16
+    requires { ⌜ length (now mem) ≡ 65536 ⌝ }
+    ensures { λ r. ⌜ (r ≡ pushed (coreOf (now (regs .entry)) psw cex)) × (now (mem .exit) ≡ commit (pushes (coreOf (now (regs .entry)) psw cex)) (now (mem .entry))) ⌝ }
+{
+    let s1 = push(mem, regs[6], regs[7]);
+    let s2 = push(mem, s1, regs[5]);
+    let s3 = push(mem, s2, psw);
+    push(mem, s3, cex)
+}
+
+// An entry by vector v that pushes: the PSW after it. CEX is then clear.
+pub fn enter(regs: &mut [u16; 8], mem: &mut [u8], psw: u16, cex: u16, v: u8, fault: bool) -> u16
+    requires { ⌜ (length (now mem) ≡ 65536) × (v < 16) ⌝ }
+    ensures core { λ r. ⌜ coreOf (now (regs .exit)) r 0 ≡ entered (coreOf (now (regs .entry)) psw cex) (now (mem .entry)) v fault ⌝ }
+    ensures memory { λ r. ⌜ now (mem .exit) ≡ commit (pushes (coreOf (now (regs .entry)) psw cex)) (now (mem .entry)) ⌝ }
+{
+    let p = vector_psw(mem, v);
+    let pc = vector_pc(mem, v);
+    let sp = push_frame(regs, mem, psw, cex);
+    set_three(regs, 0xFFFF, sp, pc);
+    entered_psw(p, psw / 32 % 8, fault | (psw / 256 % 2 == 1))
+}
+
+// A chained entry by vector v, which pushes nothing: the PSW after it. CEX is then clear.
+pub fn chain(regs: &mut [u16; 8], mem: &[u8], psw: u16, v: u8) -> u16
+    requires { ⌜ (length (now mem) ≡ 65536) × (v < 16) ⌝ }
+    ensures { λ r. ⌜ ((x : ℕ) → coreOf (now (regs .exit)) r 0 ≡ chained (coreOf (now (regs .entry)) psw x) (now (mem .entry)) v) ⌝ }
+{
+    let p = vector_psw(mem, v);
+    let pc = vector_pc(mem, v);
+    let sp = regs[6];
+    set_three(regs, 0xFFFF, sp, pc);
+    entered_psw(p, psw / 8192 % 8, psw / 256 % 2 == 1)
+}
+
+// The word at an address, bit 0 dropped.
+fn word_at(mem: &[u8], a: u16) -> u16
+    requires { ⌜ length (now mem) ≡ 65536 ⌝ }
+    ensures { λ r. ⌜ r ≡ wordAt (now (mem .entry)) a ⌝ }
+{
+    memory::read_word(mem, memory::word_of(ByteAddr(a)))
+}
+
+// A return that pulls.
+pub fn pull(regs: &mut [u16; 8], mem: &[u8]) -> Pulled
+    requires { ⌜ length (now mem) ≡ 65536 ⌝ }
+    ensures { λ r. ⌜ ((p x : ℕ) → coreOf (now (regs .exit)) (r .psw) (r .cex) ≡ pulled (coreOf (now (regs .entry)) p x) (now (mem .entry))) ⌝ }
+{
+    let s = regs[6];
+    let x = word_at(mem, s);
+    let p = word_at(mem, std::num::wrapping_add_u16(s, 2));
+    let lr = word_at(mem, std::num::wrapping_add_u16(s, 4));
+    let pc = word_at(mem, std::num::wrapping_add_u16(s, 6));
+    set_three(regs, lr, std::num::wrapping_add_u16(s, 8), pc);
+    Pulled {
+        psw: p % 8 + p / 16 % 32 * 16 + p / 8192 % 8 * 8192,
+        cex: x % 128,
+    }
+}

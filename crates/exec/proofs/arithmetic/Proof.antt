@@ -1,0 +1,52 @@
+-- `exec::arithmetic` meets its contract. Assumes nothing.
+use denote.Ref.{now}
+use borrow.Author.Needs.{needs}
+use Rattle.exec.proofs.Laws.{tested, computed}
+use Rattle.exec.proofs.arithmetic.Statement.{statement}
+use Rattle.exec.proofs.arithmetic.Tie as tie
+
+get-requires : tie.Need-get-requires
+get-requires c κs = search needs
+
+operand-requires : tie.Need-operand-requires
+operand-requires c κs = search needs
+
+binary-requires : tie.Need-binary-requires
+binary-requires c κs = search needs
+
+alu-requires : tie.Need-alu-requires
+alu-requires c κs = search needs
+
+quiet-requires : tie.Need-quiet-requires
+quiet-requires c κs = search needs
+
+returns : tie.Need-returns
+returns c =
+    tested (now (c .before .before .before .before .before .before .before .before .args .regs)) _ _ _ _ (c .before .before .before .before .before .before .before .before .args .wb) _ _ (c .before .before .before .before .before .before .get .ensures) (c .before .before .before .before .operand .ensures)
+    (c .before .before .before .binary .ensures) (c .before .before .alu .ensures) (c .before .if1 .taken) (c .quiet .ensures)
+
+put-requires : tie.Need-put-requires
+put-requires c κs = search needs
+
+quiet-requires-2 : tie.Need-quiet-requires-2
+quiet-requires-2 c κs = search needs
+
+returns-2 : tie.Need-returns-2
+returns-2 c =
+    computed (now (c .before .before .before .before .before .before .before .before .before .before .args .regs)) _ _ _ _ (c .before .before .before .before .before .before .before .before .before .before .args .wb) _ _ (c .before .before .before .before .before .before .before .before .get .ensures)
+    (c .before .before .before .before .before .before .operand .ensures) (c .before .before .before .before .before .binary .ensures) (c .before .before .before .before .alu .ensures)
+    (c .before .before .before .if1 .left) _ _ (c .before .put .ensures) (c .quiet2 .ensures)
+
+pub arithmetic-spec : {M : Type 1} → statement M
+arithmetic-spec =
+    tie.close
+    (tie.spec
+    get-requires
+    operand-requires
+    binary-requires
+    alu-requires
+    quiet-requires
+    returns
+    put-requires
+    quiet-requires-2
+    returns-2)

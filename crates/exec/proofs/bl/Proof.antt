@@ -1,0 +1,40 @@
+-- `exec::bl` meets its contract. Assumes nothing.
+use mir.Syntax.{w16}
+use mir.ValLaws.{toZ-ofZ}
+use denote.Ref.{now}
+use borrow.Author.Needs.{needs}
+use Rattle.exec.proofs.Laws.{linked}
+use Rattle.exec.proofs.bl.Statement.{statement}
+use Rattle.exec.proofs.bl.Tie as tie
+
+get-requires : tie.Need-get-requires
+get-requires c κs = search needs
+
+put-requires : tie.Need-put-requires
+put-requires c κs = search needs
+
+branch-target-requires : tie.Need-branch-target-requires
+branch-target-requires c κs = search needs
+
+put-requires-2 : tie.Need-put-requires-2
+put-requires-2 c κs = search needs
+
+quiet-requires : tie.Need-quiet-requires
+quiet-requires c κs = search needs
+
+returns : tie.Need-returns
+returns c =
+    let t = rw (toZ-ofZ w16 _ (c .before .before .before .before .before .before .before .before .fits .off)) at (c .before .before .branch-target .ensures) in
+    linked (now (c .before .before .before .before .before .before .before .before .args .regs)) _ _ _ _ _ _ (c .before .before .before .before .before .before .before .before .args .off)
+    (c .before .before .before .before .before .before .get .ensures) (c .before .before .before .before .put .ensures) t (c .before .put2 .ensures) (c .quiet .ensures)
+
+pub bl-spec : {M : Type 1} → statement M
+bl-spec =
+    tie.close
+    (tie.spec
+    get-requires
+    put-requires
+    branch-target-requires
+    put-requires-2
+    quiet-requires
+    returns)

@@ -1,0 +1,50 @@
+-- `exec::branch` meets its contract. Assumes nothing.
+use mir.Syntax.{w16}
+use mir.ValLaws.{toZ-ofZ}
+use denote.Ref.{now}
+use native.Mathlib.Omega.{arith}
+use borrow.Author.Needs.{needs}
+use Rattle.exec.proofs.Laws.{branching, passing}
+use Rattle.exec.proofs.branch.Statement.{statement}
+use Rattle.exec.proofs.branch.Tie as tie
+
+taken-requires : tie.Need-taken-requires
+taken-requires c κs = search needs
+
+get-requires : tie.Need-get-requires
+get-requires c κs = search needs
+
+branch-target-requires : tie.Need-branch-target-requires
+branch-target-requires c κs = rw (toZ-ofZ w16 _ (c .before .before .before .before .fits .off)) (omega arith)
+
+put-requires : tie.Need-put-requires
+put-requires c κs = search needs
+
+quiet-requires : tie.Need-quiet-requires
+quiet-requires c κs = search needs
+
+returns : tie.Need-returns
+returns c =
+    let t = rw (toZ-ofZ w16 _ (c .before .before .before .before .before .before .before .before .fits .off)) at (c .before .before .before .branch-target .ensures) in
+    branching (now (c .before .before .before .before .before .before .before .before .args .regs)) _ _ _ _ _ (c .before .before .before .before .before .before .before .before .args .off)
+    (c .before .before .before .before .before .before .before .taken .ensures) (c .before .before .before .before .before .before .if1 .taken) (c .before .before .before .before .get .ensures) t (c .before .put .ensures) (c .quiet .ensures)
+
+quiet-requires-2 : tie.Need-quiet-requires-2
+quiet-requires-2 c κs = search needs
+
+returns-2 : tie.Need-returns-2
+returns-2 c =
+    passing (now (c .before .before .before .args .regs)) _ _ _ (c .before .before .before .args .off) (c .before .before .taken .ensures) (c .before .if1 .left) (c .quiet2 .ensures)
+
+pub branch-spec : {M : Type 1} → statement M
+branch-spec =
+    tie.close
+    (tie.spec
+    taken-requires
+    get-requires
+    branch-target-requires
+    put-requires
+    quiet-requires
+    returns
+    quiet-requires-2
+    returns-2)

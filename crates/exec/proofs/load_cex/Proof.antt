@@ -1,0 +1,18 @@
+-- `exec::load_cex` meets its contract. Assumes nothing.
+use borrow.Author.Needs.{needs}
+use Rattle.machine.specs.Effect.{effectOf}
+use Rattle.exec.proofs.load_cex.Statement.{statement}
+use Rattle.exec.proofs.load_cex.Tie as tie
+
+loaded-cex-requires : tie.Need-loaded-cex-requires
+loaded-cex-requires c κs = search needs
+
+quiet-requires : tie.Need-quiet-requires
+quiet-requires c κs = search needs
+
+returns : tie.Need-returns
+unfolding effectOf
+returns c = λ regs. cc
+
+pub load-cex-spec : {M : Type 1} → statement M
+load-cex-spec = tie.close (tie.spec loaded-cex-requires quiet-requires returns)

@@ -1,0 +1,23 @@
+-- `exec::set_priority` meets its contract. Assumes nothing.
+use borrow.Author.Tests.{lt-ltb, le-ltb}
+use borrow.Author.Needs.{needs}
+use Rattle.machine.specs.Effect.{effectOf}
+use Rattle.exec.proofs.set_priority.Statement.{statement}
+use Rattle.exec.proofs.set_priority.Tie as tie
+
+returns : tie.Need-returns
+unfolding effectOf
+returns c = λ regs. rw (lt-ltb _ _ (c .if1 .taken))
+
+priority-put-requires : tie.Need-priority-put-requires
+priority-put-requires c κs = search needs
+
+quiet-requires : tie.Need-quiet-requires
+quiet-requires c κs = search needs
+
+returns-2 : tie.Need-returns-2
+unfolding effectOf
+returns-2 c = λ regs. rw (le-ltb _ _ (c .before .before .if1 .left)) (cc)
+
+pub set-priority-spec : {M : Type 1} → statement M
+set-priority-spec = tie.close (tie.spec returns priority-put-requires quiet-requires returns-2)

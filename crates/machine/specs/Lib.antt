@@ -1,0 +1,12 @@
+pub mod State
+pub mod Memory
+pub mod Record
+pub mod Events
+pub mod Devices
+pub mod Cex
+pub mod Entry
+pub mod Effect
+pub mod Step
+pub mod Run
+pub mod Refusal
+pub mod Call

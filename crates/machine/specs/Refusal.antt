@@ -1,0 +1,69 @@
+-- Which runs are turned back (document 01, "Who can be turned back"): a definition over the raw buffers and numbers.
+-- Assumes nothing.
+use Prim.Native.Nat.{ℕ, zero, suc, _+_, _*_, _/_, _%_}
+use mathlib.Core.Bool.{Bool, true, false, cond, not, _&&_}
+use mathlib.Core.List.{List, [], _∷_}
+use lib.Dec.{eqb, ltb, leb}
+use lib.ListN.{length}
+use Rattle.machine.specs.declared.Verdict.{Verdict}
+use Rattle.machine.specs.declared.Verdict.the-variants.{Accepted, MemoryLength, StepCount, RecordLength, RecordBits, EventsLength, EventFields, EventOrder}
+use Rattle.machine.specs.Memory.{byteAt}
+use Rattle.machine.specs.Record.{twoAt, fourAt}
+use Rattle.machine.specs.Events.{eventAt, eventCount}
+
+-- Bits 12-9 of the PSW, bits 15-7 of the CEX state and bytes 26-31 are zero, and halted is 0 or 1. [01 Who can be turned back, 4]
+unfoldable pub recordFits : List ℕ → Bool
+recordFits r =
+    eqb (twoAt r 16 / 512 % 16) 0
+    && ltb (twoAt r 18) 128
+    && ltb (byteAt r 21) 2
+    && eqb (twoAt r 26) 0
+    && eqb (twoAt r 28) 0
+    && eqb (twoAt r 30) 0
+
+-- A multiple of 8 bytes, at most 4,096 records. [01 Who can be turned back, 5]
+abbrev pub eventsFit : ℕ → Bool
+eventsFit n = eqb (n % 8) 0 && leb n 32768
+
+-- Device at most 7, bytes 6-7 zero. [01 Who can be turned back, 6]
+unfoldable pub eventFits : List ℕ → ℕ → Bool
+eventFits b k = ltb (byteAt b (8 * k + 4)) 8 && eqb (twoAt b (8 * k + 6)) 0
+
+-- the first n records have it
+unfoldable pub eventsFitBelow : List ℕ → ℕ → Bool
+eventsFitBelow b zero = true
+eventsFitBelow b (suc n) = eventsFitBelow b n && eventFits b n
+
+-- Each of the first n records but the first has a step not below the one before it. [01 Who can be turned back, 7]
+unfoldable pub inOrder : List ℕ → ℕ → Bool
+inOrder b k = leb (eventAt b k .step) (eventAt b (suc k) .step)
+
+unfoldable pub inOrderBelow : List ℕ → ℕ → Bool
+inOrderBelow b zero = true
+inOrderBelow b (suc zero) = true
+inOrderBelow b (suc (suc n)) = inOrderBelow b (suc n) && inOrder b n
+
+-- The first rule that is broken, in the order in which they are tested. The sum of 2 is compared once 3 has passed.
+-- [01 Who can be turned back]
+unfoldable pub verdictOf : (memory r events : List ℕ) (n : ℕ) → Verdict
+verdictOf memory r events n =
+    cond (not (eqb (length memory) 65536)) MemoryLength
+    (cond (ltb 1000000 n) StepCount
+    (cond (not (eqb (length r) 32)) RecordLength
+    (cond (ltb 4294967295 (fourAt r 22 + n)) StepCount
+    (cond (not (recordFits r)) RecordBits
+    (cond (not (eventsFit (length events))) EventsLength
+    (cond (not (eventsFitBelow events (eventCount events))) EventFields
+    (cond (not (inOrderBelow events (eventCount events))) EventOrder
+    Accepted)))))))
+
+-- The paper's number of each case; 0 stands for none. [01 Who can be turned back]
+abbrev pub refusalNumber : Verdict → ℕ
+refusalNumber Accepted = 0
+refusalNumber MemoryLength = 1
+refusalNumber StepCount = 2
+refusalNumber RecordLength = 3
+refusalNumber RecordBits = 4
+refusalNumber EventsLength = 5
+refusalNumber EventFields = 6
+refusalNumber EventOrder = 7

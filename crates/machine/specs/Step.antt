@@ -1,0 +1,151 @@
+-- One step of the machine, in the seven points of document 01, "One step, in order". A plan reads the state and says what
+-- the step does; its performance gives what the step leaves, memory's change being a list of byte writes.
+-- Assumes nothing.
+use Prim.Native.Nat.{ℕ, suc, _+_, _%_}
+use mathlib.Core.Bool.{Bool, true, false, cond, not, _&&_, _||_}
+use mathlib.Core.List.{List, []}
+use lib.Dec.{eqb, ltb}
+use lib.ListN.{set}
+use Rattle.word.specs.Psw.{asleep?, faulted?, current, previous}
+use Rattle.isa.specs.Decode.{decodeOf}
+use Rattle.machine.specs.declared.Access.{Access}
+use Rattle.machine.specs.declared.Access.the-variants.{Nothing, Load, Store, Fault, Trap}
+use Rattle.machine.specs.State.{Core, State, sp, pc, wrap}
+use Rattle.machine.specs.Memory.{wordAt, Write, commit, valueAt}
+use Rattle.machine.specs.Events.{Event}
+use Rattle.machine.specs.Devices.{fallen, deliver, loadWrites, storeWrites}
+use Rattle.machine.specs.Cex.{skips?, lowered}
+use Rattle.machine.specs.Entry.{priority, best, above, vectored, pushed, pushes, pulled}
+use Rattle.machine.specs.Effect.{Effect, effectOf, loaded}
+
+-- What a step does. A halted machine takes no step. [01 One step, in order]
+pub data Act : Type 0 where
+  stopped : Act
+  pull : Act
+  chain : (d : ℕ) → Act
+  accept : (d : ℕ) → Act
+  sleep : Act
+  fault : (v : ℕ) → Act
+  halt : Act
+  skip : Act
+  trap : (v : ℕ) → Act
+  plain : Act
+  loads : (byte : Bool) (a d : ℕ) → Act
+  stores : (byte : Bool) (a v : ℕ) → Act
+
+-- the act, and the core that it starts from
+pub record Plan : Type 0 where
+  pub core : Core
+  pub act : Act
+
+abbrev pub planned : Core → Act → Plan
+planned c a = record { core = c; act = a }
+
+-- Points 2 and 3: "SLP clear and PC = #FFFF: return", else the best line is accepted "if that priority is above the
+-- PSW's". A return that finds a line above the previous priority enters it instead. [01 One step, in order, 2, 3; 01 Return]
+pub data Interrupt : Type 0 where
+  pulls : Interrupt
+  chains : (d : ℕ) → Interrupt
+  accepts : (d : ℕ) → Interrupt
+  nothing : Interrupt
+
+abbrev pub returns? : Core → Bool
+returns? c = not (asleep? (c .psw)) && eqb (pc c) 0xFFFF
+
+unfoldable pub interruptOf : Core → (lines : ℕ) → List ℕ → Interrupt
+interruptOf c l m =
+    let d = best l m in
+    cond (returns? c)
+    (cond (above m d (previous (c .psw))) (chains d) pulls)
+    (cond (above m d (current (c .psw))) (accepts d) nothing)
+
+-- PC past the instruction, its CEX count lowered. [01 One step, in order, 6, 7; 01 CEX]
+unfoldable pub advanced : Core → Core
+advanced c = record { regs = set (c .regs) 7 (wrap (pc c + 2)); psw = c .psw; cex = lowered (c .cex) }
+
+-- A fault v from the core c; with FLT set it halts and leaves the core as it was before the step. [01 Faults]
+abbrev pub faulting : (before c : Core) → ℕ → Plan
+faulting before c v = cond (faulted? (before .psw)) (planned before halt) (planned c (fault v))
+
+-- What an instruction asks for, granted: SVC to a vector whose priority is not above the current one is fault 10. A
+-- faulting instruction changes nothing besides its CEX count and PC. [01 Faults]
+unfoldable pub granted : (before x : Core) → Access → List ℕ → Plan
+granted c x Nothing m = planned x plain
+granted c x (Load byte a d) m = planned x (loads byte a d)
+granted c x (Store byte a v) m = planned x (stores byte a v)
+granted c x (Fault v) m = faulting c (advanced c) v
+granted c x (Trap v) m =
+    cond (ltb (current (c .psw)) (priority m v)) (planned x (trap v)) (faulting c (advanced c) 10)
+
+abbrev pub executed : Core → Effect → List ℕ → Plan
+executed c e m = granted c (e .core) (e .access) m
+
+-- Points 4 to 7: asleep, odd PC, a CEX block that skips, else fetch, decode and execute. [01 One step, in order, 4 to 7]
+unfoldable pub instructionOf : Core → List ℕ → Plan
+instructionOf c m =
+    cond (asleep? (c .psw)) (planned c sleep)
+    (cond (eqb (pc c % 2) 1) (faulting c c 9)
+    (cond (skips? (c .cex)) (planned (advanced c) skip)
+    (executed c (effectOf (advanced c) (decodeOf (wordAt m (pc c)))) m)))
+
+abbrev pub chosen : Interrupt → Core → Plan → Plan
+chosen pulls c p = planned c pull
+chosen (chains d) c p = planned c (chain d)
+chosen (accepts d) c p = planned c (accept d)
+chosen nothing c p = p
+
+-- the plan of a state whose due events are applied
+unfoldable pub planOf : State → Plan
+planOf s =
+    cond (s .halted) (planned (s .core) stopped)
+    (chosen (interruptOf (s .core) (s .lines) (s .mem)) (s .core) (instructionOf (s .core) (s .mem)))
+
+-- what a step leaves: core, lines, halted mark, and the bytes that it writes, in order
+pub record Outcome : Type 0 where
+  pub core : Core
+  pub lines : ℕ
+  pub halted : Bool
+  pub writes : List Write
+
+abbrev pub outcome : Core → ℕ → List Write → Outcome
+outcome c l ws = record { core = c; lines = l; halted = false; writes = ws }
+
+-- An entry that pushes: the vector is read before the pushes; previous priority is the old current; FLT is set exactly if
+-- it was set or this is a fault. [01 Entry]
+abbrev pub entered : Core → List ℕ → ℕ → (fault : Bool) → Core
+entered c m v f = vectored c m v (current (c .psw)) (f || faulted? (c .psw)) (pushed c)
+
+-- A chained entry pushes nothing and keeps the previous priority. [01 Return]
+abbrev pub chained : Core → List ℕ → ℕ → Core
+chained c m v = vectored c m v (previous (c .psw)) (faulted? (c .psw)) (sp c)
+
+-- "An accepted or chained line falls." [01 Entry; 01 Return; 01 Faults; 01 Devices]
+unfoldable pub perform : Act → Core → (lines : ℕ) → List ℕ → Outcome
+perform stopped c l m = record { core = c; lines = l; halted = true; writes = [] }
+perform pull c l m = outcome (pulled c m) l []
+perform (chain d) c l m = outcome (chained c m d) (fallen l d) []
+perform (accept d) c l m = outcome (entered c m d false) (fallen l d) (pushes c)
+perform sleep c l m = outcome c l []
+perform (fault v) c l m = outcome (entered c m v true) l (pushes c)
+perform halt c l m = record { core = c; lines = l; halted = true; writes = [] }
+perform skip c l m = outcome c l []
+perform (trap v) c l m = outcome (entered c m v false) l (pushes c)
+perform plain c l m = outcome c l []
+perform (loads byte a d) c l m = outcome (loaded c byte d (valueAt byte m a)) l (loadWrites byte m a)
+perform (stores byte a v) c l m = outcome c l (storeWrites byte m a v)
+
+-- the outcome of the step that begins in s, its due events applied
+abbrev pub outcomeOf : State → Outcome
+outcomeOf s = perform (planOf s .act) (planOf s .core) (s .lines) (s .mem)
+
+-- what an outcome makes of the memory m and the count n. "The step count then gains 1." [01 One step, in order]
+abbrev pub closed : Outcome → (n : ℕ) → List ℕ → State
+closed o n m =
+    record { core = o .core; lines = o .lines; halted = o .halted; count = n + 1; mem = commit (o .writes) m }
+
+abbrev pub finished : State → State
+finished s = closed (outcomeOf s) (s .count) (s .mem)
+
+-- One step with the event list: point 1, then the plan and its outcome. "A halted machine takes no step." [01 One step, in order]
+unfoldable pub stepOf : List Event → State → State
+stepOf ev s = cond (s .halted) s (finished (deliver ev s))

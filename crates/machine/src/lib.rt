@@ -1,0 +1,47 @@
+// The types of the XM-23 machine. Their meaning is in specs/, in the order of document 01; the
+// code over them stands in the crates above, so that theorems about the definitions do not
+// depend on it.
+
+// One machine: eight registers (R5 is LR, R6 SP, R7 PC), PSW, CEX state, waiting lines (bit d for
+// device d), halted mark and step count. Memory is lent beside it.
+pub struct Machine {
+    pub regs: [u16; 8],
+    pub psw: u16,
+    pub cex: u16,
+    pub lines: u8,
+    pub halted: bool,
+    pub count: u32,
+}
+
+// A byte's place in memory, and a word's: word w is bytes 2 * w and 2 * w + 1.
+pub struct ByteAddr(pub u16);
+
+pub struct WordAddr(pub u16);
+
+// What an instruction asks of the machine beyond its own registers and PSW: nothing, a load into a
+// register, a store of a value, a fault, or a trap to a vector.
+pub enum Access {
+    Nothing,
+    Load { byte: bool, at: u16, dst: u8 },
+    Store { byte: bool, at: u16, value: u16 },
+    Fault(u8),
+    Trap(u8),
+}
+
+// Why a run ended: all its steps were done, or the machine is halted.
+pub enum Reason {
+    Done,
+    Halted,
+}
+
+// Whether a run's buffers and step count are accepted, or the first rule that they break.
+pub enum Verdict {
+    Accepted,
+    MemoryLength,
+    StepCount,
+    RecordLength,
+    RecordBits,
+    EventsLength,
+    EventFields,
+    EventOrder,
+}

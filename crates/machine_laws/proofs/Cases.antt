@@ -1,0 +1,75 @@
+-- A test's value as a fact about its numbers, a fact as the test's value, and proofs by cases. Assumes nothing.
+use Prim.Native.Nat.{ℕ, _<_, _≤_}
+use mathlib.Core.Bool.{Bool, true, false, _&&_, false≢true}
+use mathlib.Core.List.{List, [], _∷_}
+use mathlib.Core.Logic.{_≢_}
+use mathlib.Core.Path.{_≡_, refl, sym, subst}
+use lib.Dec.{T, eqb, ltb, leb}
+use borrow.Author.Tests.{ltb-true, ltb-false, leb-true, leb-false, eqb-true, eqb-false, lt-ltb, le-ltb, le-leb, lt-leb, eq-eqb, ne-eqb}
+
+-- a fact by the two values of a test, and by the two shapes of a list
+pub bool-cases {ℓ} : {P : Type ℓ} (b : Bool) → (b ≡ true → P) → (b ≡ false → P) → P
+bool-cases true f g = f refl
+bool-cases false f g = g refl
+
+pub list-cases {ℓ ℓ′} : {A : Type ℓ} {R : Type ℓ′} (l : List A) → (l ≡ [] → R) → ((x : A) (xs : List A) → l ≡ x ∷ xs → R) → R
+list-cases [] f g = f refl
+list-cases (x ∷ xs) f g = g x xs refl
+
+pub to-T : {b : Bool} → b ≡ true → T b
+to-T e = subst T (sym e) tt
+
+pub from-T : {b : Bool} → T b → b ≡ true
+from-T {b} t = bool-cases b (λ e. e) (λ e. absurd (subst T e t))
+
+-- tests of numbers
+pub eq-of : {m n : ℕ} → eqb m n ≡ true → m ≡ n
+eq-of {m} {n} e = eqb-true m n e
+
+pub neq-of : {m n : ℕ} → eqb m n ≡ false → m ≢ n
+neq-of {m} {n} e = eqb-false m n e
+
+pub lt-of : {m n : ℕ} → ltb m n ≡ true → m < n
+lt-of {m} {n} e = ltb-true m n e
+
+pub ge-of : {m n : ℕ} → ltb m n ≡ false → n ≤ m
+ge-of {m} {n} e = ltb-false m n e
+
+pub le-of : {m n : ℕ} → leb m n ≡ true → m ≤ n
+le-of {m} {n} e = leb-true m n e
+
+pub gt-of : {m n : ℕ} → leb m n ≡ false → n < m
+gt-of {m} {n} e = leb-false m n e
+
+pub eq-self : (n : ℕ) → eqb n n ≡ true
+eq-self n = eq-eqb n n refl
+
+pub is-eq : {m n : ℕ} → m ≡ n → eqb m n ≡ true
+is-eq {m} {n} h = eq-eqb m n h
+
+pub not-eq : {m n : ℕ} → m ≢ n → eqb m n ≡ false
+not-eq {m} {n} h = ne-eqb m n h
+
+pub is-lt : {m n : ℕ} → m < n → ltb m n ≡ true
+is-lt {m} {n} h = lt-ltb m n h
+
+pub not-lt : {m n : ℕ} → n ≤ m → ltb m n ≡ false
+not-lt {m} {n} h = le-ltb m n h
+
+pub is-le : {m n : ℕ} → m ≤ n → leb m n ≡ true
+is-le {m} {n} h = le-leb m n h
+
+pub not-le : {m n : ℕ} → n < m → leb m n ≡ false
+not-le {m} {n} h = lt-leb m n h
+
+-- both of two tests
+pub and-left : (a b : Bool) → a && b ≡ true → a ≡ true
+and-left true b e = refl
+and-left false b e = absurd (false≢true e)
+
+pub and-right : (a b : Bool) → a && b ≡ true → b ≡ true
+and-right true b e = e
+and-right false b e = absurd (false≢true e)
+
+pub and-both : {a b : Bool} → a ≡ true → b ≡ true → a && b ≡ true
+and-both {a} {b} p q = rw (p, q) refl

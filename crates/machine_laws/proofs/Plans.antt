@@ -1,0 +1,75 @@
+-- A plan by the seven points of a step: what holds in each of its cases holds of it. Assumes nothing.
+use Prim.Native.Nat.{ℕ, _%_}
+use mathlib.Core.Bool.{true, false, cond}
+use mathlib.Core.List.{List}
+use mathlib.Core.Path.{_≡_, refl, sym, ap, subst}
+use lib.Dec.{eqb}
+use Rattle.word.specs.Psw.{asleep?}
+use Rattle.isa.specs.Decode.{decodeOf}
+use Rattle.machine.specs.State.{Core, State, pc}
+use Rattle.machine.specs.Memory.{wordAt}
+use Rattle.machine.specs.Cex.{skips?}
+use Rattle.machine.specs.Effect.{effectOf}
+use Rattle.machine.specs.Step
+use Rattle.machine.specs.Step.{Plan, Interrupt, planned, interruptOf, advanced, faulting, executed, instructionOf, chosen, planOf}
+use Rattle.machine_laws.proofs.Cases.{bool-cases}
+
+-- points 4 to 7
+pub instruction-cases : (c : Core) (m : List ℕ) (R : Plan → Type 0)
+    → (asleep? (c .psw) ≡ true → R (planned c Step.sleep))
+    → (asleep? (c .psw) ≡ false → eqb (pc c % 2) 1 ≡ true → R (faulting c c 9))
+    → (asleep? (c .psw) ≡ false → eqb (pc c % 2) 1 ≡ false → skips? (c .cex) ≡ true → R (planned (advanced c) Step.skip))
+    → (asleep? (c .psw) ≡ false → eqb (pc c % 2) 1 ≡ false → skips? (c .cex) ≡ false
+    → R (executed c (effectOf (advanced c) (decodeOf (wordAt m (pc c)))) m))
+    → R (instructionOf c m)
+unfolding instructionOf
+instruction-cases c m R sleeps odd skip runs =
+    bool-cases (asleep? (c .psw))
+    (λ q. rw q (sleeps q))
+    (λ q. bool-cases (eqb (pc c % 2) 1)
+    (λ q₁. rw (q, q₁) (odd q q₁))
+    (λ q₁. bool-cases (skips? (c .cex))
+    (λ q₂. rw (q, q₁, q₂) (skip q q₁ q₂))
+    (λ q₂. rw (q, q₁, q₂) (runs q q₁ q₂))))
+
+by-interrupt : (i : Interrupt) (c : Core) (p : Plan) (R : Plan → Type 0)
+    → (i ≡ Step.pulls → R (planned c Step.pull))
+    → ((d : ℕ) → i ≡ Step.chains d → R (planned c (Step.chain d)))
+    → ((d : ℕ) → i ≡ Step.accepts d → R (planned c (Step.accept d)))
+    → (i ≡ Step.nothing → R p)
+    → R (chosen i c p)
+by-interrupt Step.pulls c p R f g h k = f refl
+by-interrupt (Step.chains d) c p R f g h k = g d refl
+by-interrupt (Step.accepts d) c p R f g h k = h d refl
+by-interrupt Step.nothing c p R f g h k = k refl
+
+-- a halted machine, then points 2 and 3, then the rest
+pub plan-cases : (s : State) (R : Plan → Type 0)
+    → (s .halted ≡ true → R (planned (s .core) Step.stopped))
+    → (s .halted ≡ false → interruptOf (s .core) (s .lines) (s .mem) ≡ Step.pulls → R (planned (s .core) Step.pull))
+    → ((d : ℕ) → s .halted ≡ false → interruptOf (s .core) (s .lines) (s .mem) ≡ Step.chains d → R (planned (s .core) (Step.chain d)))
+    → ((d : ℕ) → s .halted ≡ false → interruptOf (s .core) (s .lines) (s .mem) ≡ Step.accepts d → R (planned (s .core) (Step.accept d)))
+    → (s .halted ≡ false → interruptOf (s .core) (s .lines) (s .mem) ≡ Step.nothing → R (instructionOf (s .core) (s .mem)))
+    → R (planOf s)
+unfolding planOf
+plan-cases s R halts pulls chains accepts runs =
+    let i = interruptOf (s .core) (s .lines) (s .mem) in
+    let p = instructionOf (s .core) (s .mem) in
+    bool-cases (s .halted)
+    (λ q. subst (λ b. R (cond b (planned (s .core) Step.stopped) (chosen i (s .core) p))) (sym q) (halts q))
+    (λ q. subst (λ b. R (cond b (planned (s .core) Step.stopped) (chosen i (s .core) p))) (sym q)
+    (by-interrupt i (s .core) p R (pulls q) (λ d. chains d q) (λ d. accepts d q) (runs q)))
+
+-- the plan of a machine that is not halted, and that of a halted one
+pub plan-live : (s : State) → s .halted ≡ false
+    → planOf s ≡ chosen (interruptOf (s .core) (s .lines) (s .mem)) (s .core) (instructionOf (s .core) (s .mem))
+unfolding planOf
+plan-live s h =
+    let p = chosen (interruptOf (s .core) (s .lines) (s .mem)) (s .core) (instructionOf (s .core) (s .mem)) in
+    ap (λ b. cond b (planned (s .core) Step.stopped) p) h
+
+pub plan-halted : (s : State) → s .halted ≡ true → planOf s ≡ planned (s .core) Step.stopped
+unfolding planOf
+plan-halted s h =
+    let p = chosen (interruptOf (s .core) (s .lines) (s .mem)) (s .core) (instructionOf (s .core) (s .mem)) in
+    ap (λ b. cond b (planned (s .core) Step.stopped) p) h

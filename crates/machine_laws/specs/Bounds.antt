@@ -1,0 +1,100 @@
+-- The bounds that every accepted machine keeps: bytes, words, eight registers, and the zero bits of PSW and CEX state
+-- (document 01, "State and memory"); and the accesses by which an instruction gives up its own effect.
+-- Assumes nothing.
+use Prim.Native.Nat.{ℕ, _+_, _/_, _%_, _<_}
+use mathlib.Core.List.{List, [], _∷_}
+use mathlib.Core.Logic.{_⊎_}
+use mathlib.Core.Path.{_≡_}
+use lib.ListN.{length}
+use Rattle.machine.specs.declared.Access.{Access}
+use Rattle.machine.specs.declared.Access.the-variants.{Nothing, Load, Store, Fault, Trap}
+use Rattle.machine.specs.State.{Core, State, reg, wrap}
+use Rattle.machine.specs.Memory.{byteAt, even, span}
+use Rattle.machine.specs.Events.{Event}
+use Rattle.machine.specs.Entry.{pushed}
+use Rattle.machine.specs.Step.{Act, stopped, pull, chain, accept, sleep, fault, halt, skip, trap, plain, loads, stores}
+
+-- Every element has the property. [01 State and memory]
+abbrev pub Each {ℓ} : {A : Type ℓ} → (A → Type 0) → List A → Type 0
+Each P [] = Unit {0}
+Each P (x ∷ xs) = P x × Each P xs
+
+-- A buffer of bytes. [01 State and memory]
+abbrev pub Bytes : List ℕ → Type 0
+Bytes b = (i : ℕ) → byteAt b i < 256
+
+-- Eight registers, words; the PSW a word with bits 12-9 zero; the CEX state with bits 15-7 zero. [01 State and memory]
+pub record TidyCore (c : Core) : Type 0 where
+  pub eight : length (c .regs) ≡ 8
+  pub words : (i : ℕ) → reg c i < 65536
+  pub psw-word : c .psw < 65536
+  pub psw-zeros : c .psw / 512 % 16 ≡ 0
+  pub cex-small : c .cex < 128
+
+-- A tidy core, eight lines, and a memory of 65,536 bytes. [01 State and memory]
+pub record Tidy (s : State) : Type 0 where
+  pub core : TidyCore (s .core)
+  pub lines : s .lines < 256
+  pub size : length (s .mem) ≡ 65536
+  pub bytes : Bytes (s .mem)
+
+-- A fault or a trap: the instruction's own effect is not taken. [01 Faults]
+abbrev pub Quits : Access → Type 0
+Quits Nothing = ⊥
+Quits (Load byte a d) = ⊥
+Quits (Store byte a v) = ⊥
+Quits (Fault v) = Unit {0}
+Quits (Trap v) = Unit {0}
+
+-- Addresses are below 65,536, stored values are words, and a register or a vector is one that there is.
+-- [01 State and memory]
+abbrev pub AccessFits : Access → Type 0
+AccessFits Nothing = Unit {0}
+AccessFits (Load byte a d) = (a < 65536) × (d < 8)
+AccessFits (Store byte a v) = (a < 65536) × (v < 65536)
+AccessFits (Fault v) = v < 16
+AccessFits (Trap v) = v < 16
+
+-- The same of an act, in which a line is one of the eight devices'. [01 State and memory]
+abbrev pub ActFits : Act → Type 0
+ActFits stopped = Unit {0}
+ActFits pull = Unit {0}
+ActFits (chain d) = d < 8
+ActFits (accept d) = d < 8
+ActFits sleep = Unit {0}
+ActFits (fault v) = v < 16
+ActFits halt = Unit {0}
+ActFits skip = Unit {0}
+ActFits (trap v) = v < 16
+ActFits plain = Unit {0}
+ActFits (loads byte a d) = (a < 65536) × (d < 8)
+ActFits (stores byte a v) = (a < 65536) × (v < 65536)
+
+-- An event is a device's, and brings a byte. [01 State and memory]
+abbrev pub EventFits : Event → Type 0
+EventFits e = (e .device < 8) × (e .byte < 256)
+
+-- x is one of the list. [01 Resumption]
+abbrev pub Among : ℕ → List ℕ → Type 0
+Among x [] = ⊥
+Among x (y ∷ ys) = (x ≡ y) ⊎ Among x ys
+
+-- b is one of the eight bytes that an entry from the core c pushes. [01 Entry]
+abbrev pub Pushed : Core → ℕ → Type 0
+Pushed c b = (i : ℕ) × ((i < 8) × (b ≡ wrap (even (pushed c) + i)))
+
+-- The bytes that an act from the core c may write: a push its frame's, a store its own and device registers, a load
+-- device registers, every other act none. [01 Devices; 01 Resumption]
+abbrev pub MayWrite : Act → Core → ℕ → Type 0
+MayWrite stopped c b = ⊥
+MayWrite pull c b = ⊥
+MayWrite (chain d) c b = ⊥
+MayWrite (accept d) c b = Pushed c b
+MayWrite sleep c b = ⊥
+MayWrite (fault v) c b = Pushed c b
+MayWrite halt c b = ⊥
+MayWrite skip c b = ⊥
+MayWrite (trap v) c b = Pushed c b
+MayWrite plain c b = ⊥
+MayWrite (loads byte a d) c b = b < 16
+MayWrite (stores byte a v) c b = Among b (span byte a) ⊎ (b < 16)

@@ -1,0 +1,122 @@
+-- What loads and stores do to a memory, as equations over plain lists and numbers, one for each way through the code.
+-- Assumes nothing.
+use mathlib.Core.Path.{_≡_, refl, sym, ap, _∙_}
+use mathlib.Core.Bool.{true, false, and-false}
+use mathlib.Core.List.{List, [], _∷_, _++_}
+use Prim.Native.Nat.{ℕ, zero, suc, _+_, _-_, _*_, _/_, _%_, _≤_, _<_}
+use native.Mathlib.Omega.{arith}
+use mir.Val.{boolByte}
+use lib.Dec.{eqb, ltb}
+use lib.ListN.{set}
+use borrow.Author.Tests.{lt-ltb, le-ltb, eq-eqb, ne-eqb}
+use Rattle.word.specs.Psw.{putBit, bitOf}
+use Rattle.machine.specs.Memory.{byteAt, even, lowByte, highByte, Write, commit, valueAt}
+use Rattle.machine.specs.Devices.{clearedStatus, storedStatus, loadWrites, byteWrites, storeWrites}
+
+-- a bit, read and put again, is the remainder by 2
+remainder : (n : ℕ) → n < 2 → n ≡ boolByte (eqb n 1)
+remainder zero h = refl
+remainder (suc zero) h = refl
+remainder (suc (suc n)) h = let z : ⊥ = omega arith in elim z [ ]
+
+-- ---- status bytes, as the code works them
+
+pub stored-low : (t v : ℕ) → t / 2 * 2 + v % 2 ≡ putBit 0 t (bitOf 0 v)
+stored-low t v = rw (← remainder (v / 1 % 2) (omega arith)) (omega arith)
+
+pub stored-law : (t v q : ℕ) → q ≡ putBit 0 t (bitOf 0 v) → q / 32 * 32 + v / 16 % 2 * 16 + q % 16 ≡ storedStatus t v
+stored-law t v q e =
+    ap (λ (x : ℕ). q / 32 * 32 + x * 16 + q % 16) (remainder (v / 16 % 2) (omega arith))
+    ∙ ap (λ (x : ℕ). putBit 4 x (bitOf 4 v)) e
+
+pub cleared-law : (t : ℕ) → putBit 2 (t / 16 * 16 + t % 8) false ≡ clearedStatus t
+cleared-law t =
+    let e : t / 16 * 16 + t % 8 ≡ putBit 3 t false = omega arith in
+    ap (λ (x : ℕ). putBit 2 x false) e
+
+-- ---- loads
+
+module _ (m : List ℕ) (a : ℕ) where
+  pub touch-status : (v : ℕ) → a < 16 → a % 2 ≡ 0 → v ≡ clearedStatus (byteAt m a) → set m a v ≡ commit (loadWrites true m a) m
+  unfolding commit
+  touch-status v h e s = rw (lt-ltb a 16 h, eq-eqb (a % 2) 0 e) (ap (set m a) s)
+
+  pub touch-data : (a % 2 ≡ 0 → ⊥) → m ≡ commit (loadWrites true m a) m
+  unfolding commit
+  touch-data e = rw (ne-eqb (a % 2) 0 e, and-false (ltb a 16))
+
+  pub touch-plain : 16 ≤ a → m ≡ commit (loadWrites true m a) m
+  unfolding commit
+  touch-plain h = rw (le-ltb a 16 h)
+
+pub load-value : (m : List ℕ) {r : ℕ} (w a : ℕ) → w ≡ a / 2 → r ≡ byteAt m (2 * w) + 256 * byteAt m (2 * w + 1) → r ≡ valueAt false m a
+load-value m w a e s = s ∙ ap (λ (x : ℕ). byteAt m (2 * x) + 256 * byteAt m (2 * x + 1)) e
+
+-- a word's load is that of its first byte, as far as memory goes
+pub load-word : (m l : List ℕ) (w a : ℕ) → w ≡ a / 2 → l ≡ commit (loadWrites true m (2 * w)) m → l ≡ commit (loadWrites false m a) m
+load-word m l w a e s = s ∙ ap (λ (x : ℕ). commit (loadWrites true m (2 * x)) m) e
+
+-- ---- stores
+
+pub commit-append : (ws vs : List Write) (m : List ℕ) → commit (ws ++ vs) m ≡ commit vs (commit ws m)
+unfolding commit
+commit-append [] vs m = refl
+commit-append (w ∷ ws) vs m = commit-append ws vs (set m (w .addr) (w .value))
+
+module _ (m : List ℕ) (a v : ℕ) where
+  pub store-status : (t : ℕ) → a < 16 → a % 2 ≡ 0 → t ≡ storedStatus (byteAt m a) v → set m a t ≡ commit (byteWrites m a v) m
+  unfolding commit
+  store-status t h e s = rw (lt-ltb a 16 h, eq-eqb (a % 2) 0 e) (ap (set m a) s)
+
+  -- the data byte of an output device, whose status byte t has its DBA cleared, and of an input device
+  pub store-output :
+      (t : ℕ) → a < 16 → (a % 2 ≡ 0 → ⊥) → (byteAt m (a - 1) / 2 % 2 ≡ 1 → ⊥) → t ≡ putBit 2 (byteAt m (a - 1)) false →
+      set (set m a v) (a - 1) t ≡ commit (byteWrites m a v) m
+  unfolding commit
+  store-output t h e i s = rw (lt-ltb a 16 h, ne-eqb (a % 2) 0 e, ne-eqb (byteAt m (a - 1) / 2 % 2) 1 i) (ap (set (set m a v) (a - 1)) s)
+
+  pub store-input : a < 16 → (a % 2 ≡ 0 → ⊥) → byteAt m (a - 1) / 2 % 2 ≡ 1 → set m a v ≡ commit (byteWrites m a v) m
+  unfolding commit
+  store-input h e i = rw (lt-ltb a 16 h, ne-eqb (a % 2) 0 e, eq-eqb (byteAt m (a - 1) / 2 % 2) 1 i)
+
+  pub store-plain : 16 ≤ a → set m a v ≡ commit (byteWrites m a v) m
+  unfolding commit
+  store-plain h = rw (le-ltb a 16 h)
+
+-- a word stored from byte a on: two bytes, the second into the memory that the first left
+abbrev two-stored : List ℕ → ℕ → ℕ → List ℕ
+two-stored m a v =
+    let n = commit (byteWrites m a (lowByte v)) m in
+    commit (byteWrites n (a + 1) (highByte v)) n
+
+word-stored : (m : List ℕ) (a v : ℕ) → two-stored m (even a) v ≡ commit (storeWrites false m a v) m
+word-stored m a v =
+    sym
+    (commit-append
+    (byteWrites m (even a) (lowByte v))
+    (byteWrites (commit (byteWrites m (even a) (lowByte v)) m) (even a + 1) (highByte v))
+    m)
+
+module _ (m : List ℕ) {l : List ℕ} (w v : ℕ) where
+  word-at : l ≡ two-stored m (2 * w) v → l ≡ commit (storeWrites false m (2 * w) v) m
+  word-at e =
+      let b : 2 * w ≡ even (2 * w) = omega arith in
+      e ∙ ap (λ (x : ℕ). two-stored m x v) b ∙ word-stored m (2 * w) v
+
+  pub store-two :
+      {n : List ℕ} → n ≡ commit (byteWrites m (2 * w) (lowByte v)) m →
+      l ≡ commit (byteWrites n (2 * w + 1) (highByte v)) n → l ≡ commit (storeWrites false m (2 * w) v) m
+  store-two e f = word-at (f ∙ ap (λ (x : List ℕ). commit (byteWrites x (2 * w + 1) (highByte v)) x) e)
+
+  -- above the devices
+  pub store-above :
+      8 ≤ w → l ≡ set (set m (2 * w) (lowByte v)) (2 * w + 1) (highByte v) → l ≡ commit (storeWrites false m (2 * w) v) m
+  store-above h e =
+      store-two
+      (store-plain m (2 * w) (lowByte v) (omega arith))
+      (e ∙ store-plain (set m (2 * w) (lowByte v)) (2 * w + 1) (highByte v) (omega arith))
+
+  pub store-even : (a : ℕ) → w ≡ a / 2 → l ≡ commit (storeWrites false m (2 * w) v) m → l ≡ commit (storeWrites false m a v) m
+  store-even a e s =
+      let b : even (2 * w) ≡ even a = omega arith in
+      s ∙ sym (word-stored m (2 * w) v) ∙ ap (λ (x : ℕ). two-stored m x v) b ∙ word-stored m a v

@@ -1,0 +1,46 @@
+-- `memory::touch` meets its contract. Assumes nothing.
+use Rattle.memory.proofs.Laws.{touch-status, touch-data, touch-plain}
+use denote.Ref.{now}
+use borrow.Author.Needs.{needs}
+use Rattle.memory.proofs.touch.Statement.{statement}
+use Rattle.memory.proofs.touch.Tie as tie
+
+cast-i : tie.Need-cast-i
+cast-i c = search needs
+
+slice-read-cleared-status : tie.Need-slice-read-cleared-status
+slice-read-cleared-status c = search needs
+
+cleared-status-requires : tie.Need-cleared-status-requires
+cleared-status-requires c κs = search needs
+
+slice-write-mem : tie.Need-slice-write-mem
+slice-write-mem c = search needs
+
+same-length : tie.Need-same-length
+same-length c = search needs
+
+returns : tie.Need-returns
+returns c =
+    let s = c .before .before .before .before .before .before in
+    let i = c .before .before .before .if1 .taken in
+    touch-status (now (s .args .mem)) (s .args .a .0) _ i (c .before .before .if2 .taken) (c .cleared-status .ensures)
+
+returns-2 : tie.Need-returns-2
+returns-2 c = touch-data (now (c .before .before .before .before .args .mem)) (c .before .before .before .before .args .a .0) (c .if2 .left)
+
+returns-3 : tie.Need-returns-3
+returns-3 c = touch-plain (now (c .before .before .before .args .mem)) (c .before .before .before .args .a .0) (c .if1 .left)
+
+pub touch-spec : {M : Type 1} → statement M
+touch-spec =
+    tie.close
+    (tie.spec
+    cast-i
+    slice-read-cleared-status
+    cleared-status-requires
+    slice-write-mem
+    same-length
+    returns
+    returns-2
+    returns-3)

@@ -1,0 +1,21 @@
+-- `operands::allowed_flags` meets its contract. Assumes nothing.
+use mathlib.Core.Path.{refl}
+use borrow.Author.Tests.{eq-eqb, ne-eqb}
+use borrow.Author.Needs.{needs}
+use Rattle.operands.proofs.allowed_flags.Statement.{statement}
+use Rattle.operands.proofs.allowed_flags.Tie as tie
+
+mul-result : tie.Need-mul-result
+mul-result c = search needs
+
+add-result : tie.Need-add-result
+add-result c = search needs
+
+returns : tie.Need-returns
+returns c = rw (eq-eqb _ _ (c .if1 .taken)) (refl, search needs)
+
+returns-2 : tie.Need-returns-2
+returns-2 c = rw (ne-eqb _ _ (c .if1 .left)) (refl, search needs)
+
+pub allowed-flags-spec : {M : Type 1} → statement M
+allowed-flags-spec = tie.close (tie.spec mul-result add-result returns returns-2)

@@ -1,0 +1,52 @@
+-- `operands::immediate` meets its contract. Assumes nothing.
+use lib.ListN.{List·getD-eq-default}
+use borrow.Author.Needs.{needs}
+use Rattle.machine.specs.Effect.{immediateOf}
+use Rattle.operands.proofs.Laws.{past}
+use Rattle.operands.proofs.immediate.Statement.{statement}
+use Rattle.operands.proofs.immediate.Tie as tie
+
+mul-result : tie.Need-mul-result
+mul-result c = search needs
+
+add-result : tie.Need-add-result
+add-result c = search needs
+
+add-result-2 : tie.Need-add-result-2
+add-result-2 c = search needs
+
+mul-result-2 : tie.Need-mul-result-2
+mul-result-2 c = search needs
+
+add-result-3 : tie.Need-add-result-3
+add-result-3 c = search needs
+
+returns : tie.Need-returns
+unfolding immediateOf
+returns c = rw (c .match .keys1)
+
+returns-2 : tie.Need-returns-2
+unfolding immediateOf
+returns-2 c = rw (c .match .keys2)
+
+returns-3 : tie.Need-returns-3
+unfolding immediateOf
+returns-3 c = rw (c .match .keys3)
+
+returns-4 : tie.Need-returns-4
+unfolding immediateOf
+returns-4 c = let h = past (c .before .args .op) 3 (c .match .rest) in rw List·getD-eq-default
+
+pub immediate-spec : {M : Type 1} → statement M
+immediate-spec =
+    tie.close
+    (tie.spec
+    mul-result
+    add-result
+    add-result-2
+    mul-result-2
+    add-result-3
+    returns
+    returns-2
+    returns-3
+    returns-4)

@@ -1,0 +1,21 @@
+-- `operands::unary` meets its contract. Assumes nothing.
+use lib.ListN.{List·getD-eq-default}
+use Rattle.machine.specs.Effect.{unaryOf}
+use Rattle.operands.proofs.Laws.{past}
+use Rattle.operands.proofs.unary.Statement.{statement}
+use Rattle.operands.proofs.unary.Tie as tie
+
+returns : tie.Need-returns
+unfolding unaryOf
+returns c = rw (c .match .keys1)
+
+returns-2 : tie.Need-returns-2
+unfolding unaryOf
+returns-2 c = rw (c .match .keys2)
+
+returns-3 : tie.Need-returns-3
+unfolding unaryOf
+returns-3 c = let h = past (c .before .args .op) 2 (c .match .rest) in rw List·getD-eq-default
+
+pub unary-spec : {M : Type 1} → statement M
+unary-spec = tie.close (tie.spec returns returns-2 returns-3)

@@ -1,0 +1,441 @@
+-- At most 7 - p frames are open together: each frame's entry raised the current priority above that of the PSW that it
+-- saved, and a chained entry above the previous priority, which is that of the saved PSW. Assumes nothing.
+use Prim.Native.Nat.{ℕ, zero, suc, _+_, _*_, _-_, _/_, _%_, _<_, _≤_}
+use mathlib.Core.Bool.{Bool, true, false, cond, _&&_, _||_, true≢false}
+use mathlib.Core.List.{List, [], _∷_}
+use native.Mathlib.Nat.{add-zero, add-suc}
+use mathlib.Core.Path.{_≡_, refl, sym, ap, subst, _∙_}
+use native.Mathlib.Omega.{arith}
+use lib.Dec.{ltb, lit<}
+use lib.ListN.{length}
+use Rattle.word.specs.Width.{bit}
+use Rattle.word.specs.Psw.{faulted?, current, previous}
+use Rattle.word.proofs.Laws.{bit-le}
+use Rattle.isa.specs.declared.Instr.{Instr}
+use Rattle.isa.specs.declared.Instr.the-variants as i
+use Rattle.isa.specs.Decode.{decodeOf}
+use Rattle.isa.specs.Fields.{Fields}
+use Rattle.isa.proofs.Laws.{decode-fields}
+use Rattle.machine.specs.declared.Access.{Access}
+use Rattle.machine.specs.declared.Access.the-variants.{Nothing, Load, Store, Fault, Trap}
+use Rattle.machine.specs.State.{Core, State, sp, pc, wrap}
+use Rattle.machine.specs.Memory.{wordAt, commit}
+use Rattle.machine.specs.Record.{stateIn}
+use Rattle.machine.specs.Events.{Event, eventsOf}
+use Rattle.machine.specs.Entry.{vectorPsw, priority, best, above, vectored, enteredPsw, pulled, pulledPsw}
+use Rattle.machine.specs.Effect.{effectOf}
+use Rattle.machine.specs.Step.{Act, Interrupt, pulls, chains, accepts, nothing, interruptOf, returns?, advanced, granted, instructionOf}
+use Rattle.machine.specs.Step.{planOf, perform, outcomeOf, finished}
+use Rattle.machine.specs.Step.{stopped, pull, chain, accept, sleep, fault, halt, skip, trap, plain, loads, stores}
+use Rattle.machine_laws.specs.Bounds.{Each, Tidy, EventFits}
+use Rattle.machine_laws.specs.Passed.{Passed}
+use Rattle.machine_laws.proofs.Cases.{bool-cases, lt-of, ge-of, and-right}
+use Rattle.machine_laws.proofs.Effects.{SamePriorities, effect-priorities}
+use Rattle.machine_laws.proofs.Plans.{instruction-cases, plan-cases, plan-halted}
+use Rattle.machine_laws.proofs.Runs.{step-halted, step-live, run-zero, run-step}
+use Rattle.machine_laws.proofs.Steps.{deliver-tidy, deliver-core, deliver-halted, run-tidy}
+use Rattle.resume.specs.Frames.{Frame, Calm, none?, framesAfter, after, due, act, frames}
+use Rattle.machine_laws.proofs.Records.{passed, start-tidy, events-fit}
+use Rattle.resume.specs.Depth.{setPri?, executes?, setsPriority?, lesser, lowest, Shallow, DepthPremises}
+use Rattle.resume.proofs.Frame.{Saved, saves, found-word}
+use Rattle.resume.proofs.Same.{Steady, instruction-steady, faulting-uncalm, fault-uncalm, trap-uncalm}
+use Rattle.resume.proofs.Step.{plan-core, plan-moves}
+
+-- ---- priorities of the words that entries and returns make
+
+entered-sum : (x y z q : ℕ) → x < 8 → y < 16 → z ≤ 1 → (x + y * 16 + z * 256 + q * 8192) / 32 % 8 ≡ y / 2 % 8
+entered-sum x y z q hx hy hz =
+    let a : (x + y * 16 + z * 256 + q * 8192) / 32 ≡ y / 2 + z * 8 + q * 256 = omega arith in
+    rw a (omega arith)
+
+entered-top : (x y z q : ℕ) → x < 8 → y < 16 → z ≤ 1 → q < 8 → (x + y * 16 + z * 256 + q * 8192) / 8192 % 8 ≡ q
+entered-top x y z q hx hy hz hq =
+    let a : (x + y * 16 + z * 256 + q * 8192) / 8192 ≡ q = omega arith in
+    rw a (omega arith)
+
+entered-priorities : (p q : ℕ) (f : Bool) → q < 8 → (current (enteredPsw p q f) ≡ current p) × (previous (enteredPsw p q f) ≡ q)
+unfolding enteredPsw
+entered-priorities p q f h =
+    let b : p / 16 % 16 / 2 % 8 ≡ p / 32 % 8 = omega arith in (
+      entered-sum (p % 8) (p / 16 % 16) (bit f) q (omega arith) (omega arith) (bit-le f) ∙ b,
+      entered-top (p % 8) (p / 16 % 16) (bit f) q (omega arith) (omega arith) (bit-le f) h,
+    )
+
+pulled-sum : (x y z : ℕ) → x < 8 → (x + y * 16 + z * 8192) / 32 % 8 ≡ y / 2 % 8
+pulled-sum x y z h =
+    let a : (x + y * 16 + z * 8192) / 32 ≡ y / 2 + z * 256 = omega arith in
+    rw a (omega arith)
+
+pulled-top : (x y z : ℕ) → x < 8 → y < 32 → z < 8 → (x + y * 16 + z * 8192) / 8192 % 8 ≡ z
+pulled-top x y z h k l =
+    let a : (x + y * 16 + z * 8192) / 8192 ≡ z = omega arith in
+    rw a (omega arith)
+
+pulled-priorities : (p : ℕ) → SamePriorities (pulledPsw p) p
+pulled-priorities p =
+    let b : p / 16 % 32 / 2 % 8 ≡ p / 32 % 8 = omega arith in (
+      pulled-sum (p % 8) (p / 16 % 32) (previous p) (omega arith) ∙ b,
+      pulled-top (p % 8) (p / 16 % 32) (previous p) (omega arith) (omega arith) (omega arith),
+    )
+
+-- ---- what an acceptance and a chained entry have shown
+
+Above : (p q : ℕ) (m : List ℕ) → Interrupt → Type 0
+Above p q m pulls = Unit {0}
+Above p q m (chains d) = q < priority m d
+Above p q m (accepts d) = p < priority m d
+Above p q m nothing = Unit {0}
+
+interrupt-above : (c : Core) (l : ℕ) (m : List ℕ) → Above (current (c .psw)) (previous (c .psw)) m (interruptOf c l m)
+unfolding interruptOf Above
+interrupt-above c l m =
+    let d = best l m in
+    bool-cases (returns? c)
+    (λ q. bool-cases (above m d (previous (c .psw)))
+    (λ r. rw (q, r) (lt-of (and-right (ltb d 8) _ r)))
+    (λ r. rw (q, r) tt))
+    (λ q. bool-cases (above m d (current (c .psw)))
+    (λ r. rw (q, r) (lt-of (and-right (ltb d 8) _ r)))
+    (λ r. rw (q, r) tt))
+
+-- the same of the act
+abbrev Higher : (p q : ℕ) (m : List ℕ) → Act → Type 0
+Higher p q m stopped = Unit {0}
+Higher p q m pull = Unit {0}
+Higher p q m (chain d) = q < priority m d
+Higher p q m (accept d) = p < priority m d
+Higher p q m sleep = Unit {0}
+Higher p q m (fault v) = Unit {0}
+Higher p q m halt = Unit {0}
+Higher p q m skip = Unit {0}
+Higher p q m (trap v) = Unit {0}
+Higher p q m plain = Unit {0}
+Higher p q m (loads byte a d) = Unit {0}
+Higher p q m (stores byte a v) = Unit {0}
+
+steady-higher : (p q : ℕ) (m : List ℕ) (a : Act) → Steady a → Higher p q m a
+steady-higher p q m stopped s = tt
+steady-higher p q m pull s = tt
+steady-higher p q m (chain d) s = absurd s
+steady-higher p q m (accept d) s = absurd s
+steady-higher p q m sleep s = tt
+steady-higher p q m (fault v) s = tt
+steady-higher p q m halt s = tt
+steady-higher p q m skip s = tt
+steady-higher p q m (trap v) s = tt
+steady-higher p q m plain s = tt
+steady-higher p q m (loads byte a d) s = tt
+steady-higher p q m (stores byte a v) s = tt
+
+plan-higher : (s : State) (fs : List Frame) → Calm (planOf s .act) fs
+    → Higher (current (s .core .psw)) (previous (s .core .psw)) (s .mem) (planOf s .act)
+unfolding Above
+plan-higher s fs =
+    let p = current (s .core .psw) in
+    let q = previous (s .core .psw) in
+    let u = interrupt-above (s .core) (s .lines) (s .mem) in
+    plan-cases s (λ x. Calm (x .act) fs → Higher p q (s .mem) (x .act))
+    (λ h c. tt)
+    (λ h e c. tt)
+    (λ d h e c. subst (Above p q (s .mem)) e u)
+    (λ d h e c. subst (Above p q (s .mem)) e u)
+    (λ h e c. steady-higher p q (s .mem) (instructionOf (s .core) (s .mem) .act) (instruction-steady (s .core) (s .mem) fs c))
+
+-- ---- an instruction that is no SETPRI keeps both priorities
+
+not-set : (n : Instr) → setPri? n ≡ false → (level : ℕ) → n ≡ i.SetPri level → ⊥
+not-set n h level e = true≢false (sym (ap setPri? e) ∙ h)
+
+module _ (c x : Core) (m : List ℕ) (fs : List Frame) (n : Instr) (e : setPri? n ≡ false → SamePriorities (x .psw) (c .psw)) where
+  granted-priorities : (a : Access) → Calm (granted c x a m .act) fs → executes? (granted c x a m .act) && setPri? n ≡ false
+      → SamePriorities (granted c x a m .core .psw) (c .psw)
+  unfolding granted
+  granted-priorities Nothing h q = e q
+  granted-priorities (Load byte a d) h q = e q
+  granted-priorities (Store byte a v) h q = e q
+  granted-priorities (Fault v) h q = absurd (fault-uncalm c x m fs v h)
+  granted-priorities (Trap v) h q = absurd (trap-uncalm c x m fs v h)
+
+advanced-psw : (c : Core) → advanced c .psw ≡ c .psw
+unfolding advanced
+advanced-psw c = refl
+
+executed-priorities : (c : Core) (n : Instr) → Fields n → setPri? n ≡ false → SamePriorities (effectOf (advanced c) n .core .psw) (c .psw)
+unfolding advanced
+executed-priorities c n f h = effect-priorities (advanced c) n f (not-set n h)
+
+instruction-priorities : (c : Core) (m : List ℕ) (fs : List Frame) → Calm (instructionOf c m .act) fs
+    → executes? (instructionOf c m .act) && setPri? (decodeOf (wordAt m (pc c))) ≡ false
+    → SamePriorities (instructionOf c m .core .psw) (c .psw)
+unfolding advanced
+instruction-priorities c m fs =
+    let n = decodeOf (wordAt m (pc c)) in
+    let x = effectOf (advanced c) n in
+    instruction-cases c m (λ p. Calm (p .act) fs → executes? (p .act) && setPri? n ≡ false → SamePriorities (p .core .psw) (c .psw))
+    (λ q h e. (refl, refl))
+    (λ q r h e. absurd (faulting-uncalm c c 9 fs h))
+    (λ q r o h e. (refl, refl))
+    (λ q r o h e. granted-priorities c (x .core) m fs n (executed-priorities c n (decode-fields (wordAt m (pc c)))) (x .access) h e)
+
+plan-priorities : (s : State) (fs : List Frame) → Calm (planOf s .act) fs → setsPriority? s ≡ false → Steady (planOf s .act)
+    → SamePriorities (planOf s .core .psw) (s .core .psw)
+plan-priorities s fs =
+    let b = setPri? (decodeOf (wordAt (s .mem) (pc (s .core)))) in
+    plan-cases s (λ p. Calm (p .act) fs → executes? (p .act) && b ≡ false → Steady (p .act) → SamePriorities (p .core .psw) (s .core .psw))
+    (λ h c e u. absurd u)
+    (λ h q c e u. absurd u)
+    (λ d h q c e u. absurd u)
+    (λ d h q c e u. absurd u)
+    (λ h q c e u. instruction-priorities (s .core) (s .mem) fs c e)
+
+perform-steady : (a : Act) → Steady a → (c : Core) (l : ℕ) (m : List ℕ) → perform a c l m .core .psw ≡ c .psw
+unfolding perform
+perform-steady stopped s c l m = absurd s
+perform-steady pull s c l m = absurd s
+perform-steady (chain d) s c l m = absurd s
+perform-steady (accept d) s c l m = absurd s
+perform-steady sleep s c l m = refl
+perform-steady (fault v) s c l m = absurd s
+perform-steady halt s c l m = absurd s
+perform-steady skip s c l m = refl
+perform-steady (trap v) s c l m = absurd s
+perform-steady plain s c l m = refl
+perform-steady (loads byte a d) s c l m = refl
+perform-steady (stores byte a v) s c l m = refl
+
+-- ---- the invariant
+
+-- the PSW that a frame holds
+abbrev savedPsw : State → ℕ
+savedPsw t = wordAt (t .mem) (wrap (sp (t .core) + 2))
+
+-- what is known of the PSW w and the frames open under it: each lies above p by as many levels as frames are open, and
+-- its previous priority is the current one of the PSW that the newest frame holds
+abbrev Deep : (p w : ℕ) → List Frame → Type 0
+Deep p w [] = p ≤ current w
+Deep p w (f ∷ fs) =
+    (p + suc (length fs) ≤ current w) × (previous w ≡ current (savedPsw (f .held))) × (sp (f .held .core) < 65536)
+    × Deep p (savedPsw (f .held)) fs
+
+deep-same : (p w v : ℕ) (fs : List Frame) → SamePriorities w v → Deep p v fs → Deep p w fs
+deep-same p w v [] e h = rw (e .0) h
+deep-same p w v (f ∷ fs) e h = (rw (e .0) (h .0), e .1 ∙ h .1, h .2, h .3)
+
+deep-bound : (p w : ℕ) (fs : List Frame) → Deep p w fs → p + length fs ≤ current w
+deep-bound p w [] h = omega arith
+deep-bound p w (f ∷ fs) h = h .0
+
+-- p is at most each current priority held with no frame open
+lesser-left : (a b : ℕ) → lesser a b ≤ a
+lesser-left a b = bool-cases (ltb a b) (λ q. rw q (omega arith)) (λ q. let h : b ≤ a = ge-of q in rw q h)
+
+lesser-right : (a b : ℕ) → lesser a b ≤ b
+lesser-right a b = bool-cases (ltb a b) (λ q. let h : a < b = lt-of q in rw q (omega arith)) (λ q. rw q (omega arith))
+
+module _ (ev : List Event) (s : State) where
+  lowest-falls : (k : ℕ) → lowest ev s (suc k) ≤ lowest ev s k
+  unfolding lowest
+  lowest-falls k =
+      bool-cases (none? (frames ev s (suc k)))
+      (λ q. rw q (lesser-left (lowest ev s k) (current (after ev s (suc k) .core .psw))))
+      (λ q. rw q (omega arith))
+
+  lowest-later : (j k : ℕ) → lowest ev s (k + j) ≤ lowest ev s k
+  lowest-later zero k = rw (add-zero k) (omega arith)
+  lowest-later (suc j) k =
+      let a = lowest-falls (k + j) in
+      let b = lowest-later j k in
+      rw (add-suc k j) (omega arith)
+
+  lowest-here : (k : ℕ) → frames ev s k ≡ [] → lowest ev s k ≤ current (after ev s k .core .psw)
+  unfolding lowest
+  lowest-here zero h = rw (ap (λ r. r .state) (run-zero ev s)) (omega arith)
+  lowest-here (suc k) h =
+      let w = current (after ev s (suc k) .core .psw) in
+      subst (λ b. cond b (lesser (lowest ev s k) w) (lowest ev s k) ≤ w) (sym (ap none? h)) (lesser-right (lowest ev s k) w)
+
+  pub lowest-open : (n k : ℕ) → k ≤ n → frames ev s k ≡ [] → lowest ev s n ≤ current (after ev s k .core .psw)
+  lowest-open n k h o =
+      let e : k + (n - k) ≡ n = omega arith in
+      let a : lowest ev s n ≤ lowest ev s k = subst (λ x. lowest ev s x ≤ lowest ev s k) e (lowest-later (n - k) k) in
+      let b = lowest-here k o in
+      omega arith
+
+module _ (memory r events : List ℕ) (n : ℕ) (P : DepthPremises memory r events n) where
+  abbrev ev : List Event
+  ev = eventsOf events
+
+  abbrev s : State
+  s = stateIn r memory
+
+  rules : Passed memory r events n
+  rules = passed memory r events n (P .accepted .accepted)
+
+  fit : Each EventFits ev
+  fit = events-fit memory r events n rules (P .accepted .event-bytes)
+
+  tidy : Tidy s
+  tidy = start-tidy memory r events n rules (P .accepted .memory-bytes) (P .accepted .record-bytes)
+
+  abbrev p : ℕ
+  p = lowest ev s n
+
+  after-tidy : (k : ℕ) → Tidy (after ev s k)
+  after-tidy k = run-tidy ev s k fit tidy
+
+  due-tidy : (k : ℕ) → Tidy (due ev s k)
+  due-tidy k = deliver-tidy (after ev s k .count) ev (after ev s k) fit (after-tidy k)
+
+  due-core : (k : ℕ) → due ev s k .core ≡ after ev s k .core
+  due-core k = deliver-core (after ev s k .count) ev (after ev s k)
+
+  module _ (k : ℕ) (below : k < n) (D : Deep p (after ev s k .core .psw) (frames ev s k)) where
+    due-deep : Deep p (due ev s k .core .psw) (frames ev s k)
+    due-deep = subst (λ c. Deep p (c .psw) (frames ev s k)) (sym (due-core k)) D
+
+    deep-at : (fs : List Frame) → frames ev s k ≡ fs → Deep p (due ev s k .core .psw) fs
+    deep-at fs o = subst (Deep p (due ev s k .core .psw)) o due-deep
+
+    -- a machine that is halted stays as it is, with its frames
+    halted-deep : after ev s k .halted ≡ true → Deep p (after ev s (suc k) .core .psw) (frames ev s (suc k))
+    unfolding frames
+    halted-deep h =
+        let a : act ev s k ≡ stopped =
+        ap (λ x. x .act) (plan-halted (due ev s k) (deliver-halted (after ev s k .count) ev (after ev s k) ∙ h)) in
+        let t : after ev s (suc k) ≡ after ev s k = run-step ev s k ∙ step-halted ev (after ev s k) h in
+        subst (λ x. Deep p (after ev s (suc k) .core .psw) (framesAfter x (after ev s (suc k)) (frames ev s k))) (sym a)
+        (subst (λ x. Deep p (x .core .psw) (frames ev s k)) (sym t) D)
+
+    module _ (live : after ev s k .halted ≡ false) where
+      due-live : due ev s k .halted ≡ false
+      due-live = deliver-halted (after ev s k .count) ev (after ev s k) ∙ live
+
+      next-is : after ev s (suc k) ≡ finished (due ev s k)
+      next-is = run-step ev s k ∙ step-live ev (after ev s k) live
+
+      onto : (fs : List Frame) → Deep p (finished (due ev s k) .core .psw) fs → Deep p (after ev s (suc k) .core .psw) fs
+      onto fs h = subst (λ t. Deep p (t .core .psw) fs) (sym next-is) h
+
+      outcome-is : (a : Act) → act ev s k ≡ a → (Steady a → ⊥)
+          → outcomeOf (due ev s k) ≡ perform a (due ev s k .core) (due ev s k .lines) (due ev s k .mem)
+      outcome-is a q u =
+          let c = plan-core (due ev s k) (frames ev s k) (P .calm k below) (λ h. u (subst Steady q h)) in
+          λ i. perform (q i) (c i) (due ev s k .lines) (due ev s k .mem)
+
+      higher : (a : Act) → act ev s k ≡ a → Higher (current (due ev s k .core .psw)) (previous (due ev s k .core .psw)) (due ev s k .mem) a
+      higher a q =
+          subst (Higher (current (due ev s k .core .psw)) (previous (due ev s k .core .psw)) (due ev s k .mem)) q
+          (plan-higher (due ev s k) (frames ev s k) (P .calm k below))
+
+      -- an entry
+      accepted-deep : (d : ℕ) → act ev s k ≡ accept d
+          → Deep p (finished (due ev s k) .core .psw) (record { held = after ev s (suc k) } ∷ frames ev s k)
+      unfolding perform vectored
+      accepted-deep d q =
+          let c = due ev s k .core in
+          let m = due ev s k .mem in
+          let o = outcome-is (accept d) q (λ h. h) in
+          let w-is : finished (due ev s k) .core .psw ≡ enteredPsw (vectorPsw m d) (current (c .psw)) (false || faulted? (c .psw)) =
+          ap (λ x. x .core .psw) o in
+          let pr = entered-priorities (vectorPsw m d) (current (c .psw)) (false || faulted? (c .psw)) (omega arith) in
+          let sv : Saved (after ev s (suc k)) c =
+          saves c m (due-tidy k .core) (due-tidy k .size) d (current (c .psw)) (false || faulted? (c .psw)) (after ev s (suc k))
+          (ap (λ t. t .core) next-is ∙ ap (λ x. x .core) o)
+          (ap (λ t. t .mem) next-is ∙ ap (λ x. commit (x .writes) m) o) in
+          let saved-is : savedPsw (after ev s (suc k)) ≡ c .psw =
+          ap (λ x. wordAt (after ev s (suc k) .mem) (wrap (x + 2))) (sv .stack) ∙ sv .psw-word in
+          let up : current (c .psw) < priority m d = higher (accept d) q in
+          let bound : p + length (frames ev s k) ≤ current (c .psw) = deep-bound p (c .psw) (frames ev s k) due-deep in
+          rw w-is (
+            rw (pr .0) (omega arith),
+            pr .1 ∙ sym (ap current saved-is),
+            after-tidy (suc k) .core .words 6,
+            subst (λ w. Deep p w (frames ev s k)) (sym saved-is) due-deep,
+          )
+
+      -- a chained entry
+      chained-deep : (d : ℕ) (f : Frame) (fs : List Frame) → act ev s k ≡ chain d → frames ev s k ≡ f ∷ fs
+          → Deep p (finished (due ev s k) .core .psw) (f ∷ fs)
+      unfolding perform vectored
+      chained-deep d f fs q o =
+          let c = due ev s k .core in
+          let m = due ev s k .mem in
+          let w-is : finished (due ev s k) .core .psw ≡ enteredPsw (vectorPsw m d) (previous (c .psw)) (faulted? (c .psw)) =
+          ap (λ x. x .core .psw) (outcome-is (chain d) q (λ h. h)) in
+          let pr = entered-priorities (vectorPsw m d) (previous (c .psw)) (faulted? (c .psw)) (omega arith) in
+          let old : Deep p (c .psw) (f ∷ fs) = deep-at (f ∷ fs) o in
+          let up : previous (c .psw) < priority m d = higher (chain d) q in
+          let bound : p + length fs ≤ current (savedPsw (f .held)) = deep-bound p _ fs (old .3) in
+          let same : previous (c .psw) ≡ current (savedPsw (f .held)) = old .1 in
+          rw w-is (rw (pr .0) (omega arith), pr .1 ∙ same, old .2, old .3)
+
+      -- a return that pulls
+      pulled-deep : (f : Frame) (fs : List Frame) → act ev s k ≡ pull → frames ev s k ≡ f ∷ fs
+          → Deep p (finished (due ev s k) .core .psw) fs
+      unfolding perform pulled
+      pulled-deep f fs q o =
+          let old : Deep p (due ev s k .core .psw) (f ∷ fs) = deep-at (f ∷ fs) o in
+          let w-is : finished (due ev s k) .core .psw ≡ pulledPsw (savedPsw (f .held)) =
+          ap (λ x. x .core .psw) (outcome-is pull q (λ h. h))
+          ∙ ap pulledPsw (found-word (f .held) (due ev s k) (P .found k f fs below q o) (old .2) 2 (omega arith) (lit< tt)) in
+          rw w-is (deep-same p _ (savedPsw (f .held)) fs (pulled-priorities (savedPsw (f .held))) (old .3))
+
+      -- an instruction in a handler
+      steady-deep : (f : Frame) (fs : List Frame) → Steady (act ev s k) → frames ev s k ≡ f ∷ fs
+          → Deep p (finished (due ev s k) .core .psw) (f ∷ fs)
+      steady-deep f fs st o =
+          let no : setsPriority? (due ev s k) ≡ false = P .no-setpri k below (ap none? o) in
+          let same : SamePriorities (finished (due ev s k) .core .psw) (due ev s k .core .psw) =
+          rw (perform-steady (act ev s k) st (planOf (due ev s k) .core) (due ev s k .lines) (due ev s k .mem))
+          (plan-priorities (due ev s k) (frames ev s k) (P .calm k below) no st) in
+          deep-same p _ (due ev s k .core .psw) (f ∷ fs) same (deep-at (f ∷ fs) o)
+
+      -- with no frame open, p is at most the current priority
+      outside : (a : Act) → act ev s k ≡ a → frames ev s k ≡ [] → framesAfter a (after ev s (suc k)) [] ≡ []
+          → Deep p (after ev s (suc k) .core .psw) []
+      unfolding frames
+      outside a q o e =
+          lowest-open ev s n (suc k) below
+          (ap (λ x. framesAfter x (after ev s (suc k)) (frames ev s k)) q ∙ ap (framesAfter a (after ev s (suc k))) o ∙ e)
+
+      steady-next : (a : Act) → act ev s k ≡ a → (fs : List Frame) → frames ev s k ≡ fs → Steady a
+          → framesAfter a (after ev s (suc k)) [] ≡ []
+          → Deep p (after ev s (suc k) .core .psw) fs
+      steady-next a q [] o st e = outside a q o e
+      steady-next a q (f ∷ fs) o st e = onto (f ∷ fs) (steady-deep f fs (subst Steady (sym q) st) o)
+
+      deep-after : (a : Act) → act ev s k ≡ a → (fs : List Frame) → frames ev s k ≡ fs → Calm a fs
+          → Deep p (after ev s (suc k) .core .psw) (framesAfter a (after ev s (suc k)) fs)
+      deep-after stopped q fs o c = absurd (plan-moves (due ev s k) (frames ev s k) due-live (P .calm k below) q)
+      deep-after pull q [] o c = absurd (true≢false c)
+      deep-after pull q (f ∷ fs) o c = onto fs (pulled-deep f fs q o)
+      deep-after (chain d) q [] o c = absurd (true≢false c)
+      deep-after (chain d) q (f ∷ fs) o c = onto (f ∷ fs) (chained-deep d f fs q o)
+      deep-after (accept d) q fs o c =
+          subst (λ l. Deep p (after ev s (suc k) .core .psw) (record { held = after ev s (suc k) } ∷ l)) o
+          (onto (record { held = after ev s (suc k) } ∷ frames ev s k) (accepted-deep d q))
+      deep-after sleep q fs o c = steady-next sleep q fs o tt refl
+      deep-after (fault v) q fs o c = absurd c
+      deep-after halt q fs o c = absurd c
+      deep-after skip q fs o c = steady-next skip q fs o tt refl
+      deep-after (trap v) q fs o c = absurd c
+      deep-after plain q fs o c = steady-next plain q fs o tt refl
+      deep-after (loads byte a d) q fs o c = steady-next (loads byte a d) q fs o tt refl
+      deep-after (stores byte a v) q fs o c = steady-next (stores byte a v) q fs o tt refl
+
+      live-deep : Deep p (after ev s (suc k) .core .psw) (frames ev s (suc k))
+      unfolding frames
+      live-deep = deep-after (act ev s k) refl (frames ev s k) refl (P .calm k below)
+
+  deep : (k : ℕ) → k ≤ n → Deep p (after ev s k .core .psw) (frames ev s k)
+  unfolding frames
+  deep zero h = lowest-open ev s n 0 h refl
+  deep (suc k) h =
+      let d = deep k (omega arith) in
+      bool-cases (after ev s k .halted) (halted-deep k h d) (live-deep k h d)
+
+  pub depth : Shallow memory r events n
+  depth k h =
+      let b = deep-bound p (after ev s k .core .psw) (frames ev s k) (deep k h) in
+      let c : current (after ev s k .core .psw) < 8 = omega arith in
+      omega arith

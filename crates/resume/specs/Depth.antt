@@ -1,0 +1,97 @@
+-- How many frames can be open together (document 01, "Depth"), in the run of an accepted start, event list and step
+-- count.
+-- Assumes nothing.
+use Prim.Native.Nat.{ℕ, zero, suc, _-_, _<_, _≤_}
+use mathlib.Core.Bool.{Bool, true, false, cond, _&&_}
+use mathlib.Core.List.{List, _∷_}
+use mathlib.Core.Path.{_≡_}
+use lib.Dec.{ltb}
+use lib.ListN.{length}
+use Rattle.word.specs.Psw.{current}
+use Rattle.isa.specs.declared.Instr.{Instr}
+use Rattle.isa.specs.declared.Instr.the-variants as i
+use Rattle.isa.specs.Decode.{decodeOf}
+use Rattle.machine.specs.State.{State, pc}
+use Rattle.machine.specs.Memory.{wordAt}
+use Rattle.machine.specs.Record.{stateIn}
+use Rattle.machine.specs.Events.{Event, eventsOf}
+use Rattle.machine.specs.Step.{Act, stopped, pull, chain, accept, sleep, fault, halt, skip, trap, plain, loads, stores}
+use Rattle.machine.specs.Step.{planOf}
+use Rattle.resume.specs.Frames.{Start, Frame, FrameFound, Calm, none?, after, due, act, frames}
+
+-- The instruction is a SETPRI. [01 Depth]
+abbrev pub setPri? : Instr → Bool
+setPri? i.Illegal = false
+setPri? (i.Bl off) = false
+setPri? (i.Branch n off) = false
+setPri? (i.Alu op rc wb src dst) = false
+setPri? (i.Mov wb src dst) = false
+setPri? (i.Swap src dst) = false
+setPri? (i.Unary op wb dst) = false
+setPri? (i.Swpb dst) = false
+setPri? (i.Sxt dst) = false
+setPri? (i.SetPri level) = true
+setPri? (i.Svc v) = false
+setPri? (i.SetCc f) = false
+setPri? (i.ClrCc f) = false
+setPri? (i.Cex n t f) = false
+setPri? (i.Ld prpo dec inc wb src dst) = false
+setPri? (i.St prpo dec inc wb src dst) = false
+setPri? (i.MovImm op b dst) = false
+setPri? (i.Ldr off wb src dst) = false
+setPri? (i.Str off wb src dst) = false
+
+-- The step executes an instruction that is neither skipped nor a fault nor SVC. [01 One step, in order, 7]
+abbrev pub executes? : Act → Bool
+executes? stopped = false
+executes? pull = false
+executes? (chain d) = false
+executes? (accept d) = false
+executes? sleep = false
+executes? (fault v) = false
+executes? halt = false
+executes? skip = false
+executes? (trap v) = false
+executes? plain = true
+executes? (loads byte a d) = true
+executes? (stores byte a v) = true
+
+-- The step that acts in s executes a SETPRI. [01 Depth]
+abbrev pub setsPriority? : State → Bool
+setsPriority? s = executes? (planOf s .act) && setPri? (decodeOf (wordAt (s .mem) (pc (s .core))))
+
+-- The lesser of two numbers. [01 Depth]
+abbrev pub lesser : ℕ → ℕ → ℕ
+lesser a b = cond (ltb a b) a b
+
+module _ (ev : List Event) (s : State) where
+  -- "p the lowest current priority held while no frame is open", before the first of n steps and after each.
+  -- [01 Depth]
+  unfoldable pub lowest : ℕ → ℕ
+  lowest zero = current (s .core .psw)
+  lowest (suc k) =
+      cond (none? (frames ev s (suc k))) (lesser (lowest k) (current (after ev s (suc k) .core .psw))) (lowest k)
+
+module _ (memory r events : List ℕ) where
+  -- the event list and the state that the buffers hold. [01 State and memory]
+  abbrev list : List Event
+  list = eventsOf events
+
+  abbrev start : State
+  start = stateIn r memory
+
+  -- What a run of n is to keep. [01 Depth]
+  pub record DepthPremises (n : ℕ) : Type 0 where
+    -- an accepted start, event list and step count
+    pub accepted : Start memory r events n
+    -- "With no fault, no SVC, .. no return with no frame open"
+    pub calm : (k : ℕ) → k < n → Calm (act list start k) (frames list start k)
+    -- "no SETPRI in a handler"
+    pub no-setpri : (k : ℕ) → k < n → none? (frames list start k) ≡ false → setsPriority? (due list start k) ≡ false
+    -- "each pull finding SP and frame as entry left them"
+    pub found : (k : ℕ) (f : Frame) (fs : List Frame) → k < n → act list start k ≡ pull → frames list start k ≡ f ∷ fs
+        → FrameFound (f .held) (due list start k)
+
+  -- "at most 7 − p frames are open together". [01 Depth]
+  abbrev pub Shallow : ℕ → Type 0
+  Shallow n = (k : ℕ) → k ≤ n → length (frames list start k) ≤ 7 - lowest list start n

@@ -1,0 +1,32 @@
+-- The parts of the state record as they are written, one after the other (document 01, "State and memory").
+-- Assumes nothing.
+use Prim.Native.Nat.{ℕ, _+_}
+use mathlib.Core.Bool.{Bool}
+use mathlib.Core.List.{List, [], _∷_}
+use mir.Val.{boolByte}
+use lib.ListN.{getD, set}
+use Rattle.machine.specs.Memory.{lowByte, highByte}
+use Rattle.machine.specs.Record.{countByte}
+
+-- a number's two bytes stored at byte i. [01 State and memory]
+abbrev pub twoPut : List ℕ → (i v : ℕ) → List ℕ
+twoPut b i v = set (set b i (lowByte v)) (i + 1) (highByte v)
+
+-- a number's two bytes, before the rest. [01 State and memory]
+abbrev pub two : ℕ → List ℕ → List ℕ
+two v l = lowByte v ∷ highByte v ∷ l
+
+-- bytes 0-15. [01 State and memory]
+abbrev pub registerBytes : List ℕ → List ℕ
+registerBytes r =
+    two (getD r 0 0) (two (getD r 1 0) (two (getD r 2 0) (two (getD r 3 0)
+    (two (getD r 4 0) (two (getD r 5 0) (two (getD r 6 0) (two (getD r 7 0) [])))))))
+
+-- bytes 16-21. [01 State and memory]
+abbrev pub statusBytes : (psw cex lines : ℕ) → Bool → List ℕ
+statusBytes psw cex lines halted = two psw (two cex (lines ∷ boolByte halted ∷ []))
+
+-- bytes 22-31. [01 State and memory]
+abbrev pub countBytes : ℕ → List ℕ
+countBytes n =
+    countByte n 1 ∷ countByte n 0x100 ∷ countByte n 0x10000 ∷ countByte n 0x1000000 ∷ two 0 (two 0 (two 0 []))

@@ -1,0 +1,107 @@
+// The 32-byte state record, read and written; and numbers in two and four bytes of a buffer.
+ghost use mathlib.Core.Path.{_≡_};
+ghost use mathlib.Core.List.{List};
+ghost use Prim.Native.Nat.{ℕ, _+_, _<_};
+ghost use lib.ListN.{length};
+ghost use lib.Seq.{sets};
+ghost use Rattle.machine.specs.State.{stateOf};
+ghost use Rattle.machine.specs.Record.{twoAt, fourAt, stateIn, recordOf};
+ghost use Rattle.state_record.specs.Bytes.{twoPut, registerBytes, statusBytes, countBytes};
+use machine::Machine;
+
+// The number in two bytes of a buffer, and in four, from byte i on.
+pub fn two_at(b: &[u8], i: usize) -> u16
+    requires { ⌜ i + 1 < length (now b) ⌝ }
+    ensures { λ x. ⌜ x ≡ twoAt (now (b .entry)) i ⌝ }
+{
+    b[i] as u16 + 256 * b[i + 1] as u16
+}
+
+pub fn four_at(b: &[u8], i: usize) -> u32
+    requires { ⌜ i + 3 < length (now b) ⌝ }
+    ensures { λ x. ⌜ x ≡ fourAt (now (b .entry)) i ⌝ }
+{
+    two_at(b, i) as u32 + 65536 * two_at(b, i + 2) as u32
+}
+
+// The machine that a record of 32 bytes holds. Bytes 26-31 are not looked at, nor is byte 21 beyond
+// being 1.
+pub fn read_record(r: &[u8]) -> Machine
+    requires { ⌜ length (now r) ≡ 32 ⌝ }
+    ensures { λ x. ⌜ ((mem : List ℕ) → stateOf x mem ≡ stateIn (now (r .entry)) mem) ⌝ }
+{
+    let regs = [
+        two_at(r, 0),
+        two_at(r, 2),
+        two_at(r, 4),
+        two_at(r, 6),
+        two_at(r, 8),
+        two_at(r, 10),
+        two_at(r, 12),
+        two_at(r, 14),
+    ];
+    Machine {
+        regs: regs,
+        psw: two_at(r, 16),
+        cex: two_at(r, 18),
+        lines: r[20],
+        halted: r[21] == 1,
+        count: four_at(r, 22),
+    }
+}
+
+// The two bytes of v at byte i.
+fn put_two(b: &mut [u8], i: usize, v: u16)
+    requires { ⌜ i + 1 < length (now b) ⌝ }
+    ensures { λ x. ⌜ now (b .exit) ≡ twoPut (now (b .entry)) i v ⌝ }
+{
+    b[i] = (v % 256) as u8;
+    b[i + 1] = (v / 256) as u8;
+}
+
+// Bytes 0-15, the registers; 16-21, from PSW to the halted mark; 22-31, the step count and zeros.
+fn put_registers(r: &mut [u8], regs: [u16; 8])
+    requires { ⌜ length (now r) ≡ 32 ⌝ }
+    ensures { λ x. ⌜ now (r .exit) ≡ sets (now (r .entry)) 0 (registerBytes regs) ⌝ }
+{
+    put_two(r, 0, regs[0]);
+    put_two(r, 2, regs[1]);
+    put_two(r, 4, regs[2]);
+    put_two(r, 6, regs[3]);
+    put_two(r, 8, regs[4]);
+    put_two(r, 10, regs[5]);
+    put_two(r, 12, regs[6]);
+    put_two(r, 14, regs[7]);
+}
+
+fn put_status(r: &mut [u8], psw: u16, cex: u16, lines: u8, halted: bool)
+    requires { ⌜ length (now r) ≡ 32 ⌝ }
+    ensures { λ x. ⌜ now (r .exit) ≡ sets (now (r .entry)) 16 (statusBytes psw cex lines halted) ⌝ }
+{
+    put_two(r, 16, psw);
+    put_two(r, 18, cex);
+    r[20] = lines;
+    r[21] = halted as u8;
+}
+
+fn put_count(r: &mut [u8], count: u32)
+    requires { ⌜ length (now r) ≡ 32 ⌝ }
+    ensures { λ x. ⌜ now (r .exit) ≡ sets (now (r .entry)) 22 (countBytes count) ⌝ }
+{
+    put_two(r, 22, (count % 65536) as u16);
+    put_two(r, 24, (count / 65536) as u16);
+    put_two(r, 26, 0);
+    put_two(r, 28, 0);
+    put_two(r, 30, 0);
+}
+
+// The record of a machine, all 32 bytes.
+pub fn write_record(r: &mut [u8], m: Machine)
+    requires { ⌜ length (now r) ≡ 32 ⌝ }
+    ensures { λ x. ⌜ ((mem : List ℕ) → now (r .exit) ≡ recordOf (stateOf m mem)) ⌝ }
+{
+    let regs = m.regs;
+    put_registers(r, regs);
+    put_status(r, m.psw, m.cex, m.lines, m.halted);
+    put_count(r, m.count);
+}

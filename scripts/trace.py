@@ -1,0 +1,132 @@
+#!/usr/bin/env python3
+"""Holds the definitions and docs/TRACE.md against document 01: trace.py [ROOT].
+
+The comment of a definition ends with a tag, `[01 Heading, item; 003 section]`. This script fails
+- on a tag of a specs file that names no heading of 01,
+- on a heading owed so far that no tag names, or that has no section in docs/TRACE.md,
+- on a name in docs/TRACE.md that is defined nowhere: `File.antt`: `name` (a file without a folder is of machine/specs),
+  `crate::function` of a crate that is there, oracle: `file::test`.
+Later landings extend OWED. The last line is 'N passed, M failed'.
+"""
+import pathlib
+import re
+import sys
+
+HEADINGS = [
+    "State and memory", "One step, in order", "CEX", "Entry", "Return", "Faults", "Depth", "Resumption", "Devices",
+    "Arithmetic", "Who can be turned back", "Sheet for the markers", "Which shape goes where", "Plausible misreadings",
+]
+OWED = ["State and memory", "One step, in order", "CEX", "Entry", "Return", "Faults", "Devices", "Arithmetic"]
+
+# what may stand after a heading: items, as ", 3" or ", 4 to 7"
+ITEMS = re.compile(r"(, \d+( to \d+)?)*$")
+ANTT = r"^\s*(?:(?:pub|abbrev|unfoldable|data|record)\s+)*%s(?:\s|$)"
+CODE = r"\b(?:fn|struct|enum)\s+%s\b"
+
+
+def tags(text):
+    """Each bracketed tag of the comments of a file, its lines joined."""
+    lines = (line.strip() for line in text.split("\n"))
+    comments = " ".join(line[2:].strip() if line.startswith("--") else "\0" for line in lines)
+    return re.findall(r"\[((?:01|02|003) [^\]\0]*)\]", comments)
+
+
+def heading_of(part):
+    """The heading of 01 that a part of a tag names, or None."""
+    for heading in HEADINGS:
+        if part.startswith(heading) and ITEMS.match(part[len(heading):]):
+            return heading
+    return None
+
+
+def headings_in(tag):
+    """For each part of a tag that is about 01, the heading that it names, or None."""
+    parts = [part.strip().partition(" ") for part in tag.split(";")]
+    return [heading_of(rest) for document, _, rest in parts if document == "01"]
+
+
+class Trace:
+    def __init__(self, root):
+        self.root = pathlib.Path(root)
+        self.passed, self.failures, self.absent = 0, [], set()
+
+    def check(self, holds, failure):
+        if holds:
+            self.passed += 1
+        else:
+            self.failures.append(failure)
+
+    def defined(self, path, pattern, name):
+        """Whether a file under the root defines a name."""
+        file = self.root / path
+        return file.is_file() and re.search(pattern % re.escape(name), file.read_text(), re.MULTILINE)
+
+    def definitions(self):
+        """The tags of all specs, and the headings that are owed."""
+        seen = set()
+        for path in sorted((self.root / "crates").glob("*/specs/*.antt")):
+            for tag in tags(path.read_text()):
+                for heading in headings_in(tag):
+                    seen.add(heading)
+                    self.check(heading, f"{path.relative_to(self.root)}: [{tag}] names no heading of 01")
+        for heading in OWED:
+            self.check(heading in seen, f'no definition has a tag of 01 "{heading}"')
+
+    def document(self):
+        """The sections of docs/TRACE.md, and every name in its rows."""
+        text = (self.root / "docs/TRACE.md").read_text()
+        sections = re.findall(r"^## (.*)$", text, re.MULTILINE)
+        for heading in OWED:
+            self.check(heading in sections, f'docs/TRACE.md has no section "{heading}"')
+        for row in re.findall(r"^\|(.*)\|$", text, re.MULTILINE):
+            cells = row.split("|")
+            if len(cells) != 3:
+                self.check(False, f"docs/TRACE.md: {len(cells)} cells in |{row}|")
+                continue
+            for item in cells[1].split(";"):
+                self.item(item)
+            for kind, names in re.findall(r"(proof|law|oracle): ((?:`[^`]+`(?:, )?)+)", cells[2]):
+                for name in re.findall(r"`([^`]+)`", names):
+                    self.touching(kind, name)
+
+    def item(self, text):
+        """`File.antt`: `name`, `name`, with other words around the names."""
+        names = re.findall(r"`([^`]+)`", text)
+        if not names:
+            return
+        file = names[0] if "/" in names[0] else f"machine/specs/{names[0]}"
+        pattern = ANTT if file.endswith(".antt") else CODE
+        self.check(len(names) > 1, f"docs/TRACE.md: no definition is named in {text.strip()}")
+        for name in names[1:]:
+            self.check(self.defined(f"crates/{file}", pattern, name), f"docs/TRACE.md: {file} has no {name}")
+
+    def touching(self, kind, name):
+        """A crate or a function of one, a law `crate/proofs/File.antt::law`, a test of the oracle."""
+        place, _, what = name.partition("::")
+        if kind == "oracle":
+            held = self.defined(f"oracle/{place}.rs", CODE, what)
+        elif not (self.root / "crates" / place.partition("/")[0]).is_dir():
+            self.absent.add(place.partition("/")[0])
+            return
+        elif kind == "law":
+            held = self.defined(f"crates/{place}", ANTT, what)
+        else:
+            held = not what or self.defined(f"crates/{place}/src/lib.rt", CODE, what)
+        self.check(held, f"docs/TRACE.md: {kind} `{name}` is not there")
+
+
+def main():
+    root = sys.argv[1] if len(sys.argv) > 1 else pathlib.Path(__file__).resolve().parent.parent
+    trace = Trace(root)
+    trace.definitions()
+    trace.document()
+    for failure in trace.failures:
+        print(failure)
+    if trace.absent:
+        print("docs/TRACE.md names crates that are not there yet: " + ", ".join(sorted(trace.absent)))
+    print(f"{trace.passed} passed, {len(trace.failures)} failed")
+    return 1 if trace.failures else 0
+
+
+if __name__ == "__main__":
+    sys.exit(main())

@@ -1,0 +1,61 @@
+#!/usr/bin/env python3
+"""trace.py held to what it must refuse. The last line is 'N passed, M failed'."""
+import pathlib
+import sys
+import tempfile
+
+from trace import OWED, Trace, tags
+
+SPECS = "".join(f"-- says {heading}. [01 {heading}; 003 6]\nabbrev pub d{i} : ℕ\n" for i, heading in enumerate(OWED))
+DOCUMENT = "".join(f"## {heading}\n\n| Sentence | `A.antt`: `d{i}` | |\n" for i, heading in enumerate(OWED))
+
+
+def failures(specs=SPECS, document=DOCUMENT):
+    """What trace.py says of a repository with one file of definitions."""
+    with tempfile.TemporaryDirectory() as name:
+        root = pathlib.Path(name)
+        for path, text in {
+            "crates/machine/specs/A.antt": specs,
+            "crates/machine/src/lib.rt": "pub fn advance(n: u64)\n",
+            "oracle/tests/t.rs": "fn holds() {}\n",
+            "docs/TRACE.md": document,
+        }.items():
+            (root / path).parent.mkdir(parents=True, exist_ok=True)
+            (root / path).write_text(text)
+        trace = Trace(root)
+        trace.definitions()
+        trace.document()
+        return trace.failures
+
+
+def row(said, touched):
+    return DOCUMENT + f"| Sentence | {said} | {touched} |\n"
+
+
+CASES = {
+    "a sound repository passes": failures() == [],
+    "a tag over two lines is read": tags("-- a [01 Who can\n-- be turned back]\n") == ["01 Who can be turned back"],
+    "items may follow a heading": failures(SPECS + "-- x [01 One step, in order, 2, 4 to 7]\n") == [],
+    "a tag that names no heading": len(failures(SPECS + "-- x [01 Entree]\n")) == 1,
+    "a heading with more behind it": len(failures(SPECS + "-- x [01 Entry point]\n")) == 1,
+    "one wrong part of a tag": len(failures(SPECS + "-- x [01 Entry; 01 Leaving; 003 6]\n")) == 1,
+    "an owed heading with no tag": len(failures(SPECS.replace("[01 Faults;", "[01 Entry;"))) == 1,
+    "an owed heading with no section": len(failures(document=DOCUMENT.replace("## Faults", "## Fault"))) == 1,
+    "a definition that is not there": len(failures(document=row("`A.antt`: `d0`, `gone`", ""))) == 1,
+    "a file that is not there": len(failures(document=row("`B.antt`: `d0`", ""))) == 1,
+    "a function that is not there": len(failures(document=row("", "proof: `machine::advance`, `machine::gone`"))) == 1,
+    "a test that is not there": len(failures(document=row("", "oracle: `tests/t::holds`, `tests/t::gone`"))) == 1,
+    "a law that is not there": len(failures(document=row("", "law: `machine/specs/A.antt::gone`"))) == 1,
+}
+
+
+def main():
+    wrong = [name for name, held in CASES.items() if not held]
+    for name in wrong:
+        print(f"trace.py fails: {name}")
+    print(f"{len(CASES) - len(wrong)} passed, {len(wrong)} failed")
+    return 1 if wrong else 0
+
+
+if __name__ == "__main__":
+    sys.exit(main())

@@ -5,6 +5,7 @@ use mathlib.Core.List.{List}
 use Rattle.machine.specs.State.{Core, State, coreOf}
 use Rattle.entry.specs.declared.Rest.{Rest}
 
+-- The core of a machine taken apart, and its whole state. [01 State and memory]
 abbrev pub coreWith : List ℕ → Rest → Core
 coreWith regs t = coreOf regs (t .psw) (t .cex)
 

@@ -1,12 +1,11 @@
 // Vectors, the best waiting line, entry and return, over the registers lent.
 ghost use mathlib.Core.Path.{_≡_};
-ghost use mathlib.Core.Bool.{true, false};
 ghost use Prim.Native.Nat.{ℕ, _+_, _*_, _<_, _≤_};
-ghost use lib.ListN.{length, getD, set};
-ghost use Rattle.word.specs.Psw.{current, previous, faulted?};
-ghost use Rattle.machine.specs.State.{Core, coreOf, down};
+ghost use lib.ListN.{length, set};
+ghost use Rattle.machine.specs.State.{coreOf, down};
 ghost use Rattle.machine.specs.Memory.{wordAt, wordWrites, commit};
-ghost use Rattle.machine.specs.Entry.{vectorPsw, vectorPc, priority, better, best, enteredPsw, vectored, pushed, pushes, pulled};
+ghost use Rattle.machine.specs.Entry.{vectorPsw, vectorPc, priority, better, best};
+ghost use Rattle.machine.specs.Entry.{enteredPsw, pushed, pushes, pulled};
 ghost use Rattle.machine.specs.Step.{entered, chained};
 use machine::ByteAddr;
 use machine::WordAddr;
@@ -98,7 +97,8 @@ fn set_three(regs: &mut [u16; 8], lr: u16, sp: u16, pc: u16)
 // A word pushed: the SP that it leaves.
 fn push(mem: &mut [u8], sp: u16, v: u16) -> u16
     requires { ⌜ length (now mem) ≡ 65536 ⌝ }
-    ensures { λ r. ⌜ (r ≡ down sp 2) × (now (mem .exit) ≡ commit (wordWrites (down sp 2) v) (now (mem .entry))) ⌝ }
+    ensures { λ r. ⌜ (r ≡ down sp 2) ×
+        (now (mem .exit) ≡ commit (wordWrites (down sp 2) v) (now (mem .entry))) ⌝ }
 {
     let to = std::num::wrapping_sub_u16(sp, 2);
     memory::write_word(mem, memory::word_of(ByteAddr(to)), v);
@@ -108,7 +108,9 @@ fn push(mem: &mut [u8], sp: u16, v: u16) -> u16
 // The frame pushed: PC, LR, PSW, CEX. The SP that it leaves.
 fn push_frame(regs: &[u16; 8], mem: &mut [u8], psw: u16, cex: u16) -> u16
     requires { ⌜ length (now mem) ≡ 65536 ⌝ }
-    ensures { λ r. ⌜ (r ≡ pushed (coreOf (now (regs .entry)) psw cex)) × (now (mem .exit) ≡ commit (pushes (coreOf (now (regs .entry)) psw cex)) (now (mem .entry))) ⌝ }
+    ensures { λ r. ⌜ (r ≡ pushed (coreOf (now (regs .entry)) psw cex)) ×
+        (now (mem .exit) ≡ commit (pushes (coreOf (now (regs .entry)) psw cex)) (now (mem .entry)))
+        ⌝ }
 {
     let s1 = push(mem, regs[6], regs[7]);
     let s2 = push(mem, s1, regs[5]);
@@ -119,8 +121,10 @@ fn push_frame(regs: &[u16; 8], mem: &mut [u8], psw: u16, cex: u16) -> u16
 // An entry by vector v that pushes: the PSW after it. CEX is then clear.
 pub fn enter(regs: &mut [u16; 8], mem: &mut [u8], psw: u16, cex: u16, v: u8, fault: bool) -> u16
     requires { ⌜ (length (now mem) ≡ 65536) × (v < 16) ⌝ }
-    ensures core { λ r. ⌜ coreOf (now (regs .exit)) r 0 ≡ entered (coreOf (now (regs .entry)) psw cex) (now (mem .entry)) v fault ⌝ }
-    ensures memory { λ r. ⌜ now (mem .exit) ≡ commit (pushes (coreOf (now (regs .entry)) psw cex)) (now (mem .entry)) ⌝ }
+    ensures core { λ r. ⌜ coreOf (now (regs .exit)) r 0 ≡
+        entered (coreOf (now (regs .entry)) psw cex) (now (mem .entry)) v fault ⌝ }
+    ensures memory { λ r. ⌜ now (mem .exit) ≡
+        commit (pushes (coreOf (now (regs .entry)) psw cex)) (now (mem .entry)) ⌝ }
 {
     let p = vector_psw(mem, v);
     let pc = vector_pc(mem, v);
@@ -132,7 +136,8 @@ pub fn enter(regs: &mut [u16; 8], mem: &mut [u8], psw: u16, cex: u16, v: u8, fau
 // A chained entry by vector v, which pushes nothing: the PSW after it. CEX is then clear.
 pub fn chain(regs: &mut [u16; 8], mem: &[u8], psw: u16, v: u8) -> u16
     requires { ⌜ (length (now mem) ≡ 65536) × (v < 16) ⌝ }
-    ensures { λ r. ⌜ ((x : ℕ) → coreOf (now (regs .exit)) r 0 ≡ chained (coreOf (now (regs .entry)) psw x) (now (mem .entry)) v) ⌝ }
+    ensures { λ r. ⌜ ((x : ℕ) → coreOf (now (regs .exit)) r 0 ≡
+        chained (coreOf (now (regs .entry)) psw x) (now (mem .entry)) v) ⌝ }
 {
     let p = vector_psw(mem, v);
     let pc = vector_pc(mem, v);
@@ -152,7 +157,8 @@ fn word_at(mem: &[u8], a: u16) -> u16
 // A return that pulls.
 pub fn pull(regs: &mut [u16; 8], mem: &[u8]) -> Pulled
     requires { ⌜ length (now mem) ≡ 65536 ⌝ }
-    ensures { λ r. ⌜ ((p x : ℕ) → coreOf (now (regs .exit)) (r .psw) (r .cex) ≡ pulled (coreOf (now (regs .entry)) p x) (now (mem .entry))) ⌝ }
+    ensures { λ r. ⌜ ((p x : ℕ) → coreOf (now (regs .exit)) (r .psw) (r .cex) ≡
+        pulled (coreOf (now (regs .entry)) p x) (now (mem .entry))) ⌝ }
 {
     let s = regs[6];
     let x = word_at(mem, s);

@@ -16,8 +16,8 @@ use Rattle.alu.specs.Alu.{aluOf}
 use Rattle.isa.specs.declared.Instr.the-variants as Instr
 use Rattle.machine.specs.declared.Access.{Access}
 use Rattle.machine.specs.declared.Access.the-variants.{Nothing, Load, Store}
-use Rattle.machine.specs.State.{Core, coreOf, moved, doubled, put, withPsw}
-use Rattle.machine.specs.Effect.{effect, effectOf, plainly, operated, operand, binaryOf, flagsOnly?, takenOf, branched}
+use Rattle.machine.specs.State.{Core, coreOf, moved, doubled, withPsw}
+use Rattle.machine.specs.Effect.{effect, effectOf, plainly, operated, operand, binaryOf, flagsOnly?, takenOf}
 use Rattle.machine.specs.Effect.{moves?, adjusted, adjust, indexed}
 use Rattle.exec.specs.declared.Done.{Done}
 use Rattle.exec.specs.Done.{doneWith}

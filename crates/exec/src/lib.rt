@@ -288,7 +288,9 @@ fn store_relative(regs: &[u16; 8], psw: u16, cex: u16, off: i16, wb: u8, src: u8
 // An instruction's effect on the registers, the PSW and the CEX state, and what it asks for.
 pub fn execute(regs: &mut [u16; 8], psw: u16, cex: u16, i: Instr) -> Done
     requires { ⌜ Fields i ⌝ }
-    ensures { λ r. ⌜ doneWith (now (regs .exit)) r ≡ effectOf (coreOf (now (regs .entry)) psw cex) i ⌝ }
+    ensures { λ r. ⌜
+        doneWith (now (regs .exit)) r ≡ effectOf (coreOf (now (regs .entry)) psw cex) i
+        ⌝ }
 {
     match i {
         Instr::Illegal => Done {

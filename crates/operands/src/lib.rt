@@ -204,10 +204,7 @@ pub fn adjusted_by(a: u16, dec: u8, inc: u8, wb: u8) -> u16
 pub fn address(prpo: u8, a: u16, b: u16) -> u16
     ensures { λ r. ⌜ r ≡ cond (eqb prpo 1) b a ⌝ }
 {
-    if prpo == 1 {
-        return b;
-    }
-    a
+    if prpo == 1 { b } else { a }
 }
 
 // The adjustment of LD and ST, written where it moves: the CEX state after it.

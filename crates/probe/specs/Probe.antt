@@ -11,11 +11,12 @@ use Rattle.alu.specs.declared.Op.the-variants.{Add, Addc, Sub, Subc, Cmp, Dadd,
 use Rattle.alu.specs.declared.Op.the-variants.{Bit, Bic, Bis, Sra, Rrc, Comp, Swpb, Sxt}
 use Rattle.alu.specs.Alu.{aluOf}
 
--- the operations 0 to 15 in order; 16 is SXT. [01 Arithmetic]
+-- the operations 0 to 15 in order. [01 Arithmetic]
 abbrev pub operations : List Op
 operations =
     Add ∷ Addc ∷ Sub ∷ Subc ∷ Cmp ∷ Dadd ∷ And ∷ Or ∷ Xor ∷ Bit ∷ Bic ∷ Bis ∷ Sra ∷ Rrc ∷ Comp ∷ Swpb ∷ []
 
+-- the operation with number n; 16 is SXT. [01 Arithmetic]
 unfoldable pub opOf : ℕ → Op
 opOf n = getD operations n Sxt
 

@@ -94,7 +94,8 @@ fn all_in_order(events: &[u8]) -> bool
 // The first rule that is broken, in the order in which they are tested. The sum of the step count
 // and n is compared once the record is known to have its length.
 pub fn verdict(memory: &[u8], state: &[u8], events: &[u8], n: u64) -> Verdict
-    ensures { λ r. ⌜ r ≡ verdictOf (now (memory .entry)) (now (state .entry)) (now (events .entry)) n ⌝ }
+    ensures { λ r. ⌜ r
+        ≡ verdictOf (now (memory .entry)) (now (state .entry)) (now (events .entry)) n ⌝ }
 {
     if memory.len() != 65536 {
         return Verdict::MemoryLength;

@@ -1,7 +1,7 @@
-// The calls of a C host: numbers in, one number out. Nothing is kept between calls.
+// The calls of a C host: numbers and byte buffers in, one number out. Nothing is kept between calls.
 // The definitions that the replies equal are gathered in specs/Api.antt.
 ghost use mathlib.Core.Path.{_≡_};
-ghost use Rattle.xm23.specs.Api.{decodeOf, numberOf, encodeNumber};
+ghost use Rattle.xm23.specs.Api.{decodeOf, numberOf, encodeNumber, runCallOf, Resumption};
 use isa::Encoded;
 use isa::decode;
 use isa::encode;
@@ -29,4 +29,20 @@ pub extern "C" fn xm23_encode(instruction: u64) -> u32
         Encoded::Word(w) => w as u32 * 65536,
         Encoded::Refused => 8,
     }
+}
+
+// A run of n steps of the machine that the state record holds, with the event list: refusal in bits
+// 7-0, reason in bits 15-8, steps done in bits 39-16. Refused, memory and record stay as they were.
+#[no_mangle]
+pub extern "C" fn xm23_run(memory: &mut [u8], state: &mut [u8], events: &[u8], n: u64) -> u64
+    ensures reply { λ r. ⌜ r
+        ≡ runCallOf (now (memory .entry)) (now (state .entry)) (now (events .entry)) n .reply ⌝ }
+    ensures memory { λ r. ⌜ now (memory .exit)
+        ≡ runCallOf (now (memory .entry)) (now (state .entry)) (now (events .entry)) n .memory ⌝ }
+    ensures state { λ r. ⌜ now (state .exit)
+        ≡ runCallOf (now (memory .entry)) (now (state .entry)) (now (events .entry)) n .state ⌝ }
+    ensures resumption { λ r. ⌜ Resumption (now (memory .entry)) (now (state .entry))
+        (now (events .entry)) n (now (memory .exit)) (now (state .exit)) ⌝ }
+{
+    run::run_call(memory, state, events, n)
 }

@@ -22,8 +22,11 @@ quiet-requires c κs = search needs
 
 returns : tie.Need-returns
 returns c =
-    tested (now (c .before .before .before .before .before .before .before .before .args .regs)) _ _ _ _ (c .before .before .before .before .before .before .before .before .args .wb) _ _ (c .before .before .before .before .before .before .get .ensures) (c .before .before .before .before .operand .ensures)
-    (c .before .before .before .binary .ensures) (c .before .before .alu .ensures) (c .before .if1 .taken) (c .quiet .ensures)
+    let d = c .before .before .before .before in
+    let start = d .before .before .before .before in
+    tested (now (start .args .regs)) _ _ _ _ (start .args .wb) _ _
+    (d .before .before .get .ensures) (d .operand .ensures) (c .before .before .before .binary .ensures)
+    (c .before .before .alu .ensures) (c .before .if1 .taken) (c .quiet .ensures)
 
 put-requires : tie.Need-put-requires
 put-requires c κs = search needs
@@ -33,8 +36,10 @@ quiet-requires-2 c κs = search needs
 
 returns-2 : tie.Need-returns-2
 returns-2 c =
-    computed (now (c .before .before .before .before .before .before .before .before .before .before .args .regs)) _ _ _ _ (c .before .before .before .before .before .before .before .before .before .before .args .wb) _ _ (c .before .before .before .before .before .before .before .before .get .ensures)
-    (c .before .before .before .before .before .before .operand .ensures) (c .before .before .before .before .before .binary .ensures) (c .before .before .before .before .alu .ensures)
+    let d = c .before .before .before .before in
+    let start = d .before .before .before .before .before .before in
+    computed (now (start .args .regs)) _ _ _ _ (start .args .wb) _ _
+    (d .before .before .before .before .get .ensures) (d .before .before .operand .ensures) (d .before .binary .ensures) (d .alu .ensures)
     (c .before .before .before .if1 .left) _ _ (c .before .put .ensures) (c .quiet2 .ensures)
 
 pub arithmetic-spec : {M : Type 1} → statement M

@@ -24,9 +24,11 @@ quiet-requires c κs = search needs
 
 returns : tie.Need-returns
 returns c =
-    let t = rw (toZ-ofZ w16 _ (c .before .before .before .before .before .before .before .before .fits .off)) at (c .before .before .branch-target .ensures) in
-    linked (now (c .before .before .before .before .before .before .before .before .args .regs)) _ _ _ _ _ _ (c .before .before .before .before .before .before .before .before .args .off)
-    (c .before .before .before .before .before .before .get .ensures) (c .before .before .before .before .put .ensures) t (c .before .put2 .ensures) (c .quiet .ensures)
+    let d = c .before .before .before .before in
+    let start = d .before .before .before .before in
+    let t = rw (toZ-ofZ w16 _ (start .fits .off)) at (c .before .before .branch-target .ensures) in
+    linked (now (start .args .regs)) _ _ _ _ _ _ (start .args .off)
+    (d .before .before .get .ensures) (d .put .ensures) t (c .before .put2 .ensures) (c .quiet .ensures)
 
 pub bl-spec : {M : Type 1} → statement M
 bl-spec =

@@ -25,16 +25,21 @@ quiet-requires c κs = search needs
 
 returns : tie.Need-returns
 returns c =
-    let t = rw (toZ-ofZ w16 _ (c .before .before .before .before .before .before .before .before .fits .off)) at (c .before .before .before .branch-target .ensures) in
-    branching (now (c .before .before .before .before .before .before .before .before .args .regs)) _ _ _ _ _ (c .before .before .before .before .before .before .before .before .args .off)
-    (c .before .before .before .before .before .before .before .taken .ensures) (c .before .before .before .before .before .before .if1 .taken) (c .before .before .before .before .get .ensures) t (c .before .put .ensures) (c .quiet .ensures)
+    let d = c .before .before .before .before in
+    let start = d .before .before .before .before in
+    let t = rw (toZ-ofZ w16 _ (start .fits .off)) at (c .before .before .before .branch-target .ensures) in
+    branching (now (start .args .regs)) _ _ _ _ _ (start .args .off)
+    (d .before .before .before .taken .ensures) (d .before .before .if1 .taken) (d .get .ensures) t
+    (c .before .put .ensures) (c .quiet .ensures)
 
 quiet-requires-2 : tie.Need-quiet-requires-2
 quiet-requires-2 c κs = search needs
 
 returns-2 : tie.Need-returns-2
 returns-2 c =
-    passing (now (c .before .before .before .args .regs)) _ _ _ (c .before .before .before .args .off) (c .before .before .taken .ensures) (c .before .if1 .left) (c .quiet2 .ensures)
+    let start = c .before .before .before in
+    passing (now (start .args .regs)) _ _ _ (start .args .off)
+    (c .before .before .taken .ensures) (c .before .if1 .left) (c .quiet2 .ensures)
 
 pub branch-spec : {M : Type 1} → statement M
 branch-spec =

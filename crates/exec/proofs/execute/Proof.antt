@@ -17,16 +17,18 @@ enum-known-i c = search needs
 
 bl-requires : tie.Need-bl-requires
 bl-requires c κs =
-    let e : toZ w16 (ofZ w16 (c .before .before .i .given .0 .0)) ≡ c .before .before .i .given .0 .0 = search needs in
-    rw e (subst Fields (c .before .before .i .given .1) (c .before .before .before .before .pre))
+    let g = c .before .before .i .given in
+    let e : toZ w16 (ofZ w16 (g .0 .0)) ≡ g .0 .0 = search needs in
+    rw e (subst Fields (g .1) (c .before .before .before .before .pre))
 
 enum-known-i-2 : tie.Need-enum-known-i-2
 enum-known-i-2 c = search needs
 
 branch-requires : tie.Need-branch-requires
 branch-requires c κs =
-    let e : toZ w16 (ofZ w16 (c .before .before .i2 .given .0 .1 .0)) ≡ c .before .before .i2 .given .0 .1 .0 = search needs in
-    rw e (subst Fields (c .before .before .i2 .given .1) (c .before .before .before .before .pre))
+    let g = c .before .before .i2 .given in
+    let e : toZ w16 (ofZ w16 (g .0 .1 .0)) ≡ g .0 .1 .0 = search needs in
+    rw e (subst Fields (g .1) (c .before .before .before .before .pre))
 
 enum-known-i-3 : tie.Need-enum-known-i-3
 enum-known-i-3 c = search needs
@@ -117,16 +119,18 @@ enum-known-i-17 c = search needs
 
 load-relative-requires : tie.Need-load-relative-requires
 load-relative-requires c κs =
-    let e : toZ w16 (ofZ w16 (c .before .before .i17 .given .0 .0)) ≡ c .before .before .i17 .given .0 .0 = search needs in
-    rw e (subst Fields (c .before .before .i17 .given .1) (c .before .before .before .before .pre))
+    let g = c .before .before .i17 .given in
+    let e : toZ w16 (ofZ w16 (g .0 .0)) ≡ g .0 .0 = search needs in
+    rw e (subst Fields (g .1) (c .before .before .before .before .pre))
 
 enum-known-i-18 : tie.Need-enum-known-i-18
 enum-known-i-18 c = search needs
 
 store-relative-requires : tie.Need-store-relative-requires
 store-relative-requires c κs =
-    let e : toZ w16 (ofZ w16 (c .before .before .i18 .given .0 .0)) ≡ c .before .before .i18 .given .0 .0 = search needs in
-    rw e (subst Fields (c .before .before .i18 .given .1) (c .before .before .before .before .pre))
+    let g = c .before .before .i18 .given in
+    let e : toZ w16 (ofZ w16 (g .0 .0)) ≡ g .0 .0 = search needs in
+    rw e (subst Fields (g .1) (c .before .before .before .before .pre))
 
 returns : tie.Need-returns
 unfolding effectOf
@@ -134,13 +138,15 @@ returns c = rw (c .enum-told .given .1)
 
 returns-2 : tie.Need-returns-2
 returns-2 c =
-    let e : toZ w16 (ofZ w16 (c .before .before .before .i .given .0 .0)) ≡ c .before .before .before .i .given .0 .0 = search needs in
-    rw (c .before .before .before .i .given .1) (rw e at (c .bl .ensures))
+    let g = c .before .before .before .i .given in
+    let e : toZ w16 (ofZ w16 (g .0 .0)) ≡ g .0 .0 = search needs in
+    rw (g .1) (rw e at (c .bl .ensures))
 
 returns-3 : tie.Need-returns-3
 returns-3 c =
-    let e : toZ w16 (ofZ w16 (c .before .before .before .i2 .given .0 .1 .0)) ≡ c .before .before .before .i2 .given .0 .1 .0 = search needs in
-    rw (c .before .before .before .i2 .given .1) (rw e at (c .branch .ensures))
+    let g = c .before .before .before .i2 .given in
+    let e : toZ w16 (ofZ w16 (g .0 .1 .0)) ≡ g .0 .1 .0 = search needs in
+    rw (g .1) (rw e at (c .branch .ensures))
 
 returns-4 : tie.Need-returns-4
 returns-4 c = rw (c .before .before .before .i3 .given .1) (c .arithmetic .ensures)
@@ -190,13 +196,15 @@ returns-17 c = rw (c .before .before .before .i16 .given .1) (c .move-immediate 
 
 returns-18 : tie.Need-returns-18
 returns-18 c =
-    let e : toZ w16 (ofZ w16 (c .before .before .before .i17 .given .0 .0)) ≡ c .before .before .before .i17 .given .0 .0 = search needs in
-    rw (c .before .before .before .i17 .given .1) (rw e at (c .load-relative .ensures))
+    let g = c .before .before .before .i17 .given in
+    let e : toZ w16 (ofZ w16 (g .0 .0)) ≡ g .0 .0 = search needs in
+    rw (g .1) (rw e at (c .load-relative .ensures))
 
 returns-19 : tie.Need-returns-19
 returns-19 c =
-    let e : toZ w16 (ofZ w16 (c .before .before .before .i18 .given .0 .0)) ≡ c .before .before .before .i18 .given .0 .0 = search needs in
-    rw (c .before .before .before .i18 .given .1) (rw e at (c .store-relative .ensures))
+    let g = c .before .before .before .i18 .given in
+    let e : toZ w16 (ofZ w16 (g .0 .0)) ≡ g .0 .0 = search needs in
+    rw (g .1) (rw e at (c .store-relative .ensures))
 
 pub execute-spec : {M : Type 1} → statement M
 execute-spec =

@@ -19,8 +19,10 @@ quiet-requires c κs = search needs
 
 returns : tie.Need-returns
 returns c =
-    single (now (c .before .before .before .before .before .before .args .regs)) _ (c .before .before .before .before .before .before .args .psw) _ _ _ _
-    (c .before .before .before .before .before .before .args .byte) (c .before .before .before .before .get .ensures) (c .before .before .before .alu .ensures) (c .before .put .ensures) (c .quiet .ensures)
+    let d = c .before .before .before .before in
+    let start = d .before .before in
+    single (now (start .args .regs)) _ (start .args .psw) _ _ _ _ (start .args .byte)
+    (d .get .ensures) (c .before .before .before .alu .ensures) (c .before .put .ensures) (c .quiet .ensures)
 
 pub one-operand-spec : {M : Type 1} → statement M
 one-operand-spec =

@@ -22,10 +22,11 @@ adjust-index-requires c κs = search needs
 
 returns : tie.Need-returns
 returns c =
-    storing (now (c .before .before .before .before .before .before .before .before .args .regs)) _ _ _ _ (c .before .before .before .before .before .before .before .before .args .prpo)
-    (c .before .before .before .before .before .before .before .before .args .dec) (c .before .before .before .before .before .before .before .before .args .inc)
-    (c .before .before .before .before .before .before .before .before .args .wb) _ (c .before .before .before .before .get2 .ensures) (c .before .before .before .adjusted-by .ensures)
-    (c .before .before .address .ensures) (c .adjust-index .ensures) _ (c .before .before .before .before .before .before .get .ensures)
+    let d = c .before .before .before .before in
+    let start = d .before .before .before .before in
+    storing (now (start .args .regs)) _ _ _ _ (start .args .prpo) (start .args .dec) (start .args .inc) (start .args .wb) _
+    (d .get2 .ensures) (c .before .before .before .adjusted-by .ensures) (c .before .before .address .ensures)
+    (c .adjust-index .ensures) _ (d .before .before .get .ensures)
 
 pub store-indexed-spec : {M : Type 1} → statement M
 store-indexed-spec =

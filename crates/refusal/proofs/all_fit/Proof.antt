@@ -1,13 +1,14 @@
-use borrow.Author.Tests.{not-true, not-false}
-use denote.Ref.{now}
-use Rattle.machine.specs.Refusal.{eventsFitBelow}
-use Rattle.refusal.proofs.Laws.{fits-none, fits-next, unfit-below}
-use Prim.Native.Nat.{suc, _+_, _/_, _-_, _≤_}
+-- The invariant: every record passed fits. Assumes nothing.
+use Prim.Native.Nat.{_/_, _-_, _≤_}
 use mathlib.Core.Bool.{true}
 use mathlib.Core.Path.{_≡_, sym, _∙_, ap}
 use native.Mathlib.Omega.{arith}
 use native.Mathlib.Numerals.{add-one}
+use denote.Ref.{now}
 use lib.ListN.{length}
+use borrow.Author.Tests.{not-true, not-false}
+use Rattle.machine.specs.Refusal.{eventsFitBelow}
+use Rattle.refusal.proofs.Laws.{fits-none, fits-next, unfit-below}
 use Rattle.refusal.proofs.all_fit.Statement.{statement}
 use Rattle.refusal.proofs.all_fit.Tie as tie
 

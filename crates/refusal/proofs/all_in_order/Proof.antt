@@ -1,13 +1,14 @@
-use borrow.Author.Tests.{not-true, not-false}
-use denote.Ref.{now}
-use Rattle.machine.specs.Refusal.{inOrderBelow}
-use Rattle.refusal.proofs.Laws.{order-one, order-next, order-all, disorder-below}
-use Prim.Native.Nat.{suc, _+_, _/_, _-_, _≤_}
+-- The invariant: the records up to k are in order. Assumes nothing.
+use Prim.Native.Nat.{suc, _/_, _-_, _≤_}
 use mathlib.Core.Bool.{true}
 use mathlib.Core.Path.{_≡_, sym, _∙_}
 use native.Mathlib.Omega.{arith}
 use native.Mathlib.Numerals.{add-one}
+use denote.Ref.{now}
 use lib.ListN.{length}
+use borrow.Author.Tests.{not-true, not-false}
+use Rattle.machine.specs.Refusal.{inOrderBelow}
+use Rattle.refusal.proofs.Laws.{order-one, order-next, order-all, disorder-below}
 use Rattle.refusal.proofs.all_in_order.Statement.{statement}
 use Rattle.refusal.proofs.all_in_order.Tie as tie
 

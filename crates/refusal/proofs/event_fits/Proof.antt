@@ -1,6 +1,6 @@
-use Rattle.machine.specs.Refusal.{eventFits}
 use borrow.Author.Tests.{lt-ltb, le-ltb}
 use borrow.Author.Needs.{needs}
+use Rattle.machine.specs.Refusal.{eventFits}
 use Rattle.refusal.proofs.event_fits.Statement.{statement}
 use Rattle.refusal.proofs.event_fits.Tie as tie
 

@@ -1,7 +1,7 @@
 use native.Mathlib.Numerals.{add-one}
+use borrow.Author.Needs.{needs}
 use Rattle.machine.specs.Events.{eventAt}
 use Rattle.machine.specs.Refusal.{inOrder}
-use borrow.Author.Needs.{needs}
 use Rattle.refusal.proofs.in_order.Statement.{statement}
 use Rattle.refusal.proofs.in_order.Tie as tie
 

@@ -1,9 +1,9 @@
 use Prim.Native.Nat.{_/_, _%_}
-use lib.Dec.{eqb, ltb}
 use mathlib.Core.Path.{ap, sym, _∙_}
-use Rattle.machine.specs.Refusal.{recordFits}
+use lib.Dec.{eqb, ltb}
 use borrow.Author.Tests.{eq-eqb, ne-eqb, lt-ltb, le-ltb}
 use borrow.Author.Needs.{needs}
+use Rattle.machine.specs.Refusal.{recordFits}
 use Rattle.refusal.proofs.record_fits.Statement.{statement}
 use Rattle.refusal.proofs.record_fits.Tie as tie
 

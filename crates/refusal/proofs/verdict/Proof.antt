@@ -1,9 +1,9 @@
-use Rattle.machine.specs.Refusal.{verdictOf}
-use borrow.Author.Tests.{eq-eqb, ne-eqb, lt-ltb, le-ltb, not-true, not-false}
 use Prim.Native.Nat.{_+_}
-use lib.Dec.{ltb}
 use mathlib.Core.Path.{ap, sym, _∙_}
+use lib.Dec.{ltb}
+use borrow.Author.Tests.{eq-eqb, ne-eqb, lt-ltb, le-ltb, not-true, not-false}
 use borrow.Author.Needs.{needs}
+use Rattle.machine.specs.Refusal.{verdictOf}
 use Rattle.refusal.proofs.verdict.Statement.{statement}
 use Rattle.refusal.proofs.verdict.Tie as tie
 

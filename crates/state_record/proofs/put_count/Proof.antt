@@ -1,8 +1,8 @@
 use mathlib.Core.Path.{ap}
-use Rattle.state_record.proofs.Laws.{halves}
-use lib.Seq.{sets}
 use denote.Ref.{now}
+use lib.Seq.{sets}
 use borrow.Author.Needs.{needs}
+use Rattle.state_record.proofs.Laws.{halves}
 use Rattle.state_record.proofs.put_count.Statement.{statement}
 use Rattle.state_record.proofs.put_count.Tie as tie
 

@@ -1,5 +1,5 @@
-use lib.ListN.{length-set}
 use native.Mathlib.Omega.{arith}
+use lib.ListN.{length-set}
 use borrow.Author.Needs.{needs}
 use Rattle.state_record.proofs.put_status.Statement.{statement}
 use Rattle.state_record.proofs.put_status.Tie as tie

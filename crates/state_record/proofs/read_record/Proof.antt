@@ -1,5 +1,5 @@
-use Rattle.machine.specs.Record.{stateIn}
 use borrow.Author.Needs.{needs}
+use Rattle.machine.specs.Record.{stateIn}
 use Rattle.state_record.proofs.read_record.Statement.{statement}
 use Rattle.state_record.proofs.read_record.Tie as tie
 

@@ -1,6 +1,6 @@
-use Rattle.state_record.proofs.Laws.{whole-record}
 use denote.Ref.{now}
 use borrow.Author.Needs.{needs}
+use Rattle.state_record.proofs.Laws.{whole-record}
 use Rattle.state_record.proofs.write_record.Statement.{statement}
 use Rattle.state_record.proofs.write_record.Tie as tie
 

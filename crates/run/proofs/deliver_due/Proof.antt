@@ -1,0 +1,26 @@
+use mathlib.Core.Path.{sym}
+use borrow.Author.Needs.{needs}
+use Rattle.run.proofs.Laws.{quiet, awaits-later}
+use Rattle.run.proofs.deliver_due.Statement.{statement}
+use Rattle.run.proofs.deliver_due.Tie as tie
+
+returns : tie.Need-returns
+returns c =
+    let a = c .before .before .before .pre .1 in
+    (λ k h. sym (quiet _ _ _ _ a _ (c .before .before .before .pre .2) (c .if1 .taken)), awaits-later _ _ _ _ a)
+
+deliver-requires : tie.Need-deliver-requires
+deliver-requires c κs = search needs
+
+due-at-requires : tie.Need-due-at-requires
+due-at-requires c κs = search needs
+
+same-length : tie.Need-same-length
+same-length c = search needs
+
+returns-2 : tie.Need-returns-2
+returns-2 c = search needs
+
+pub deliver-due-spec : {M : Type 1} → statement M
+deliver-due-spec =
+    tie.close (tie.spec returns deliver-requires due-at-requires same-length returns-2)

@@ -1,9 +1,12 @@
 /*
  * xm23.h - the XM-23 examination machine as a library for C99 and C++.
  *
- * Every call takes and gives numbers alone. Calls keep no pointer and no state between calls, so any number of
- * threads may call side by side. Every argument is lawful: a call that can refuse says so in the low byte of its
- * reply, and nothing is done by halves.
+ * Every call takes numbers and byte buffers and gives one number. Every number, length and content is lawful: a call
+ * that can refuse says so in the low byte of its reply, and a refused call leaves every buffer as it was.
+ *
+ * A buffer is a pointer and a length. The pointer is valid for that length and may be NULL where the length is 0. The
+ * buffers of one call must not overlap: what a call with overlapping buffers does is not promised. Calls keep no
+ * pointer and no state between calls, so any number of machines may run side by side, on any number of threads.
  *
  * "01" is the paper of house rules, "003" the ISA paper. docs/FORMATS.md has the layout of each number and record.
  */
@@ -20,13 +23,62 @@ extern "C" {
 /* ---- version */
 
 #define XM23_VERSION_MAJOR 0
-#define XM23_VERSION_MINOR 1
+#define XM23_VERSION_MINOR 2
 #define XM23_VERSION_PATCH 0
+
+/* ---- sizes and limits */
+
+#define XM23_MEMORY_SIZE 65536 /* bytes of memory */
+#define XM23_RECORD_SIZE 32    /* bytes of a state record */
+#define XM23_EVENT_SIZE 8      /* bytes of an event record */
+#define XM23_MAX_EVENTS 4096   /* event records of one run */
+#define XM23_MAX_STEPS 1000000 /* steps of one run */
+
+/* ---- a state record: 32 bytes, little-endian; where each part begins */
+
+#define XM23_RECORD_REGISTER(i) (2 * (i)) /* two bytes each: R0 to R7; 5 is LR, 6 SP, 7 PC */
+#define XM23_RECORD_PSW 16                /* two bytes */
+#define XM23_RECORD_CEX 18                /* two bytes */
+#define XM23_RECORD_LINES 20              /* one byte: bit d is the waiting line of device d */
+#define XM23_RECORD_HALTED 21             /* one byte: 0 or 1 */
+#define XM23_RECORD_COUNT 22              /* four bytes: the step count */
+#define XM23_RECORD_ZERO 26               /* six bytes, all 0 */
+
+/* The PSW. C, Z, N, SLP and V are XM23_FLAG_...; bits 12-9 are 0. */
+#define XM23_PSW_CURRENT(psw) ((unsigned)((psw) >> 5 & 7))
+#define XM23_PSW_FLT 0x0100
+#define XM23_PSW_PREVIOUS(psw) ((unsigned)((psw) >> 13 & 7))
+
+/* The CEX state. Bits 15-7 are 0. */
+#define XM23_CEX_STATE_FALSE(cex) ((unsigned)((cex) & 7))     /* the false count */
+#define XM23_CEX_STATE_TRUE(cex) ((unsigned)((cex) >> 3 & 7)) /* the true count */
+#define XM23_CEX_STATE_HELD 0x0040                            /* the condition held */
+
+/* ---- an event record: 8 bytes, little-endian; where each part begins */
+
+#define XM23_EVENT_STEP 0   /* four bytes: the step count at which it is due */
+#define XM23_EVENT_DEVICE 4 /* one byte: 0 to 7 */
+#define XM23_EVENT_DATA 5   /* one byte */
+#define XM23_EVENT_ZERO 6   /* two bytes, both 0 */
 
 /* ---- refusals, in the order of 01's numbers */
 
 /* Nothing was refused. */
 #define XM23_ACCEPTED 0
+/* The memory is not 65,536 bytes. */
+#define XM23_REFUSED_MEMORY 1
+/* n is above 1,000,000, or the record's step count and n together are above 4,294,967,295. */
+#define XM23_REFUSED_STEPS 2
+/* The state record is not 32 bytes. */
+#define XM23_REFUSED_RECORD 3
+/* A bit or byte of the state record that is always 0 is not, or its halted mark is above 1. */
+#define XM23_REFUSED_RECORD_BITS 4
+/* The events are not a multiple of 8 bytes, or more than 4,096 records. */
+#define XM23_REFUSED_EVENTS 5
+/* An event's device is above 7, or its bytes 6-7 are not 0. */
+#define XM23_REFUSED_EVENT_FIELDS 6
+/* An event's step is below that of the event before it. */
+#define XM23_REFUSED_EVENT_ORDER 7
 /* The instruction to encode is "illegal", or has a field that its format cannot hold. */
 #define XM23_REFUSED_INSTRUCTION 8
 
@@ -165,6 +217,36 @@ uint32_t xm23_encode(uint64_t instruction);
 
 /* The word in a reply of xm23_encode that refuses nothing. */
 #define XM23_ENCODED(reply) ((uint16_t)((reply) >> 16))
+
+/*
+ * Runs a machine for n steps, or until it halts. To advance a machine further, call again with the memory and the
+ * record that the last call left, and with the same events or the rest of them: events of earlier steps are passed
+ * over. A run of a + b steps closes as a run of a and then a run of b.
+ *
+ * memory, memory_len in-out: the machine's memory, XM23_MEMORY_SIZE bytes.
+ * record, record_len in-out: its state record, XM23_RECORD_SIZE bytes.
+ * events, events_len in: event records, in the order of their steps; equal steps are applied in list order. No bytes
+ *                    are an empty list.
+ * n                  in: how many steps.
+ * result             one reply: XM23_RUN_REFUSAL in bits 7-0, XM23_RUN_REASON in 15-8, XM23_RUN_STEPS in 39-16, 0 in
+ *                    63-40. Accepted: memory and record hold the closing state.
+ * refusals           in the order tested: XM23_REFUSED_MEMORY; XM23_REFUSED_STEPS for n alone; XM23_REFUSED_RECORD;
+ *                    XM23_REFUSED_STEPS for the sum, of a halted machine too; XM23_REFUSED_RECORD_BITS;
+ *                    XM23_REFUSED_EVENTS; XM23_REFUSED_EVENT_FIELDS over the whole list; XM23_REFUSED_EVENT_ORDER.
+ *                    Refused: reason and steps are 0, and memory, record and events are as they were.
+ * defined            crates/machine/specs/Call.antt, runCallOf, for every length, content and number.
+ */
+uint64_t xm23_run(uint8_t *memory, size_t memory_len, uint8_t *record, size_t record_len, const uint8_t *events,
+                  size_t events_len, uint64_t n);
+
+/* The parts of a reply of xm23_run. */
+#define XM23_RUN_REFUSAL(reply) XM23_REFUSAL(reply)
+#define XM23_RUN_REASON(reply) ((unsigned)((reply) >> 8 & 0xFF))
+#define XM23_RUN_STEPS(reply) ((uint32_t)((reply) >> 16 & 0xFFFFFF))
+
+/* Why a run ended: all its steps are done, or the machine is halted (which it may have been before). */
+#define XM23_REASON_DONE 0
+#define XM23_REASON_HALTED 1
 
 #ifdef __cplusplus
 }

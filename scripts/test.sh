@@ -69,9 +69,21 @@ host_cpp() {
     g++ $warn -std=c++11 -o "$build/host_cpp" -x c++ tests/c/host.c -x none "$xm23" && "$build/host_cpp"
 }
 
+hostile() {
+    gcc $warn -std=c99 -pedantic -o "$build/hostile" tests/c/hostile.c "$xm23" && "$build/hostile"
+}
+
 listing() {
     gcc $warn -std=c99 -pedantic -o "$build/decode_image" examples/decode_image.c "$xm23" &&
         "$build/decode_image" examples/copy_words.img 1000 | diff examples/copy_words.lst -
+}
+
+# The machines of the example host print what the program prints.
+example_host() {
+    gcc $warn -std=c99 -pedantic -o "$build/host" examples/host.c "$xm23" &&
+        target/bin/print_state < examples/interrupts.in > "$build/interrupts.line" &&
+        cat "$build/interrupts.line" "$build/interrupts.line" |
+        diff - <("$build/host" 7 examples/interrupts.in examples/interrupts.in)
 }
 
 part 'what the trace refuses' count_line python3 -B scripts/trace_test.py
@@ -84,4 +96,11 @@ part 'oracle' count_cargo \
     cargo test --offline --locked --release --manifest-path oracle/Cargo.toml --target-dir oracle/target
 part 'host in C' count_line host_c
 part 'host in C++' count_line host_cpp
+part 'hostile host' count_line hostile
+if command -v valgrind > /dev/null; then
+    part 'hostile host under valgrind' count_line valgrind -q --error-exitcode=9 "$build/hostile" short
+else
+    echo '== hostile host under valgrind: left out, valgrind is not here'
+fi
 part 'example listing' count_status listing
+part 'example host' count_status example_host

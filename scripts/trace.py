@@ -3,10 +3,12 @@
 
 The comment of a definition ends with a tag, `[01 Heading, item; 003 section]`. This script fails
 - on a tag of a specs file that names no heading of 01,
-- on a heading owed so far that no tag names, or that has no section in docs/TRACE.md,
+- on a heading of 01 that no tag names (the misreadings aside, which no definition says), or that has no section in
+  docs/TRACE.md,
 - on a name in docs/TRACE.md that is defined nowhere: `File.antt`: `name` (a file without a folder is of machine/specs),
-  `crate::function` of a crate that is there, oracle: `file::test`.
-Later landings extend OWED. The last line is 'N passed, M failed'.
+  proof: `crate::function` and law: `crate/proofs/File.antt::law` and edit: `crate/edit` of a crate that is there,
+  oracle: `file::test`, case: `name`.
+The last line is 'N passed, M failed'.
 """
 import pathlib
 import re
@@ -16,7 +18,7 @@ HEADINGS = [
     "State and memory", "One step, in order", "CEX", "Entry", "Return", "Faults", "Depth", "Resumption", "Devices",
     "Arithmetic", "Who can be turned back", "Sheet for the markers", "Which shape goes where", "Plausible misreadings",
 ]
-OWED = ["State and memory", "One step, in order", "CEX", "Entry", "Return", "Faults", "Devices", "Arithmetic"]
+OWED = HEADINGS[:-1]
 
 # what may stand after a heading: items, as ", 3" or ", 4 to 7"
 ITEMS = re.compile(r"(, \d+( to \d+)?)*$")
@@ -76,7 +78,7 @@ class Trace:
         """The sections of docs/TRACE.md, and every name in its rows."""
         text = (self.root / "docs/TRACE.md").read_text()
         sections = re.findall(r"^## (.*)$", text, re.MULTILINE)
-        for heading in OWED:
+        for heading in HEADINGS:
             self.check(heading in sections, f'docs/TRACE.md has no section "{heading}"')
         for row in re.findall(r"^\|(.*)\|$", text, re.MULTILINE):
             cells = row.split("|")
@@ -85,7 +87,7 @@ class Trace:
                 continue
             for item in cells[1].split(";"):
                 self.item(item)
-            for kind, names in re.findall(r"(proof|law|oracle): ((?:`[^`]+`(?:, )?)+)", cells[2]):
+            for kind, names in re.findall(r"(proof|law|edit|oracle|case): ((?:`[^`]+`(?:, )?)+)", cells[2]):
                 for name in re.findall(r"`([^`]+)`", names):
                     self.touching(kind, name)
 
@@ -101,17 +103,23 @@ class Trace:
             self.check(self.defined(f"crates/{file}", pattern, name), f"docs/TRACE.md: {file} has no {name}")
 
     def touching(self, kind, name):
-        """A crate or a function of one, a law `crate/proofs/File.antt::law`, a test of the oracle."""
+        """A crate or a function of one, a law, a must-fail edit, a test of the oracle, a readable case."""
         place, _, what = name.partition("::")
+        crate, _, edit = place.partition("/")
         if kind == "oracle":
             held = self.defined(f"oracle/{place}.rs", CODE, what)
-        elif not (self.root / "crates" / place.partition("/")[0]).is_dir():
-            self.absent.add(place.partition("/")[0])
+        elif kind == "case":
+            held = (self.root / f"tests/cases/{name}.txt").is_file()
+        elif not (self.root / "crates" / crate).is_dir():
+            self.absent.add(crate)
             return
         elif kind == "law":
             held = self.defined(f"crates/{place}", ANTT, what)
+        elif kind == "edit":
+            held = (self.root / f"crates/{crate}/must-fail/{edit}.edit").is_file()
         else:
-            held = not what or self.defined(f"crates/{place}/src/lib.rt", CODE, what)
+            code = sorted((self.root / "crates" / crate / "src").glob("*.rt"))
+            held = not what or any(self.defined(path.relative_to(self.root), CODE, what) for path in code)
         self.check(held, f"docs/TRACE.md: {kind} `{name}` is not there")
 
 

@@ -4,10 +4,10 @@ import pathlib
 import sys
 import tempfile
 
-from trace import OWED, Trace, tags
+from trace import HEADINGS, OWED, Trace, tags
 
 SPECS = "".join(f"-- says {heading}. [01 {heading}; 003 6]\nabbrev pub d{i} : ℕ\n" for i, heading in enumerate(OWED))
-DOCUMENT = "".join(f"## {heading}\n\n| Sentence | `A.antt`: `d{i}` | |\n" for i, heading in enumerate(OWED))
+DOCUMENT = "".join(f"## {heading}\n\n| Sentence | `A.antt`: `d0` | |\n" for heading in HEADINGS)
 
 
 def failures(specs=SPECS, document=DOCUMENT):
@@ -17,7 +17,9 @@ def failures(specs=SPECS, document=DOCUMENT):
         for path, text in {
             "crates/machine/specs/A.antt": specs,
             "crates/machine/src/lib.rt": "pub fn advance(n: u64)\n",
+            "crates/machine/must-fail/deaf.edit": "",
             "oracle/tests/t.rs": "fn holds() {}\n",
+            "tests/cases/one.txt": "",
             "docs/TRACE.md": document,
         }.items():
             (root / path).parent.mkdir(parents=True, exist_ok=True)
@@ -45,6 +47,9 @@ CASES = {
     "a file that is not there": len(failures(document=row("`B.antt`: `d0`", ""))) == 1,
     "a function that is not there": len(failures(document=row("", "proof: `machine::advance`, `machine::gone`"))) == 1,
     "a test that is not there": len(failures(document=row("", "oracle: `tests/t::holds`, `tests/t::gone`"))) == 1,
+    "an edit that is not there": len(failures(document=row("", "edit: `machine/deaf`, `machine/gone`"))) == 1,
+    "a case that is not there": len(failures(document=row("", "case: `one`, `gone`"))) == 1,
+    "a misreading needs no tag but a section": len(failures(document=DOCUMENT.replace("## Plaus", "## Implaus"))) == 1,
     "a law that is not there": len(failures(document=row("", "law: `machine/specs/A.antt::gone`"))) == 1,
 }
 

@@ -3,6 +3,9 @@
 
 pub mod alu;
 pub mod asm;
+pub mod case;
+pub mod coverage;
+pub mod inputs;
 pub mod isa;
 pub mod machine;
 pub mod number;

@@ -640,17 +640,39 @@ pub struct Ran {
 
 /// A run of n steps. A refused one gives its number and leaves memory and record as they were.
 pub fn run(memory: &mut [u8], n: u64, record: &mut [u8], events: &[u8]) -> Result<Ran, u8> {
+    run_watched(memory, n, record, events, |_, _, _, _| ())
+}
+
+/// A run whose every step is shown: what it did, the machine before and after it, and the memory after it.
+pub fn run_watched(
+    memory: &mut [u8],
+    n: u64,
+    record: &mut [u8],
+    events: &[u8],
+    mut watch: impl FnMut(&Trace, &Machine, &Machine, &[u8]),
+) -> Result<Ran, u8> {
     if let Some(number) = refusal(memory, n, record, events) {
         return Err(number);
     }
     let events = events_of(events);
     let mut m = Machine::from_record(record);
     let mut steps = 0;
-    while u64::from(steps) < n && m.step(memory, &events).is_some() {
+    while u64::from(steps) < n {
+        let before = m;
+        let Some(trace) = m.step(memory, &events) else { break };
+        watch(&trace, &before, &m, memory);
         steps += 1;
     }
     record.copy_from_slice(&m.to_record());
     Ok(Ran { reason: u8::from(m.halted), steps })
+}
+
+/// The one number that the call replies: the refusal in bits 7-0, the reason in 15-8, the steps done in 39-16.
+pub fn reply(result: Result<Ran, u8>) -> u64 {
+    match result {
+        Err(number) => number.into(),
+        Ok(ran) => u64::from(ran.reason) << 8 | u64::from(ran.steps) << 16,
+    }
 }
 
 /// The line that the program prints for its input, and the memory afterwards where nothing was refused.

@@ -2,6 +2,7 @@
 
 #include <inttypes.h>
 #include <stdio.h>
+#include <string.h>
 
 #include "xm23.h"
 
@@ -90,6 +91,197 @@ static void parts(void)
     same("negative offset", (uint64_t)-XM23_OFFSET(back), 1);
     same("sixth field", XM23_FIELD(load, 6), 2);
     same("illegal word", xm23_decode(0x4E00), XM23_FORMAT_ILLEGAL);
+    same("current priority", XM23_PSW_CURRENT(0x60E0), 7);
+    same("previous priority", XM23_PSW_PREVIOUS(0x60E0), 3);
+    same("true count", XM23_CEX_STATE_TRUE(0x5A), 3);
+    same("false count", XM23_CEX_STATE_FALSE(0x5A), 2);
+    same("condition held", 0x5A & XM23_CEX_STATE_HELD, XM23_CEX_STATE_HELD);
+}
+
+/* What a run is lent: a byte more than is right, so that a length can be too large by one. */
+static uint8_t memory[XM23_MEMORY_SIZE + 1], record[XM23_RECORD_SIZE + 1];
+static uint8_t events[XM23_EVENT_SIZE * (XM23_MAX_EVENTS + 1)];
+static uint8_t memory_before[sizeof memory], record_before[sizeof record], events_before[sizeof events];
+static size_t memory_len, record_len, events_len;
+
+static void put_two(uint8_t *at, unsigned value)
+{
+    at[0] = (uint8_t)value;
+    at[1] = (uint8_t)(value >> 8);
+}
+
+static unsigned two(const uint8_t *at)
+{
+    return at[0] | (unsigned)at[1] << 8;
+}
+
+static void put_event(size_t i, uint32_t step, unsigned device, unsigned data)
+{
+    uint8_t *at = events + XM23_EVENT_SIZE * i;
+    put_two(at + XM23_EVENT_STEP, step & 0xFFFF);
+    put_two(at + XM23_EVENT_STEP + 2, step >> 16);
+    at[XM23_EVENT_DEVICE] = (uint8_t)device;
+    at[XM23_EVENT_DATA] = (uint8_t)data;
+    put_two(at + XM23_EVENT_ZERO, 0);
+}
+
+/* The example of 01's sheet: memory all zero, PC odd at priority 7, no events. */
+static void example(void)
+{
+    memset(memory, 0, sizeof memory);
+    memset(record, 0, sizeof record);
+    memset(events, 0, sizeof events);
+    memory_len = XM23_MEMORY_SIZE;
+    record_len = XM23_RECORD_SIZE;
+    events_len = 0;
+    put_two(record + XM23_RECORD_REGISTER(7), 0x0801);
+    put_two(record + XM23_RECORD_REGISTER(6), 0x0800);
+    put_two(record + XM23_RECORD_PSW, 0x60E0);
+}
+
+static uint64_t run(uint64_t n)
+{
+    memcpy(memory_before, memory, sizeof memory);
+    memcpy(record_before, record, sizeof record);
+    memcpy(events_before, events, sizeof events);
+    return xm23_run(memory, memory_len, record, record_len, events, events_len, n);
+}
+
+/* The run is refused with the number alone, and every buffer is as it was. */
+static void turned_back(const char *what, uint64_t n, unsigned refusal)
+{
+    uint64_t reply = run(n);
+    same(what, XM23_RUN_REFUSAL(reply), refusal);
+    same(what, reply, refusal);
+    same(what, (uint64_t)memcmp(memory, memory_before, sizeof memory), 0);
+    same(what, (uint64_t)memcmp(record, record_before, sizeof record), 0);
+    same(what, (uint64_t)memcmp(events, events_before, sizeof events), 0);
+}
+
+static void ran(const char *what, uint64_t n, unsigned reason, uint32_t steps)
+{
+    uint64_t reply = run(n);
+    same(what, XM23_RUN_REFUSAL(reply), XM23_ACCEPTED);
+    same(what, XM23_RUN_REASON(reply), reason);
+    same(what, XM23_RUN_STEPS(reply), steps);
+    same(what, reply >> 40, 0);
+    same(what, (uint64_t)memcmp(events, events_before, sizeof events), 0);
+}
+
+static void accepted_runs(void)
+{
+    example();
+    ran("example", 1, XM23_REASON_DONE, 1);
+    same("LR", two(record + XM23_RECORD_REGISTER(5)), 0xFFFF);
+    same("SP", two(record + XM23_RECORD_REGISTER(6)), 0x07F8);
+    same("PC", two(record + XM23_RECORD_REGISTER(7)), 0);
+    same("PSW", two(record + XM23_RECORD_PSW), 0xE100);
+    same("FLT", two(record + XM23_RECORD_PSW) & XM23_PSW_FLT, XM23_PSW_FLT);
+    same("previous priority", XM23_PSW_PREVIOUS(two(record + XM23_RECORD_PSW)), 7);
+    same("step count", two(record + XM23_RECORD_COUNT), 1);
+    same("pushed PC", two(memory + 0x07FE), 0x0801);
+
+    /* An event on an input device, with a line that waits below priority 7. */
+    example();
+    put_two(record + XM23_RECORD_REGISTER(7), 0x1000);
+    put_two(memory + 0x1000, 0x3FFF);
+    memory[4] = 0x13;
+    put_event(0, 1, 2, 0x55);
+    events_len = XM23_EVENT_SIZE;
+    ran("event", 3, XM23_REASON_DONE, 3);
+    same("status and data", two(memory + 4), 0x5517);
+    same("line", record[XM23_RECORD_LINES], 1u << 2);
+
+    /* A second fault halts, and a halted machine takes no step. */
+    example();
+    record[XM23_RECORD_PSW + 1] |= XM23_PSW_FLT >> 8;
+    ran("halts", 9, XM23_REASON_HALTED, 1);
+    same("halted", record[XM23_RECORD_HALTED], 1);
+    ran("halted", 9, XM23_REASON_HALTED, 0);
+    ran("halted, no step", 0, XM23_REASON_HALTED, 0);
+}
+
+/* The far side of each rule that still passes. */
+static void near_misses(void)
+{
+    size_t i;
+    example();
+    ran("n 0", 0, XM23_REASON_DONE, 0);
+    same("nothing done", (uint64_t)memcmp(record, record_before, sizeof record), 0);
+    memset(record + XM23_RECORD_COUNT, 0xFF, 4);
+    ran("highest count, n 0", 0, XM23_REASON_DONE, 0);
+    record[XM23_RECORD_COUNT] = 0xFE;
+    ran("highest sum", 1, XM23_REASON_DONE, 1);
+    example();
+    put_two(record + XM23_RECORD_REGISTER(7), 0x1000);
+    put_two(memory + 0x1000, 0x3FFF);
+    ran("n 1,000,000", XM23_MAX_STEPS, XM23_REASON_DONE, XM23_MAX_STEPS);
+    for (i = 0; i < XM23_MAX_EVENTS; i++)
+        put_event(i, (uint32_t)(i / 3), 7, 0);
+    events_len = XM23_EVENT_SIZE * XM23_MAX_EVENTS;
+    ran("4,096 events", 1, XM23_REASON_DONE, 1);
+    put_two(record + XM23_RECORD_PSW, 0xE1FF);
+    put_two(record + XM23_RECORD_CEX, 0x007F);
+    record[XM23_RECORD_LINES] = 0xFF;
+    ran("every bit in use", 1, XM23_REASON_DONE, 1);
+}
+
+/* Each refusal, in the order of the numbers. */
+static void refused_runs(void)
+{
+    static const unsigned zero_bits[] = {16 * 8 + 9,  16 * 8 + 10, 16 * 8 + 11, 16 * 8 + 12, 18 * 8 + 7, 18 * 8 + 8,
+                                         18 * 8 + 15, 21 * 8 + 1,  21 * 8 + 7,  26 * 8,      28 * 8 + 3, 31 * 8 + 7};
+    size_t i;
+    example();
+    memory_len = XM23_MEMORY_SIZE - 1;
+    turned_back("memory too short", 1, XM23_REFUSED_MEMORY);
+    memory_len = XM23_MEMORY_SIZE + 1;
+    turned_back("memory too long", 1, XM23_REFUSED_MEMORY);
+    example();
+    turned_back("n 1,000,001", XM23_MAX_STEPS + 1, XM23_REFUSED_STEPS);
+    turned_back("n 2^32", (uint64_t)1 << 32, XM23_REFUSED_STEPS);
+    turned_back("n 2^64 - 1", UINT64_MAX, XM23_REFUSED_STEPS);
+    memset(record + XM23_RECORD_COUNT, 0xFF, 4);
+    turned_back("sum", 1, XM23_REFUSED_STEPS);
+    record[XM23_RECORD_HALTED] = 1;
+    turned_back("sum, halted", 1, XM23_REFUSED_STEPS);
+    example();
+    record_len = XM23_RECORD_SIZE - 1;
+    turned_back("record too short", 1, XM23_REFUSED_RECORD);
+    record_len = XM23_RECORD_SIZE + 1;
+    turned_back("record too long", 1, XM23_REFUSED_RECORD);
+    for (i = 0; i < sizeof zero_bits / sizeof *zero_bits; i++) {
+        example();
+        record[zero_bits[i] / 8] |= (uint8_t)(1u << zero_bits[i] % 8);
+        turned_back("zero bit", 1, XM23_REFUSED_RECORD_BITS);
+    }
+    example();
+    events_len = 7;
+    turned_back("half an event", 1, XM23_REFUSED_EVENTS);
+    events_len = XM23_EVENT_SIZE * (XM23_MAX_EVENTS + 1);
+    turned_back("4,097 events", 1, XM23_REFUSED_EVENTS);
+    example();
+    events_len = 2 * XM23_EVENT_SIZE;
+    put_event(1, 0, 8, 0);
+    turned_back("device 8", 1, XM23_REFUSED_EVENT_FIELDS);
+    put_event(1, 0, 7, 0);
+    events[XM23_EVENT_SIZE + XM23_EVENT_ZERO + 1] = 1;
+    turned_back("byte 7", 1, XM23_REFUSED_EVENT_FIELDS);
+    put_event(0, 5, 0, 0);
+    turned_back("byte 7 and the order", 1, XM23_REFUSED_EVENT_FIELDS);
+    put_event(1, 4, 0, 0);
+    turned_back("order", 1, XM23_REFUSED_EVENT_ORDER);
+    put_event(1, 5, 0, 0);
+    ran("equal steps", 1, XM23_REASON_DONE, 1);
+}
+
+/* No bytes: no list of events, and a memory and a record that are not there. */
+static void nothing_lent(void)
+{
+    example();
+    same("no events", XM23_RUN_STEPS(xm23_run(memory, memory_len, record, record_len, NULL, 0, 1)), 1);
+    same("no record", xm23_run(memory, memory_len, NULL, 0, NULL, 0, 1), XM23_REFUSED_RECORD);
+    same("nothing", xm23_run(NULL, 0, NULL, 0, NULL, 0, UINT64_MAX), XM23_REFUSED_MEMORY);
 }
 
 int main(void)
@@ -97,6 +289,10 @@ int main(void)
     accepted_instructions();
     refused_instructions();
     parts();
+    accepted_runs();
+    near_misses();
+    refused_runs();
+    nothing_lent();
     printf("%u passed, %u failed\n", passed, failed);
     return failed != 0;
 }

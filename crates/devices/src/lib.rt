@@ -7,7 +7,8 @@ ghost use Rattle.machine.specs.State.{Core};
 ghost use Rattle.machine.specs.Memory.{commit};
 ghost use Rattle.machine.specs.Record.{twoAt};
 ghost use Rattle.machine.specs.Events.{eventAt, eventCount, eventsOf};
-ghost use Rattle.machine.specs.Devices.{eventStatus, raised, fallen, waiting, eventWrites, eventOn, deliverAt};
+ghost use Rattle.machine.specs.Devices.{eventStatus, raised, fallen, waiting};
+ghost use Rattle.machine.specs.Devices.{eventWrites, eventOn, deliverAt};
 ghost use Rattle.machine.specs.Refusal.{eventsFitBelow};
 ghost use Rattle.devices.specs.Cursor.{Behind, Ordered, stateFrom};
 
@@ -61,7 +62,9 @@ fn event_status(t: u8) -> u8
 // The writes of an event on an enabled device whose status byte is t.
 fn receive(mem: &mut [u8], device: u8, byte: u8, t: u8)
     requires { ⌜ (length (now mem) ≡ 65536) × (device < 8) ⌝ }
-    ensures { λ r. ⌜ ((k : ℕ) → now (mem .exit) ≡ commit (eventWrites (record { step = k; device = device; byte = byte }) t) (now (mem .entry))) ⌝ }
+    ensures { λ r. ⌜ ((k : ℕ) → now (mem .exit)
+        ≡ commit (eventWrites (record { step = k; device = device; byte = byte }) t)
+        (now (mem .entry))) ⌝ }
 {
     let i = 2 * device as usize;
     if t / 2 % 2 == 1 {
@@ -73,7 +76,9 @@ fn receive(mem: &mut [u8], device: u8, byte: u8, t: u8)
 // One event: the lines after it. A device with ENA clear is left alone.
 fn event_on(mem: &mut [u8], lines: u8, device: u8, byte: u8) -> u8
     requires { ⌜ (length (now mem) ≡ 65536) × (device < 8) ⌝ }
-    ensures { λ r. ⌜ ((c : Core) (h : Bool) (k n : ℕ) → stateFrom c r h n (now (mem .exit)) ≡ eventOn (record { step = k; device = device; byte = byte }) (stateFrom c lines h n (now (mem .entry)))) ⌝ }
+    ensures { λ r. ⌜ ((c : Core) (h : Bool) (k n : ℕ) → stateFrom c r h n (now (mem .exit))
+        ≡ eventOn (record { step = k; device = device; byte = byte })
+        (stateFrom c lines h n (now (mem .entry)))) ⌝ }
 {
     let i = 2 * device as usize;
     let t = mem[i];
@@ -110,7 +115,10 @@ pub fn deliver(mem: &mut [u8], events: &[u8], next: usize, count: u32, lines: u8
     requires { ⌜ Behind (now events) next count ⌝ }
     requires { ⌜ Ordered (now events) ⌝ }
     requires { ⌜ eventsFitBelow (now events) (eventCount (now events)) ≡ true ⌝ }
-    ensures state { λ r. ⌜ ((c : Core) (h : Bool) → stateFrom c (r .lines) h count (now (mem .exit)) ≡ deliverAt count (eventsOf (now (events .entry))) (stateFrom c lines h count (now (mem .entry)))) ⌝ }
+    ensures state { λ r. ⌜ ((c : Core) (h : Bool)
+        → stateFrom c (r .lines) h count (now (mem .exit))
+        ≡ deliverAt count (eventsOf (now (events .entry)))
+        (stateFrom c lines h count (now (mem .entry)))) ⌝ }
     ensures behind { λ r. ⌜ Behind (now (events .entry)) (r .next) (count + 1) ⌝ }
 {
     let n = events.len() / 8;

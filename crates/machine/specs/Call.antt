@@ -1,10 +1,11 @@
--- The whole answer of one run call: its reply, and the memory and the state record that it leaves, for every length, content
--- and number (document 01, "Who can be turned back", "One step, in order").
+-- The whole answer of one run call: its reply, and the memory and the state record that it leaves, for every length,
+-- content and number (document 01, "Who can be turned back", "One step, in order").
 -- Assumes nothing.
 use Prim.Native.Nat.{ℕ, _+_, _*_}
 use mathlib.Core.List.{List}
 use Rattle.machine.specs.declared.Verdict.{Verdict}
-use Rattle.machine.specs.declared.Verdict.the-variants.{Accepted, MemoryLength, StepCount, RecordLength, RecordBits, EventsLength, EventFields, EventOrder}
+use Rattle.machine.specs.declared.Verdict.the-variants.{Accepted, MemoryLength, StepCount, RecordLength, RecordBits}
+use Rattle.machine.specs.declared.Verdict.the-variants.{EventsLength, EventFields, EventOrder}
 use Rattle.machine.specs.Events.{eventsOf}
 use Rattle.machine.specs.Record.{stateIn, recordOf}
 use Rattle.machine.specs.Run.{Run, runOf, reasonOf, reasonNumber}
@@ -15,7 +16,8 @@ pub record Closing : Type 0 where
   pub memory : List ℕ
   pub state : List ℕ
 
--- The reply as one number: bits 7-0 the refusal (0: none), 15-8 the reason, from 16 on the steps done. [01 Which shape goes where]
+-- The reply as one number: bits 7-0 the refusal (0: none), 15-8 the reason, from 16 on the steps done.
+-- [01 Which shape goes where]
 abbrev pub replyNumber : (refusal reason steps : ℕ) → ℕ
 replyNumber refusal reason steps = refusal + 256 * reason + 65536 * steps
 

@@ -12,7 +12,8 @@ use lib.ListN.{getD}
 use Rattle.word.specs.Width.{widthOf, low, withLow}
 use Rattle.word.specs.Psw.{carry?, zero?, negative?, current}
 use Rattle.alu.specs.declared.Op.{Op}
-use Rattle.alu.specs.declared.Op.the-variants.{Add, Addc, Sub, Subc, Cmp, Dadd, And, Or, Xor, Bit, Bic, Bis, Sra, Rrc, Comp, Swpb, Sxt}
+use Rattle.alu.specs.declared.Op.the-variants.{Add, Addc, Sub, Subc, Cmp, Dadd, And, Or, Xor, Bit, Bic, Bis}
+use Rattle.alu.specs.declared.Op.the-variants.{Sra, Rrc, Comp, Swpb, Sxt}
 use Rattle.alu.specs.declared.Outcome.{Outcome}
 use Rattle.alu.specs.Alu.{aluOf}
 use Rattle.isa.specs.declared.Instr.{Instr}

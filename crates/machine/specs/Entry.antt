@@ -22,7 +22,8 @@ abbrev pub priority : List ℕ → ℕ → ℕ
 priority m v = current (vectorPsw m v)
 
 -- The best waiting line: highest current priority in its vector PSW, then lowest device number; 8 stands for none.
--- Here the better of line d and the best e of the lines after it, then the best of n lines from d on. [01 One step, in order, 3]
+-- Here the better of line d and the best e of the lines after it, then the best of n lines from d on.
+-- [01 One step, in order, 3]
 abbrev pub better : List ℕ → (d e : ℕ) → ℕ
 better m d e = cond (ltb e 8 && ltb (priority m d) (priority m e)) e d
 
@@ -39,7 +40,7 @@ best l m = bestFrom 8 0 l m
 abbrev pub above : List ℕ → (d p : ℕ) → Bool
 above m d p = ltb d 8 && ltb p (priority m d)
 
--- The PSW of an entry: from the vector's word p, its previous priority q, FLT as given, SLP and bits 12-9 clear. [01 Entry]
+-- The PSW of an entry: from the vector's word p, previous priority q, FLT as given, SLP and bits 12-9 clear. [01 Entry]
 unfoldable pub enteredPsw : (p q : ℕ) → Bool → ℕ
 enteredPsw p q flt = p % 8 + p / 16 % 16 * 16 + bit flt * 256 + q * 8192
 

@@ -1,4 +1,5 @@
--- Event records (document 01, "State and memory"): 8 bytes each, little-endian, no header: 0-3 step, 4 device, 5 data byte, 6-7 zero.
+-- Event records (document 01, "State and memory"): 8 bytes each, little-endian, no header: 0-3 step, 4 device, 5 data
+-- byte, 6-7 zero.
 -- Assumes nothing.
 use Prim.Native.Nat.{ℕ, zero, suc, _+_, _*_, _/_}
 use mathlib.Core.List.{List, [], _∷_}

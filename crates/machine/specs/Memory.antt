@@ -1,4 +1,5 @@
--- Memory as a list of 65,536 bytes, and a step's change to it as a list of byte writes (document 01, "State and memory").
+-- Memory as a list of 65,536 bytes, and a step's change to it as a list of byte writes (document 01, "State and
+-- memory").
 -- Assumes nothing.
 use Prim.Native.Nat.{ℕ, _+_, _*_, _/_, _%_}
 use mathlib.Core.Bool.{Bool, true, false, cond, _||_}

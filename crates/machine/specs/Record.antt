@@ -47,5 +47,6 @@ recordOf s =
     ∷ lowByte (c .cex) ∷ highByte (c .cex)
     ∷ s .lines
     ∷ boolByte (s .halted)
-    ∷ countByte (s .count) 1 ∷ countByte (s .count) 0x100 ∷ countByte (s .count) 0x10000 ∷ countByte (s .count) 0x1000000
+    ∷ countByte (s .count) 1 ∷ countByte (s .count) 0x100
+    ∷ countByte (s .count) 0x10000 ∷ countByte (s .count) 0x1000000
     ∷ 0 ∷ 0 ∷ 0 ∷ 0 ∷ 0 ∷ 0 ∷ []

@@ -6,12 +6,14 @@ use mathlib.Core.List.{List, [], _∷_}
 use lib.Dec.{eqb, ltb, leb}
 use lib.ListN.{length}
 use Rattle.machine.specs.declared.Verdict.{Verdict}
-use Rattle.machine.specs.declared.Verdict.the-variants.{Accepted, MemoryLength, StepCount, RecordLength, RecordBits, EventsLength, EventFields, EventOrder}
+use Rattle.machine.specs.declared.Verdict.the-variants.{Accepted, MemoryLength, StepCount, RecordLength, RecordBits}
+use Rattle.machine.specs.declared.Verdict.the-variants.{EventsLength, EventFields, EventOrder}
 use Rattle.machine.specs.Memory.{byteAt}
 use Rattle.machine.specs.Record.{twoAt, fourAt}
 use Rattle.machine.specs.Events.{eventAt, eventCount}
 
--- Bits 12-9 of the PSW, bits 15-7 of the CEX state and bytes 26-31 are zero, and halted is 0 or 1. [01 Who can be turned back, 4]
+-- Bits 12-9 of the PSW, bits 15-7 of the CEX state and bytes 26-31 are zero, and halted is 0 or 1.
+-- [01 Who can be turned back, 4]
 unfoldable pub recordFits : List ℕ → Bool
 recordFits r =
     eqb (twoAt r 16 / 512 % 16) 0

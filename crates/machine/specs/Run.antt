@@ -1,4 +1,5 @@
--- A run of n steps (document 01, "One step, in order"): exactly n unless halted first, with its reason and the steps done.
+-- A run of n steps (document 01, "One step, in order"): exactly n unless halted first, with its reason and the steps
+-- done.
 -- Assumes nothing.
 use Prim.Native.Nat.{ℕ, zero, suc}
 use mathlib.Core.Bool.{Bool, true, false, cond}

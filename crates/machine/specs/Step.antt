@@ -1,5 +1,5 @@
--- One step of the machine, in the seven points of document 01, "One step, in order". A plan reads the state and says what
--- the step does; its performance gives what the step leaves, memory's change being a list of byte writes.
+-- One step of the machine, in the seven points of document 01, "One step, in order". A plan reads the state and says
+-- what the step does; its performance gives what the step leaves, memory's change being a list of byte writes.
 -- Assumes nothing.
 use Prim.Native.Nat.{ℕ, suc, _+_, _%_}
 use mathlib.Core.Bool.{Bool, true, false, cond, not, _&&_, _||_}
@@ -42,7 +42,8 @@ abbrev pub planned : Core → Act → Plan
 planned c a = record { core = c; act = a }
 
 -- Points 2 and 3: "SLP clear and PC = #FFFF: return", else the best line is accepted "if that priority is above the
--- PSW's". A return that finds a line above the previous priority enters it instead. [01 One step, in order, 2, 3; 01 Return]
+-- PSW's". A return that finds a line above the previous priority enters it instead.
+-- [01 One step, in order, 2, 3; 01 Return]
 pub data Interrupt : Type 0 where
   pulls : Interrupt
   chains : (d : ℕ) → Interrupt
@@ -80,7 +81,7 @@ granted c x (Trap v) m =
 abbrev pub executed : Core → Effect → List ℕ → Plan
 executed c e m = granted c (e .core) (e .access) m
 
--- Points 4 to 7: asleep, odd PC, a CEX block that skips, else fetch, decode and execute. [01 One step, in order, 4 to 7]
+-- Points 4 to 7: asleep, odd PC, a CEX block that skips, else fetch, decode, execute. [01 One step, in order, 4 to 7]
 unfoldable pub instructionOf : Core → List ℕ → Plan
 instructionOf c m =
     cond (asleep? (c .psw)) (planned c sleep)
@@ -110,8 +111,8 @@ pub record Outcome : Type 0 where
 abbrev pub outcome : Core → ℕ → List Write → Outcome
 outcome c l ws = record { core = c; lines = l; halted = false; writes = ws }
 
--- An entry that pushes: the vector is read before the pushes; previous priority is the old current; FLT is set exactly if
--- it was set or this is a fault. [01 Entry]
+-- An entry that pushes: the vector is read before the pushes; previous priority is the old current; FLT is set exactly
+-- if it was set or this is a fault. [01 Entry]
 abbrev pub entered : Core → List ℕ → ℕ → (fault : Bool) → Core
 entered c m v f = vectored c m v (current (c .psw)) (f || faulted? (c .psw)) (pushed c)
 
@@ -146,6 +147,7 @@ closed o n m =
 abbrev pub finished : State → State
 finished s = closed (outcomeOf s) (s .count) (s .mem)
 
--- One step with the event list: point 1, then the plan and its outcome. "A halted machine takes no step." [01 One step, in order]
+-- One step with the event list: point 1, then the plan and its outcome. "A halted machine takes no step."
+-- [01 One step, in order]
 unfoldable pub stepOf : List Event → State → State
 stepOf ev s = cond (s .halted) s (finished (deliver ev s))

@@ -6,3 +6,4 @@ pub mod Runs
 pub mod Steps
 pub mod Writes
 pub mod Records
+pub mod Calls

@@ -1,1 +1,2 @@
-// Laws of the machine's definitions, which other crates cite in place of the definitions' text. No code.
+// Laws of the machine's definitions, which other crates cite in place of the definitions' text. No
+// code.

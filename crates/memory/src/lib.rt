@@ -7,8 +7,10 @@ ghost use mathlib.Core.List.{[], _∷_};
 ghost use Prim.Native.Nat.{_+_, _*_, _<_};
 ghost use lib.ListN.{length, set};
 ghost use Rattle.word.specs.Psw.{putBit};
-ghost use Rattle.machine.specs.Memory.{byteAt, wordNumber, firstByte, lowByte, highByte, write, commit, valueAt};
-ghost use Rattle.machine.specs.Devices.{status?, clearedStatus, storedStatus, loadWrites, byteWrites, storeWrites};
+ghost use Rattle.machine.specs.Memory.{byteAt, wordNumber, firstByte, lowByte, highByte};
+ghost use Rattle.machine.specs.Memory.{write, commit, valueAt};
+ghost use Rattle.machine.specs.Devices.{status?, clearedStatus, storedStatus};
+ghost use Rattle.machine.specs.Devices.{loadWrites, byteWrites, storeWrites};
 use machine::ByteAddr;
 use machine::WordAddr;
 
@@ -31,7 +33,8 @@ pub fn read_byte(mem: &[u8], a: ByteAddr) -> u8
 // The word at a word address.
 pub fn read_word(mem: &[u8], w: WordAddr) -> u16
     requires { ⌜ (length (now mem) ≡ 65536) × (w .0 < 32768) ⌝ }
-    ensures { λ r. ⌜ r ≡ byteAt (now (mem .entry)) (firstByte (w .0)) + 256 * byteAt (now (mem .entry)) (firstByte (w .0) + 1) ⌝ }
+    ensures { λ r. ⌜ r ≡ byteAt (now (mem .entry)) (firstByte (w .0))
+        + 256 * byteAt (now (mem .entry)) (firstByte (w .0) + 1) ⌝ }
 {
     let i = 2 * w.0 as usize;
     mem[i] as u16 + 256 * mem[i + 1] as u16
@@ -48,7 +51,9 @@ pub fn write_byte(mem: &mut [u8], a: ByteAddr, v: u8)
 
 pub fn write_word(mem: &mut [u8], w: WordAddr, v: u16)
     requires { ⌜ (length (now mem) ≡ 65536) × (w .0 < 32768) ⌝ }
-    ensures { λ r. ⌜ now (mem .exit) ≡ set (set (now (mem .entry)) (firstByte (w .0)) (lowByte v)) (firstByte (w .0) + 1) (highByte v) ⌝ }
+    ensures { λ r. ⌜ now (mem .exit)
+        ≡ set (set (now (mem .entry)) (firstByte (w .0)) (lowByte v))
+        (firstByte (w .0) + 1) (highByte v) ⌝ }
 {
     let i = 2 * w.0 as usize;
     mem[i] = (v % 256) as u8;
@@ -58,7 +63,10 @@ pub fn write_word(mem: &mut [u8], w: WordAddr, v: u16)
 // What a load from a does to memory: a status byte loses DBA and OF.
 fn touch(mem: &mut [u8], a: ByteAddr)
     requires { ⌜ length (now mem) ≡ 65536 ⌝ }
-    ensures { λ r. ⌜ now (mem .exit) ≡ commit (cond (status? (a .0)) (write (a .0) (clearedStatus (byteAt (now (mem .entry)) (a .0))) ∷ []) []) (now (mem .entry)) ⌝ }
+    ensures { λ r. ⌜ now (mem .exit)
+        ≡ commit (cond (status? (a .0))
+        (write (a .0) (clearedStatus (byteAt (now (mem .entry)) (a .0))) ∷ []) [])
+        (now (mem .entry)) ⌝ }
 {
     let i = a.0 as usize;
     if i < 16 {
@@ -94,7 +102,8 @@ fn stored_status(t: u8, v: u8) -> u8
 pub fn load(mem: &mut [u8], byte: bool, a: ByteAddr) -> u16
     requires { ⌜ length (now mem) ≡ 65536 ⌝ }
     ensures value { λ r. ⌜ r ≡ valueAt byte (now (mem .entry)) (a .0) ⌝ }
-    ensures memory { λ r. ⌜ now (mem .exit) ≡ commit (loadWrites byte (now (mem .entry)) (a .0)) (now (mem .entry)) ⌝ }
+    ensures memory { λ r. ⌜ now (mem .exit)
+        ≡ commit (loadWrites byte (now (mem .entry)) (a .0)) (now (mem .entry)) ⌝ }
 {
     if byte {
         let v = read_byte(mem, a);
@@ -110,7 +119,8 @@ pub fn load(mem: &mut [u8], byte: bool, a: ByteAddr) -> u16
 // A byte stored to a device register, below 16.
 fn store_device(mem: &mut [u8], a: ByteAddr, v: u8)
     requires { ⌜ (length (now mem) ≡ 65536) × (a .0 < 16) ⌝ }
-    ensures { λ r. ⌜ now (mem .exit) ≡ commit (byteWrites (now (mem .entry)) (a .0) v) (now (mem .entry)) ⌝ }
+    ensures { λ r. ⌜ now (mem .exit)
+        ≡ commit (byteWrites (now (mem .entry)) (a .0) v) (now (mem .entry)) ⌝ }
 {
     let i = a.0 as usize;
     if i % 2 == 0 {
@@ -127,7 +137,8 @@ fn store_device(mem: &mut [u8], a: ByteAddr, v: u8)
 // A byte stored by an instruction.
 pub fn store_byte(mem: &mut [u8], a: ByteAddr, v: u8)
     requires { ⌜ length (now mem) ≡ 65536 ⌝ }
-    ensures { λ r. ⌜ now (mem .exit) ≡ commit (byteWrites (now (mem .entry)) (a .0) v) (now (mem .entry)) ⌝ }
+    ensures { λ r. ⌜ now (mem .exit)
+        ≡ commit (byteWrites (now (mem .entry)) (a .0) v) (now (mem .entry)) ⌝ }
 {
     if a.0 < 16 {
         store_device(mem, a, v);
@@ -139,7 +150,8 @@ pub fn store_byte(mem: &mut [u8], a: ByteAddr, v: u8)
 // A word stored by an instruction, low byte first.
 fn store_word(mem: &mut [u8], w: WordAddr, v: u16)
     requires { ⌜ (length (now mem) ≡ 65536) × (w .0 < 32768) ⌝ }
-    ensures { λ r. ⌜ now (mem .exit) ≡ commit (storeWrites false (now (mem .entry)) (firstByte (w .0)) v) (now (mem .entry)) ⌝ }
+    ensures { λ r. ⌜ now (mem .exit)
+        ≡ commit (storeWrites false (now (mem .entry)) (firstByte (w .0)) v) (now (mem .entry)) ⌝ }
 {
     if 8 <= w.0 {
         write_word(mem, w, v);
@@ -152,7 +164,8 @@ fn store_word(mem: &mut [u8], w: WordAddr, v: u16)
 // A store by an instruction: the low byte of v, or all of it to the word that the byte lies in.
 pub fn store(mem: &mut [u8], byte: bool, a: ByteAddr, v: u16)
     requires { ⌜ length (now mem) ≡ 65536 ⌝ }
-    ensures { λ r. ⌜ now (mem .exit) ≡ commit (storeWrites byte (now (mem .entry)) (a .0) v) (now (mem .entry)) ⌝ }
+    ensures { λ r. ⌜ now (mem .exit)
+        ≡ commit (storeWrites byte (now (mem .entry)) (a .0) v) (now (mem .entry)) ⌝ }
 {
     if byte {
         store_byte(mem, a, (v % 256) as u8);

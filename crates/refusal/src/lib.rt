@@ -3,7 +3,7 @@ ghost use mathlib.Core.Path.{_≡_};
 ghost use Prim.Native.Nat.{_+_, _*_, _≤_};
 ghost use lib.ListN.{length};
 ghost use Rattle.machine.specs.Events.{eventAt, eventCount};
-ghost use Rattle.machine.specs.Refusal.{recordFits, eventsFit, verdictOf};
+ghost use Rattle.machine.specs.Refusal.{recordFits, eventsFit, verdictOf, refusalNumber};
 ghost use Rattle.machine.specs.Refusal.{eventFits, eventsFitBelow, inOrder, inOrderBelow};
 use machine::Verdict;
 use state_record::four_at;
@@ -124,4 +124,20 @@ pub fn verdict(memory: &[u8], state: &[u8], events: &[u8], n: u64) -> Verdict
         return Verdict::EventOrder;
     }
     Verdict::Accepted
+}
+
+// The paper's number of a verdict; 0 stands for none.
+pub fn refusal_number(v: Verdict) -> u64
+    ensures { λ r. ⌜ (r ≡ refusalNumber v) × (r ≤ 7) ⌝ }
+{
+    match v {
+        Verdict::Accepted => 0,
+        Verdict::MemoryLength => 1,
+        Verdict::StepCount => 2,
+        Verdict::RecordLength => 3,
+        Verdict::RecordBits => 4,
+        Verdict::EventsLength => 5,
+        Verdict::EventFields => 6,
+        Verdict::EventOrder => 7,
+    }
 }

@@ -1,10 +1,10 @@
--- Demand 3 at one run call: of the buffers that the call was handed, and of the memory and the state record that it leaves.
+-- Demand 3 at one run call: of the buffers that the call was handed, and of the memory and the state record that it
+-- leaves.
 -- Assumes nothing.
 use Prim.Native.Nat.{ℕ, suc, _<_}
 use mathlib.Core.Bool.{true, false}
 use mathlib.Core.List.{List}
 use mathlib.Core.Path.{_≡_}
-use Rattle.machine.specs.State.{Core}
 use Rattle.machine.specs.Memory.{byteAt}
 use Rattle.machine.specs.Record.{stateIn}
 use Rattle.machine.specs.Events.{eventsOf}
@@ -22,8 +22,10 @@ module _ (memory r events : List ℕ) (n : ℕ) (memory′ r′ : List ℕ) wher
 
   -- "before each of its steps, after its last and at the run's close". [01 Resumption]
   pub record CallResumes : Type 0 where
-    pub before-step : (k : ℕ) → k < n → application? (eventsOf events) (stateIn r memory) k ≡ true → Agree memory r events k
-    pub after-step : (k : ℕ) → k < n → application? (eventsOf events) (stateIn r memory) k ≡ true → Agree memory r events (suc k)
+    pub before-step : (k : ℕ) → k < n → application? (eventsOf events) (stateIn r memory) k ≡ true
+        → Agree memory r events k
+    pub after-step : (k : ℕ) → k < n → application? (eventsOf events) (stateIn r memory) k ≡ true
+        → Agree memory r events (suc k)
     pub at-close : CloseAgrees
 
   -- Demand 3, whole, of this call. [01 Resumption]

@@ -1,1 +1,2 @@
-// One run with nested and chained handlers that meets the premises of resumption, step by step. No code.
+// One run with nested and chained handlers that meets the premises of resumption, step by step. No
+// code.

@@ -7,7 +7,7 @@ ghost use Rattle.machine.specs.declared.Reason.the-variants.{Done, Halted};
 ghost use Rattle.machine.specs.State.{Core, stateOf};
 ghost use Rattle.machine.specs.Events.{eventsOf, eventCount};
 ghost use Rattle.machine.specs.Devices.{deliverAt};
-ghost use Rattle.machine.specs.Refusal.{eventsFitBelow, refusalNumber};
+ghost use Rattle.machine.specs.Refusal.{eventsFitBelow};
 ghost use Rattle.machine.specs.Run.{ran, runOf, reasonOf, reasonNumber};
 ghost use Rattle.machine.specs.Call.{runCallOf};
 ghost use Rattle.devices.specs.Cursor.{Ordered, stateFrom};
@@ -15,7 +15,6 @@ ghost use Rattle.run.specs.Due.{dueOf, Awaits};
 use entry::Rest;
 use machine::Machine;
 use machine::Reason;
-use machine::Verdict;
 
 // The step of record k, past every step where there is none.
 fn due_at(events: &[u8], k: usize) -> u64
@@ -128,22 +127,7 @@ pub fn run(m: Machine, memory: &mut [u8], events: &[u8], n: u32) -> Ran
     }
 }
 
-// The numbers of a verdict and of a reason.
-fn refusal_number(v: Verdict) -> u64
-    ensures { λ r. ⌜ r ≡ refusalNumber v ⌝ }
-{
-    match v {
-        Verdict::Accepted => 0,
-        Verdict::MemoryLength => 1,
-        Verdict::StepCount => 2,
-        Verdict::RecordLength => 3,
-        Verdict::RecordBits => 4,
-        Verdict::EventsLength => 5,
-        Verdict::EventFields => 6,
-        Verdict::EventOrder => 7,
-    }
-}
-
+// The number of a reason.
 fn reason_number(x: Reason) -> u64
     ensures { λ r. ⌜ (r ≡ reasonNumber x) × (r ≤ 1) ⌝ }
 {
@@ -163,7 +147,7 @@ pub fn run_call(memory: &mut [u8], state: &mut [u8], events: &[u8], n: u64) -> u
     ensures state { λ r. ⌜ now (state .exit)
         ≡ runCallOf (now (memory .entry)) (now (state .entry)) (now (events .entry)) n .state ⌝ }
 {
-    let refused = refusal_number(refusal::verdict(memory, state, events, n));
+    let refused = refusal::refusal_number(refusal::verdict(memory, state, events, n));
     if refused != 0 {
         return refused;
     }

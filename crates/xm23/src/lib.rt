@@ -1,4 +1,5 @@
-// The calls of a C host: numbers and byte buffers in, one number out. Nothing is kept between calls.
+// The calls of a C host: numbers and byte buffers in, one number out. Nothing is kept between
+// calls.
 // The definitions that the replies equal are gathered in specs/Api.antt.
 ghost use mathlib.Core.Path.{_≡_};
 ghost use Rattle.xm23.specs.Api.{decodeOf, numberOf, encodeNumber, runCallOf, Resumption};

@@ -20,31 +20,31 @@ same-length-2 c = search needs
 
 returns : tie.Need-returns
 returns c =
-    let e = call-refused _ _ _ _ _ _ (c .before .before .verdict .ensures) (c .before .refusal-number .ensures) (c .if1 .taken) in
+    let e = call-refused _ _ _ _ _ _ (c .before .before .verdict .ensures) (c .before .refusal-number .ensures .0) (c .if1 .taken) in
     (ap (λ x. x .reply) e, (ap (λ x. x .memory) e, ap (λ x. x .state) e))
 
 read-record-requires : tie.Need-read-record-requires
 read-record-requires c κs =
     let f = c .before in
-    call-passed _ _ _ _ _ _ (f .before .before .verdict .ensures) (f .before .refusal-number .ensures) (f .if1 .left) .record-size
+    call-passed _ _ _ _ _ _ (f .before .before .verdict .ensures) (f .before .refusal-number .ensures .0) (f .if1 .left) .record-size
 
 cast-run : tie.Need-cast-run
 cast-run c =
     let f = c .before .before .before in
-    let p = call-passed _ _ _ _ _ _ (f .before .before .verdict .ensures) (f .before .refusal-number .ensures) (f .if1 .left) in
+    let p = call-passed _ _ _ _ _ _ (f .before .before .verdict .ensures) (f .before .refusal-number .ensures .0) (f .if1 .left) in
     let few = p .few-steps in
     omega arith
 
 run-requires : tie.Need-run-requires
 run-requires c κs =
     let f = c .before .before .before in
-    let p = call-passed _ _ _ _ _ _ (f .before .before .verdict .ensures) (f .before .refusal-number .ensures) (f .if1 .left) in
+    let p = call-passed _ _ _ _ _ _ (f .before .before .verdict .ensures) (f .before .refusal-number .ensures .0) (f .if1 .left) in
     (p .memory-size, count-fits _ _ _ _ p _ (c .before .read-record .ensures), events-ordered _ _ _ _ p, events-fit _ _ _ _ p)
 
 write-record-requires : tie.Need-write-record-requires
 write-record-requires c κs =
     let f = c .before .before .before .before .before .before .before in
-    call-passed _ _ _ _ _ _ (f .before .before .verdict .ensures) (f .before .refusal-number .ensures) (f .if1 .left) .record-size
+    call-passed _ _ _ _ _ _ (f .before .before .verdict .ensures) (f .before .refusal-number .ensures .0) (f .if1 .left) .record-size
 
 reason-number-requires : tie.Need-reason-number-requires
 reason-number-requires c κs = search needs
@@ -72,7 +72,7 @@ returns-2 c =
     let r = c .before .before .before .before .before .before .before .before in
     let f = r .before .before .before .before in
     let e =
-    call-ran _ _ _ _ _ _ (f .before .before .verdict .ensures) (f .before .refusal-number .ensures) _ _ _ _ _ _ _ _ (f .if1 .left)
+    call-ran _ _ _ _ _ _ (f .before .before .verdict .ensures) (f .before .refusal-number .ensures .0) _ _ _ _ _ _ _ _ (f .if1 .left)
     (r .before .before .read-record .ensures) (r .run .ensures .0) (r .run .ensures .1 .0)
     (c .before .before .before .before .write-record .ensures) (c .before .reason-number .ensures .0) refl in
     (ap (λ x. x .reply) e, (ap (λ x. x .memory) e, ap (λ x. x .state) e))

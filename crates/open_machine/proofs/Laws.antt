@@ -1,0 +1,106 @@
+-- An advance from its parts: turned back, or run; and the step count in a machine's own record. Assumes nothing.
+use Prim.Native.Nat.{ℕ, _+_, _*_, _/_, _%_, _<_, _≤_, _^_}
+use mathlib.Core.Bool.{Bool, true, false, cond}
+use mathlib.Core.List.{List}
+use mathlib.Core.Logic.{_≢_}
+use mathlib.Core.Path.{_≡_, refl, sym, ap, _∙_}
+use native.Mathlib.Omega.{arith}
+use mir.Val.{boolByte}
+use Rattle.machine.specs.declared.Reason.the-variants.{Done, Halted}
+use Rattle.machine.specs.declared.Verdict.{Verdict}
+use Rattle.machine.specs.declared.Verdict.the-variants.{Accepted, MemoryLength, StepCount, RecordLength, RecordBits, EventsLength}
+use Rattle.machine.specs.declared.Verdict.the-variants.{EventFields, EventOrder}
+use Rattle.machine.specs.State.{State}
+use Rattle.machine.specs.Record.{fourAt, recordOf, countByte}
+use Rattle.machine.specs.Events.{eventsOf}
+use Rattle.machine.specs.Refusal.{verdictOf, refusalNumber}
+use Rattle.machine.specs.Run.{Run, ran, runOf, reasonOf, reasonNumber}
+use Rattle.machine_laws.specs.Passed.{Passed}
+use Rattle.open_machine.specs.Advance.{Advance, advancedBy, advanceFor, advanceOf}
+
+-- ---- the step count
+
+four-bytes : (n : ℕ) → n < 2 ^ 32
+    → countByte n 1 + 256 * countByte n 0x100 + 65536 * (countByte n 0x10000 + 256 * countByte n 0x1000000) ≡ n
+four-bytes n h =
+    let l : n < 4294967296 = h in
+    let a : n ≡ n / 256 * 256 + n % 256 = omega arith in
+    let b : n / 256 ≡ n / 65536 * 256 + n / 256 % 256 = omega arith in
+    let c : n / 65536 ≡ n / 16777216 * 256 + n / 65536 % 256 = omega arith in
+    let d : n / 16777216 % 256 ≡ n / 16777216 = omega arith in
+    let e : n / 1 ≡ n = omega arith in
+    rw e (join n (n / 256) (n / 65536) (n / 16777216) (n % 256) (n / 256 % 256) (n / 65536 % 256) (n / 16777216 % 256) a b c d)
+  where
+    join : (n q r t x y z u : ℕ) → n ≡ q * 256 + x → q ≡ r * 256 + y → r ≡ t * 256 + z → u ≡ t → x + 256 * y + 65536 * (z + 256 * u) ≡ n
+    join n q r t x y z u a b c d = omega arith
+
+record-count : (s : State) → s .count < 2 ^ 32 → fourAt (recordOf s) 22 ≡ s .count
+unfolding recordOf
+record-count s h = four-bytes (s .count) h
+
+pub count-fits : (s : State) (memory r events : List ℕ) (n : ℕ) → Passed memory r events n → r ≡ recordOf s → s .count < 2 ^ 32
+    → s .count + n ≤ 4294967295
+count-fits s memory r events n p e h =
+    let k : fourAt r 22 ≡ s .count = ap (λ (b : List ℕ). fourAt b 22) e ∙ record-count s h in
+    let l : fourAt r 22 + n ≤ 4294967295 = p .count-fits in
+    rw (← k) l
+
+-- ---- the advance of a verdict
+
+abbrev reached : ℕ → State → Advance
+reached k s = record { reply = k; state = s }
+
+refused : (v : Verdict) (s : State) (x : Run) → refusalNumber v ≢ 0 → advanceFor v s x ≡ reached (refusalNumber v) s
+refused Accepted s x h = absurd (h refl)
+refused MemoryLength s x h = refl
+refused StepCount s x h = refl
+refused RecordLength s x h = refl
+refused RecordBits s x h = refl
+refused EventsLength s x h = refl
+refused EventFields s x h = refl
+refused EventOrder s x h = refl
+
+accepted : (v : Verdict) (s : State) (x : Run) → refusalNumber v ≡ 0 → advanceFor v s x ≡ advancedBy x
+accepted Accepted s x e = refl
+accepted MemoryLength s x e = absurd (omega arith)
+accepted StepCount s x e = absurd (omega arith)
+accepted RecordLength s x e = absurd (omega arith)
+accepted RecordBits s x e = absurd (omega arith)
+accepted EventsLength s x e = absurd (omega arith)
+accepted EventFields s x e = absurd (omega arith)
+accepted EventOrder s x e = absurd (omega arith)
+
+-- the reason's number is the halted mark
+mark : (h : Bool) → boolByte h ≡ reasonNumber (cond h Halted Done)
+mark true = refl
+mark false = refl
+
+pub mark-le : (h : Bool) → boolByte h ≤ 1
+mark-le true = omega arith
+mark-le false = omega arith
+
+module _
+    (s : State) (r events : List ℕ) (n k : ℕ) (v : Verdict) (w : r ≡ recordOf s) (e : v ≡ verdictOf (s .mem) r events n)
+    (f : k ≡ refusalNumber v) where
+  on-record : v ≡ verdictOf (s .mem) (recordOf s) events n
+  on-record = e ∙ ap (λ (b : List ℕ). verdictOf (s .mem) b events n) w
+
+  pub advance-refused : k ≢ 0 → reached k s ≡ advanceOf s events n
+  unfolding advanceOf
+  advance-refused h =
+      let x = runOf (eventsOf events) s n in
+      ap (λ j. reached j s) f ∙ sym (refused v s x (λ q. h (f ∙ q))) ∙ ap (λ u. advanceFor u s x) on-record
+
+  pub advance-ran :
+      (t : State) (steps : ℕ) → k ≡ 0 → ran t steps ≡ runOf (eventsOf events) s n →
+      reached (256 * boolByte (t .halted) + 65536 * steps) t ≡ advanceOf s events n
+  unfolding advanceOf
+  advance-ran t steps h went =
+      let x = runOf (eventsOf events) s n in
+      let j = mark (t .halted) in
+      let q : 256 * boolByte (t .halted) + 65536 * steps ≡ 0 + 256 * reasonNumber (reasonOf (ran t steps)) + 65536 * steps =
+      rw (← j) (omega arith) in
+      ap (λ i. reached i t) q
+      ∙ ap advancedBy went
+      ∙ sym (accepted v s x (sym f ∙ h))
+      ∙ ap (λ u. advanceFor u s x) on-record

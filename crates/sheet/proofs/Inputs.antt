@@ -1,0 +1,122 @@
+-- An input from its parts, and what an accepted one has settled. Assumes nothing.
+use Prim.Native.Nat.{ℕ, _+_, _-_, _≤_}
+use mathlib.Core.Path.{_≡_, refl, sym, ap, _∙_}
+use mathlib.Core.Bool.{Bool, true, false, cond}
+use mathlib.Core.List.{List, [], _∷_}
+use mathlib.Core.Logic.{_≢_, ⊎-elim}
+use native.Mathlib.Omega.{arith}
+use lib.Dec.{ltb}
+use lib.ListN.{length, take, drop, length-take, length-drop}
+use lib.Seq.{take-all}
+use types.Run.{OneOf}
+use Rattle.machine.specs.declared.Machine.{Machine}
+use Rattle.machine.specs.declared.Verdict.{Verdict}
+use Rattle.machine.specs.declared.Verdict.the-variants.{Accepted, MemoryLength, StepCount, RecordLength}
+use Rattle.machine.specs.declared.Verdict.the-variants.{RecordBits, EventsLength, EventFields, EventOrder}
+use Rattle.machine.specs.State.{stateOf}
+use Rattle.machine.specs.Record.{stateIn}
+use Rattle.machine.specs.Events.{eventCount, eventsOf}
+use Rattle.machine.specs.Run.{Run, ran, runOf}
+use Rattle.machine.specs.Refusal.{eventsFitBelow, inOrderBelow, refusalNumber, verdictOf}
+use Rattle.machine_laws.specs.Passed.{Passed}
+use Rattle.machine_laws.proofs.Cases.{not-lt, ge-of}
+use Rattle.machine_laws.proofs.Records.{passed}
+use Rattle.run.proofs.Calls.{events-fit, events-ordered, count-fits}
+use Rattle.sheet.specs.Sheet.{stepsIn, recordIn, memoryIn, eventsIn, inputVerdict, lineOf, refusedLine, answered, sheetOf}
+use Rattle.sheet.specs.Parts.{runIn}
+
+-- the last part, cut by the length
+rest : (b : List ℕ) (k : ℕ) → take (length b - k) (drop k b) ≡ drop k b
+rest b k = take-all (length b - k) (drop k b) (simp length-drop (omega arith))
+
+-- the verdict on an input of at least 65,572 bytes, from its parts
+pub verdict-of-parts : (b : List ℕ) {m r e : List ℕ} {n : ℕ} {v : Verdict} → 65572 ≤ length b
+    → n ≡ stepsIn b
+    → r ≡ recordIn b
+    → m ≡ memoryIn b
+    → e ≡ take (length b - 65572) (drop 65572 b)
+    → v ≡ verdictOf m r e n
+    → v ≡ inputVerdict b
+unfolding inputVerdict
+verdict-of-parts b h en er em ee ev =
+    let h36 : 36 ≤ length b = omega arith in
+    rw (not-lt h36, not-lt h, ev, en, er, em, ee, rest b 65572)
+
+-- a run from an input's parts gives the line of the run that the input asks for
+pub line-of-parts : (b : List ℕ) (m x : Machine) {mem after r e t : List ℕ} {n k : ℕ}
+    → mem ≡ memoryIn b
+    → n ≡ stepsIn b
+    → r ≡ recordIn b
+    → ((a : List ℕ) → stateOf m a ≡ stateIn r a)
+    → e ≡ take (length b - 65572) (drop 65572 b)
+    → ran (stateOf x after) k ≡ runOf (eventsOf e) (stateOf m mem) n
+    → ((a : List ℕ) → t ≡ lineOf (ran (stateOf x a) k))
+    → t ≡ lineOf (runIn b)
+line-of-parts b m x {mem} {after} em en er es ee ex et =
+    et after ∙ ap lineOf (ex ∙ rw (es mem, em, en, er, ee, rest b 65572))
+
+-- ---- what an accepted input has settled
+
+pub record Ready (b : List ℕ) : Type 0 where
+  pub size : 65572 ≤ length b
+  pub rules : Passed (memoryIn b) (recordIn b) (eventsIn b) (stepsIn b)
+
+-- a test that would have refused was not met
+not-met : (t : Bool) (x y : Verdict) → refusalNumber x ≢ 0 → cond t x y ≡ Accepted → (t ≡ false) × (y ≡ Accepted)
+not-met true x y h e = absurd (h (ap refusalNumber e))
+not-met false x y h e = (refl, e)
+
+pub ready : (b : List ℕ) → inputVerdict b ≡ Accepted → Ready b
+unfolding inputVerdict
+ready b e =
+    let whole = verdictOf (memoryIn b) (recordIn b) (eventsIn b) (stepsIn b) in
+    let p = not-met (ltb (length b) 36) RecordLength (cond (ltb (length b) 65572) MemoryLength whole) (omega arith) e in
+    let q = not-met (ltb (length b) 65572) MemoryLength whole (omega arith) (p .1) in
+    record { size = ge-of (q .0); rules = passed (memoryIn b) (recordIn b) (eventsIn b) (stepsIn b) (q .1) }
+
+-- ---- the needs of a run
+
+pub part-length : (b : List ℕ) (from n : ℕ) → from + n ≤ length b → length (take n (drop from b)) ≡ n
+part-length b from n h = simp (length-take, length-drop) (omega arith)
+
+pub run-ready : (b : List ℕ) (m : Machine) {r e : List ℕ} {n : ℕ} → Ready b
+    → n ≡ stepsIn b
+    → r ≡ recordIn b
+    → ((a : List ℕ) → stateOf m a ≡ stateIn r a)
+    → e ≡ take (length b - 65572) (drop 65572 b)
+    → (m .count + n ≤ 4294967295) × (inOrderBelow e (eventCount e) ≡ true) × (eventsFitBelow e (eventCount e) ≡ true)
+run-ready b m rb en er es ee =
+    let p = rb .rules in
+    let state : (a : List ℕ) → stateOf m a ≡ stateIn (recordIn b) a = λ a. es a ∙ ap (λ (l : List ℕ). stateIn l a) er in
+    let count = count-fits (memoryIn b) (recordIn b) (eventsIn b) (stepsIn b) p m state in
+    let ordered = events-ordered (memoryIn b) (recordIn b) (eventsIn b) (stepsIn b) p in
+    let fit = events-fit (memoryIn b) (recordIn b) (eventsIn b) (stepsIn b) p in
+    rw (en, ee, rest b 65572) (count, ordered, fit)
+
+-- ---- the line of an input
+
+pub sheet-accepted : (b : List ℕ) → inputVerdict b ≡ Accepted → sheetOf b ≡ lineOf (runIn b)
+unfolding sheetOf
+sheet-accepted b e = ap (λ (v : Verdict). answered v (runIn b)) e
+
+refused : (v : Verdict) (x : Run) → (v ≡ Accepted → ⊥) → answered v x ≡ refusedLine v
+refused Accepted x h = absurd (h refl)
+refused MemoryLength x h = refl
+refused StepCount x h = refl
+refused RecordLength x h = refl
+refused RecordBits x h = refl
+refused EventsLength x h = refl
+refused EventFields x h = refl
+refused EventOrder x h = refl
+
+-- an acceptance has no tag of a refusal
+pub untagged : OneOf (1 ∷ 2 ∷ 3 ∷ 4 ∷ 5 ∷ 6 ∷ 7 ∷ []) 0 → ⊥
+untagged =
+    ⊎-elim (λ w. omega arith)
+    (⊎-elim (λ w. omega arith)
+    (⊎-elim (λ w. omega arith)
+    (⊎-elim (λ w. omega arith) (⊎-elim (λ w. omega arith) (⊎-elim (λ w. omega arith) (λ w. omega arith))))))
+
+pub sheet-refused : (b : List ℕ) (v : Verdict) → v ≡ inputVerdict b → (v ≡ Accepted → ⊥) → refusedLine v ≡ sheetOf b
+unfolding sheetOf
+sheet-refused b v e h = sym (refused v (runIn b) h) ∙ ap (λ (w : Verdict). answered w (runIn b)) e

@@ -1,0 +1,132 @@
+-- The printed line from its parts, and a part of the input copied byte by byte.
+-- Assumes nothing.
+use Prim.Native.Nat.{ℕ, zero, suc, _+_, _-_, _/_, _%_, _<_, _≤_}
+use mathlib.Core.Path.{_≡_, refl, sym, ap, _∙_}
+use mathlib.Core.Bool.{Bool, true, false, cond}
+use mathlib.Core.List.{List, [], _∷_, _++_, append-assoc, append-nil}
+use native.Mathlib.Numerals.{unary-clauses, add-one}
+use native.Mathlib.Nat.{mod-eq-of-lt}
+use lib.ListN.{length, getD, set, take}
+use lib.Seq.{take-suc, take-suc-set, take-all}
+use mir.Syntax.{w8}
+use mir.Val.{Fits, boolByte}
+use mir.Facts.{fits-lit}
+use borrow.Author.Tests.{lt-ltb, le-ltb}
+use Rattle.machine.specs.declared.Machine.{Machine}
+use Rattle.machine.specs.declared.Verdict.{Verdict}
+use Rattle.machine.specs.declared.Reason.the-variants.{Done, Halted}
+use Rattle.machine.specs.State.{stateOf}
+use Rattle.machine.specs.Run.{ran, reasonNumber}
+use Rattle.machine.specs.Refusal.{refusalNumber}
+use Rattle.sheet.specs.Text.{glyph, hexOf, decimalOf}
+use Rattle.sheet.specs.Sheet.{spaced, lineOf, refusedLine}
+use Rattle.sheet.specs.Parts.{wordsText, machineText}
+
+-- ---- digits
+
+pub hex-none : (p : List ℕ) (k n : ℕ) → k ≡ 0 → p ≡ p ++ hexOf k n
+unfolding hexOf
+hex-none p k n h = rw (h, append-nil)
+
+pub hex-more : (k n : ℕ) → (k ≡ 0 → ⊥) → hexOf k n ≡ hexOf (k - 1) (n / 16) ++ (glyph (n % 16) ∷ [])
+unfolding hexOf
+hex-more zero n h = absurd (h refl)
+hex-more (suc k) n h = simp unary-clauses
+
+pub decimal-last : (k n : ℕ) → k ≡ 0 → decimalOf k n ≡ glyph (n % 10) ∷ []
+unfolding decimalOf
+decimal-last k n h = rw h
+
+pub decimal-low : (k n : ℕ) → n < 10 → decimalOf k n ≡ glyph (n % 10) ∷ []
+unfolding decimalOf
+decimal-low zero n h = refl
+decimal-low (suc k) n h = rw (lt-ltb n 10 h, mod-eq-of-lt h, lt-ltb n 10 h)
+
+pub decimal-more : (k n : ℕ) → (k ≡ 0 → ⊥) → 10 ≤ n → decimalOf k n ≡ decimalOf (k - 1) (n / 10) ++ (glyph (n % 10) ∷ [])
+unfolding decimalOf
+decimal-more zero n h g = absurd (h refl)
+decimal-more (suc k) n h g = rw (le-ltb n 10 g) (simp unary-clauses)
+
+-- ---- parts of a line, each after the one before it; p stands before them
+
+six : (p a b c d e f : List ℕ) {x y z w u v : List ℕ}
+    → x ≡ p ++ a → y ≡ x ++ b → z ≡ y ++ c → w ≡ z ++ d → u ≡ w ++ e → v ≡ u ++ f → v ≡ p ++ (a ++ b ++ c ++ d ++ e ++ f)
+six p a b c d e f ea eb ec ed ee ef = rw (ef, ee, ed, ec, eb, ea) (simp append-assoc)
+
+flat : (a b c d e f g h i : List ℕ) → a ++ b ++ c ++ d ++ (e ++ f ++ g ++ h) ++ i ≡ a ++ b ++ c ++ d ++ e ++ f ++ g ++ h ++ i
+flat a b c d e f g h i = simp append-assoc
+
+line : (r s n a b c d e f g h i j k l : List ℕ)
+    → r ++ s ++ n ++ (a ++ b ++ c ++ d ++ e ++ f ++ g ++ h ++ i ++ j ++ k ++ l)
+    ≡ r ++ (s ++ n) ++ a ++ b ++ c ++ d ++ e ++ f ++ g ++ h ++ i ++ j ++ k ++ l
+line r s n a b c d e f g h i j k l = simp append-assoc
+
+-- register i of a machine, as it is printed
+abbrev field : Machine → ℕ → List ℕ
+field m i = spaced (hexOf 4 (getD (m .regs) i 0))
+
+pub words-text : (p : List ℕ) (a b c d : ℕ) {x y z w : List ℕ}
+    → x ≡ p ++ spaced (hexOf 4 a)
+    → y ≡ x ++ spaced (hexOf 4 b)
+    → z ≡ y ++ spaced (hexOf 4 c)
+    → w ≡ z ++ spaced (hexOf 4 d)
+    → w ≡ p ++ wordsText a b c d
+words-text p a b c d ea eb ec ed = rw (ed, ec, eb, ea) (simp append-assoc)
+
+pub machine-text : (p : List ℕ) (m : Machine) {x y z w u v : List ℕ}
+    → x ≡ p ++ wordsText (getD (m .regs) 0 0) (getD (m .regs) 1 0) (getD (m .regs) 2 0) (getD (m .regs) 3 0)
+    → y ≡ x ++ wordsText (getD (m .regs) 4 0) (getD (m .regs) 5 0) (getD (m .regs) 6 0) (getD (m .regs) 7 0)
+    → z ≡ y ++ spaced (hexOf 4 (m .psw))
+    → w ≡ z ++ spaced (hexOf 2 (m .cex))
+    → u ≡ w ++ spaced (hexOf 2 (m .lines))
+    → v ≡ u ++ (10 ∷ [])
+    → v ≡ p ++ machineText m
+unfolding machineText
+machine-text p m ea eb ec ed ee ef =
+    let first : List ℕ = field m 0 ++ field m 1 ++ field m 2 ++ field m 3 in
+    let second : List ℕ = field m 4 ++ field m 5 ++ field m 6 ++ field m 7 in
+    let psw : List ℕ = spaced (hexOf 4 (m .psw)) in
+    let cex : List ℕ = spaced (hexOf 2 (m .cex)) in
+    let lines : List ℕ = spaced (hexOf 2 (m .lines)) in
+    six p first second psw cex lines (10 ∷ []) ea eb ec ed ee ef
+    ∙ ap (λ (t : List ℕ). p ++ (t ++ cex ++ lines ++ (10 ∷ [])))
+    (flat (field m 0) (field m 1) (field m 2) (field m 3) (field m 4) (field m 5) (field m 6) (field m 7) psw)
+
+reason-text : (b : Bool) → (48 + boolByte b) ∷ [] ≡ decimalOf 6 (reasonNumber (cond b Halted Done))
+unfolding decimalOf
+reason-text true = refl
+reason-text false = refl
+
+pub reason-fits : (b : Bool) → Fits w8 (48 + boolByte b)
+reason-fits true = fits-lit tt
+reason-fits false = fits-lit tt
+
+pub line-text : (m : Machine) (steps : ℕ) {x y z w : List ℕ}
+    → x ≡ (48 + boolByte (m .halted)) ∷ []
+    → y ≡ x ++ (32 ∷ [])
+    → z ≡ y ++ decimalOf 6 steps
+    → w ≡ z ++ machineText m
+    → (mem : List ℕ) → w ≡ lineOf (ran (stateOf m mem) steps)
+unfolding lineOf machineText
+line-text m steps ea eb ec ed mem =
+    rw (ed, ec, eb, ea ∙ reason-text (m .halted))
+    (line (decimalOf 6 (reasonNumber (cond (m .halted) Halted Done))) (32 ∷ []) (decimalOf 6 steps)
+    (field m 0) (field m 1) (field m 2) (field m 3) (field m 4) (field m 5) (field m 6) (field m 7)
+    (spaced (hexOf 4 (m .psw))) (spaced (hexOf 2 (m .cex))) (spaced (hexOf 2 (m .lines))) (10 ∷ []))
+
+pub refusal-text : (v : Verdict) (n : ℕ) {x y z : List ℕ}
+    → n ≡ refusalNumber v
+    → x ≡ 82 ∷ []
+    → y ≡ x ++ ((48 + n) ∷ [])
+    → z ≡ y ++ (10 ∷ [])
+    → z ≡ refusedLine v
+refusal-text v n en ea eb ec = rw (ec, eb, ea, en)
+
+-- ---- a list copied element by element
+
+pub copy-more : (src dst : List ℕ) (i : ℕ) → i < length dst → i < length src → take i dst ≡ take i src
+    → take (i + 1) (set dst i (getD src i 0)) ≡ take (i + 1) src
+copy-more src dst i hd hs e = rw (add-one i, take-suc-set dst i (getD src i 0) hd, take-suc src i 0 hs, e)
+
+pub copy-all : (src dst : List ℕ) (i : ℕ) → length dst ≤ i → length src ≤ i → take i dst ≡ take i src → dst ≡ src
+copy-all src dst i hd hs e = sym (take-all i dst hd) ∙ e ∙ take-all i src hs

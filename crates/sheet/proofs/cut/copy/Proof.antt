@@ -1,0 +1,61 @@
+use Prim.Native.Nat.{_-_, _≤_}
+use mathlib.Core.Path.{_≡_, refl}
+use native.Mathlib.Omega.{arith}
+use lib.ListN.{length, length-set, take}
+use borrow.Author.Needs.{needs}
+use Rattle.sheet.proofs.Texts.{copy-more, copy-all}
+use Rattle.sheet.proofs.cut.copy.Statement.{statement}
+use Rattle.sheet.proofs.cut.copy.Tie as tie
+
+abbrev Inv-loop : tie.InvT-loop
+Inv-loop src dst₀ i₀ dst i = (i ≤ length dst₀) × (length dst ≡ length dst₀) × (take i dst ≡ take i src)
+
+abbrev μ-loop : tie.MeasureT-loop
+μ-loop src dst₀ i₀ dst i = length dst₀ - i
+
+loop-holds : tie.Need-loop-holds Inv-loop μ-loop
+loop-holds c = (omega arith, refl, refl)
+
+shared-slice-read-dst : tie.Need-shared-slice-read-dst Inv-loop μ-loop
+shared-slice-read-dst c = search needs
+
+slice-write-dst : tie.Need-slice-write-dst Inv-loop μ-loop
+slice-write-dst c = search needs
+
+add-i : tie.Need-add-i Inv-loop μ-loop
+add-i c = search needs
+
+loop-less : tie.Need-loop-less Inv-loop μ-loop
+loop-less c = search needs
+
+loop-again : tie.Need-loop-again Inv-loop μ-loop
+loop-again c =
+    let at-loop = c .before .before in
+    let entry = at-loop .before in (
+      omega arith,
+      simp length-set (omega arith),
+      copy-more (entry .args .src .now) (at-loop .loop .dst) (at-loop .loop .i) (omega arith) (omega arith) (at-loop .loop .inv .2),
+    )
+
+same-length : tie.Need-same-length Inv-loop μ-loop
+same-length c = search needs
+
+returns : tie.Need-returns Inv-loop μ-loop
+returns c =
+    let entry = c .before .before in
+    copy-all (entry .args .src .now) (c .before .loop .dst) (c .before .loop .i) (omega arith) (omega arith) (c .before .loop .inv .2)
+
+pub copy-spec : {M : Type 1} → statement M
+copy-spec =
+    tie.close
+    (tie.spec
+    Inv-loop
+    μ-loop
+    loop-holds
+    shared-slice-read-dst
+    slice-write-dst
+    add-i
+    loop-less
+    loop-again
+    same-length
+    returns)

@@ -1,0 +1,133 @@
+use native.Mathlib.Omega.{arith}
+use lib.ListN.{take}
+use borrow.Author.Needs.{needs}
+use Rattle.sheet.proofs.Texts.{machine-text}
+use Rattle.sheet.proofs.line.put_machine.Statement.{statement}
+use Rattle.sheet.proofs.line.put_machine.Tie as tie
+
+array-read-put-words : tie.Need-array-read-put-words
+array-read-put-words c = search needs
+
+array-read-put-words-2 : tie.Need-array-read-put-words-2
+array-read-put-words-2 c = search needs
+
+array-read-put-words-3 : tie.Need-array-read-put-words-3
+array-read-put-words-3 c = search needs
+
+array-read-put-words-4 : tie.Need-array-read-put-words-4
+array-read-put-words-4 c = search needs
+
+put-words-requires : tie.Need-put-words-requires
+put-words-requires c κs = search needs
+
+array-read-put-words-5 : tie.Need-array-read-put-words-5
+array-read-put-words-5 c = search needs
+
+array-read-put-words-6 : tie.Need-array-read-put-words-6
+array-read-put-words-6 c = search needs
+
+array-read-put-words-7 : tie.Need-array-read-put-words-7
+array-read-put-words-7 c = search needs
+
+array-read-put-words-8 : tie.Need-array-read-put-words-8
+array-read-put-words-8 c = search needs
+
+put-words-requires-2 : tie.Need-put-words-requires-2
+put-words-requires-2 c κs = search needs
+
+cast-put-field : tie.Need-cast-put-field
+cast-put-field c = search needs
+
+put-field-requires : tie.Need-put-field-requires
+put-field-requires c κs = search needs
+
+cast-put-field-2 : tie.Need-cast-put-field-2
+cast-put-field-2 c = search needs
+
+put-field-requires-2 : tie.Need-put-field-requires-2
+put-field-requires-2 c κs = search needs
+
+cast-put-field-3 : tie.Need-cast-put-field-3
+cast-put-field-3 c = search needs
+
+put-field-requires-3 : tie.Need-put-field-requires-3
+put-field-requires-3 c κs = search needs
+
+put-requires : tie.Need-put-requires
+put-requires c κs =
+    let at-put-field3 = c .before .before .before in
+    let at-put-field2 = at-put-field3 .before .before .before .before .before in
+    let at-put-field = at-put-field2 .before .before .before .before .before in
+    let at-put-words2 = at-put-field .before .before .before .before .before in
+    let at-put-words = at-put-words2 .before .before .before .before in
+    let entry = at-put-words .before .before .before .before in
+    omega (
+      arith,
+      entry .pre,
+      at-put-words .put-words .kept,
+      at-put-words2 .put-words2 .kept,
+      at-put-field .put-field .kept,
+      at-put-field2 .put-field2 .kept,
+      at-put-field3 .put-field3 .kept,
+      at-put-words .put-words .ensures .1,
+      at-put-words2 .put-words2 .ensures .1,
+      at-put-field .put-field .ensures .1,
+      at-put-field2 .put-field2 .ensures .1,
+      at-put-field3 .put-field3 .ensures .1,
+    )
+
+same-length : tie.Need-same-length
+same-length c = search needs
+
+returns : tie.Need-returns
+returns c =
+    let at-put = c .before .before in
+    let at-put-field3 = at-put .before .before .before .before in
+    let at-put-field2 = at-put-field3 .before .before .before .before .before in
+    let at-put-field = at-put-field2 .before .before .before .before .before in
+    let at-put-words2 = at-put-field .before .before .before .before .before in
+    let at-put-words = at-put-words2 .before .before .before .before in
+    let entry = at-put-words .before .before .before .before in
+    let line =
+    machine-text (take (entry .args .at) (entry .args .out .now)) (entry .args .m)
+    (at-put-words .put-words .ensures .0)
+    (at-put-words2 .put-words2 .ensures .0)
+    (at-put-field .put-field .ensures .0)
+    (at-put-field2 .put-field2 .ensures .0)
+    (at-put-field3 .put-field3 .ensures .0)
+    (at-put .put .ensures .0) in (
+      line,
+      omega (
+        arith,
+        at-put-words .put-words .ensures .1,
+        at-put-words2 .put-words2 .ensures .1,
+        at-put-field .put-field .ensures .1,
+        at-put-field2 .put-field2 .ensures .1,
+        at-put-field3 .put-field3 .ensures .1,
+        at-put .put .ensures .1,
+      ),
+    )
+
+pub put-machine-spec : {M : Type 1} → statement M
+put-machine-spec =
+    tie.close
+    (tie.spec
+    array-read-put-words
+    array-read-put-words-2
+    array-read-put-words-3
+    array-read-put-words-4
+    put-words-requires
+    array-read-put-words-5
+    array-read-put-words-6
+    array-read-put-words-7
+    array-read-put-words-8
+    put-words-requires-2
+    cast-put-field
+    put-field-requires
+    cast-put-field-2
+    put-field-requires-2
+    cast-put-field-3
+    put-field-requires-3
+    put-requires
+    same-length
+    returns)

@@ -1,0 +1,105 @@
+use mathlib.Core.Path.{sym, ap, _∙_}
+use native.Mathlib.Omega.{arith}
+use lib.ListN.{length}
+use borrow.Author.Needs.{needs}
+use Rattle.sheet.proofs.Inputs.{ready, part-length, run-ready, line-of-parts}
+use Rattle.sheet.proofs.put_run.Statement.{statement}
+use Rattle.sheet.proofs.put_run.Tie as tie
+
+part-requires : tie.Need-part-requires
+part-requires c κs =
+    let entry = c .before .before .before in
+    let h = ready (entry .args .input .now) (entry .pre .0) .size in (omega arith, omega arith)
+
+copy-requires : tie.Need-copy-requires
+copy-requires c κs =
+    let at-part = c .before in
+    let entry = at-part .before .before .before .before in
+    let h = ready (entry .args .input .now) (entry .pre .0) in
+    ap length (at-part .part .ensures) ∙ part-length (entry .args .input .now) 36 65536 (h .size) ∙ sym (entry .pre .1)
+
+four-at-requires : tie.Need-four-at-requires
+four-at-requires c κs =
+    let entry = c .before .before .before .before .before .before .before .before in
+    let h = ready (entry .args .input .now) (entry .pre .0) .size in omega arith
+
+part-requires-2 : tie.Need-part-requires-2
+part-requires-2 c κs =
+    let entry = c .before .before .before .before .before .before .before .before .before in
+    let h = ready (entry .args .input .now) (entry .pre .0) .size in (omega arith, omega arith)
+
+read-record-requires : tie.Need-read-record-requires
+read-record-requires c κs =
+    let entry = c .before .before .before .before .before .before .before .before .before .before in
+    let h = ready (entry .args .input .now) (entry .pre .0) .size in
+    ap length (c .part2 .ensures) ∙ part-length (entry .args .input .now) 4 32 (omega arith)
+
+part-requires-3 : tie.Need-part-requires-3
+part-requires-3 c κs =
+    let entry = c .before .before .before .before .before .before .before .before .before .before .before in
+    let h = ready (entry .args .input .now) (entry .pre .0) .size in (omega arith, omega arith)
+
+run-requires : tie.Need-run-requires
+run-requires c κs =
+    let at-part3 = c .before in
+    let at-read-record = at-part3 .before in
+    let at-part2 = at-read-record .before in
+    let at-four-at = at-part2 .before in
+    let at-copy = at-four-at .before .before .before in
+    let at-part = at-copy .before .before in
+    let entry = at-part .before .before .before .before in
+    let h = ready (entry .args .input .now) (entry .pre .0) in
+    let p = run-ready (entry .args .input .now) (at-read-record .read-record .result) h
+    (at-four-at .four-at .ensures) (at-part2 .part2 .ensures) (at-read-record .read-record .ensures) (at-part3 .part3 .ensures) in
+    let size = ap length (at-copy .copy .ensures ∙ at-part .part .ensures) ∙ part-length (entry .args .input .now) 36 65536 (h .size) in
+    (size, p .0, p .1, p .2)
+
+put-line-requires : tie.Need-put-line-requires
+put-line-requires c κs =
+    let at-run = c .before .before .before in
+    let entry = at-run .before .before .before .before .before .before .before .before .before .before .before .before .before .before in
+    entry .pre .2
+
+same-length : tie.Need-same-length
+same-length c = search needs
+
+same-length-2 : tie.Need-same-length-2
+same-length-2 c = search needs
+
+returns : tie.Need-returns
+returns c =
+    let at-put-line = c .before .before in
+    let at-run = at-put-line .before .before .before .before in
+    let at-part3 = at-run .before .before in
+    let at-read-record = at-part3 .before in
+    let at-part2 = at-read-record .before in
+    let at-four-at = at-part2 .before in
+    let at-copy = at-four-at .before .before .before in
+    let at-part = at-copy .before .before in
+    let entry = at-part .before .before .before .before in
+    let line =
+    line-of-parts (entry .args .input .now) (at-read-record .read-record .result) (at-run .run .result .machine)
+    (at-copy .copy .ensures ∙ at-part .part .ensures)
+    (at-four-at .four-at .ensures)
+    (at-part2 .part2 .ensures)
+    (at-read-record .read-record .ensures)
+    (at-part3 .part3 .ensures)
+    (at-run .run .ensures .0)
+    (at-put-line .put-line .ensures .0) in
+    (line, at-put-line .put-line .ensures .1)
+
+pub put-run-spec : {M : Type 1} → statement M
+put-run-spec =
+    tie.close
+    (tie.spec
+    part-requires
+    copy-requires
+    four-at-requires
+    part-requires-2
+    read-record-requires
+    part-requires-3
+    run-requires
+    put-line-requires
+    same-length
+    same-length-2
+    returns)

@@ -1,0 +1,36 @@
+-- What single functions work out: the run that an input asks for, and parts of its line (document 01, "Sheet for the
+-- markers").
+-- Assumes nothing.
+use Prim.Native.Nat.{ℕ}
+use mathlib.Core.List.{List, [], _∷_, _++_}
+use lib.ListN.{getD}
+use Rattle.machine.specs.declared.Machine.{Machine}
+use Rattle.machine.specs.Record.{stateIn}
+use Rattle.machine.specs.Events.{eventsOf}
+use Rattle.machine.specs.Run.{Run, runOf}
+use Rattle.sheet.specs.Text.{hexOf}
+use Rattle.sheet.specs.Sheet.{stepsIn, recordIn, memoryIn, eventsIn, spaced}
+
+-- the run that an accepted input asks for. [01 Sheet for the markers]
+abbrev pub runIn : List ℕ → Run
+runIn b = runOf (eventsOf (eventsIn b)) (stateIn (recordIn b) (memoryIn b)) (stepsIn b)
+
+-- four words in a row, each after a space. [01 Sheet for the markers]
+abbrev pub wordsText : (a b c d : ℕ) → List ℕ
+wordsText a b c d = spaced (hexOf 4 a) ++ spaced (hexOf 4 b) ++ spaced (hexOf 4 c) ++ spaced (hexOf 4 d)
+
+-- the line after the steps: R0 to R7, PSW, CEX, lines and LF. [01 Sheet for the markers]
+unfoldable pub machineText : Machine → List ℕ
+machineText m =
+    spaced (hexOf 4 (getD (m .regs) 0 0))
+    ++ spaced (hexOf 4 (getD (m .regs) 1 0))
+    ++ spaced (hexOf 4 (getD (m .regs) 2 0))
+    ++ spaced (hexOf 4 (getD (m .regs) 3 0))
+    ++ spaced (hexOf 4 (getD (m .regs) 4 0))
+    ++ spaced (hexOf 4 (getD (m .regs) 5 0))
+    ++ spaced (hexOf 4 (getD (m .regs) 6 0))
+    ++ spaced (hexOf 4 (getD (m .regs) 7 0))
+    ++ spaced (hexOf 4 (m .psw))
+    ++ spaced (hexOf 2 (m .cex))
+    ++ spaced (hexOf 2 (m .lines))
+    ++ (10 ∷ [])

@@ -1,0 +1,40 @@
+// The printed line: cutting the input into its parts, running, forming the text.
+mod cut;
+mod line;
+mod text;
+
+ghost use mathlib.Core.Path.{_≡_};
+ghost use Prim.Native.Nat.{_≤_};
+ghost use lib.ListN.{length, take};
+ghost use Rattle.machine.specs.declared.Verdict.the-variants.{Accepted};
+ghost use Rattle.sheet.specs.Sheet.{inputVerdict, lineOf, sheetOf};
+ghost use Rattle.sheet.specs.Parts.{runIn};
+use machine::Verdict;
+
+// The line of an accepted input, whose memory is copied out and run on.
+fn put_run(input: &[u8], memory: &mut [u8], out: &mut [u8]) -> usize
+    requires { ⌜ (inputVerdict (now input) ≡ Accepted) × (length (now memory) ≡ 65536)
+        × (length (now out) ≡ 64) ⌝ }
+    ensures line { λ r. ⌜ take r (now (out .exit)) ≡ lineOf (runIn (now (input .entry))) ⌝ }
+    ensures fits { λ r. ⌜ r ≤ 64 ⌝ }
+{
+    cut::copy(cut::part(input, 36, 65572), memory);
+    let n = state_record::four_at(input, 0);
+    let m = state_record::read_record(cut::part(input, 4, 36));
+    let events = cut::part(input, 65572, input.len());
+    let done = run::run(m, memory, events, n);
+    line::put_line(out, done.machine, done.steps)
+}
+
+// The line printed for an input, at the start of `out`; the result is its length. `memory` is
+// written over.
+pub fn sheet(input: &[u8], memory: &mut [u8; 65536], out: &mut [u8; 64]) -> usize
+    ensures line { λ r. ⌜ take r (now (out .exit)) ≡ sheetOf (now (input .entry)) ⌝ }
+    ensures fits { λ r. ⌜ (r ≤ 64) × (length (now (out .exit)) ≡ 64) ⌝ }
+{
+    let v = cut::verdict(input);
+    match v {
+        Verdict::Accepted => put_run(input, memory, out),
+        _ => line::put_refusal(out, v),
+    }
+}

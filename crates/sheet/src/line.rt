@@ -1,0 +1,63 @@
+// The line that is printed: of a run, or of a refusal.
+ghost use mathlib.Core.Path.{_≡_};
+ghost use mathlib.Core.List.{List, _++_};
+ghost use Prim.Native.Nat.{ℕ, _+_, _≤_};
+ghost use lib.ListN.{length, take};
+ghost use Rattle.machine.specs.State.{stateOf};
+ghost use Rattle.machine.specs.Run.{ran};
+ghost use Rattle.machine.specs.Refusal.{refusalNumber};
+ghost use Rattle.sheet.specs.Sheet.{lineOf, refusedLine};
+ghost use Rattle.sheet.specs.Parts.{machineText};
+use crate::text::put;
+use crate::text::put_decimal;
+use crate::text::put_field;
+use crate::text::put_words;
+use machine::Machine;
+use machine::Verdict;
+
+// From R0 to the end of the line.
+fn put_machine(out: &mut [u8], at: usize, m: Machine) -> usize
+    requires { ⌜ at + 52 ≤ length (now out) ⌝ }
+    ensures { λ r.
+        ⌜ (take r (now (out .exit)) ≡ take at (now (out .entry)) ++ machineText m)
+        × (r ≡ at + 52) ⌝ }
+{
+    let regs = m.regs;
+    let r4 = put_words(out, at, regs[0], regs[1], regs[2], regs[3]);
+    let psw = put_words(out, r4, regs[4], regs[5], regs[6], regs[7]);
+    let cex = put_field(out, psw, 4, m.psw as u32);
+    let lines = put_field(out, cex, 2, m.cex as u32);
+    let end = put_field(out, lines, 2, m.lines as u32);
+    put(out, end, b'\n')
+}
+
+// The line of a run that reached machine m in so many steps.
+pub fn put_line(out: &mut [u8], m: Machine, steps: u32) -> usize
+    requires { ⌜ length (now out) ≡ 64 ⌝ }
+    ensures line { λ r.
+        ⌜ ((mem : List ℕ) → take r (now (out .exit)) ≡ lineOf (ran (stateOf m mem) steps)) ⌝ }
+    ensures fits { λ r. ⌜ r ≤ 64 ⌝ }
+{
+    let space = put(out, 0, 48 + m.halted as u8);
+    let first = put(out, space, b' ');
+    let second = put_decimal(out, first, 6, steps);
+    put_machine(out, second, m)
+}
+
+// The number of a refusal; 0 stands for none.
+fn number(v: Verdict) -> u8
+    ensures { λ r. ⌜ (r ≡ refusalNumber v) × (r ≤ 7) ⌝ }
+{
+    refusal::refusal_number(v) as u8
+}
+
+// The line of a refusal.
+pub fn put_refusal(out: &mut [u8], v: Verdict) -> usize
+    requires { ⌜ length (now out) ≡ 64 ⌝ }
+    ensures line { λ r. ⌜ take r (now (out .exit)) ≡ refusedLine v ⌝ }
+    ensures fits { λ r. ⌜ r ≤ 64 ⌝ }
+{
+    let digit = put(out, 0, b'R');
+    let end = put(out, digit, 48 + number(v));
+    put(out, end, b'\n')
+}

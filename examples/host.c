@@ -1,0 +1,125 @@
+/*
+ * Keeps several machines open, over libxm23.a: each is advanced by slices of steps in turn, and in the end one line is
+ * printed for each, the line of print_state.
+ *
+ *   host SLICE INPUT..      SLICE is how many steps at a time, an INPUT a file as print_state reads it
+ */
+
+#include <stdio.h>
+#include <stdlib.h>
+
+#include "xm23.h"
+
+#define HEAD (4 + XM23_RECORD_SIZE)
+#define LEAST (HEAD + XM23_MEMORY_SIZE)
+#define MOST (LEAST + XM23_EVENT_SIZE * (XM23_MAX_EVENTS + 1))
+
+/* An open machine: the input as it was read, of which record and memory are advanced, and how far it has come. */
+struct machine {
+    uint8_t input[MOST];
+    size_t length;
+    uint32_t steps;
+    unsigned refusal, reason;
+};
+
+static uint32_t two(const uint8_t *at)
+{
+    return at[0] | (uint32_t)at[1] << 8;
+}
+
+/* Reads an input. One that is too short has no machine; more than 4,096 events are refused by the call. */
+static struct machine *open_machine(const char *name)
+{
+    struct machine *m = (struct machine *)calloc(1, sizeof *m);
+    FILE *file = fopen(name, "rb");
+    if (!m || !file) {
+        perror(name);
+        exit(1);
+    }
+    m->length = fread(m->input, 1, sizeof m->input, file);
+    fclose(file);
+    if (m->length < HEAD)
+        m->refusal = XM23_REFUSED_RECORD;
+    else if (m->length < LEAST)
+        m->refusal = XM23_REFUSED_MEMORY;
+    return m;
+}
+
+static uint32_t four(const uint8_t *at)
+{
+    return two(at) | two(at + 2) << 16;
+}
+
+/* The n of the input. */
+static uint32_t asked(const struct machine *m)
+{
+    return four(m->input);
+}
+
+/* A run that is too long as a whole is handed to the call as a whole, to be refused. */
+static int too_long(const struct machine *m)
+{
+    uint32_t count = four(m->input + 4 + XM23_RECORD_COUNT);
+    return asked(m) > XM23_MAX_STEPS || UINT32_MAX - count < asked(m) - m->steps;
+}
+
+/* The machine's call: the whole list of events each time, those of earlier steps being passed over. */
+static uint64_t run(struct machine *m, uint64_t n)
+{
+    return xm23_run(m->input + HEAD, XM23_MEMORY_SIZE, m->input + 4, XM23_RECORD_SIZE, m->input + LEAST,
+                    m->length - LEAST, n);
+}
+
+/* Advances a machine by a slice. Gives whether it has more to do. */
+static int advance(struct machine *m, uint32_t slice)
+{
+    uint32_t left = asked(m) - m->steps;
+    uint64_t reply;
+    if (m->refusal || m->reason == XM23_REASON_HALTED)
+        return 0;
+    reply = run(m, left < slice || too_long(m) ? left : slice);
+    m->refusal = XM23_RUN_REFUSAL(reply);
+    m->reason = XM23_RUN_REASON(reply);
+    m->steps += XM23_RUN_STEPS(reply);
+    return !m->refusal && m->reason == XM23_REASON_DONE && m->steps < asked(m);
+}
+
+static void print_line(const struct machine *m)
+{
+    const uint8_t *record = m->input + 4;
+    int i;
+    if (m->refusal) {
+        printf("R%u\n", m->refusal);
+        return;
+    }
+    printf("%u %u", m->reason, (unsigned)m->steps);
+    for (i = 0; i < 8; i++)
+        printf(" %04X", (unsigned)two(record + XM23_RECORD_REGISTER(i)));
+    printf(" %04X %02X %02X\n", (unsigned)two(record + XM23_RECORD_PSW), record[XM23_RECORD_CEX],
+           record[XM23_RECORD_LINES]);
+}
+
+int main(int argc, char **argv)
+{
+    uint32_t slice = argc > 2 ? (uint32_t)strtoul(argv[1], NULL, 10) : 0;
+    struct machine **open;
+    int machines = argc - 2, i, busy = 1;
+    if (slice == 0) {
+        fprintf(stderr, "host SLICE INPUT..\n");
+        return 2;
+    }
+    open = (struct machine **)calloc((size_t)machines, sizeof *open);
+    if (!open)
+        return 1;
+    for (i = 0; i < machines; i++)
+        open[i] = open_machine(argv[2 + i]);
+    while (busy)
+        for (busy = 0, i = 0; i < machines; i++)
+            busy |= advance(open[i], slice);
+    for (i = 0; i < machines; i++) {
+        print_line(open[i]);
+        free(open[i]);
+    }
+    free(open);
+    return 0;
+}

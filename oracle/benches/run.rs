@@ -1,0 +1,247 @@
+//! Steps per second of the run call: the proved library, the C interpreter of bench/ and the oracle, on the same inputs
+//! in one run. Every workload's outcome is compared before it is timed, and the C interpreter is held against the oracle
+//! on random inputs first.
+//!
+//! `run WORKLOAD rattle` (or c, oracle) runs one workload once, for `valgrind --tool=callgrind
+//! --toggle-collect=xm23_run`: instructions of the host per step.
+
+use oracle::asm::assemble;
+use oracle::inputs::{input, Input, KINDS};
+use oracle::machine::{self, event_record, Event, Machine};
+use oracle::random::Random;
+use std::time::Instant;
+
+/// How often the fast engines are timed.
+const TURNS: usize = 15;
+
+type Call = unsafe extern "C" fn(*mut u8, usize, *mut u8, usize, *const u8, usize, u64) -> u64;
+
+#[link(name = "xm23", kind = "static")]
+extern "C" {
+    fn xm23_run(m: *mut u8, ml: usize, r: *mut u8, rl: usize, e: *const u8, el: usize, n: u64) -> u64;
+}
+
+#[link(name = "xm23_fast", kind = "static")]
+extern "C" {
+    fn xm23_fast_run(m: *mut u8, ml: usize, r: *mut u8, rl: usize, e: *const u8, el: usize, n: u64) -> u64;
+}
+
+#[derive(Clone, Copy)]
+enum Engine {
+    C(Call),
+    Oracle,
+}
+
+const ENGINES: [(&str, Engine); 3] =
+    [("rattle", Engine::C(xm23_run)), ("c", Engine::C(xm23_fast_run)), ("oracle", Engine::Oracle)];
+
+impl Engine {
+    /// Runs an input in place.
+    fn run(self, i: &mut Input) -> u64 {
+        let Input { memory, record, events, n } = i;
+        match self {
+            Engine::Oracle => machine::reply(machine::run(memory, *n, record, events)),
+            // Three buffers, each lent for its own length.
+            Engine::C(call) => unsafe {
+                let (m, r) = (memory.as_mut_ptr(), record.as_mut_ptr());
+                call(m, memory.len(), r, record.len(), events.as_ptr(), events.len(), *n)
+            },
+        }
+    }
+}
+
+struct Workload {
+    name: &'static str,
+    inputs: Vec<Input>,
+}
+
+/// The loop of every application here: R1 is kept in memory, R2 points at it.
+const MIXED: &str = "
+        org #1000
+Loop    add R0,R1
+        xor R3,R1
+        ld R2,R0
+        st R1,R2
+        sub $1,R4
+        bra Loop
+";
+
+const TIGHT: &str = "
+        org #1000
+Loop    add $1,R0
+        bra Loop
+";
+
+/// Three devices at priorities 3, 4 and 5. Each handler saves two registers, reads its device and adds up its data.
+const HANDLERS: &str = "
+        org #0000
+        word #0013
+        word #0013
+        word #0013
+        org #2000
+H0      st R0,-SP
+        st R1,-SP
+        movlz #00,R0
+        ldr R0,$0,R1
+        movlz #80,R0
+        st R1,R0+
+        st R1,R0
+        ld SP+,R1
+        ld SP+,R0
+        mov LR,PC
+        org #2100
+H1      st R0,-SP
+        st R1,-SP
+        movlz #00,R0
+        ldr R0,$2,R1
+        movlz #90,R0
+        ldr R0,$0,R1
+        add $1,R1
+        str R1,R0,$0
+        ld SP+,R1
+        ld SP+,R0
+        mov LR,PC
+        org #2200
+H2      st R0,-SP
+        movlz #00,R0
+        ldr.b R0,$4,R0
+        ld SP+,R0
+        mov LR,PC
+        org #FFC0
+        word #0060
+        word H0
+        word #0080
+        word H1
+        word #00A0
+        word H2
+";
+
+fn start(source: &str, n: u64) -> Input {
+    let regs = [0x1234, 0x5678, 0x4000, 0x9ABC, 0x7777, 0, 0x0800, 0x1000];
+    let record = Machine { regs, ..Machine::default() }.to_record().to_vec();
+    Input { memory: assemble(source).memory(), record, events: Vec::new(), n }
+}
+
+/// Events in threes, 4 steps apart, so that each handler interrupts the one before it.
+fn bursts(events: u64, n: u64) -> Vec<u8> {
+    let apart = n * 3 / events;
+    let all =
+        (0..events).map(|i| Event { step: (i / 3 * apart + 4 * (i % 3)) as u32, device: (i % 3) as u8, data: i as u8 });
+    all.flat_map(event_record).collect()
+}
+
+/// Events on a device that raises no line, spread over the run.
+fn spread(events: u64, n: u64) -> Vec<u8> {
+    let all = (0..events).map(|i| Event { step: (i * n / events) as u32, device: 5, data: i as u8 });
+    all.flat_map(event_record).collect()
+}
+
+fn mixed(events: u64, n: u64) -> Input {
+    let mut i = start(MIXED, n);
+    i.memory[10] = 0x12;
+    i.events = if events > 0 { spread(events, n) } else { Vec::new() };
+    i
+}
+
+fn interrupts(n: u64) -> Input {
+    Input { events: bursts(4_096, n), ..start(&format!("{MIXED}{HANDLERS}"), n) }
+}
+
+/// 640 machines: the same program, with registers, data and events of their own.
+fn machines() -> Vec<Input> {
+    let mut random = Random::new(14);
+    let mut one = || {
+        let mut i = start(&format!("{MIXED}{HANDLERS}"), 20_000);
+        (0..10).for_each(|at| i.record[at] = random.byte());
+        i.record[4..6].copy_from_slice(&[0x00, 0x40 + random.byte() % 16]);
+        i.events = bursts(30 + random.below(60), 20_000);
+        i
+    };
+    (0..640).map(|_| one()).collect()
+}
+
+fn workloads() -> Vec<Workload> {
+    let one = |name, input| Workload { name, inputs: vec![input] };
+    vec![
+        one("tight loop", start(TIGHT, 1_000_000)),
+        one("mixed loop", mixed(0, 1_000_000)),
+        one("interrupts", interrupts(160_000)),
+        Workload { name: "640 machines", inputs: machines() },
+        one("mixed, n 10,000", mixed(0, 10_000)),
+        one("mixed, n 100,000", mixed(0, 100_000)),
+        one("mixed, 256 events", mixed(256, 1_000_000)),
+        one("mixed, 1,024 events", mixed(1_024, 1_000_000)),
+        one("mixed, 4,096 events", mixed(4_096, 1_000_000)),
+    ]
+}
+
+/// Runs a workload once, and gives the seconds, the steps and what the runs left.
+fn once(engine: Engine, inputs: &[Input]) -> (f64, u64, Vec<Input>) {
+    let mut work = inputs.to_vec();
+    let clock = Instant::now();
+    let steps = work.iter_mut().map(|i| engine.run(i) >> 16).sum();
+    (clock.elapsed().as_secs_f64(), steps, work)
+}
+
+/// The best time of each engine, turn by turn; the oracle sits out after its third.
+fn best(inputs: &[Input]) -> [f64; 3] {
+    let mut best = [f64::INFINITY; 3];
+    for turn in 0..TURNS {
+        for (i, (_, engine)) in ENGINES.into_iter().enumerate().filter(|&(i, _)| i < 2 || turn < 3) {
+            best[i] = best[i].min(once(engine, inputs).0);
+        }
+    }
+    best
+}
+
+/// How many times longer the proved library takes for a million steps with 4,096 events than with none.
+fn cost_of_events() -> f64 {
+    let inputs = [mixed(4_096, 1_000_000), mixed(0, 1_000_000)];
+    let mut best = [f64::INFINITY; 2];
+    for _ in 0..2 * TURNS {
+        for (time, input) in best.iter_mut().zip(&inputs) {
+            *time = time.min(once(ENGINES[0].1, std::slice::from_ref(input)).0);
+        }
+    }
+    best[0] / best[1]
+}
+
+/// The C interpreter beside the oracle, on random inputs of every kind.
+fn hold_to_the_oracle() {
+    for kind in KINDS {
+        for seed in 1..=5_000 {
+            let mut theirs = input(kind, seed);
+            let mut ours = theirs.clone();
+            let replies = [Engine::C(xm23_fast_run).run(&mut ours), Engine::Oracle.run(&mut theirs)];
+            assert!(replies[0] == replies[1] && ours == theirs, "{kind:?} {seed}: the C interpreter differs");
+        }
+    }
+}
+
+/// Compares the outcomes of a workload, and gives its steps.
+fn compare(workload: &Workload) -> u64 {
+    let [ours, c, oracle] = ENGINES.map(|(_, engine)| once(engine, &workload.inputs));
+    assert!(ours.2 == oracle.2 && ours.1 == oracle.1, "{}: the proved library differs", workload.name);
+    assert!(c.2 == oracle.2 && c.1 == oracle.1, "{}: the C interpreter differs", workload.name);
+    oracle.1
+}
+
+fn main() {
+    let words: Vec<String> = std::env::args().skip(1).filter(|word| !word.starts_with('-')).collect();
+    let all = workloads();
+    if let [name, engine] = &words[..] {
+        let workload = all.iter().find(|w| w.name == name).expect("a workload");
+        let engine = ENGINES.iter().find(|e| e.0 == engine).expect("an engine").1;
+        println!("{} steps", once(engine, &workload.inputs).1);
+        return;
+    }
+    hold_to_the_oracle();
+    println!("millions of steps a second, and how many times faster the proved library is");
+    println!("{:20} {:>9} {:>9} {:>9} {:>10} {:>12}", "", "Rattle", "C", "oracle", "than C", "than oracle");
+    for workload in &all {
+        let steps = compare(workload) as f64 / 1e6;
+        let [ours, c, oracle] = best(&workload.inputs).map(|time| steps / time);
+        println!("{:20} {ours:9.1} {c:9.1} {oracle:9.1} {:10.2} {:12.2}", workload.name, ours / c, ours / oracle);
+    }
+    println!("a million steps with 4,096 events take {:.2} times those with none", cost_of_events());
+}

@@ -1,0 +1,210 @@
+//! The program print_state, run as a process, beside the oracle: the printed line. The program is in XM23_BIN, or in
+//! target/bin of the repository.
+
+use oracle::case;
+use oracle::inputs::{input, Kind};
+use oracle::machine::{event_record, sheet, Event, EVENT, MAX_EVENTS, MEMORY, RECORD};
+use oracle::random::Random;
+use std::io::{ErrorKind, Write};
+use std::path::PathBuf;
+use std::process::{Command, Stdio};
+
+/// The length of an input without events.
+const LEAST: usize = 4 + RECORD + MEMORY;
+
+fn program() -> PathBuf {
+    let folder = match std::env::var_os("XM23_BIN") {
+        Some(folder) => PathBuf::from(folder),
+        None => PathBuf::from(env!("CARGO_MANIFEST_DIR")).join("../target/bin"),
+    };
+    folder.join("print_state")
+}
+
+/// What the program prints for an input that comes in pieces. It may end before it has read all of a long one.
+fn printed_in_pieces(input: &[u8], piece: usize) -> String {
+    let mut command = Command::new(program());
+    command.stdin(Stdio::piped()).stdout(Stdio::piped()).stderr(Stdio::piped());
+    let mut child = command.spawn().unwrap_or_else(|e| panic!("{}: {e}", program().display()));
+    let mut stdin = child.stdin.take().expect("a pipe");
+    for part in input.chunks(piece.max(1)) {
+        match stdin.write_all(part) {
+            Err(e) if e.kind() == ErrorKind::BrokenPipe => break,
+            result => result.expect("written"),
+        }
+    }
+    drop(stdin);
+    let output = child.wait_with_output().expect("an end");
+    assert!(output.status.success() && output.stderr.is_empty(), "{output:?}");
+    String::from_utf8(output.stdout).expect("text")
+}
+
+fn printed(input: &[u8]) -> String {
+    printed_in_pieces(input, input.len())
+}
+
+/// The program prints what the oracle does.
+#[track_caller]
+fn same(what: &str, input: &[u8]) -> String {
+    let line = printed(input);
+    assert_eq!(line, sheet(input).0, "{what}");
+    line
+}
+
+/// An accepted input: memory all zero, no steps.
+fn accepted() -> Vec<u8> {
+    vec![0; LEAST]
+}
+
+/// The accepted input with bytes put at a place.
+fn with(at: usize, bytes: &[u8]) -> Vec<u8> {
+    let mut input = accepted();
+    input.resize(input.len().max(at + bytes.len()), 0);
+    input[at..at + bytes.len()].copy_from_slice(bytes);
+    input
+}
+
+#[test]
+fn the_example_of_01() {
+    let mut input = with(0, &1u32.to_le_bytes());
+    input[4 + 12..4 + 18].copy_from_slice(&[0x00, 0x08, 0x01, 0x08, 0xE0, 0x60]);
+    assert_eq!(same("example", &input), "0 1 0000 0000 0000 0000 0000 FFFF 07F8 0000 E100 00 00\n");
+}
+
+#[test]
+fn each_refusal() {
+    let record = 4;
+    let events = |list: &[Event]| with(LEAST, &list.iter().flat_map(|&e| event_record(e)).collect::<Vec<u8>>());
+    let on = |step, device| Event { step, device, data: 0 };
+    for (line, input) in [
+        ("R1\n", accepted()[..LEAST - 1].to_vec()),
+        ("R2\n", with(0, &1_000_001u32.to_le_bytes())),
+        ("R2\n", with(0, &u32::MAX.to_le_bytes())),
+        ("R3\n", accepted()[..35].to_vec()),
+        ("R4\n", with(record + 17, &[0x02])),
+        ("R4\n", with(record + 18, &[0x80])),
+        ("R4\n", with(record + 19, &[0x01])),
+        ("R4\n", with(record + 21, &[2])),
+        ("R4\n", with(record + 26, &[1])),
+        ("R4\n", with(record + 31, &[0x80])),
+        ("R5\n", with(LEAST, &[0])),
+        ("R5\n", with(LEAST, &[0; 15])),
+        ("R5\n", with(LEAST, &[0; EVENT * (MAX_EVENTS + 1)])),
+        ("R6\n", events(&[on(9, 0), on(3, 8)])),
+        ("R6\n", with(LEAST, &[0, 0, 0, 0, 0, 0, 1, 0])),
+        ("R6\n", with(LEAST, &[0, 0, 0, 0, 0, 0, 0, 1])),
+        ("R7\n", events(&[on(1, 0), on(0, 0)])),
+    ] {
+        assert_eq!(same(line, &input), line);
+    }
+    let sum = [1u32.to_le_bytes(), u32::MAX.to_le_bytes()];
+    let mut input = with(0, &sum[0]);
+    input[record + 22..record + 26].copy_from_slice(&sum[1]);
+    assert_eq!(same("sum", &input), "R2\n");
+    input[0] = 0;
+    assert!(same("sum, nearly", &input).starts_with("0 0 "));
+    assert!(same("equal steps", &events(&[on(5, 7), on(5, 0), on(5, 7)])).starts_with("0 0 "));
+    assert!(same("full list", &with(LEAST, &[0; EVENT * MAX_EVENTS])).starts_with("0 0 "));
+}
+
+#[test]
+fn short_input() {
+    let mut random = Random::new(13);
+    let junk: Vec<u8> = (0..LEAST).map(|_| random.byte()).collect();
+    for length in (0..=40).chain([100, 1_000, 4_096, 65_535, 65_536, 65_537, LEAST - 2, LEAST - 1]) {
+        let expected = if length < 36 { "R3\n" } else { "R1\n" };
+        assert_eq!(same("zeros", &accepted()[..length]), expected, "{length} bytes");
+        assert_eq!(same("junk", &junk[..length]), expected, "{length} bytes");
+    }
+}
+
+#[test]
+fn long_input() {
+    for length in [98_339, 98_340, 98_341, 98_347, 98_348, 98_349, 131_072, 200_000, 1_000_000] {
+        let expected = if length == 98_340 { "0 0 " } else { "R5\n" };
+        assert!(same("zeros", &vec![0; length]).starts_with(expected), "{length} bytes");
+    }
+    // What is wrong before the events comes first, however long they are.
+    let mut input = vec![0xFF; 200_000];
+    assert_eq!(same("all ones", &input), "R2\n");
+    input[..4].fill(0);
+    input[26..30].fill(0);
+    assert_eq!(same("record", &input), "R4\n");
+}
+
+#[test]
+fn input_in_pieces() {
+    let whole = input(Kind::Plausible, 7).to_bytes();
+    let line = same("whole", &whole);
+    for piece in [1_000, 4_095, 4_097, 65_536] {
+        assert_eq!(printed_in_pieces(&whole, piece), line);
+    }
+}
+
+#[test]
+fn setups_of_every_kind() {
+    let mut refused = 0;
+    for kind in [Kind::Wild, Kind::Plausible, Kind::Corner, Kind::Broken] {
+        for seed in 1..=150 {
+            let i = input(kind, seed);
+            let fits = i.memory.len() == MEMORY && i.record.len() == RECORD && i.n <= u32::MAX.into();
+            if fits {
+                refused += u32::from(same(&format!("{kind:?} {seed}"), &i.to_bytes()).starts_with('R'));
+            }
+        }
+    }
+    assert!(refused > 30, "{refused} refused");
+}
+
+/// The cases of 01 and 003 that are programs, each a readable file.
+#[test]
+fn readable_cases() {
+    let cases = case::all();
+    for case in &cases {
+        let line = same(&case.name, &case.input.to_bytes());
+        assert_eq!(line, case.line, "{}: {}", case.name, case.title);
+    }
+    for name in OWED {
+        assert!(cases.iter().any(|case| case.name == name), "no case {name}");
+    }
+}
+
+/// The example of 'make run' is what its source makes, and prints the line beside it.
+#[test]
+fn the_example_input() {
+    let read = |name: &str| std::fs::read(format!("{}/../examples/{name}", env!("CARGO_MANIFEST_DIR"))).expect(name);
+    let source = String::from_utf8(read("interrupts.txt")).expect("text");
+    let case = case::parse("interrupts", &source);
+    assert!(case.input.to_bytes() == read("interrupts.in"), "examples/interrupts.in is not of examples/interrupts.txt");
+    assert_eq!(same("interrupts", &case.input.to_bytes()), case.line);
+    let memory = sheet(&case.input.to_bytes()).1.expect("an accepted run");
+    for (at, byte) in case.bytes {
+        assert_eq!(memory[usize::from(at)], byte, "byte #{at:04X}");
+    }
+}
+
+/// 01's list of cases and its plausible misreadings.
+const OWED: [&str; 23] = [
+    "01-add-byte",
+    "01-add-word",
+    "01-addc-word",
+    "01-sub-byte-borrow",
+    "01-sub-byte-no-borrow",
+    "01-subc-word",
+    "01-dadd-99-01",
+    "01-dadd-ff-ff",
+    "01-sra",
+    "01-sxt",
+    "01-entry-with-sp-0",
+    "01-branch-to-itself",
+    "01-word-load-0101",
+    "01-n-0",
+    "01-n-1000000",
+    "01-n-1000001",
+    "01-example-of-the-sheet",
+    "01-setpri-3-after-reset",
+    "01-3-minus-fd",
+    "01-skipped-word-is-not-decoded",
+    "01-overflow-of-subc",
+    "01-awake-at-ffff",
+    "01-asleep-at-ffff",
+];

@@ -1,0 +1,186 @@
+/*
+ * Lends xm23_run buffers of hostile lengths and contents, and looks at what lies around them. Every buffer stands once
+ * with its end at a page that must not be touched and guard bytes before it, and once with its beginning at such a
+ * page and guard bytes behind it. A test is all calls of one kind in one place; prints how many passed.
+ * 'hostile short' makes fewer calls and leaves out the long runs.
+ */
+#define _DEFAULT_SOURCE
+
+#include <inttypes.h>
+#include <stdio.h>
+#include <string.h>
+#include <sys/mman.h>
+#include <unistd.h>
+
+#include "xm23.h"
+
+#define GUARD 0xA5
+#define ROOM ((size_t)1 << 17) /* more than any buffer lent here; a multiple of the page's size */
+
+static unsigned calls, wrong;
+
+static void check(const char *what, int holds)
+{
+    if (!holds && wrong++ < 20)
+        printf("%s fails in call %u\n", what, calls);
+}
+
+/* Room between two pages that must not be touched, and the part of it that is lent. */
+struct lent {
+    uint8_t *room, *at;
+    size_t length;
+};
+
+static void make(struct lent *b)
+{
+    size_t page = (size_t)sysconf(_SC_PAGESIZE);
+    void *all = mmap(NULL, ROOM + 2 * page, PROT_NONE, MAP_PRIVATE | MAP_ANONYMOUS, -1, 0);
+    check("room", all != MAP_FAILED);
+    b->room = (uint8_t *)all + page;
+    check("room", mprotect(b->room, ROOM, PROT_READ | PROT_WRITE) == 0);
+    b->at = b->room;
+    b->length = 0;
+    memset(b->room, GUARD, ROOM);
+}
+
+/* Lends `length` bytes at the end of the room or at its beginning; the bytes lent before are guards again. */
+static void lend(struct lent *b, size_t length, int at_end)
+{
+    memset(b->at, GUARD, b->length);
+    b->at = at_end ? b->room + ROOM - length : b->room;
+    b->length = length;
+}
+
+static int all_guards(const uint8_t *from, const uint8_t *to)
+{
+    return from == to || (*from == GUARD && memcmp(from, from + 1, (size_t)(to - from) - 1) == 0);
+}
+
+static int guarded(const struct lent *b)
+{
+    return all_guards(b->room, b->at) && all_guards(b->at + b->length, b->room + ROOM);
+}
+
+static struct lent memory, record, events;
+static uint8_t memory_before[ROOM], record_before[ROOM], events_before[ROOM];
+
+static uint64_t next_random = 1;
+
+static uint64_t draw(void)
+{
+    next_random ^= next_random << 13;
+    next_random ^= next_random >> 7;
+    next_random ^= next_random << 17;
+    return next_random;
+}
+
+/* Bytes of no pattern. */
+static void scatter(struct lent *b)
+{
+    size_t i;
+    for (i = 0; i < b->length; i++)
+        b->at[i] = (uint8_t)(draw() >> 32);
+}
+
+/* Calls, and checks that what is not lent stands, that the reply is well formed and that a refusal changes nothing. */
+static uint64_t call(uint64_t n)
+{
+    uint64_t reply;
+    calls++;
+    memcpy(memory_before, memory.at, memory.length);
+    memcpy(record_before, record.at, record.length);
+    memcpy(events_before, events.at, events.length);
+    reply = xm23_run(memory.at, memory.length, record.at, record.length, events.at, events.length, n);
+    check("guard bytes", guarded(&memory) && guarded(&record) && guarded(&events));
+    check("events", memcmp(events.at, events_before, events.length) == 0);
+    if (XM23_RUN_REFUSAL(reply)) {
+        check("refusal", reply >= XM23_REFUSED_MEMORY && reply <= XM23_REFUSED_EVENT_ORDER);
+        check("memory as it was", memcmp(memory.at, memory_before, memory.length) == 0);
+        check("record as it was", memcmp(record.at, record_before, record.length) == 0);
+    } else {
+        check("reply", reply >> 40 == 0 && XM23_RUN_REASON(reply) <= XM23_REASON_HALTED && XM23_RUN_STEPS(reply) <= n);
+    }
+    return reply;
+}
+
+static unsigned expected(size_t memory_len, size_t record_len, size_t events_len, uint64_t n)
+{
+    if (memory_len != XM23_MEMORY_SIZE)
+        return XM23_REFUSED_MEMORY;
+    if (n > XM23_MAX_STEPS)
+        return XM23_REFUSED_STEPS;
+    if (record_len != XM23_RECORD_SIZE)
+        return XM23_REFUSED_RECORD;
+    if (events_len % XM23_EVENT_SIZE || events_len > XM23_EVENT_SIZE * XM23_MAX_EVENTS)
+        return XM23_REFUSED_EVENTS;
+    return XM23_ACCEPTED;
+}
+
+/* Every combination of lengths and numbers, all bytes 0: the refusal goes by lengths and n alone. */
+static void lengths(int at_end, int brief)
+{
+    static const size_t memories[] = {0, 1, 35, 65535, 65536, 65537, 131072};
+    static const size_t records[] = {0, 1, 17, 21, 25, 31, 32, 33, 64};
+    static const size_t lists[] = {0, 1, 7, 8, 9, 32760, 32767, 32768, 32769, 32776, 65536};
+    static const uint64_t numbers[] = {0, 1, 2, 1000000, 1000001, 0xFFFFFFFF, (uint64_t)1 << 32, UINT64_MAX};
+    size_t m, r, e, n;
+    for (m = 0; m < sizeof memories / sizeof *memories; m++)
+        for (r = 0; r < sizeof records / sizeof *records; r++)
+            for (e = 0; e < sizeof lists / sizeof *lists; e++)
+                for (n = 0; n < sizeof numbers / sizeof *numbers; n++) {
+                    unsigned refusal = expected(memories[m], records[r], lists[e], numbers[n]);
+                    if (brief && (numbers[n] == 1000000 || (m + r + e + n) % 5))
+                        continue;
+                    lend(&memory, memories[m], at_end);
+                    lend(&record, records[r], at_end);
+                    lend(&events, lists[e], at_end);
+                    memset(memory.at, 0, memory.length);
+                    memset(record.at, 0, record.length);
+                    memset(events.at, 0, events.length);
+                    check("refusal by lengths", XM23_RUN_REFUSAL(call(numbers[n])) == refusal);
+                }
+}
+
+/* Junk in every buffer, with lengths that are mostly right. */
+static void junk(int at_end, int rounds)
+{
+    int i;
+    for (i = 0; i < rounds; i++) {
+        uint64_t pick = draw();
+        lend(&memory, pick % 8 ? 65536 : 65535 + pick / 8 % 3, at_end);
+        lend(&record, pick / 64 % 8 ? 32 : pick / 512 % 40, at_end);
+        lend(&events, pick / 4096 % 4 ? 8 * (pick / 65536 % 20) : pick / 65536 % 40000, at_end);
+        scatter(&memory);
+        scatter(&record);
+        scatter(&events);
+        if (record.length == 32 && pick >> 40 & 3) {
+            record.at[XM23_RECORD_PSW + 1] &= 0xE1;
+            record.at[XM23_RECORD_CEX] &= 0x7F;
+            record.at[XM23_RECORD_CEX + 1] = 0;
+            record.at[XM23_RECORD_HALTED] = 0;
+            memset(record.at + XM23_RECORD_ZERO, 0, 6);
+        }
+        if (pick >> 42 & 3)
+            lend(&events, 0, at_end);
+        call(pick >> 50);
+    }
+}
+
+int main(int argc, char **argv)
+{
+    int brief = argc > 1 && strcmp(argv[1], "short") == 0, at_end;
+    unsigned passed = 0, failed = 0;
+    make(&memory);
+    make(&record);
+    make(&events);
+    for (at_end = 0; at_end < 2; at_end++) {
+        unsigned before = wrong;
+        lengths(at_end, brief);
+        wrong == before ? passed++ : failed++;
+        before = wrong;
+        junk(at_end, brief ? 20 : 1000);
+        wrong == before ? passed++ : failed++;
+    }
+    printf("%u calls\n%u passed, %u failed\n", calls, passed, failed);
+    return failed != 0;
+}

@@ -151,17 +151,27 @@ module _ (b x : Core) (a : Access) (l n : ℕ) (m : List ℕ) where
 
 -- the effect of the word that PC names, PC past it and its count lowered
 pub fetched :
-    (regs m : List ℕ) (psw cex k w q y : ℕ) (i : Instr) (e : Effect) → k ≡ getD regs 7 0 / 2 →
+    (regs m : List ℕ) (psw cex k w q y : ℕ) (e : Effect) → k ≡ getD regs 7 0 / 2 →
     w ≡ byteAt m (firstByte k) + 256 * byteAt m (firstByte k + 1) → q ≡ wrap (getD regs 7 0 + 2) → y ≡ lowered cex →
-    i ≡ decodeOf w → e ≡ effectOf (coreOf (set regs 7 q) psw y) i →
+    e ≡ effectOf (coreOf (set regs 7 q) psw y) (decodeOf w) →
     e ≡ effectOf (advanced (coreOf regs psw cex)) (decodeOf (wordAt m (getD regs 7 0)))
 unfolding advanced
-fetched regs m psw cex k w q y i e ek ew eq ey ei ee =
+fetched regs m psw cex k w q y e ek ew eq ey ee =
     let w′ : w ≡ wordAt m (getD regs 7 0) = ew ∙ ap (λ (x : ℕ). byteAt m (firstByte x) + 256 * byteAt m (firstByte x + 1)) ek in
-    ee ∙ (λ j. effectOf (coreOf (set regs 7 (eq j)) psw (ey j)) ((ei ∙ ap decodeOf w′) j))
+    ee ∙ (λ j. effectOf (coreOf (set regs 7 (eq j)) psw (ey j)) (ap decodeOf w′ j))
 
 pub fetched-quits : (c : Core) (n : Instr) (e : Effect) → e ≡ effectOf c n → Quits (e .access) → e .core ≡ c
 fetched-quits c n e h q = ap (λ (x : Effect). x .core) h ∙ effect-fault-core c n (subst (λ (x : Effect). Quits (x .access)) h q)
+
+-- both counts of a CEX state at once
+pub no-true : (x : ℕ) → x % 64 ≡ 0 → x / 8 % 8 ≡ 0
+no-true x h = omega arith
+
+pub no-false : (x : ℕ) → x % 64 ≡ 0 → x % 8 ≡ 0
+no-false x h = omega arith
+
+pub some-false : (x : ℕ) → (x % 64 ≡ 0 → ⊥) → x / 8 % 8 ≡ 0 → x % 8 ≡ 0 → ⊥
+some-false x h t f = h (omega arith)
 
 pub skip-law :
     (regs m : List ℕ) (psw cex q y l n : ℕ) → q ≡ wrap (getD regs 7 0 + 2) → y ≡ lowered cex →

@@ -156,6 +156,9 @@ fn grant(regs: &mut [u16; 8], mem: &mut [u8], t: Rest, pc: u16, d: Done) -> Rest
 fn skips(cex: u16) -> bool
     ensures { λ r. ⌜ r ≡ skips? cex ⌝ }
 {
+    if cex % 64 == 0 {
+        return false;
+    }
     if cex / 8 % 8 == 0 {
         return (0 < cex % 8) & (cex / 64 % 2 == 1);
     }
@@ -166,10 +169,10 @@ fn skips(cex: u16) -> bool
 fn lower(cex: u16) -> u16
     ensures { λ r. ⌜ r ≡ lowered cex ⌝ }
 {
+    if cex % 64 == 0 {
+        return cex;
+    }
     if cex / 8 % 8 == 0 {
-        if cex % 8 == 0 {
-            return cex;
-        }
         return cex - 1;
     }
     cex - 8
@@ -188,7 +191,7 @@ fn fetch_execute(regs: &mut [u16; 8], mem: &mut [u8], t: Rest) -> Rest
     let w = memory::read_word(mem, memory::word_of(ByteAddr(pc)));
     let next = std::num::wrapping_add_u16(pc, 2);
     regs[7] = next;
-    let d = exec::execute(regs, t.psw, lower(t.cex), isa::decode(w));
+    let d = exec::execute_word(regs, t.psw, lower(t.cex), w);
     grant(regs, mem, t, pc, d)
 }
 

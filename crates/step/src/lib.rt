@@ -15,15 +15,11 @@ ghost use Rattle.step.specs.Interrupt.{lineAbove, leaving};
 use entry::Rest;
 use machine::Machine;
 
-// The best waiting line if its priority is above `level`, else 8. No vector is read where no line
-// waits.
-fn line_above(mem: &[u8], lines: u8, level: u16) -> u8
+// The best waiting line if its priority is above `level`, else 8.
+fn best_above(mem: &[u8], lines: u8, level: u16) -> u8
     requires { ⌜ length (now mem) ≡ 65536 ⌝ }
     ensures { λ r. ⌜ (r ≡ lineAbove (now (mem .entry)) lines level) × (r ≤ 8) ⌝ }
 {
-    if lines == 0 {
-        return 8;
-    }
     let d = entry::best_line(mem, lines);
     if d < 8 {
         if level < entry::priority_of(mem, d) {
@@ -31,6 +27,17 @@ fn line_above(mem: &[u8], lines: u8, level: u16) -> u8
         }
     }
     8
+}
+
+// The same, asked at every step; no vector is read where no line waits.
+fn line_above(mem: &[u8], lines: u8, level: u16) -> u8
+    requires { ⌜ length (now mem) ≡ 65536 ⌝ }
+    ensures { λ r. ⌜ (r ≡ lineAbove (now (mem .entry)) lines level) × (r ≤ 8) ⌝ }
+{
+    if lines == 0 {
+        return 8;
+    }
+    best_above(mem, lines, level)
 }
 
 // The line of device d accepted: an entry that pushes, and the line falls.
@@ -58,7 +65,7 @@ fn leave(regs: &mut [u16; 8], mem: &[u8], t: Rest) -> Rest
         closedBy (chosen (leaving (coreWith (now (regs .entry)) t) (t .lines) (now (mem .entry)))
         (coreWith (now (regs .entry)) t) p) (t .lines) (t .count) (now (mem .entry))) ⌝ }
 {
-    let d = line_above(mem, t.lines, t.psw / 8192 % 8);
+    let d = best_above(mem, t.lines, t.psw / 8192 % 8);
     if d < 8 {
         let psw = entry::chain(regs, mem, t.psw, d);
         return Rest {

@@ -5,7 +5,6 @@ use Rattle.machine.specs.Step.{executed}
 use Rattle.machine.specs.Effect.{Effect}
 use Rattle.machine.specs.State.{coreOf}
 use Rattle.isa.proofs.Laws.{decode-fields}
-use Rattle.isa.specs.Fields.{Fields}
 use Rattle.instruction.specs.Closed.{Within, closedBy}
 use Rattle.instruction.proofs.Access.{effect-within}
 use Rattle.instruction.proofs.Laws.{fetched, fetched-quits}
@@ -30,33 +29,31 @@ element-write-regs c = search needs
 lower-requires : tie.Need-lower-requires
 lower-requires c κs = search needs
 
-decode-requires : tie.Need-decode-requires
-decode-requires c κs = search needs
-
-execute-requires : tie.Need-execute-requires
-execute-requires c κs = subst Fields (sym (c .decode .ensures)) (decode-fields _)
+execute-word-requires : tie.Need-execute-word-requires
+execute-word-requires c κs = search needs
 
 grant-requires : tie.Need-grant-requires
 grant-requires c κs =
-    let p = c .before .before .before .before .before .before .before .before .before .before .before .before .pre in
-    let f = subst Fields (sym (c .before .before .before .decode .ensures)) (decode-fields _) in
-    (p .0, p .1, subst (λ (e : Effect). Within (e .access)) (sym (c .before .before .execute .ensures)) (effect-within _ _ f))
+    let p = c .before .before .before .before .before .before .before .before .before .before .before .pre in (
+      p .0,
+      p .1,
+      subst (λ (e : Effect). Within (e .access)) (sym (c .before .before .execute-word .ensures)) (effect-within _ _ (decode-fields _)),
+    )
 
 same-length : tie.Need-same-length
 same-length c = search needs
 
 returns : tie.Need-returns
 returns c =
-    let b = c .before .before .before .before .before .before .before .before .before .before in
+    let b = c .before .before .before .before .before .before .before .before .before in
     let a = b .before .before .before .before .before .args in
     let x = coreOf (now (a .regs)) (a .t .psw) (a .t .cex) in
-    let e = fetched (now (a .regs)) (now (a .mem)) (a .t .psw) (a .t .cex) _ _ _ _ _ _
+    let e = fetched (now (a .regs)) (now (a .mem)) (a .t .psw) (a .t .cex) _ _ _ _ _
     (b .before .word-of .ensures .0)
     (b .read-word .ensures)
-    (c .before .before .before .before .before .before .before .before .before .wrapping-add-u16 .ensures)
-    (c .before .before .before .before .before .before .before .lower .ensures)
-    (c .before .before .before .before .before .before .decode .ensures)
-    (c .before .before .before .before .before .execute .ensures) in
+    (c .before .before .before .before .before .before .before .before .wrapping-add-u16 .ensures)
+    (c .before .before .before .before .before .before .lower .ensures)
+    (c .before .before .before .before .before .execute-word .ensures) in
     c .before .before .grant .ensures x refl refl refl (fetched-quits _ _ _ e)
     ∙ ap (λ (y : Effect). closedBy (executed x y (now (a .mem))) (a .t .lines) (a .t .count) (now (a .mem))) e
 
@@ -70,8 +67,7 @@ fetch-execute-spec =
     wrapping-add-u16-requires
     element-write-regs
     lower-requires
-    decode-requires
-    execute-requires
+    execute-word-requires
     grant-requires
     same-length
     returns)

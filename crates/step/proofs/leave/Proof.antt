@@ -5,8 +5,8 @@ use Rattle.step.proofs.Laws.{leave-chains, leave-pulls}
 use Rattle.step.proofs.leave.Statement.{statement}
 use Rattle.step.proofs.leave.Tie as tie
 
-line-above-requires : tie.Need-line-above-requires
-line-above-requires c κs = search needs
+best-above-requires : tie.Need-best-above-requires
+best-above-requires c κs = search needs
 
 chain-requires : tie.Need-chain-requires
 chain-requires c κs = search needs
@@ -21,7 +21,7 @@ returns : tie.Need-returns
 returns c =
     let a = c .before .before .before .before .before .before .before .before .args in
     let x = coreOf (now (a .regs)) (a .t .psw) (a .t .cex) in
-    let d = c .before .before .before .before .before .line-above .ensures .0 in
+    let d = c .before .before .before .before .before .best-above .ensures .0 in
     λ p. leave-chains x _ (a .t .lines) (a .t .count) _ (now (a .mem)) d p _
     (c .before .before .before .before .if1 .taken)
     (c .before .before .chain .ensures (a .t .cex))
@@ -37,7 +37,7 @@ returns-2 : tie.Need-returns-2
 returns-2 c =
     let a = c .before .before .before .before .before .before .before .args in
     let x = coreOf (now (a .regs)) (a .t .psw) (a .t .cex) in
-    let d = c .before .before .before .before .line-above .ensures .0 in
+    let d = c .before .before .before .before .best-above .ensures .0 in
     λ p. leave-pulls x _ (a .t .lines) (a .t .count) _ (now (a .mem)) d p
     (c .before .before .before .if1 .left)
     (c .before .pull .ensures (a .t .psw) (a .t .cex))
@@ -46,7 +46,7 @@ pub leave-spec : {M : Type 1} → statement M
 leave-spec =
     tie.close
     (tie.spec
-    line-above-requires
+    best-above-requires
     chain-requires
     fall-requires
     add-t12

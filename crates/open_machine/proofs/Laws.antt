@@ -1,6 +1,6 @@
 -- An advance from its parts: turned back, or run; and the step count in a machine's own record. Assumes nothing.
-use Prim.Native.Nat.{ℕ, _+_, _*_, _/_, _%_, _<_, _≤_, _^_}
-use mathlib.Core.Bool.{Bool, true, false, cond}
+use Prim.Native.Nat.{ℕ, suc, _+_, _*_, _/_, _%_, _<_, _≤_, _^_}
+use mathlib.Core.Bool.{Bool, true, false, cond, not}
 use mathlib.Core.List.{List}
 use mathlib.Core.Logic.{_≢_}
 use mathlib.Core.Path.{_≡_, refl, sym, ap, _∙_}
@@ -13,9 +13,12 @@ use Rattle.machine.specs.declared.Verdict.the-variants.{EventFields, EventOrder
 use Rattle.machine.specs.State.{State}
 use Rattle.machine.specs.Record.{fourAt, recordOf, countByte}
 use Rattle.machine.specs.Events.{eventsOf}
+use Rattle.machine.specs.Step.{stepOf}
 use Rattle.machine.specs.Refusal.{verdictOf, refusalNumber}
 use Rattle.machine.specs.Run.{Run, ran, runOf, reasonOf, reasonNumber}
 use Rattle.machine_laws.specs.Passed.{Passed}
+use Rattle.machine_laws.proofs.Cases.{bool-cases}
+use Rattle.machine_laws.proofs.Runs.{step-halted, run-zero, run-next, run-halted}
 use Rattle.open_machine.specs.Advance.{Advance, advancedBy, advanceFor, advanceOf}
 
 -- ---- the step count
@@ -104,3 +107,20 @@ module _
       ∙ ap advancedBy went
       ∙ sym (accepted v s x (sym f ∙ h))
       ∙ ap (λ u. advanceFor u s x) on-record
+
+-- ---- one step
+
+-- a run of 1 is the step, counted where it is taken
+pub run-one : (s : State) (b : List ℕ) (t : State) → t ≡ stepOf (eventsOf b) s
+    → ran t (boolByte (not (s .halted))) ≡ runOf (eventsOf b) s 1
+run-one s b t e =
+    let ev = eventsOf b in
+    let z = run-zero ev s in
+    bool-cases (s .halted)
+    (λ h.
+    let live : runOf ev s 0 .state .halted ≡ true = ap (λ r. r .state .halted) z ∙ h in
+    (λ i. ran ((e ∙ step-halted ev s h) i) (boolByte (not (h i)))) ∙ sym z ∙ sym (run-halted ev s 0 live))
+    (λ h.
+    let live : runOf ev s 0 .state .halted ≡ false = ap (λ r. r .state .halted) z ∙ h in
+    (λ i. ran (e i) (boolByte (not (h i))))
+    ∙ sym (run-next ev s 0 live ∙ ap (λ r. ran (stepOf ev (r .state)) (suc (r .steps))) z))

@@ -35,6 +35,32 @@ pub fn advance_by_value(m: Machine, memory: &mut [u8], events: &[u8], n: u64) ->
     Advanced { machine, reply }
 }
 
+// A machine advanced by one step, as `advance_by_value` of 1 but over the by-value step.
+pub fn step_by_value(m: Machine, memory: &mut [u8], events: &[u8]) -> Advanced
+    ensures { λ r. ⌜ (r .reply
+        ≡ advanceOf (stateOf m (now (memory .entry))) (now (events .entry)) 1 .reply)
+        × (stateOf (r .machine) (now (memory .exit))
+        ≡ advanceOf (stateOf m (now (memory .entry))) (now (events .entry)) 1 .state) ⌝ }
+{
+    let mut record: [u8; 32] = [0; 32];
+    state_record::write_record(&mut record, m);
+    let turned = refusal::refusal_number(refusal::verdict(memory, &record, events, 1));
+    if turned != 0 {
+        return Advanced {
+            machine: m,
+            reply: turned,
+        };
+    }
+    let x = step::step(m, memory, events, 0);
+    let after = x.machine;
+    let taken = !m.halted;
+    let reply = 256 * after.halted as u64 + 65536 * taken as u64;
+    Advanced {
+        machine: after,
+        reply,
+    }
+}
+
 // The open machine, advanced in place by n steps, fewer if it halts. Turned back, machine and
 // memory are as handed over.
 pub fn advance(m: &mut Machine, memory: &mut [u8], events: &[u8], n: u64) -> u64

@@ -1,0 +1,113 @@
+-- One step by value: turned back as an advance of 1 is, else what the step needs is what the verdict has settled.
+-- Assumes nothing.
+use mathlib.Core.Bool.{not}
+use mathlib.Core.List.{[]}
+use mathlib.Core.Path.{ap}
+use native.Mathlib.Omega.{arith}
+use denote.Ref.{now}
+use denote.Struct.Laws as LL
+use borrow.Author.Needs.{needs}
+use Rattle.machine.specs.State.{stateOf}
+use Rattle.machine.proofs.Machine as T
+use Rattle.machine.proofs.Machine.Laws as T′
+use Rattle.run.proofs.Calls.{events-fit, events-ordered, call-passed}
+use Rattle.open_machine.proofs.Laws.{count-fits, mark-le, advance-refused, advance-ran, run-one}
+use Rattle.open_machine.proofs.step_by_value.Statement.{statement}
+use Rattle.open_machine.proofs.step_by_value.Tie as tie
+
+slice-aggregate-write-record : tie.Need-slice-aggregate-write-record
+slice-aggregate-write-record c = search needs
+
+write-record-requires : tie.Need-write-record-requires
+write-record-requires c κs = search needs
+
+slice-aggregate-verdict : tie.Need-slice-aggregate-verdict
+slice-aggregate-verdict c = search needs
+
+verdict-requires : tie.Need-verdict-requires
+verdict-requires c κs = search needs
+
+refusal-number-requires : tie.Need-refusal-number-requires
+refusal-number-requires c κs = search needs
+
+same-length : tie.Need-same-length
+same-length c = search needs
+
+returns : tie.Need-returns
+returns c =
+    let v = c .before .before in
+    let e =
+    advance-refused _ _ _ _ _ _ (v .before .before .before .before .write-record .ensures _) (v .verdict .ensures)
+    (c .before .refusal-number .ensures .0) (c .if1 .taken) in
+    (ap (λ x. x .reply) e, ap (λ x. x .state) e)
+
+step-requires : tie.Need-step-requires
+step-requires c κs =
+    let f = c .before in
+    let g = f .before .before .before .before .before .before .before .before .before .before in
+    let p = call-passed _ _ _ _ _ _ (f .before .before .verdict .ensures) (f .before .refusal-number .ensures .0) (f .if1 .left) in
+    let k = LL.owed T.the-type T′.the-laws (g .args .m) _ (g .good .0) .1 .1 .1 .1 .1 .0 .1 in
+    let h = count-fits (stateOf (g .args .m) []) _ _ _ _ p (f .before .before .before .before .before .before .write-record .ensures []) k in (
+      p .memory-size,
+      omega arith,
+      (omega arith, λ j l. absurd (omega arith)),
+      events-ordered _ _ _ _ p,
+      events-fit _ _ _ _ p,
+    )
+
+cast-reply : tie.Need-cast-reply
+cast-reply c = search needs
+
+mul-reply : tie.Need-mul-reply
+mul-reply c =
+    let h = mark-le (c .before .before .before .before .before .step .result .machine .halted) in
+    omega arith
+
+cast-reply-2 : tie.Need-cast-reply-2
+cast-reply-2 c = search needs
+
+mul-reply-2 : tie.Need-mul-reply-2
+mul-reply-2 c =
+    let h = mark-le (not (c .before .before .before .before .before .before .before .before .before .before .before .before .before .before .before .before .before .args .m .halted)) in
+    omega arith
+
+add-reply : tie.Need-add-reply
+add-reply c =
+    let h = mark-le (c .before .before .before .before .before .step .result .machine .halted) in
+    let k = mark-le (not (c .before .before .before .before .before .before .before .before .before .before .before .before .before .before .before .before .before .args .m .halted)) in
+    omega arith
+
+same-length-2 : tie.Need-same-length-2
+same-length-2 c = search needs
+
+returns-2 : tie.Need-returns-2
+returns-2 c =
+    let r = c .before .before .before .before .before in
+    let f = r .before .before in
+    let v = f .before .before in
+    let a = v .before .before .before .before .before .before .before .before .args in
+    let e =
+    advance-ran _ _ _ _ _ _ (v .before .before .before .before .write-record .ensures _) (v .verdict .ensures)
+    (f .before .refusal-number .ensures .0) _ _ (f .if1 .left)
+    (run-one (stateOf (a .m) (now (a .memory))) (now (a .events)) _ (r .step .ensures .0)) in
+    (ap (λ x. x .reply) e, ap (λ x. x .state) e)
+
+pub step-by-value-spec : {M : Type 1} → statement M
+step-by-value-spec =
+    tie.close
+    (tie.spec
+    slice-aggregate-write-record
+    write-record-requires
+    slice-aggregate-verdict
+    verdict-requires
+    refusal-number-requires
+    same-length
+    returns
+    step-requires
+    cast-reply
+    mul-reply
+    cast-reply-2
+    mul-reply-2
+    add-reply
+    same-length-2
+    returns-2)

@@ -6,13 +6,14 @@
 use crate::isa::{encode, Instr};
 use std::collections::HashMap;
 
-const BRANCHES: [&str; 8] = ["BEQ BZ", "BNE BNZ", "BC BHS", "BNC BLO", "BN", "BGE", "BLT", "BRA"];
-const ALU: [&str; 12] = ["ADD", "ADDC", "SUB", "SUBC", "DADD", "CMP", "XOR", "AND", "OR", "BIT", "BIC", "BIS"];
-const UNARY: [&str; 3] = ["SRA", "RRC", "COMP"];
-const MOVES: [&str; 4] = ["MOVL", "MOVLZ", "MOVLS", "MOVH"];
-const CONDITIONS: [&str; 16] =
+pub(crate) const BRANCHES: [&str; 8] = ["BEQ BZ", "BNE BNZ", "BC BHS", "BNC BLO", "BN", "BGE", "BLT", "BRA"];
+pub(crate) const ALU: [&str; 12] =
+    ["ADD", "ADDC", "SUB", "SUBC", "DADD", "CMP", "XOR", "AND", "OR", "BIT", "BIC", "BIS"];
+pub(crate) const UNARY: [&str; 3] = ["SRA", "RRC", "COMP"];
+pub(crate) const MOVES: [&str; 4] = ["MOVL", "MOVLZ", "MOVLS", "MOVH"];
+pub(crate) const CONDITIONS: [&str; 16] =
     ["EQ", "NE", "CS HS", "CC LO", "MI", "PL", "VS", "VC", "HI", "LS", "GE", "LT", "GT", "LE", "TR", "FL"];
-const CONSTANTS: [i32; 8] = [0, 1, 2, 4, 8, 16, 32, -1];
+pub(crate) const CONSTANTS: [i32; 8] = [0, 1, 2, 4, 8, 16, 32, -1];
 
 /// Bytes to be put at an address.
 pub struct Assembled {

@@ -7,6 +7,7 @@ pub mod case;
 pub mod coverage;
 pub mod inputs;
 pub mod isa;
+pub mod listing;
 pub mod machine;
 pub mod number;
 pub mod programs;

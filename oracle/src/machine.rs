@@ -15,16 +15,16 @@ pub const SP: usize = 6;
 pub const PC: usize = 7;
 
 /// PSW bits that are always zero.
-const PSW_ZERO: u16 = 0x1E00;
+pub const PSW_ZERO: u16 = 0x1E00;
 /// CEX bits that are in use.
-const CEX_USED: u16 = 0x7F;
+pub const CEX_USED: u16 = 0x7F;
 
 /// Status bits of a device.
-const IE: u8 = 1 << 0;
-const INPUT: u8 = 1 << 1;
-const DBA: u8 = 1 << 2;
-const OF: u8 = 1 << 3;
-const ENA: u8 = 1 << 4;
+pub const IE: u8 = 1 << 0;
+pub const INPUT: u8 = 1 << 1;
+pub const DBA: u8 = 1 << 2;
+pub const OF: u8 = 1 << 3;
+pub const ENA: u8 = 1 << 4;
 
 /// The end of the device registers.
 const DEVICES: u16 = 16;
@@ -71,8 +71,9 @@ pub enum Act {
 #[derive(Clone, Debug, PartialEq, Eq)]
 pub struct Trace {
     pub act: Act,
-    /// The address of the fetched word.
+    /// The address of the fetched word, and the word.
     pub fetched: Option<u16>,
+    pub word: Option<u16>,
     /// Bytes loaded by an LD or LDR.
     pub loaded: Vec<u16>,
     /// Bytes written by a store or a push, of the same value too.
@@ -87,7 +88,7 @@ pub fn previous(psw: u16) -> u16 {
     psw >> 13
 }
 
-fn even(address: u16) -> u16 {
+pub fn even(address: u16) -> u16 {
     address & !1
 }
 
@@ -97,7 +98,7 @@ pub fn word_at(memory: &[u8], address: u16) -> u16 {
     u16::from_le_bytes([memory[a], memory[a + 1]])
 }
 
-fn vector(v: u8) -> u16 {
+pub fn vector(v: u8) -> u16 {
     0xFFC0 + 4 * u16::from(v)
 }
 
@@ -107,7 +108,7 @@ fn is_status(address: u16) -> bool {
 }
 
 /// The current priority in the PSW of a vector.
-fn vector_priority(memory: &[u8], v: u8) -> u16 {
+pub fn vector_priority(memory: &[u8], v: u8) -> u16 {
     current(word_at(memory, vector(v)))
 }
 
@@ -177,6 +178,7 @@ struct Faulted(u8);
 struct Step<'a> {
     m: &'a mut Machine,
     memory: &'a mut [u8],
+    word: Option<u16>,
     loaded: Vec<u16>,
     written: Vec<u16>,
     /// A write to R7 or a branch taken.
@@ -195,11 +197,12 @@ impl Machine {
         for event in events[first..].iter().take_while(|e| e.step == count) {
             self.apply(memory, *event);
         }
-        let mut step = Step { m: self, memory, loaded: Vec::new(), written: Vec::new(), moved_pc: false };
+        let (loaded, written) = (Vec::new(), Vec::new());
+        let mut step = Step { m: self, memory, word: None, loaded, written, moved_pc: false };
         let (act, fetched) = step.act();
-        let (loaded, written) = (step.loaded, step.written);
+        let (word, loaded, written) = (step.word, step.loaded, step.written);
         self.count += 1;
-        Some(Trace { act, fetched, loaded, written })
+        Some(Trace { act, fetched, word, loaded, written })
     }
 
     /// An event on a device.
@@ -222,7 +225,7 @@ impl Machine {
     }
 
     /// The best waiting line with its priority: the highest priority, then the lowest device.
-    fn best_line(&self, memory: &[u8]) -> Option<(u8, u16)> {
+    pub fn best_line(&self, memory: &[u8]) -> Option<(u8, u16)> {
         let mut best = None;
         for device in (0..8).filter(|d| self.lines >> d & 1 == 1) {
             let priority = vector_priority(memory, device);
@@ -264,8 +267,9 @@ impl Step<'_> {
         if !executes {
             return (Act::Skip, None);
         }
-        let instr = decode(word_at(self.memory, pc));
-        let act = match self.execute(instr) {
+        let word = word_at(self.memory, pc);
+        self.word = Some(word);
+        let act = match self.execute(decode(word)) {
             Ok(act) => act,
             Err(Faulted(v)) => self.fault(v, before),
         };
@@ -675,25 +679,48 @@ pub fn reply(result: Result<Ran, u8>) -> u64 {
     }
 }
 
-/// The line that the program prints for its input, and the memory afterwards where nothing was refused.
-pub fn sheet(input: &[u8]) -> (String, Option<Vec<u8>>) {
-    let refused = |number: u8| (format!("R{number}\n"), None);
+/// What the program reads, cut into its parts.
+pub struct Parts<'a> {
+    pub n: u32,
+    pub record: &'a [u8],
+    pub memory: &'a [u8],
+    pub events: &'a [u8],
+}
+
+/// The parts of an input. Under 36 bytes are refused with 3, and short memory with 1.
+pub fn cut(input: &[u8]) -> Result<Parts<'_>, u8> {
     if input.len() < 4 + RECORD {
-        return refused(3);
+        return Err(3);
     }
     if input.len() < 4 + RECORD + MEMORY {
-        return refused(1);
+        return Err(1);
     }
-    let n = u32::from_le_bytes([input[0], input[1], input[2], input[3]]);
-    let mut record = input[4..4 + RECORD].to_vec();
-    let mut memory = input[4 + RECORD..4 + RECORD + MEMORY].to_vec();
-    match run(&mut memory, n.into(), &mut record, &input[4 + RECORD + MEMORY..]) {
-        Err(number) => refused(number),
-        Ok(ran) => {
-            let m = Machine::from_record(&record);
+    let (n, rest) = input.split_at(4);
+    let (record, rest) = rest.split_at(RECORD);
+    let (memory, events) = rest.split_at(MEMORY);
+    Ok(Parts { n: u32::from_le_bytes([n[0], n[1], n[2], n[3]]), record, memory, events })
+}
+
+/// The line of a run's close, LF included; that of a refusal is its number.
+pub fn line_of(closed: Result<(Ran, Machine), u8>) -> String {
+    match closed {
+        Err(number) => format!("R{number}\n"),
+        Ok((ran, m)) => {
             let words: Vec<String> = m.regs.iter().chain([&m.psw]).map(|w| format!("{w:04X}")).collect();
-            let line = format!("{} {} {} {:02X} {:02X}\n", ran.reason, ran.steps, words.join(" "), m.cex, m.lines);
-            (line, Some(memory))
+            format!("{} {} {} {:02X} {:02X}\n", ran.reason, ran.steps, words.join(" "), m.cex, m.lines)
         }
+    }
+}
+
+/// The line that the program prints for its input, and the memory afterwards where nothing was refused.
+pub fn sheet(input: &[u8]) -> (String, Option<Vec<u8>>) {
+    let closed = cut(input).and_then(|Parts { n, record, memory, events }| {
+        let (mut record, mut memory) = (record.to_vec(), memory.to_vec());
+        let ran = run(&mut memory, n.into(), &mut record, events)?;
+        Ok((ran, Machine::from_record(&record), memory))
+    });
+    match closed {
+        Err(number) => (line_of(Err(number)), None),
+        Ok((ran, m, memory)) => (line_of(Ok((ran, m))), Some(memory)),
     }
 }

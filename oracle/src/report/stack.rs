@@ -1,0 +1,130 @@
+//! The stack from SP upwards with the open frames in it, and the list of these frames.
+
+use super::{act_text, grouped, hex, row};
+use crate::follow::{Followed, Frame, FRAME};
+use crate::html::{Group, Page};
+use crate::machine::{even, word_at, Act, SP};
+
+/// The words that are drawn: at least, and at most.
+const LEAST: u16 = 8;
+const MOST: u16 = 64;
+/// The frames that are listed at most.
+const LISTED: usize = 32;
+
+/// How many words lie from SP to the run's first SP or to the end of the highest open frame, whichever is higher, that
+/// word included.
+fn reach(run: &Followed) -> u16 {
+    let base = even(run.close.regs[SP]);
+    let tops = run.frames.iter().map(|frame| frame.places()[3]);
+    // Half of the memory and more above SP is below it.
+    let above = tops.chain([even(run.start.regs[SP])]).map(|top| top.wrapping_sub(base)).filter(|&up| up < 0x8000);
+    above.max().map_or(0, |up| up / 2 + 1)
+}
+
+pub fn drawing(page: &mut Page, run: &Followed) {
+    let (sp, reach) = (run.close.regs[SP], reach(run));
+    let words = reach.clamp(LEAST, MOST);
+    let mut groups: Vec<Group> = Vec::new();
+    let mut owner = None;
+    for i in 0..words {
+        let at = even(sp).wrapping_add(2 * i);
+        let frame = run.frame_at(at).map(|(frame, _)| frame.number);
+        if groups.is_empty() || frame != owner {
+            groups.push(Group { frame: frame.is_some(), rows: Vec::new() });
+            owner = frame;
+        }
+        groups.last_mut().expect("a group").rows.push(word_row(run, at));
+    }
+    page.paragraph(
+        "A thick border marks a frame: the four words that an entry of this run pushed and that no return has pulled, \
+         at the place where the entry put them, CEX lowest and PC highest. A word that two open frames share is marked \
+         as the newer one's. The oracle followed the run to find the frames: the words alone do not show them, and a \
+         frame from before the run is not marked.",
+    );
+    page.paragraph(&drawn(sp, words, reach));
+    page.groups("The stack, the lowest address first", &["Address", "Word", "Frame", "Part", "Remark"], &groups);
+}
+
+/// How far the drawing goes.
+fn drawn(sp: u16, words: u16, reach: u16) -> String {
+    let mut text = format!(
+        "The drawing reaches up to SP at the start and to the end of every open frame, but has {LEAST} words at least \
+         and {MOST} at most."
+    );
+    if reach > words {
+        text += &format!(" {} more words are left out.", grouped((reach - words).into()));
+    }
+    if sp & 1 == 1 {
+        text += " SP is odd: a word access drops bit 0.";
+    }
+    text
+}
+
+fn word_row(run: &Followed, at: u16) -> Vec<String> {
+    let word = word_at(&run.memory, at);
+    let (mut frame, mut part, mut remarks) = ("-".to_string(), "-", Vec::new());
+    if at == even(run.close.regs[SP]) {
+        remarks.push("SP".to_string());
+    }
+    if at == even(run.start.regs[SP]) {
+        remarks.push("SP at the start".to_string());
+    }
+    if let Some((found, i)) = run.frame_at(at) {
+        (frame, part) = (found.number.to_string(), FRAME[i]);
+        if found.words[i] != word {
+            remarks.push(format!("changed since: {} was pushed", hex(found.words[i])));
+        }
+    }
+    remarks.extend(place(at));
+    row([&hex(at), &hex(word), &frame, part, &remarks.join("; ")])
+}
+
+/// What else an even address is.
+fn place(at: u16) -> Option<String> {
+    match at {
+        0..=0x000F => Some(format!("device {}", at / 2)),
+        0xFFC0.. => Some(format!("vector {}, {}", (at - 0xFFC0) / 4, if at & 2 == 0 { "PSW" } else { "entry point" })),
+        _ => None,
+    }
+}
+
+pub fn open_frames(page: &mut Page, run: &Followed) {
+    if run.frames.is_empty() {
+        page.paragraph("No frame of this run is open.");
+        return;
+    }
+    page.paragraph(
+        "Frames are numbered in the order in which the run opened them; a return that pulls closes the newest.",
+    );
+    let newest = run.frames.iter().rev().take(LISTED);
+    page.table(
+        &format!(
+            "{} of {} open frames, the newest first, with the words that each entry pushed",
+            newest.len(),
+            grouped(run.frames.len() as u64)
+        ),
+        &["Frame", "Opened by", "Count", "From", "CEX", "PSW", "LR", "PC", "Since then"],
+        newest.map(|frame| frame_row(run, frame)).collect(),
+    );
+}
+
+fn frame_row(run: &Followed, frame: &Frame) -> Vec<String> {
+    let places = frame.places();
+    let changed: Vec<&str> =
+        (0..4).filter(|&i| word_at(&run.memory, places[i]) != frame.words[i]).map(|i| FRAME[i]).collect();
+    let mut since = match changed.len() {
+        0 => "as pushed".to_string(),
+        _ => format!("changed: {}", changed.join(", ")),
+    };
+    if let Some(device) = frame.chained {
+        since += &format!("; {} chained onto it, the newest line {device}", frame.chains);
+    }
+    let [cex, psw, lr, pc] = frame.words.map(hex);
+    let (number, count) = (frame.number.to_string(), grouped(frame.count.into()));
+    row([&number, opener(frame.act).as_str(), &count, &hex(places[0]), &cex, &psw, &lr, &pc, &since])
+}
+
+/// What opened a frame.
+fn opener(act: Act) -> String {
+    act_text(act).trim_start_matches("entry: ").to_string()
+}

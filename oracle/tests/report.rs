@@ -1,0 +1,300 @@
+//! The report: one page for one input, the same each time, with the printed line and the frames at their places.
+
+use oracle::alu::{FLT, SLP};
+use oracle::asm::assemble;
+use oracle::case;
+use oracle::inputs::{input, Input, KINDS};
+use oracle::machine::*;
+use oracle::report::{cksum, report};
+
+/// The page of an input whose line the oracle and the program agree on.
+fn page_of(input: &[u8]) -> String {
+    report(input, &sheet(input).0).expect("one line")
+}
+
+/// An input with the program at #1000, SP #0800 and these events, changed as `change` has it.
+fn program(source: &str, events: &[(u32, u8, u8)], n: u64, change: impl FnOnce(&mut Machine)) -> Vec<u8> {
+    let mut m = Machine::default();
+    (m.regs[SP], m.regs[PC]) = (0x0800, 0x1000);
+    change(&mut m);
+    let record = |&(step, device, data): &(u32, u8, u8)| event_record(Event { step, device, data });
+    Input {
+        memory: assemble(source).memory(),
+        record: m.to_record().to_vec(),
+        events: events.iter().flat_map(record).collect(),
+        n,
+    }
+    .to_bytes()
+}
+
+/// The text of every cell of the table in a section, row by row; the headings of the columns are left out.
+fn rows(page: &str, section: &str) -> Vec<Vec<String>> {
+    let start = page.find(&format!("<h2 id=\"{section}\">")).unwrap_or_else(|| panic!("no section {section}"));
+    let body = page[start..].split("</section>").next().expect("a section");
+    let cell = |text: &str| text.split_once('>').map(|(_, rest)| rest.to_string()).expect("a cell");
+    let cells =
+        |row: &str| row.split("</t").filter(|c| c.contains("<t")).map(|c| cell(&c[c.rfind("<t").unwrap()..])).collect();
+    body.split("<tr>").skip(2).map(|row| cells(row.split("</tr>").next().expect("a row"))).collect()
+}
+
+/// Two handlers, the second interrupting the first; the first has pushed R0.
+const NESTED: &str = "
+            org #0002
+            byte #11
+            org #0004
+            byte #11
+            org #0006
+            byte #11
+            org #1000
+Here        bra Here
+            org #2000
+First       st R0,-SP
+            bra First
+            org #2100
+Second      add $1,R1
+            mov LR,PC
+            org #FFC4
+            word #0040      ; device 1: priority 2
+            word First
+            word #00A0      ; device 2: priority 5
+            word Second
+            word #0060      ; device 3: priority 3
+            word Second
+";
+
+#[test]
+fn the_same_input_gives_the_same_page() {
+    let input = program(NESTED, &[(1, 1, 0), (3, 2, 0)], 5, |_| ());
+    assert_eq!(page_of(&input), page_of(&input.clone()));
+}
+
+#[test]
+fn another_line_gives_no_page() {
+    let input = program(NESTED, &[], 5, |_| ());
+    let line = sheet(&input).0;
+    let differs = report(&input, "R4\n").expect_err("two lines");
+    assert_eq!((differs.oracle, differs.printed.as_str()), (line.clone(), "R4\n"));
+    assert!(report(&input, line.trim_end()).is_err(), "the line has lost its LF");
+    assert!(report(&input, &line).is_ok());
+}
+
+#[test]
+fn nested_frames_stand_from_sp_upwards() {
+    let page = page_of(&program(NESTED, &[(1, 1, 0), (3, 2, 0)], 5, |m| m.regs[LR] = 0xBEEF));
+    let expected = [
+        ["#07EE", "#0000", "2", "CEX", "SP"],
+        ["#07F0", "#0040", "2", "PSW", ""],
+        ["#07F2", "#FFFF", "2", "LR", ""],
+        ["#07F4", "#2002", "2", "PC", ""],
+        ["#07F6", "#0000", "-", "-", ""],
+        ["#07F8", "#0000", "1", "CEX", ""],
+        ["#07FA", "#0000", "1", "PSW", ""],
+        ["#07FC", "#BEEF", "1", "LR", ""],
+        ["#07FE", "#1000", "1", "PC", ""],
+        ["#0800", "#0000", "-", "-", "SP at the start"],
+    ];
+    assert_eq!(rows(&page, "stack"), expected);
+    assert_eq!(page.matches("<tbody class=\"frame\">").count(), 2);
+    let frames = rows(&page, "frames");
+    assert_eq!(frames[0][..5], ["2", "line 2 accepted", "3", "#07EE", "#0000"]);
+    assert_eq!(frames[1], ["1", "line 1 accepted", "1", "#07F8", "#0000", "#0000", "#BEEF", "#1000", "as pushed"]);
+}
+
+#[test]
+fn a_pulled_frame_is_no_longer_marked() {
+    // Step 3 enters the second handler, 4 and 5 run it, 6 pulls.
+    let page = page_of(&program(NESTED, &[(1, 1, 0), (3, 2, 0)], 7, |_| ()));
+    assert!(page.contains("The last step, at step count 6: return: pulled CEX, PSW, LR, PC; PC was #FFFF."));
+    assert!(page.contains("The last instruction executed, at step count 5: executed; MOV LR,PC, word #4C2F at #2102."));
+    let marks: Vec<String> = rows(&page, "stack").iter().map(|row| row[2].clone()).collect();
+    assert_eq!(marks, ["-", "1", "1", "1", "1", "-", "-", "-"]);
+    assert!(page.contains("1 open at the close, at most 2 open together"));
+}
+
+#[test]
+fn a_chained_entry_keeps_its_frame() {
+    // Line 3 is not above priority 5 but above priority 2, so that the return at step 6 chains it.
+    let page = page_of(&program(NESTED, &[(1, 1, 0), (3, 2, 0), (4, 3, 0)], 7, |_| ()));
+    assert!(page.contains("at step count 6: return, chained entry: line 3, nothing pushed;"));
+    assert_eq!(rows(&page, "frames")[0][8], "as pushed; 1 chained onto it, the newest line 3");
+    assert_eq!(page.matches("<tbody class=\"frame\">").count(), 2);
+}
+
+#[test]
+fn a_frame_that_was_changed_or_left_below_sp() {
+    let spoil = "
+            org #0002
+            byte #11
+            org #1000
+Here        bra Here
+            org #2000
+First       str SP,SP,$2
+            add $4,SP
+Wait        bra Wait
+            org #FFC4
+            word #0040
+            word First
+    ";
+    let input = |n| program(spoil, &[(0, 1, 0)], n, |m| m.regs[SP] = 0x0801);
+    let page = page_of(&input(2));
+    assert_eq!(rows(&page, "stack")[1], ["#07FA", "#07F9", "1", "PSW", "changed since: #0000 was pushed"]);
+    assert_eq!(rows(&page, "frames")[0][8], "changed: PSW");
+    assert!(page.contains("SP is odd"));
+    // CEX and PSW lie below SP now: the frame is listed, and drawn from LR on.
+    let page = page_of(&input(4));
+    assert_eq!(rows(&page, "stack")[0], ["#07FC", "#0000", "1", "LR", "SP"]);
+    assert_eq!(rows(&page, "frames")[0][3], "#07F8");
+}
+
+#[test]
+fn the_stack_wraps_and_is_cut() {
+    let page = page_of(&program(NESTED, &[(0, 1, 0)], 1, |m| m.regs[SP] = 4));
+    let places: Vec<String> = rows(&page, "stack").iter().map(|row| row[0].clone()).collect();
+    assert_eq!(places[..6], ["#FFFC", "#FFFE", "#0000", "#0002", "#0004", "#0006"]);
+    assert_eq!(rows(&page, "stack")[0][4], "SP; vector 15, PSW");
+    assert_eq!(rows(&page, "stack")[4][4], "SP at the start; device 2");
+    let page = page_of(&program(" org #1000\nHere st R0,-SP\n bra Here", &[], 200, |_| ()));
+    assert_eq!(rows(&page, "stack").len(), 64);
+    assert!(page.contains("37 more words are left out."));
+}
+
+#[test]
+fn what_the_last_step_was() {
+    let sleeping = |m: &mut Machine| m.psw |= SLP;
+    let faulted = |m: &mut Machine| m.psw |= FLT;
+    let at = |pc: u16| move |m: &mut Machine| m.regs[PC] = pc;
+    let plain = |_: &mut Machine| ();
+    let skips = |m: &mut Machine| m.cex = 0x08;
+    let svc = " org #1000\n svc $4\n org #FFD0\n word #0080\n word #3000";
+    for (input, expected) in [
+        (program(" org #1000\n add.b $-1,R3", &[], 1, plain), "executed; ADD.B $-1,R3, word #40FB at #1000."),
+        (program(" org #1000\n word #4E00", &[], 1, skips), "skipped by CEX: not decoded; word #4E00 at #1000."),
+        (program("", &[], 1, sleeping), "asleep: nothing; PC was #1000."),
+        (program(NESTED, &[(0, 1, 0)], 1, plain), "entry: line 1 accepted; PC was #1000."),
+        (program(svc, &[], 1, plain), "entry: SVC to vector 4; SVC $4, word #4DA4 at #1000."),
+        (
+            program(" org #1000\n word #4E00", &[], 1, plain),
+            "entry: fault 8, illegal word; illegal, word #4E00 at #1000.",
+        ),
+        (program("", &[], 1, at(0x1001)), "entry: fault 9, odd PC; PC was #1001."),
+        (
+            program(" org #1000\n setpri $3", &[], 9, faulted),
+            "halt: fault 10, priority, with FLT set; SETPRI $3, word #4D83",
+        ),
+        (program("", &[], 1, at(0xFFFF)), "return: pulled CEX, PSW, LR, PC; PC was #FFFF."),
+        (program("", &[], 0, plain), "<p>No step was taken.</p>"),
+        (program("", &[], 9, |m| m.halted = true), "halted before the first step"),
+        (program("", &[], 1, sleeping), "<p>The run executed no instruction.</p>"),
+    ] {
+        let page = page_of(&input);
+        let expected = expected.replace('\'', "&#39;");
+        assert!(page.contains(&expected), "{expected} is not on the page of {}", sheet(&input).0);
+    }
+}
+
+/// A word fetched from device registers is the one that the due events left.
+#[test]
+fn the_word_of_an_instruction_in_device_registers() {
+    let input = program(" org #0000\n byte #12\n byte #4D", &[(0, 0, 0x40)], 1, |m| m.regs[PC] = 0);
+    assert!(page_of(&input).contains("executed; ADD R2,SP, word #4016 at #0000."));
+}
+
+#[test]
+fn state_by_name() {
+    let page = page_of(&program("", &[], 0, |m| {
+        (m.psw, m.cex, m.lines, m.regs[4], m.count) = (0x6155, 0x4A, 0x12, 0xFFFE, 1_234_567);
+    }));
+    let values: Vec<String> = rows(&page, "psw").iter().map(|row| row[2].clone()).collect();
+    assert_eq!(values, ["3", "1", "2", "1", "0", "1", "0", "1"]);
+    assert_eq!(rows(&page, "registers")[4], ["R4", "#FFFE", "65534", "-2", "#FFFE"]);
+    assert_eq!(rows(&page, "registers")[6][0], "R6 SP");
+    let counts: Vec<String> = rows(&page, "cex").iter().map(|row| row[2].clone()).collect();
+    assert_eq!(counts, ["1", "1", "2"]);
+    assert!(page.contains("Condition, held") && page.contains("The next is of the true part: executed"));
+    assert!(page.contains("Lines 1, 4 are waiting. The best is line 1 with priority 0, which is not above"));
+    assert_eq!(rows(&page, "run")[4], ["Step count", "1,234,567", "1,234,567 at the start"]);
+    assert_eq!(rows(&page, "vectors").len(), 16);
+}
+
+#[test]
+fn devices_and_their_bytes_are_escaped() {
+    let source = " org #0000\n byte #1F\n byte '<'\n byte #E4\n byte '&'\n byte #00\n byte #22\n byte #00\n byte #27";
+    let page = page_of(&program(source, &[], 0, |_| ()));
+    let devices = rows(&page, "devices");
+    assert_eq!(devices[0], ["0", "#0000", "#1F", "0", "1", "1", "1", "input", "1", "#3C &#39;&lt;&#39;", "-"]);
+    assert_eq!(devices[1][..9], ["1", "#0002", "#E4", "7", "0", "0", "1", "output", "0"]);
+    assert_eq!([&devices[1][9], &devices[2][9]], ["#26 &#39;&amp;&#39;", "#22 &#39;&quot;&#39;"]);
+    assert_eq!(devices[3][9], "#27 &#39;&#39;&#39;");
+}
+
+#[test]
+fn events_by_their_fate() {
+    let page = page_of(&program(NESTED, &[(1, 7, 0), (5, 7, 0), (6, 7, 0), (7, 7, 0)], 2, |m| m.count = 5));
+    assert_eq!(rows(&page, "run")[5][2], "2 applied, 1 passed over as earlier than the run, 1 not reached");
+}
+
+#[test]
+fn each_refusal_has_a_page() {
+    let accepted = program("", &[(3, 0, 0), (3, 7, 0)], 1, |_| ());
+    let with = |at: usize, byte: u8| {
+        let mut input = accepted.clone();
+        input[at] = byte;
+        input
+    };
+    let list = 4 + RECORD + MEMORY;
+    for (number, input, found) in [
+        (1, accepted[..36].to_vec(), "the whole input has 36 bytes"),
+        (2, with(3, 1), "n is 16,777,217, the step count is 0, and together they are 16,777,217"),
+        (3, Vec::new(), "the whole input has 0 bytes"),
+        (4, with(4 + 17, 0x02), "PSW is #0200, with one of bits 12-9"),
+        (4, with(4 + 19, 0x80), "CEX is #8000, with one of bits 15-7"),
+        (4, with(4 + 21, 2), "the halted mark is 2"),
+        (4, with(4 + 31, 7), "byte 31 of the state record is #07"),
+        (5, accepted[..list + 3].to_vec(), "after the memory stand 0 whole event records, and 3 bytes more"),
+        (6, with(list + 8 + 4, 8), "event 2 of the list has device 8 and bytes 6-7 #00 #00"),
+        (7, with(list + 8, 2), "event 2 of the list has step 2, and the event before it step 3"),
+    ] {
+        let page = page_of(&input);
+        assert!(page.contains(&format!("<pre id=\"line\">R{number}</pre>")), "{number}");
+        assert!(page.contains(&format!("Refusal {number}</h2>")) && page.contains(found), "{number}: {found}");
+        assert!(page.contains("No step was taken") && !page.contains("id=\"stack\""), "{number}");
+    }
+}
+
+/// Every tag that is opened is closed, in its order.
+fn balanced(page: &str) -> bool {
+    let mut open: Vec<&str> = Vec::new();
+    for tag in page.split('<').skip(1).map(|rest| rest.split('>').next().unwrap()) {
+        let name = tag.split(' ').next().unwrap();
+        match name.strip_prefix('/') {
+            Some(closed) if open.pop() != Some(closed) => return false,
+            None if !["!DOCTYPE", "meta"].contains(&name) => open.push(name),
+            _ => {}
+        }
+    }
+    open.is_empty()
+}
+
+#[test]
+fn pages_of_every_kind_stand_alone() {
+    let mut inputs: Vec<Vec<u8>> = case::all().iter().map(|case| case.input.to_bytes()).collect();
+    for kind in KINDS {
+        let all = (1..=40).map(|seed| input(kind, seed)).filter(|i| i.n <= u32::MAX.into());
+        inputs.extend(all.map(|i| i.to_bytes()));
+    }
+    for input in inputs {
+        let (page, line) = (page_of(&input), sheet(&input).0);
+        assert!(page.contains(&format!("<pre id=\"line\">{}</pre>", line.trim_end())), "{line}");
+        assert!(balanced(&page), "{line}");
+        for foreign in ["<script", "http", "src=", "href=", "url(", "@import"] {
+            assert!(!page.contains(foreign), "{line} {foreign}");
+        }
+    }
+}
+
+#[test]
+fn the_checksum_is_that_of_cksum() {
+    assert_eq!(cksum(b""), 4_294_967_295);
+    assert_eq!(cksum(b"123456789"), 930_766_865);
+    assert_eq!(cksum(&[0; 65_536]), 4_215_202_376);
+}

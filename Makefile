@@ -1,22 +1,30 @@
 # XM-23 examination machine. 'make help' lists what there is.
 
-.PHONY: help run list test fuzz bench clean
+.PHONY: help run list report test fuzz bench clean
 
 CFLAGS = -std=c99 -pedantic -O2 -Wall -Wextra -Werror -Iinclude
 ORACLE = --offline --locked --manifest-path oracle/Cargo.toml --target-dir oracle/target
 EXAMPLE = examples/interrupts
 INPUTS = 100000
+INPUT = $(EXAMPLE).in
+OUT = build/report.html
 
 help:
-	@echo 'make run    build the program and print the closing state of the example, with a legend'
-	@echo 'make list   list the example image, word by word'
-	@echo 'make test   every proof and test, as .ci/run does'
-	@echo 'make fuzz   compare more random runs with the oracle, from a new seed (INPUTS=100000 of each kind)'
-	@echo 'make bench  times of the proved code beside the Rust oracle and a C interpreter'
-	@echo 'make clean  remove what was built'
+	@echo 'make run     build the program and print the closing state of the example, with a legend'
+	@echo 'make report  the closing state of one run as a page of HTML (INPUT=$(INPUT) OUT=$(OUT))'
+	@echo 'make list    list the example image, word by word'
+	@echo 'make test    every proof and test, as .ci/run does'
+	@echo 'make fuzz    compare more random runs with the oracle, from a new seed (INPUTS=100000 of each kind)'
+	@echo 'make bench   times of the proved code beside the Rust oracle and a C interpreter'
+	@echo 'make clean   remove what was built'
+	@echo 'README.md says of each what it writes, how long it takes and its exit status.'
 
 run: target/bin/print_state
 	@target/bin/print_state < $(EXAMPLE).in | python3 -B scripts/legend.py
+
+report: target/bin/print_state
+	@scripts/report.sh '$(INPUT)' '$(OUT)'
+	@echo '$(OUT)'
 
 list: build/decode_image
 	build/decode_image examples/copy_words.img 1000

@@ -86,6 +86,15 @@ example_host() {
         diff - <("$build/host" 7 examples/interrupts.in examples/interrupts.in)
 }
 
+# The report carries the program's line; of a program that prints another one there is no page.
+report() {
+    local other=$build/other
+    mkdir -p "$other" && printf '#!/bin/sh\necho R1\n' > "$other/print_state" && chmod +x "$other/print_state" &&
+        ! XM23_BIN=$other scripts/report.sh examples/interrupts.in "$other/report.html" 2> "$other/said" &&
+        grep -q 'THE LINES DIFFER' "$other/said" && [ ! -e "$other/report.html" ] &&
+        scripts/report.sh examples/interrupts.in "$build/report.html"
+}
+
 part 'what the trace refuses' count_line python3 -B scripts/trace_test.py
 part 'trace to 01' count_line python3 -B scripts/trace.py
 part 'layout of proofs and code' count_status rt fmt --check
@@ -104,3 +113,4 @@ else
 fi
 part 'example listing' count_status listing
 part 'example host' count_status example_host
+part 'report' count_status report

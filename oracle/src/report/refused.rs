@@ -15,22 +15,26 @@ const RULES: [&str; 7] = [
     "No event's step is below that of the event before it. Equal steps pass.",
 ];
 
+/// The part of an input that each number is about.
+const PARTS: [&str; 7] = ["memory", "n", "state record", "state record", "events", "events", "events"];
+
 pub fn refusal(page: &mut Page, number: u8, input: &[u8]) {
-    let whose = if number <= 2 { "the desk" } else { "the examiner's setup" };
+    let of = |list: &[&'static str; 7]| list[usize::from(number) - 1];
     let what = [
         row(["Refusal", &number.to_string()]),
-        row(["What 01 asks", RULES[usize::from(number) - 1]]),
+        row(["It is about", of(&PARTS)]),
+        row(["What 01 asks", of(&RULES)]),
         row(["What this input has", &found(number, input)]),
-        row(["Whose to put right", whose]),
     ];
-    page.table("Why the input was turned back", &["Item", "Value"], what.to_vec());
+    page.table("Why the input was refused", &["Item", "Value"], what.to_vec());
     page.paragraph(
         "No step was taken: a refused run leaves memory, state record and events as they were handed over, so there is \
          no closing state to show.",
     );
     page.paragraph(
-        "An input under 36 bytes is 3 and short memory is 1, whatever else is wrong. Then the rules are tried in this \
-         order, and the first that is broken is named: 2 for n alone; 2 for the sum; 4; 5; 6; 7.",
+        "01 is the paper of house rules. An input under 36 bytes is 3 and short memory is 1, whatever else is wrong. \
+         Then the rules are tried in this order, and the first that is broken is named: 2 for n alone; 2 for the sum \
+         of step count and n; 4; 5; 6; 7.",
     );
 }
 

@@ -9,15 +9,9 @@ INPUTS = 100000
 INPUT = $(EXAMPLE).in
 OUT = build/report.html
 
+# The list of commands in README.md.
 help:
-	@echo 'make run     build the program and print the closing state of the example, with a legend'
-	@echo 'make report  the closing state of one run as a page of HTML (INPUT=$(INPUT) OUT=$(OUT))'
-	@echo 'make list    list the example image, word by word'
-	@echo 'make test    every proof and test, as .ci/run does'
-	@echo 'make fuzz    compare more random runs with the oracle, from a new seed (INPUTS=100000 of each kind)'
-	@echo 'make bench   times of the proved code beside the Rust oracle and a C interpreter'
-	@echo 'make clean   remove what was built'
-	@echo 'README.md says of each what it writes, how long it takes and its exit status.'
+	@sed -n '/^    make run /,/^    make help /s/^    //p' README.md
 
 run: target/bin/print_state
 	@target/bin/print_state < $(EXAMPLE).in | python3 -B scripts/legend.py

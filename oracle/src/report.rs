@@ -242,13 +242,13 @@ fn psw(page: &mut Page, run: &Followed) {
         &["Field", "Bits", "Close", "Start"],
         vec![
             field("Previous priority", "15-13", previous),
-            field("FLT, fault", "8", |p| p / FLT & 1),
+            field("FLT, fault", "8", |p| u16::from(p & FLT != 0)),
             field("Current priority", "7-5", current),
-            field("V, overflow", "4", |p| p / V & 1),
-            field("SLP, asleep", "3", |p| p / SLP & 1),
-            field("N, negative", "2", |p| p / N & 1),
-            field("Z, zero", "1", |p| p / Z & 1),
-            field("C, carry", "0", |p| p / C & 1),
+            field("V, overflow", "4", |p| u16::from(p & V != 0)),
+            field("SLP, asleep", "3", |p| u16::from(p & SLP != 0)),
+            field("N, negative", "2", |p| u16::from(p & N != 0)),
+            field("Z, zero", "1", |p| u16::from(p & Z != 0)),
+            field("C, carry", "0", |p| u16::from(p & C != 0)),
         ],
     );
 }

@@ -6,9 +6,9 @@ use crate::machine::{cut, events_of, Machine, Parts, CEX_USED, EVENT, MAX_EVENTS
 
 /// What 01 asks, under each number from 1.
 const RULES: [&str; 7] = [
-    "The memory has 65,536 bytes. In an input it follows 36 bytes, so one of 36 to 65,571 bytes is refused with 1.",
+    "The memory has 65,536 bytes. In an input it follows 36 bytes, so 36 to 65,571 bytes are refused with 1.",
     "n is at most 1,000,000, and step count and n together are at most 4,294,967,295.",
-    "The state record has 32 bytes. In an input it follows the four bytes of n, so one under 36 bytes is refused with 3.",
+    "The state record has 32 bytes. In an input it follows the four bytes of n, so under 36 bytes are refused with 3.",
     "Zero bits and bytes of the state record are zero: PSW bits 12-9, CEX bits 15-7, bytes 26-31. Halted is 0 or 1.",
     "The events are a multiple of 8 bytes, and at most 4,096 records. No events are an empty list.",
     "Every event's device is 0 to 7 and its bytes 6-7 are zero. The whole list is tried for this before 7.",

@@ -1,17 +1,22 @@
 # XM-23 examination machine. 'make help' lists what there is.
 
-.PHONY: help run list test fuzz bench clean
+.PHONY: help run list test fuzz replay bench clean
 
 CFLAGS = -std=c99 -pedantic -O2 -Wall -Wextra -Werror -Iinclude
 ORACLE = --offline --locked --manifest-path oracle/Cargo.toml --target-dir oracle/target
 EXAMPLE = examples/interrupts
 INPUTS = 100000
+SEED =
+FUZZ_SECONDS = 60
+FOUND =
 
 help:
 	@echo 'make run    build the program and print the closing state of the example, with a legend'
 	@echo 'make list   list the example image, word by word'
 	@echo 'make test   every proof and test, as .ci/run does'
-	@echo 'make fuzz   compare more random runs with the oracle, from a new seed (INPUTS=100000 of each kind)'
+	@echo 'make fuzz   compare more random runs with the oracle, from a new seed (INPUTS=100000 of each kind, SEED=..),'
+	@echo '            then search for a difference by coverage (FUZZ_SECONDS=60); what differs is saved in build/fuzz'
+	@echo 'make replay FOUND=build/fuzz/..: run a saved difference again'
 	@echo 'make bench  times of the proved code beside the Rust oracle and a C interpreter'
 	@echo 'make clean  remove what was built'
 
@@ -25,7 +30,11 @@ test:
 	@scripts/test.sh
 
 fuzz: target/staticlib/libxm23.a
-	@XM23_FUZZ=$(INPUTS) cargo test --release $(ORACLE) --test run_call every_kind_of_input -- --nocapture
+	@cargo run --quiet --release $(ORACLE) --example fuzz -- $(INPUTS) $(SEED)
+	@scripts/fuzz.sh $(FUZZ_SECONDS) $(SEED)
+
+replay: target/staticlib/libxm23.a
+	@cargo run --quiet --release $(ORACLE) --example fuzz -- replay $(FOUND)
 
 bench: target/staticlib/libxm23.a target/staticlib/libprobe.a build/libxm23_fast.a
 	@cargo bench $(ORACLE) --bench decode

@@ -4,8 +4,8 @@
 //! A file is a list of `key: value`; lines that start with a blank belong to the key above them. Keys: `title`, `from`,
 //! `start` (`R0=00FF PSW=60E0 CEX=.. LINES=.. HALTED=1 COUNT=..`, hexadecimal; PC #1000 and SP #0800 if not named),
 //! `source`, `events` (`step device data` on each line, step in base ten; `x9` behind it is nine of them), `n`, `line`,
-//! `bytes` (`0100=34`, afterwards), `printed`, `decides`. Every key but `start`, `events`, `bytes` and `printed` must be
-//! there.
+//! `bytes` (`0100=34`, afterwards), `printed`, `decides`. Every key but `start`, `events`, `bytes` and `printed` must
+//! be there.
 
 use crate::asm::assemble;
 use crate::inputs::Input;
@@ -105,6 +105,35 @@ pub fn parse(name: &str, text: &str) -> Case {
     let bytes = bytes.collect();
     Case { name: name.into(), title: get("title").into(), input, line: get("line").to_string() + "\n", bytes }
 }
+
+/// The cases of 01's list, the example of its sheet, and its plausible misreadings.
+pub const OF_01: [&str; 25] = [
+    "01-add-byte",
+    "01-add-word",
+    "01-addc-word",
+    "01-sub-byte-borrow",
+    "01-sub-byte-no-borrow",
+    "01-subc-word",
+    "01-dadd-99-01",
+    "01-dadd-ff-ff",
+    "01-sra",
+    "01-sxt",
+    "01-entry-with-sp-0",
+    "01-branch-to-itself",
+    "01-word-load-0101",
+    "01-n-0",
+    "01-n-1000000",
+    "01-n-1000001",
+    "01-4096-events",
+    "01-4097-events",
+    "01-example-of-the-sheet",
+    "01-setpri-3-after-reset",
+    "01-3-minus-fd",
+    "01-skipped-word-is-not-decoded",
+    "01-overflow-of-subc",
+    "01-awake-at-ffff",
+    "01-asleep-at-ffff",
+];
 
 /// Every case of the repository, by name.
 pub fn all() -> Vec<Case> {

@@ -62,7 +62,7 @@ search() {
         "${options[@]}" "${@:3}" 2>&1 | tee "$log" | grep --line-buffered -E 'Seed|counters|INITED|pulse|DONE' ||
         status=$?
     if [ "$status" -ne 0 ]; then
-        grep -v -E 'NEW|REDUCE|pulse|INFO' "$log" | tail -n 30
+        grep -E '^[a-z ]+: reply|^(en|de)coding|^saved in|ERROR|Test unit written' "$log" || true
         echo "== $name: a difference; see $log"
     fi
     [ "$status" -eq 0 ]
@@ -88,7 +88,7 @@ seeds
 check_itself
 target run
 search run "$seconds" "$out/corpus" "$out/seeds"
-options=(-max_len=8 -use_value_profile=1)
+options=(-max_len=8)
 "$clang" $warn -fsanitize=fuzzer -o "$out/words" tests/fuzz/words.c target/staticlib/libxm23.a
 search words $((seconds / 6 + 1)) "$out/corpus_words"
 echo "coverage-guided fuzzing: no difference"

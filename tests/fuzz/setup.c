@@ -39,9 +39,9 @@ static void start(struct setup *s)
     s->n = 64;
     put_two(s->record + 12, 0x0800);
     put_two(s->record + 14, 0x1000);
-    for (unsigned d = 0; d < 8; d++)
-        s->memory[2 * d] = d & 1 ? 0x11 : 0x13;
     for (unsigned v = 0; v < 16; v++) {
+        if (v < 8)
+            s->memory[2 * v] = v & 1 ? 0x11 : 0x13;
         put_word(s, VECTORS + 4 * v, (1 + v % 7) << 5);
         put_word(s, VECTORS + 4 * v + 2, 0x2000 + 0x40 * v);
         put_word(s, 0x2000 + 0x40 * v, 0x4C2F); /* MOV LR,PC */

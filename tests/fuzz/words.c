@@ -99,9 +99,26 @@ static uint64_t judge_decode(uint16_t word)
     return number;
 }
 
+/* Counters that libFuzzer reads beside those of the branches: for each format, the byte that is refused, 0 for none. */
+__attribute__((section("__libfuzzer_extra_counters"))) static volatile uint8_t verdicts[19][8];
+
+static uint32_t refused(unsigned format, unsigned byte)
+{
+    verdicts[format][byte] = 1;
+    return XM23_REFUSED_INSTRUCTION;
+}
+
+/* The first byte from `i` up to `end` that is not 0, or `end`. */
+static unsigned first_used(uint64_t number, unsigned i, unsigned end)
+{
+    while (i < end && !XM23_FIELD(number, i))
+        i++;
+    return i;
+}
+
 static uint32_t judge_encode(uint64_t number)
 {
-    unsigned id = XM23_FORMAT(number), used, word;
+    unsigned id = XM23_FORMAT(number), end, byte, word;
     const struct format *f;
     if (id == XM23_FORMAT_ILLEGAL || id > XM23_FORMAT_STR)
         return XM23_REFUSED_INSTRUCTION;
@@ -110,19 +127,20 @@ static uint32_t judge_encode(uint64_t number)
     for (unsigned i = 0; i < f->many; i++) {
         unsigned value = XM23_FIELD(number, 1 + i);
         if (value >= f->fields[i].values)
-            return XM23_REFUSED_INSTRUCTION;
+            return refused(id, 1 + i);
         word |= value << f->fields[i].shift;
     }
-    used = f->offset_bits ? 6 : 8;
-    for (unsigned i = 1 + f->many; i < used; i++)
-        if (XM23_FIELD(number, i))
-            return XM23_REFUSED_INSTRUCTION;
+    end = f->offset_bits ? 6 : 8;
+    byte = first_used(number, 1 + f->many, end);
+    if (byte < end)
+        return refused(id, byte);
     if (f->offset_bits) {
         int half = 1 << (f->offset_bits - 1), offset = XM23_OFFSET(number);
         if (offset < -half || offset >= half)
-            return XM23_REFUSED_INSTRUCTION;
+            return refused(id, 7);
         word |= ((unsigned)offset & (2 * (unsigned)half - 1)) << f->offset_shift;
     }
+    verdicts[id][0] = 1;
     return (uint32_t)word << 16;
 }
 

@@ -1,6 +1,6 @@
 # XM-23 examination machine. 'make help' lists what there is.
 
-.PHONY: help run list report test fuzz bench clean
+.PHONY: help run list report test fuzz replay bench clean
 
 CFLAGS = -std=c99 -pedantic -O2 -Wall -Wextra -Werror -Iinclude
 ORACLE = --offline --locked --manifest-path oracle/Cargo.toml --target-dir oracle/target
@@ -8,6 +8,9 @@ EXAMPLE = examples/interrupts
 INPUTS = 100000
 INPUT = $(EXAMPLE).in
 OUT = build/report.html
+SEED =
+FUZZ_SECONDS = 60
+FOUND =
 
 # The list of commands in README.md.
 help:
@@ -27,7 +30,11 @@ test:
 	@scripts/test.sh
 
 fuzz: target/staticlib/libxm23.a
-	@XM23_FUZZ=$(INPUTS) cargo test --release $(ORACLE) --test run_call every_kind_of_input -- --nocapture
+	@cargo run --quiet --release $(ORACLE) --example fuzz -- $(INPUTS) $(SEED)
+	@scripts/fuzz.sh $(FUZZ_SECONDS) $(SEED)
+
+replay: target/staticlib/libxm23.a
+	@cargo run --quiet --release $(ORACLE) --example fuzz -- replay $(FOUND)
 
 bench: target/staticlib/libxm23.a target/staticlib/libprobe.a build/libxm23_fast.a
 	@cargo bench $(ORACLE) --bench decode

@@ -7,7 +7,8 @@ The comment of a definition ends with a tag, `[01 Heading, item; 003 section]`. 
   docs/TRACE.md,
 - on a name in docs/TRACE.md that is defined nowhere: `File.antt`: `name` (a file without a folder is of machine/specs),
   proof: `crate::function` and law: `crate/proofs/File.antt::law` and edit: `crate/edit` of a crate that is there,
-  oracle: `file::test`, case: `name`.
+  oracle: `file::test`, case: `name`,
+- on a case of tests/cases that docs/TRACE.md does not name.
 The last line is 'N passed, M failed'.
 """
 import pathlib
@@ -90,6 +91,8 @@ class Trace:
             for kind, names in re.findall(r"(proof|law|edit|oracle|case): ((?:`[^`]+`(?:, )?)+)", cells[2]):
                 for name in re.findall(r"`([^`]+)`", names):
                     self.touching(kind, name)
+        for path in sorted((self.root / "tests/cases").glob("*.txt")):
+            self.check(f"`{path.stem}`" in text, f"docs/TRACE.md: no row names the case {path.stem}")
 
     def item(self, text):
         """`File.antt`: `name`, `name`, with other words around the names."""

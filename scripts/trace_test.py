@@ -7,7 +7,7 @@ import tempfile
 from trace import HEADINGS, OWED, Trace, tags
 
 SPECS = "".join(f"-- says {heading}. [01 {heading}; 003 6]\nabbrev pub d{i} : ℕ\n" for i, heading in enumerate(OWED))
-DOCUMENT = "".join(f"## {heading}\n\n| Sentence | `A.antt`: `d0` | |\n" for heading in HEADINGS)
+DOCUMENT = "".join(f"## {heading}\n\n| Sentence | `A.antt`: `d0` | case: `one` |\n" for heading in HEADINGS)
 
 
 def failures(specs=SPECS, document=DOCUMENT):
@@ -49,6 +49,7 @@ CASES = {
     "a test that is not there": len(failures(document=row("", "oracle: `tests/t::holds`, `tests/t::gone`"))) == 1,
     "an edit that is not there": len(failures(document=row("", "edit: `machine/deaf`, `machine/gone`"))) == 1,
     "a case that is not there": len(failures(document=row("", "case: `one`, `gone`"))) == 1,
+    "a case that no row names": len(failures(document=DOCUMENT.replace("`one`", ""))) == 1,
     "a misreading needs no tag but a section": len(failures(document=DOCUMENT.replace("## Plaus", "## Implaus"))) == 1,
     "a law that is not there": len(failures(document=row("", "law: `machine/specs/A.antt::gone`"))) == 1,
 }

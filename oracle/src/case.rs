@@ -3,8 +3,9 @@
 //!
 //! A file is a list of `key: value`; lines that start with a blank belong to the key above them. Keys: `title`, `from`,
 //! `start` (`R0=00FF PSW=60E0 CEX=.. LINES=.. HALTED=1 COUNT=..`, hexadecimal; PC #1000 and SP #0800 if not named),
-//! `source`, `events` (`step device data` on each line, step in base ten), `n`, `line`, `bytes` (`0100=34`, afterwards),
-//! `printed`, `decides`. Every key but `start`, `events`, `bytes` and `printed` must be there.
+//! `source`, `events` (`step device data` on each line, step in base ten; `x9` behind it is nine of them), `n`, `line`,
+//! `bytes` (`0100=34`, afterwards), `printed`, `decides`. Every key but `start`, `events`, `bytes` and `printed` must
+//! be there.
 
 use crate::asm::assemble;
 use crate::inputs::Input;
@@ -57,11 +58,17 @@ fn start(text: &str) -> Machine {
     m
 }
 
-fn event(line: &str) -> Event {
+/// A line of events: one, or as many equal ones as it says.
+fn events(line: &str) -> Vec<Event> {
     let parts: Vec<&str> = line.split_whitespace().collect();
-    let [step, device, data] = parts[..] else { panic!("{line} is no event") };
+    let (step, device, data, times) = match parts[..] {
+        [step, device, data] => (step, device, data, "x1"),
+        [step, device, data, times] => (step, device, data, times),
+        _ => panic!("{line} is no event"),
+    };
     let (step, device) = (step.parse().expect("a step"), device.parse().expect("a device"));
-    Event { step, device, data: hex(data) as u8 }
+    let times = times.strip_prefix('x').and_then(|times| times.parse().ok()).expect("how many times");
+    vec![Event { step, device, data: hex(data) as u8 }; times]
 }
 
 /// The keys of a file with their values, the lines of a value joined by line feeds.
@@ -86,18 +93,47 @@ pub fn parse(name: &str, text: &str) -> Case {
         assert!(keys.contains_key(key), "{name} has no {key}");
     }
     let get = |key: &str| keys.get(key).map_or("", |value| value.as_str());
-    let events = get("events").lines().filter(|line| !line.trim().is_empty()).map(event);
+    let list = get("events").lines().filter(|line| !line.trim().is_empty()).flat_map(events);
     let input = Input {
         // A line of source starts in its fifth column, so that labels do.
         memory: assemble(&get("source").replace("\n    ", "\n")).memory(),
         record: start(get("start")).to_record().to_vec(),
-        events: events.flat_map(event_record).collect(),
+        events: list.flat_map(event_record).collect(),
         n: get("n").parse().expect("a number of steps"),
     };
     let bytes = get("bytes").split_whitespace().map(pair).map(|(address, byte)| (hex(address) as u16, byte as u8));
     let bytes = bytes.collect();
     Case { name: name.into(), title: get("title").into(), input, line: get("line").to_string() + "\n", bytes }
 }
+
+/// The cases of 01's list, the example of its sheet, and its plausible misreadings.
+pub const OF_01: [&str; 25] = [
+    "01-add-byte",
+    "01-add-word",
+    "01-addc-word",
+    "01-sub-byte-borrow",
+    "01-sub-byte-no-borrow",
+    "01-subc-word",
+    "01-dadd-99-01",
+    "01-dadd-ff-ff",
+    "01-sra",
+    "01-sxt",
+    "01-entry-with-sp-0",
+    "01-branch-to-itself",
+    "01-word-load-0101",
+    "01-n-0",
+    "01-n-1000000",
+    "01-n-1000001",
+    "01-4096-events",
+    "01-4097-events",
+    "01-example-of-the-sheet",
+    "01-setpri-3-after-reset",
+    "01-3-minus-fd",
+    "01-skipped-word-is-not-decoded",
+    "01-overflow-of-subc",
+    "01-awake-at-ffff",
+    "01-asleep-at-ffff",
+];
 
 /// Every case of the repository, by name.
 pub fn all() -> Vec<Case> {

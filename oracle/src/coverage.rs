@@ -1,8 +1,14 @@
-//! What a set of runs has reached, counted from the oracle's own steps, and what every set must have reached.
+//! What a set of runs has reached, counted from the oracle's own steps, and what every set must have reached. Refusal 8
+//! is the encoder's: tests/instructions.rs goes through every field, offset, unused byte and format.
 
+use crate::case;
+use crate::corners::{Seen, GROUPS};
 use crate::inputs::Input;
 use crate::isa::{decode, Instr};
-use crate::machine::{reply, run_watched, word_at, Act, Machine, MAX_EVENTS, MAX_STEPS, PC};
+use crate::machine::{event_of, Ran, ENA};
+use crate::machine::{
+    reply, run_watched, word_at, Act, Machine, Trace, DBA, EVENT, IE, INPUT, MAX_EVENTS, MAX_STEPS, PC,
+};
 use std::collections::HashMap;
 
 /// Something that a run can reach.
@@ -11,19 +17,21 @@ use std::collections::HashMap;
 pub enum Item {
     Alu { op: u8, constant: bool, byte: bool },
     Mov { byte: bool },
-    Swap,
     Unary { op: u8, byte: bool },
-    Swpb,
-    Sxt,
+    /// SWAP, SWPB and SXT with the bit that is ignored.
+    Swap { bit6: bool },
+    Swpb { bit6: bool },
+    Sxt { bit6: bool },
     Ld { prpo: u8, dec: u8, inc: u8, byte: bool },
     St { prpo: u8, dec: u8, inc: u8, byte: bool },
     MovImm { op: u8 },
     Ldr { byte: bool },
     Str { byte: bool },
     Bl,
-    SetPri,
-    SetCc,
-    ClrCc,
+    SetPri(u8),
+    /// SETCC and CLRCC by each of their five bits.
+    SetCc { bit: u8 },
+    ClrCc { bit: u8 },
     Branch { cond: u8, taken: bool },
     Cex { cond: u8, holds: bool },
     Skip { true_part: bool },
@@ -36,27 +44,40 @@ pub enum Item {
     /// Fault 10 by SVC or by SETPRI, entered or halting.
     Priority { svc: bool, halts: bool },
     Trap(u8),
+    /// An event on a device that is enabled, by what its status was; on one that is not.
+    Event { input: bool, dba: bool, ie: bool },
+    EventOnDisabled,
+    /// A row of corners.rs.
+    Corner(&'static str),
     Refused(u8),
-    /// Refusal 2 by the sum of step count and n.
+    /// Refusal 2 by the sum of step count and n; the sum at its limit; n at its limit.
     RefusedSum,
+    GreatestSum,
+    GreatestN,
     HaltedAtTheStart,
     NoStep,
     NoEvent,
     FullList,
+    /// An event of a step before the first, and one of a step after the last.
+    PassedOver,
+    NeverDue,
+    /// A readable case of 01's list, or of a misreading.
+    Case(&'static str),
 }
 
 /// Everything that must be reached.
 pub fn owed() -> Vec<Item> {
     let both = [false, true];
-    let mut all = vec![Item::Swap, Item::Swpb, Item::Sxt, Item::Bl, Item::SetPri, Item::SetCc, Item::ClrCc];
-    all.extend([Item::Sleep, Item::Pull, Item::RefusedSum, Item::HaltedAtTheStart]);
-    all.extend([Item::NoStep, Item::NoEvent, Item::FullList]);
+    let mut all = vec![Item::Bl, Item::Sleep, Item::Pull, Item::RefusedSum, Item::GreatestSum, Item::GreatestN];
+    all.extend([Item::HaltedAtTheStart, Item::NoStep, Item::NoEvent, Item::FullList, Item::EventOnDisabled]);
+    all.extend([Item::PassedOver, Item::NeverDue]);
     for byte in both {
         all.extend((0..24).map(|i| Item::Alu { op: i / 2, constant: i % 2 == 1, byte }));
         all.extend((0..3).map(|op| Item::Unary { op, byte }));
         all.extend((0..8).map(|i| Item::Ld { prpo: i >> 2, dec: i >> 1 & 1, inc: i & 1, byte }));
         all.extend((0..8).map(|i| Item::St { prpo: i >> 2, dec: i >> 1 & 1, inc: i & 1, byte }));
         all.extend([Item::Mov { byte }, Item::Ldr { byte }, Item::Str { byte }, Item::Skip { true_part: byte }]);
+        all.extend([Item::Swap { bit6: byte }, Item::Swpb { bit6: byte }, Item::Sxt { bit6: byte }]);
         all.extend(both.map(|halts| Item::Priority { svc: byte, halts }));
         // BRA is always taken; condition 14 of CEX always holds and condition 15 never.
         all.extend((0..8).filter(|&cond| byte || cond != 7).map(|cond| Item::Branch { cond, taken: byte }));
@@ -65,16 +86,22 @@ pub fn owed() -> Vec<Item> {
         );
     }
     all.extend((0..4).map(|op| Item::MovImm { op }));
-    all.extend((0..8).flat_map(|d| [Item::Accept(d), Item::Chain(d)]));
+    all.extend((0..5).flat_map(|bit| [Item::SetCc { bit }, Item::ClrCc { bit }]));
+    all.extend((0..8).flat_map(|d| [Item::SetPri(d), Item::Accept(d), Item::Chain(d)]));
     all.extend((8..11).flat_map(|v| [Item::Fault(v), Item::Halt(v)]));
+    all.extend((0..8).map(|i| Item::Event { input: i & 1 == 1, dba: i & 2 != 0, ie: i & 4 != 0 }));
     all.extend((0..16).map(Item::Trap));
     all.extend((1..8).map(Item::Refused));
+    all.extend(GROUPS.iter().flat_map(|group| group.rows).map(|row| Item::Corner(row.0)));
+    all.extend(case::OF_01.map(Item::Case));
     all
 }
 
 #[derive(Default)]
 pub struct Coverage {
     seen: HashMap<Item, u64>,
+    /// The counts of corners.rs, row by row of each group.
+    corners: [Vec<u64>; GROUPS.len()],
 }
 
 impl Coverage {
@@ -82,48 +109,79 @@ impl Coverage {
         *self.seen.entry(item).or_default() += 1;
     }
 
+    fn mark_if(&mut self, holds: bool, item: Item) {
+        if holds {
+            self.mark(item);
+        }
+    }
+
     pub fn add(&mut self, other: Coverage) {
         for (item, count) in other.seen {
             *self.seen.entry(item).or_default() += count;
         }
+        for (ours, theirs) in self.corners.iter_mut().zip(other.corners) {
+            ours.resize(ours.len().max(theirs.len()), 0);
+            ours.iter_mut().zip(theirs).for_each(|(ours, theirs)| *ours += theirs);
+        }
     }
 
-    /// Everything owed that was reached fewer times than `least`, with how often.
+    /// A readable case has been run.
+    pub fn case(&mut self, name: &str) {
+        let known = case::OF_01.into_iter().find(|&known| known == name);
+        known.into_iter().for_each(|known| self.mark(Item::Case(known)));
+    }
+
+    fn count(&self, item: &Item) -> u64 {
+        let counts = GROUPS.iter().zip(&self.corners).flat_map(|(group, counts)| group.rows.iter().zip(counts));
+        match item {
+            Item::Corner(name) => counts.filter(|(row, _)| row.0 == *name).map(|(_, count)| count).sum(),
+            _ => self.seen.get(item).copied().unwrap_or(0),
+        }
+    }
+
+    /// Everything owed that was reached fewer times than `least`, with how often. A readable case is run once.
     pub fn gaps(&self, least: u64) -> Vec<String> {
-        let count = |item: &Item| self.seen.get(item).copied().unwrap_or(0);
-        owed().iter().filter(|i| count(i) < least).map(|i| format!("{i:?}: {}", count(i))).collect()
+        let least = |item: &Item| if matches!(item, Item::Case(_)) { 1 } else { least };
+        let short = owed().into_iter().filter(|item| self.count(item) < least(item));
+        short.map(|item| format!("{item:?}: {}", self.count(&item))).collect()
     }
 
     /// Runs an input in place by the oracle, counting what it reaches, and gives the reply.
     pub fn run(&mut self, input: &mut Input) -> u64 {
         let Input { memory, record, events, n } = input;
-        let full = events.len() == 8 * MAX_EVENTS;
-        let halted = record.len() > 21 && record[21] == 1;
+        let start = (record.len() == 32).then(|| Machine::from_record(record));
         let result = run_watched(memory, *n, record, events, |trace, before, after, memory| {
-            self.step(trace.act, trace.fetched.map(|at| word_at(memory, at)), before, after);
+            self.step(&Seen { trace, before, after, memory });
         });
-        match result {
-            Err(number) => {
+        match (result, start) {
+            (Ok(ran), Some(start)) => self.accepted(&start, ran, events, *n),
+            (result, _) => {
+                let number = result.expect_err("a whole record in an accepted run");
                 self.mark(Item::Refused(number));
-                if number == 2 && *n <= MAX_STEPS {
-                    self.mark(Item::RefusedSum);
-                }
-            }
-            Ok(_) => {
-                let marks = [(halted, Item::HaltedAtTheStart), (*n == 0, Item::NoStep), (full, Item::FullList)];
-                marks.into_iter().filter(|m| m.0).for_each(|(_, item)| self.mark(item));
-                if events.is_empty() {
-                    self.mark(Item::NoEvent);
-                }
+                self.mark_if(number == 2 && *n <= MAX_STEPS, Item::RefusedSum);
             }
         }
         reply(result)
     }
 
+    fn accepted(&mut self, start: &Machine, ran: Ran, events: &[u8], n: u64) {
+        let step = |i: usize| event_of(&events[EVENT * i..]).step;
+        let (many, end) = (events.len() / EVENT, start.count + ran.steps);
+        self.mark_if(start.halted, Item::HaltedAtTheStart);
+        self.mark_if(n == 0, Item::NoStep);
+        self.mark_if(n == MAX_STEPS, Item::GreatestN);
+        self.mark_if(n > 0 && u64::from(start.count) + n == u32::MAX.into(), Item::GreatestSum);
+        self.mark_if(many == 0, Item::NoEvent);
+        self.mark_if(many == MAX_EVENTS, Item::FullList);
+        self.mark_if(many > 0 && step(0) < start.count, Item::PassedOver);
+        self.mark_if(many > 0 && step(many - 1) >= end, Item::NeverDue);
+    }
+
     /// Counts a step. The word is read after the step: a frame pushed over it hides which fault 10 it was.
-    fn step(&mut self, act: Act, word: Option<u16>, before: &Machine, after: &Machine) {
-        let by_svc = word.map(|w| matches!(decode(w), Instr::Svc { .. }));
-        match act {
+    fn step(&mut self, seen: &Seen) {
+        let Seen { trace, before, .. } = seen;
+        let word = trace.fetched.map(|at| word_at(seen.memory, at));
+        match trace.act {
             Act::Pull => self.mark(Item::Pull),
             Act::Chain(d) => self.mark(Item::Chain(d)),
             Act::Accept(d) => self.mark(Item::Accept(d)),
@@ -131,29 +189,47 @@ impl Coverage {
             Act::Skip => self.mark(Item::Skip { true_part: before.cex >> 3 & 7 > 0 }),
             Act::Trap(v) => self.mark(Item::Trap(v)),
             Act::Fault(v) | Act::Halt(v) => {
-                let halts = act == Act::Halt(v);
+                let halts = trace.act == Act::Halt(v);
                 self.mark(if halts { Item::Halt(v) } else { Item::Fault(v) });
-                if let (10, Some(svc)) = (v, by_svc) {
-                    self.mark(Item::Priority { svc, halts });
+                if let (10, Some(word)) = (v, word) {
+                    self.mark(Item::Priority { svc: matches!(decode(word), Instr::Svc { .. }), halts });
                 }
             }
-            Act::Execute(instr) => self.instruction(instr, before, after),
+            Act::Execute(instr) => self.instruction(instr, word.unwrap_or(0), seen),
+        }
+        self.events(trace);
+        self.corners(seen);
+    }
+
+    fn corners(&mut self, seen: &Seen) {
+        for (group, counts) in GROUPS.iter().zip(&mut self.corners).filter(|(group, _)| (group.may)(seen)) {
+            counts.resize(group.rows.len(), 0);
+            counts.iter_mut().zip(group.rows).for_each(|(count, row)| *count += u64::from(row.1(seen)));
         }
     }
 
-    fn instruction(&mut self, instr: Instr, before: &Machine, after: &Machine) {
+    fn events(&mut self, trace: &Trace) {
+        for (_, status) in &trace.due {
+            let [input, dba, ie] = [INPUT, DBA, IE].map(|bit| status & bit != 0);
+            self.mark(if status & ENA != 0 { Item::Event { input, dba, ie } } else { Item::EventOnDisabled });
+        }
+    }
+
+    fn instruction(&mut self, instr: Instr, word: u16, seen: &Seen) {
+        let bit6 = word & 0x40 != 0;
+        let taken = seen.after.regs[PC] != seen.before.regs[PC].wrapping_add(2);
         let item = match instr {
             Instr::Illegal | Instr::Svc { .. } => unreachable!("these do not execute"),
             Instr::Alu { op, rc, wb, .. } => Item::Alu { op, constant: rc == 1, byte: wb == 1 },
             Instr::Mov { wb, .. } => Item::Mov { byte: wb == 1 },
-            Instr::Swap { .. } => Item::Swap,
+            Instr::Swap { .. } => Item::Swap { bit6 },
             Instr::Unary { op, wb, .. } => Item::Unary { op, byte: wb == 1 },
-            Instr::Swpb { .. } => Item::Swpb,
-            Instr::Sxt { .. } => Item::Sxt,
-            Instr::SetPri { .. } => Item::SetPri,
-            Instr::SetCc { .. } => Item::SetCc,
-            Instr::ClrCc { .. } => Item::ClrCc,
-            Instr::Cex { cond, .. } => Item::Cex { cond, holds: after.cex >> 6 & 1 == 1 },
+            Instr::Swpb { .. } => Item::Swpb { bit6 },
+            Instr::Sxt { .. } => Item::Sxt { bit6 },
+            Instr::SetPri { level } => Item::SetPri(level),
+            Instr::SetCc { flags } => return self.flags(flags, |bit| Item::SetCc { bit }),
+            Instr::ClrCc { flags } => return self.flags(flags, |bit| Item::ClrCc { bit }),
+            Instr::Cex { cond, .. } => Item::Cex { cond, holds: seen.after.cex >> 6 & 1 == 1 },
             Instr::Ld { prpo, dec, inc, wb, .. } => Item::Ld { prpo, dec, inc, byte: wb == 1 },
             Instr::St { prpo, dec, inc, wb, .. } => Item::St { prpo, dec, inc, byte: wb == 1 },
             Instr::MovImm { op, .. } => Item::MovImm { op },
@@ -162,10 +238,12 @@ impl Coverage {
             Instr::Bl { .. } => Item::Bl,
             // A branch by nothing cannot be told from one that was not taken.
             Instr::Branch { offset: 0, .. } => return,
-            Instr::Branch { cond, .. } => {
-                Item::Branch { cond, taken: after.regs[PC] != before.regs[PC].wrapping_add(2) }
-            }
+            Instr::Branch { cond, .. } => Item::Branch { cond, taken },
         };
         self.mark(item);
+    }
+
+    fn flags(&mut self, flags: u8, item: fn(u8) -> Item) {
+        (0..5).filter(|bit| flags >> bit & 1 == 1).for_each(|bit| self.mark(item(bit)));
     }
 }

@@ -4,6 +4,8 @@
 pub mod alu;
 pub mod asm;
 pub mod case;
+pub mod compare;
+pub mod corners;
 pub mod coverage;
 pub mod follow;
 pub mod html;

@@ -3,6 +3,7 @@
 
 use crate::alu::{operate, Op, C, FLT, N, SLP, V, Z};
 use crate::isa::{decode, Instr};
+use std::fmt;
 
 pub const MEMORY: usize = 65_536;
 pub const RECORD: usize = 32;
@@ -27,7 +28,9 @@ pub const OF: u8 = 1 << 3;
 pub const ENA: u8 = 1 << 4;
 
 /// The end of the device registers.
-const DEVICES: u16 = 16;
+pub const DEVICES: u16 = 16;
+/// The first byte of the vectors.
+pub const VECTORS: u16 = 0xFFC0;
 
 #[derive(Clone, Copy, Debug, Default, PartialEq, Eq)]
 pub struct Machine {
@@ -71,6 +74,8 @@ pub enum Act {
 #[derive(Clone, Debug, PartialEq, Eq)]
 pub struct Trace {
     pub act: Act,
+    /// The due events: device, and its status before the event.
+    pub due: Vec<(u8, u8)>,
     /// The address of the fetched word, and the word.
     pub fetched: Option<u16>,
     pub word: Option<u16>,
@@ -99,7 +104,7 @@ pub fn word_at(memory: &[u8], address: u16) -> u16 {
 }
 
 pub fn vector(v: u8) -> u16 {
-    0xFFC0 + 4 * u16::from(v)
+    VECTORS + 4 * u16::from(v)
 }
 
 /// Whether an address is that of a device's status: even, below 16.
@@ -194,7 +199,9 @@ impl Machine {
         }
         let count = self.count;
         let first = events.partition_point(|e| e.step < count);
+        let mut due = Vec::new();
         for event in events[first..].iter().take_while(|e| e.step == count) {
+            due.push((event.device, memory[2 * usize::from(event.device)]));
             self.apply(memory, *event);
         }
         let (loaded, written) = (Vec::new(), Vec::new());
@@ -202,7 +209,7 @@ impl Machine {
         let (act, fetched) = step.act();
         let (word, loaded, written) = (step.word, step.loaded, step.written);
         self.count += 1;
-        Some(Trace { act, fetched, word, loaded, written })
+        Some(Trace { act, due, fetched, word, loaded, written })
     }
 
     /// An event on a device.
@@ -577,6 +584,17 @@ impl Machine {
         record[21] = u8::from(self.halted);
         record[22..26].copy_from_slice(&self.count.to_le_bytes());
         record
+    }
+}
+
+/// The parts that a closing line has, in its order, and what it leaves out.
+impl fmt::Display for Machine {
+    fn fmt(&self, f: &mut fmt::Formatter) -> fmt::Result {
+        for (i, value) in self.regs.iter().enumerate() {
+            write!(f, "R{i} {value:04X} ")?;
+        }
+        let Machine { psw, cex, lines, halted, count, .. } = self;
+        write!(f, "PSW {psw:04X} CEX {cex:02X} lines {lines:02X} halted {} count {count}", u8::from(*halted))
     }
 }
 

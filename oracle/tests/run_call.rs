@@ -1,74 +1,28 @@
-//! libxm23.a's run call beside the oracle: reply, record and all 65,536 bytes, on inputs of every kind.
-//!
-//! XM23_FUZZ=N runs on from a seed taken from the clock, with N inputs of each kind.
+//! libxm23.a's run call beside the oracle: reply, record and all 65,536 bytes, on inputs of every kind. `make fuzz`
+//! goes on from new seeds.
 
+mod library;
+
+use library::{library, xm23_run};
 use oracle::case;
+use oracle::compare::{compare, compare_many, folder, Difference};
 use oracle::coverage::{owed, Coverage};
 use oracle::inputs::{input, Input, Kind, KINDS};
 use oracle::machine::{event_record, Event, Machine, MEMORY, PC, RECORD};
 use oracle::random::Random;
-use std::thread;
 
-#[link(name = "xm23", kind = "static")]
-extern "C" {
-    fn xm23_run(
-        memory: *mut u8,
-        memory_len: usize,
-        record: *mut u8,
-        record_len: usize,
-        events: *const u8,
-        events_len: usize,
-        n: u64,
-    ) -> u64;
+/// Saves a difference and ends the test with it.
+fn fail(what: &str, difference: &Difference) -> ! {
+    let place = difference.save(&folder(), &what.replace(' ', "-").to_lowercase());
+    panic!("{what}: {}; saved: {place:?}", difference.what);
 }
 
-/// Runs an input in place by the proved library.
-fn library(i: &mut Input) -> u64 {
-    let (memory, record, events) = (&mut i.memory, &mut i.record, &i.events);
-    // Each buffer is lent for its own length, and none overlaps another.
-    unsafe {
-        xm23_run(
-            memory.as_mut_ptr(),
-            memory.len(),
-            record.as_mut_ptr(),
-            record.len(),
-            events.as_ptr(),
-            events.len(),
-            i.n,
-        )
+/// Runs an input by both, and gives the reply and what is left.
+fn same(what: &str, given: &Input, seen: &mut Coverage) -> (u64, Input) {
+    match compare(library, given, seen) {
+        Ok(outcome) => (outcome.reply, outcome.left),
+        Err(difference) => fail(what, &difference),
     }
-}
-
-/// Where the library's outcome differs from the oracle's, in words.
-fn difference(ours: (u64, &Input), theirs: (u64, &Input)) -> Option<String> {
-    let ((reply, got), (expected, right)) = (ours, theirs);
-    let bytes = |a: &[u8], b: &[u8]| (0..a.len()).find(|&i| a[i] != b[i]).map(|i| (i, a[i], b[i]));
-    if reply != expected {
-        return Some(format!("reply {reply:016X}, oracle {expected:016X}"));
-    }
-    if let Some((at, a, b)) = bytes(&got.record, &right.record) {
-        return Some(format!(
-            "record byte {at} is {a:02X}, oracle {b:02X}\n{:02X?}\n{:02X?}",
-            got.record, right.record
-        ));
-    }
-    if let Some((at, a, b)) = bytes(&got.memory, &right.memory) {
-        return Some(format!("byte #{at:04X} is {a:02X}, oracle {b:02X}"));
-    }
-    (got.events != right.events).then(|| "the events changed".into())
-}
-
-/// Runs an input by both. A refused one must also stand as it was handed over.
-fn compare(what: &str, given: &Input, seen: &mut Coverage) -> (u64, Input) {
-    let (mut ours, mut theirs) = (given.clone(), given.clone());
-    let reply = library(&mut ours);
-    let expected = seen.run(&mut theirs);
-    if let Some(text) = difference((reply, &ours), (expected, &theirs)) {
-        panic!("{what}: {text}");
-    }
-    assert!(reply & 0xFF == 0 || (ours == *given && reply < 8), "{what}: refused with a change");
-    assert!(reply >> 40 == 0 && reply >> 9 & 0x7F == 0, "{what}: reply {reply:016X}");
-    (reply, ours)
 }
 
 /// How many inputs of each kind the gate runs.
@@ -81,40 +35,23 @@ fn count(kind: Kind) -> u64 {
     }
 }
 
-/// Runs every other input of a kind, from a seed on.
-fn half(kind: Kind, from: u64, to: u64) -> Coverage {
-    let mut seen = Coverage::default();
-    for seed in (from..to).step_by(2) {
-        compare(&format!("{kind:?} {seed}"), &input(kind, seed), &mut seen);
-    }
-    seen
-}
-
-fn run_all(first: u64, many: impl Fn(Kind) -> u64) -> Coverage {
-    let mut seen = Coverage::default();
-    for kind in KINDS {
-        let to = first + many(kind);
-        thread::scope(|scope| {
-            let other = scope.spawn(|| half(kind, first + 1, to));
-            seen.add(half(kind, first, to));
-            seen.add(other.join().expect("no difference"));
-        });
-        println!("{kind:?}: {} inputs from seed {first}, no difference", many(kind));
-    }
-    seen
-}
-
+/// Every kind of input, and the readable cases. What is owed must be reached, each thing 20 times or more.
 #[test]
 fn every_kind_of_input() {
-    if let Ok(text) = std::env::var("XM23_FUZZ") {
-        let clock = std::time::SystemTime::now().duration_since(std::time::UNIX_EPOCH).expect("a clock");
-        let many: u64 = text.parse().expect("a number of inputs");
-        run_all(clock.as_nanos() as u64 >> 8, |_| many);
-        return;
+    let mut seen = Coverage::default();
+    for kind in KINDS {
+        match compare_many(library, kind, 1, count(kind), &|_| ()) {
+            Ok(reached) => seen.add(reached),
+            Err(found) => fail(&format!("{kind:?} {}", found.seed), &found.difference),
+        }
+        println!("{kind:?}: {} inputs, no difference", count(kind));
     }
-    let seen = run_all(1, count);
+    for case in case::all() {
+        same(&case.name, &case.input, &mut seen);
+        seen.case(&case.name);
+    }
     let gaps = seen.gaps(20);
-    println!("{} things to reach, each reached 20 times or more", owed().len());
+    println!("{} things to reach", owed().len());
     assert!(gaps.is_empty(), "hardly reached: {gaps:#?}");
 }
 
@@ -131,7 +68,7 @@ fn counting(n: u64) -> Input {
 #[test]
 fn limits() {
     let mut seen = Coverage::default();
-    let mut reply = |what: &str, given: &Input| compare(what, given, &mut seen).0;
+    let mut reply = |what: &str, given: &Input| same(what, given, &mut seen).0;
     assert_eq!(reply("n 0", &counting(0)), 0);
     assert_eq!(reply("n 1,000,000", &counting(1_000_000)), 1_000_000 << 16);
     assert_eq!(reply("n 1,000,001", &counting(1_000_001)), 2);
@@ -171,7 +108,7 @@ fn slices_close_as_the_whole_run() {
     for seed in 1..=4_000 {
         let kind = if seed % 4 == 0 { Kind::Corner } else { Kind::Plausible };
         let given = input(kind, seed);
-        let (whole, closed) = compare(&format!("{kind:?} {seed}"), &given, &mut seen);
+        let (whole, closed) = same(&format!("{kind:?} {seed}"), &given, &mut seen);
         let (mut slices, mut steps, mut left) = (given.clone(), 0, given.n);
         while left > 0 {
             slices.n = random.below(left + 1).min(1 + random.below(40));
@@ -197,7 +134,7 @@ fn a_long_list_over_a_long_run() {
         let list = (0..4_096).map(|i| Event { step: step(i), device: random.below(8) as u8, data: random.byte() });
         given.events = list.flat_map(event_record).collect();
         given.n = 20_500;
-        compare(&format!("long list {seed}"), &given, &mut seen);
+        same(&format!("long list {seed}"), &given, &mut seen);
     }
 }
 
@@ -207,7 +144,7 @@ fn readable_cases() {
     let cases = case::all();
     assert!(cases.len() >= 20, "{} cases", cases.len());
     for case in cases {
-        let (_, closed) = compare(&case.name, &case.input, &mut seen);
+        let (_, closed) = same(&case.name, &case.input, &mut seen);
         for (at, byte) in case.bytes {
             assert_eq!(closed.memory[usize::from(at)], byte, "{}: byte #{at:04X}", case.name);
         }

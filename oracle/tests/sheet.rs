@@ -163,7 +163,7 @@ fn readable_cases() {
         let line = same(&case.name, &case.input.to_bytes());
         assert_eq!(line, case.line, "{}: {}", case.name, case.title);
     }
-    for name in OWED {
+    for name in case::OF_01 {
         assert!(cases.iter().any(|case| case.name == name), "no case {name}");
     }
 }
@@ -181,30 +181,3 @@ fn the_example_input() {
         assert_eq!(memory[usize::from(at)], byte, "byte #{at:04X}");
     }
 }
-
-/// 01's list of cases and its plausible misreadings.
-const OWED: [&str; 23] = [
-    "01-add-byte",
-    "01-add-word",
-    "01-addc-word",
-    "01-sub-byte-borrow",
-    "01-sub-byte-no-borrow",
-    "01-subc-word",
-    "01-dadd-99-01",
-    "01-dadd-ff-ff",
-    "01-sra",
-    "01-sxt",
-    "01-entry-with-sp-0",
-    "01-branch-to-itself",
-    "01-word-load-0101",
-    "01-n-0",
-    "01-n-1000000",
-    "01-n-1000001",
-    "01-example-of-the-sheet",
-    "01-setpri-3-after-reset",
-    "01-3-minus-fd",
-    "01-skipped-word-is-not-decoded",
-    "01-overflow-of-subc",
-    "01-awake-at-ffff",
-    "01-asleep-at-ffff",
-];

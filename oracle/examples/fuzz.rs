@@ -1,0 +1,84 @@
+//! Compares the library with the oracle on more inputs than the gate does. `fuzz INPUTS [SEED]` runs so many of each
+//! kind, from a seed of the clock if none is given, and saves the first difference under build/fuzz. `fuzz replay
+//! FOLDER` runs a saved input again. The exit status is 1 where there is a difference.
+
+#[path = "../tests/library/mod.rs"]
+mod library;
+
+use library::library;
+use oracle::compare::{compare, compare_many, folder, saved, Found};
+use oracle::coverage::Coverage;
+use oracle::inputs::KINDS;
+use std::path::Path;
+use std::process::ExitCode;
+use std::sync::Mutex;
+use std::time::{Duration, Instant, SystemTime, UNIX_EPOCH};
+
+/// How often progress is told.
+const PAUSE: Duration = Duration::from_secs(2);
+
+fn main() -> ExitCode {
+    let words: Vec<String> = std::env::args().skip(1).collect();
+    let words: Vec<&str> = words.iter().map(String::as_str).collect();
+    let number = |text: &str| text.parse::<u64>().unwrap_or_else(|_| panic!("{text} is no number"));
+    let fine = match words[..] {
+        ["replay", place] => replay(Path::new(place)),
+        [inputs] => fuzz(number(inputs), clock()),
+        [inputs, seed] => fuzz(number(inputs), number(seed)),
+        _ => panic!("fuzz INPUTS [SEED], or fuzz replay FOLDER"),
+    };
+    ExitCode::from(u8::from(!fine))
+}
+
+/// A seed that no other run has had.
+fn clock() -> u64 {
+    let time = SystemTime::now().duration_since(UNIX_EPOCH).expect("a clock");
+    time.as_nanos() as u64 >> 8
+}
+
+/// Compares on `inputs` inputs of each kind. Gives whether all are the same.
+fn fuzz(inputs: u64, seed: u64) -> bool {
+    println!("seed {seed}: {inputs} inputs of each of {} kinds (again: make fuzz SEED={seed})", KINDS.len());
+    for kind in KINDS {
+        let (start, told) = (Instant::now(), Mutex::new(Instant::now()));
+        let tell = |done: u64| {
+            let mut told = told.lock().expect("no panic");
+            if told.elapsed() > PAUSE {
+                *told = Instant::now();
+                println!("{kind:?}: {done} of {inputs}, no difference yet");
+            }
+        };
+        if let Err(found) = compare_many(library, kind, seed, inputs, &tell) {
+            return report(found, seed);
+        }
+        println!("{kind:?}: {inputs} of {inputs}, no difference, {:.1} s", start.elapsed().as_secs_f64());
+    }
+    true
+}
+
+fn report(found: Found, first: u64) -> bool {
+    let Found { kind, seed, difference } = found;
+    let name = format!("{first}-{}-{}", format!("{kind:?}").to_lowercase(), seed - first);
+    println!("{kind:?} {seed}: {}", difference.what);
+    match difference.save(&folder(), &name) {
+        Ok(_) => println!("saved in build/fuzz/{name} (again: make replay FOUND=build/fuzz/{name})"),
+        Err(e) => println!("not saved: {e}"),
+    }
+    false
+}
+
+/// Runs a saved input again, and tells what both leave where they differ.
+fn replay(place: &Path) -> bool {
+    let input = saved(place).unwrap_or_else(|e| panic!("{}: {e}", place.display()));
+    match compare(library, &input, &mut Coverage::default()) {
+        Ok(outcome) => {
+            println!("no difference; both leave\n{}", outcome.text(&input));
+            true
+        }
+        Err(difference) => {
+            println!("{}", difference.what);
+            println!("oracle:\n{}library:\n{}", difference.oracle.text(&input), difference.library.text(&input));
+            false
+        }
+    }
+}

@@ -1,0 +1,293 @@
+//! Corners of 01's rules that a step can meet, each with what it looks like from outside. A vector or a frame is read
+//! after the step, so a few steps that overwrite their own vector are judged by what they wrote.
+
+use crate::alu::{FLT, SLP};
+use crate::isa::Instr;
+use crate::machine::{current, vector_priority, word_at, Act, Machine, Trace, DEVICES, INPUT, LR, PC, SP, VECTORS};
+
+/// A step as the oracle shows it. The machine `before` is that before the due events, the memory that after the step.
+pub struct Seen<'a> {
+    pub trace: &'a Trace,
+    pub before: &'a Machine,
+    pub after: &'a Machine,
+    pub memory: &'a [u8],
+}
+
+pub type Corner = (&'static str, fn(&Seen) -> bool);
+
+impl Seen<'_> {
+    fn instr(&self) -> Option<Instr> {
+        match self.trace.act {
+            Act::Execute(instr) => Some(instr),
+            _ => None,
+        }
+    }
+
+    /// An instruction away from devices and vectors, with nothing due and no line waiting.
+    fn plain(&self) -> bool {
+        let away = |at: u16| (DEVICES..VECTORS).contains(&at);
+        let instruction = self.instr().is_some() && self.trace.fetched.is_some_and(away);
+        instruction && self.trace.due.is_empty() && self.after.lines == 0
+    }
+
+    /// An LD, ST, LDR or STR.
+    fn accesses(&self) -> bool {
+        self.loads().is_some() || self.stores().is_some()
+    }
+
+    fn pc(&self) -> u16 {
+        self.before.regs[PC]
+    }
+
+    fn sp(&self) -> u16 {
+        self.before.regs[SP]
+    }
+
+    fn asleep(&self) -> bool {
+        self.before.psw & SLP != 0
+    }
+
+    /// How many instructions the CEX block still covers.
+    fn covered(&self) -> u16 {
+        (self.before.cex >> 3 & 7) + (self.before.cex & 7)
+    }
+
+    /// The vector of an entry that pushes.
+    fn pushes(&self) -> Option<u8> {
+        match self.trace.act {
+            Act::Accept(v) | Act::Fault(v) | Act::Trap(v) => Some(v),
+            _ => None,
+        }
+    }
+
+    /// The device whose line this step takes.
+    fn line(&self) -> Option<u8> {
+        match self.trace.act {
+            Act::Accept(d) | Act::Chain(d) => Some(d),
+            _ => None,
+        }
+    }
+
+    fn accepts(&self) -> bool {
+        matches!(self.trace.act, Act::Accept(_))
+    }
+
+    fn pulls(&self) -> bool {
+        self.trace.act == Act::Pull
+    }
+
+    fn halts(&self) -> bool {
+        matches!(self.trace.act, Act::Halt(_))
+    }
+
+    /// Whether the step is an LD or LDR, and of a byte.
+    fn loads(&self) -> Option<bool> {
+        match self.instr()? {
+            Instr::Ld { wb, .. } | Instr::Ldr { wb, .. } => Some(wb == 1),
+            _ => None,
+        }
+    }
+
+    /// Whether the step is an ST or STR, and of a byte.
+    fn stores(&self) -> Option<bool> {
+        match self.instr()? {
+            Instr::St { wb, .. } | Instr::Str { wb, .. } => Some(wb == 1),
+            _ => None,
+        }
+    }
+
+    /// The device registers that an LD or LDR of this width loads.
+    fn device_loads(&self, byte: bool) -> Vec<u16> {
+        let which = if self.loads() == Some(byte) { &self.trace.loaded[..] } else { &[] };
+        which.iter().copied().filter(|&a| a < DEVICES).collect()
+    }
+
+    /// The device registers that an ST or STR of this width stores.
+    fn device_stores(&self, byte: bool) -> Vec<u16> {
+        let which = if self.stores() == Some(byte) { &self.trace.written[..] } else { &[] };
+        which.iter().copied().filter(|&a| a < DEVICES).collect()
+    }
+
+    /// The address of a word access before bit 0 is dropped, but for adjustments, which keep it.
+    fn word_address(&self) -> Option<u16> {
+        let base = |register: u8, offset: i16| {
+            let register = usize::from(register);
+            let next = if register == PC { 2 } else { 0 };
+            self.before.regs[register].wrapping_add(next).wrapping_add(offset as u16)
+        };
+        match self.instr()? {
+            Instr::Ld { wb: 0, src, .. } => Some(base(src, 0)),
+            Instr::St { wb: 0, dst, .. } => Some(base(dst, 0)),
+            Instr::Ldr { wb: 0, src, offset, .. } => Some(base(src, offset)),
+            Instr::Str { wb: 0, dst, offset, .. } => Some(base(dst, offset)),
+            _ => None,
+        }
+    }
+
+    /// Whether the state of CEX is cleared while it covers more instructions.
+    fn clears_cex(&self) -> bool {
+        self.covered() > 1 && self.after.cex == 0
+    }
+}
+
+/// Rows that only a step of some kind can meet, so that the others need not be asked.
+pub struct Group {
+    pub may: fn(&Seen) -> bool,
+    pub rows: &'static [Corner],
+}
+
+/// All rows, in the order of 01's headings.
+pub const GROUPS: [Group; 5] = [
+    Group { may: |s| !s.plain(), rows: STEPS },
+    Group { may: |s| s.covered() > 0, rows: BLOCKS },
+    Group { may: |s| s.instr().is_none(), rows: ENTRIES },
+    Group { may: |s| s.instr().is_some() && !s.accesses(), rows: INSTRUCTIONS },
+    Group { may: |s| s.accesses(), rows: ACCESSES },
+];
+
+const STEPS: &[Corner] = &[
+    ("two events on one device in one step", |s| {
+        let due = &s.trace.due;
+        (1..due.len()).any(|i| due[..i].iter().any(|e| e.0 == due[i].0))
+    }),
+    ("a line raised and accepted in one step", |s| {
+        s.accepts() && s.line().is_some_and(|d| s.before.lines >> d & 1 == 0)
+    }),
+    ("a line raised and chained in one step", |s| {
+        !s.accepts() && s.line().is_some_and(|d| s.before.lines >> d & 1 == 0)
+    }),
+    ("asleep at #FFFF", |s| s.trace.act == Act::Sleep && s.pc() == 0xFFFF),
+    ("asleep at an odd PC", |s| s.trace.act == Act::Sleep && s.pc() & 1 == 1 && s.pc() != 0xFFFF),
+    ("asleep with a line that is not above", |s| s.trace.act == Act::Sleep && s.after.lines != 0),
+    ("a line accepted asleep", |s| s.accepts() && s.asleep()),
+    ("a line accepted asleep at #FFFF", |s| s.accepts() && s.asleep() && s.pc() == 0xFFFF),
+    ("a line accepted at an odd PC", |s| s.accepts() && s.pc() & 1 == 1 && !s.asleep()),
+    ("a line taken before another of its priority", |s| {
+        let same = |d: u8, e: u8| vector_priority(s.memory, d) == vector_priority(s.memory, e);
+        s.line().is_some_and(|d| (d + 1..8).any(|e| s.after.lines >> e & 1 == 1 && same(d, e)))
+    }),
+    ("a line taken before one of a lower device and priority", |s| {
+        let below = |d: u8, e: u8| vector_priority(s.memory, e) < vector_priority(s.memory, d);
+        s.line().is_some_and(|d| (0..d).any(|e| s.after.lines >> e & 1 == 1 && below(d, e)))
+    }),
+    ("an instruction while a line waits", |s| s.instr().is_some() && s.after.lines != 0),
+    ("a fetch from a device register", |s| s.trace.fetched.is_some_and(|at| at < DEVICES)),
+    ("a fetch from a vector", |s| s.trace.fetched.is_some_and(|at| at >= VECTORS)),
+    ("PC around address 0", |s| s.trace.fetched == Some(0xFFFE)),
+];
+
+const BLOCKS: &[Corner] = &[
+    ("an instruction of the true part", |s| s.instr().is_some() && s.before.cex >> 3 & 7 > 0),
+    ("an instruction of the false part", |s| s.instr().is_some() && s.before.cex & 0x38 == 0 && s.before.cex & 7 > 0),
+    ("CEX in a block", |s| matches!(s.instr(), Some(Instr::Cex { .. }))),
+    ("a branch taken in a block", |s| {
+        matches!(s.instr(), Some(Instr::Branch { .. } | Instr::Bl { .. })) && s.clears_cex()
+    }),
+    ("a write to R7 in a block", |s| {
+        let branch = matches!(s.instr(), Some(Instr::Branch { .. } | Instr::Bl { .. } | Instr::Cex { .. }) | None);
+        !branch && s.clears_cex()
+    }),
+    ("fault 8 in a block", |s| s.trace.act == Act::Fault(8)),
+    ("fault 9 in a block", |s| s.trace.act == Act::Fault(9)),
+    ("fault 10 in a block", |s| s.trace.act == Act::Fault(10)),
+    ("a halt in a block", |s| s.halts()),
+    ("SVC in a block", |s| matches!(s.trace.act, Act::Trap(_))),
+    ("a line accepted in a block", |s| s.accepts()),
+    ("a skip at the end of memory", |s| s.trace.act == Act::Skip && s.pc() == 0xFFFE),
+];
+
+const ENTRIES: &[Corner] = &[
+    ("an entry with SP odd", |s| s.pushes().is_some() && s.sp() & 1 == 1),
+    ("an entry around address 0", |s| s.pushes().is_some() && s.sp() < 8),
+    ("an entry over the vectors", |s| s.pushes().is_some() && s.trace.written.iter().any(|&a| a >= VECTORS)),
+    ("an entry over a device register", |s| s.pushes().is_some() && s.trace.written.iter().any(|&a| a < DEVICES)),
+    ("a vector with SLP and bits 12-9", |s| {
+        s.pushes().is_some_and(|v| word_at(s.memory, VECTORS + 4 * u16::from(v)) & 0x1E08 == 0x1E08)
+    }),
+    ("a vector with FLT, and no fault", |s| {
+        let flt = |v: u8| word_at(s.memory, VECTORS + 4 * u16::from(v)) & FLT != 0;
+        matches!(s.trace.act, Act::Accept(v) | Act::Trap(v) if flt(v)) && s.before.psw & FLT == 0
+    }),
+    ("a line accepted with FLT set", |s| s.accepts() && s.before.psw & FLT != 0),
+    ("a line chained with FLT set", |s| matches!(s.trace.act, Act::Chain(_)) && s.before.psw & FLT != 0),
+    ("SVC with FLT set", |s| matches!(s.trace.act, Act::Trap(_)) && s.before.psw & FLT != 0),
+    ("a fault whose vector is not above", |s| {
+        let below = |v: u8| vector_priority(s.memory, v) <= current(s.before.psw);
+        matches!(s.trace.act, Act::Fault(v) if below(v))
+    }),
+    ("a handler at #FFFF", |s| s.pushes().is_some() && s.after.regs[PC] == 0xFFFF),
+    ("a pull with SP odd", |s| s.pulls() && s.sp() & 1 == 1),
+    ("a pull around address 0", |s| s.pulls() && s.sp() > 0xFFF8),
+    ("a pull with a line that is not above", |s| s.pulls() && s.after.lines != 0),
+    ("a pull of zero bits that are set", |s| {
+        let (cex, psw) = (word_at(s.memory, s.sp()), word_at(s.memory, s.sp().wrapping_add(2)));
+        s.pulls() && cex & 0xFF80 != 0 && psw & 0x1E00 != 0
+    }),
+    ("a pull of SLP", |s| s.pulls() && word_at(s.memory, s.sp().wrapping_add(2)) & SLP != 0),
+    ("a pull of a PC that is #FFFF", |s| s.pulls() && s.after.regs[PC] == 0xFFFF),
+    ("a return with LR that is not #FFFF", |s| s.pulls() && s.before.regs[LR] != 0xFFFF),
+    ("a halt with an event in its step", |s| s.halts() && !s.trace.due.is_empty()),
+];
+
+const INSTRUCTIONS: &[Corner] = &[
+    (
+        "SETPRI downwards",
+        |s| matches!(s.instr(), Some(Instr::SetPri { level }) if u16::from(level) < current(s.before.psw)),
+    ),
+    (
+        "SETPRI to the same",
+        |s| matches!(s.instr(), Some(Instr::SetPri { level }) if u16::from(level) == current(s.before.psw)),
+    ),
+    ("SETCC of SLP at priority 7", |s| {
+        matches!(s.instr(), Some(Instr::SetCc { flags }) if flags & 8 != 0) && current(s.before.psw) == 7
+    }),
+    ("SETCC of SLP below priority 7", |s| {
+        matches!(s.instr(), Some(Instr::SetCc { flags }) if flags & 8 != 0) && current(s.before.psw) < 7
+    }),
+    ("CEX with both counts 0", |s| matches!(s.instr(), Some(Instr::Cex { if_true: 0, if_false: 0, .. }))),
+    ("SWAP of R7", |s| matches!(s.instr(), Some(Instr::Swap { src: 7, .. } | Instr::Swap { dst: 7, .. }))),
+    ("SWAP of a register with itself", |s| matches!(s.instr(), Some(Instr::Swap { src, dst }) if src == dst)),
+    ("a comparison of R7", |s| matches!(s.instr(), Some(Instr::Alu { op: 5 | 9, dst: 7, .. }))),
+    ("an operation on R7", |s| matches!(s.instr(), Some(Instr::Alu { op: 0..=4, dst: 7, .. }))),
+    ("R7 as a source", |s| matches!(s.instr(), Some(Instr::Alu { rc: 0, src: 7, .. } | Instr::Mov { src: 7, .. }))),
+    ("a byte form on R7", |s| {
+        matches!(s.instr(), Some(Instr::Alu { wb: 1, dst: 7, .. } | Instr::Mov { wb: 1, dst: 7, .. }))
+    }),
+];
+
+const ACCESSES: &[Corner] = &[
+    ("a word load at an odd address", |s| s.loads() == Some(false) && s.word_address().is_some_and(|a| a & 1 == 1)),
+    ("a word store at an odd address", |s| s.stores() == Some(false) && s.word_address().is_some_and(|a| a & 1 == 1)),
+    (
+        "LD into its own index, which moves",
+        |s| matches!(s.instr(), Some(Instr::Ld { src, dst, dec, inc, .. }) if src == dst && dec != inc),
+    ),
+    (
+        "ST of its own index, which moves",
+        |s| matches!(s.instr(), Some(Instr::St { src, dst, dec, inc, .. }) if src == dst && dec != inc),
+    ),
+    ("an index that moves R7", |s| {
+        let moves = |register: u8, dec: u8, inc: u8| register == 7 && dec != inc;
+        match s.instr() {
+            Some(Instr::Ld { src, dec, inc, .. }) => moves(src, dec, inc),
+            Some(Instr::St { dst, dec, inc, .. }) => moves(dst, dec, inc),
+            _ => false,
+        }
+    }),
+    ("a load into R7", |s| matches!(s.instr(), Some(Instr::Ld { dst: 7, .. } | Instr::Ldr { dst: 7, .. }))),
+    ("a store over the next instruction", |s| s.stores().is_some() && s.trace.written.contains(&s.after.regs[PC])),
+    ("a byte load of a status", |s| s.device_loads(true).iter().any(|a| a & 1 == 0)),
+    ("a byte load of data", |s| s.device_loads(true).iter().any(|a| a & 1 == 1)),
+    ("a word load of a device", |s| !s.device_loads(false).is_empty()),
+    ("a byte store to a status", |s| s.device_stores(true).iter().any(|a| a & 1 == 0)),
+    ("a word store to a device", |s| !s.device_stores(false).is_empty()),
+    ("a store to the data of an input device", |s| to_data(s, true)),
+    ("a store to the data of an output device", |s| to_data(s, false)),
+    ("a store to a vector", |s| s.stores().is_some() && s.trace.written.iter().any(|&a| a >= VECTORS)),
+];
+
+fn to_data(s: &Seen, input: bool) -> bool {
+    let of_input = |a: u16| s.memory[usize::from(a - 1)] & INPUT != 0;
+    let mut all = s.device_stores(true).into_iter().chain(s.device_stores(false));
+    all.any(|a| a & 1 == 1 && of_input(a) == input)
+}

@@ -1,0 +1,145 @@
+//! What the comparison must catch, held to engines that are wrong on purpose, and what it saves.
+
+use oracle::compare::{compare, compare_many, difference, saved, Difference, Engine, Outcome};
+use oracle::coverage::Coverage;
+use oracle::inputs::{input, Input, Kind, KINDS};
+use oracle::machine::{reply, run, Machine, MEMORY, RECORD};
+use std::fs;
+use std::path::{Path, PathBuf};
+
+/// The oracle itself, as an engine.
+fn honest(i: &mut Input) -> u64 {
+    reply(run(&mut i.memory, i.n, &mut i.record, &i.events))
+}
+
+/// The oracle, with a change where the run is accepted.
+fn accepted(i: &mut Input, change: impl Fn(&mut Input, u64) -> u64) -> u64 {
+    let number = honest(i);
+    if number & 0xFF == 0 {
+        change(i, number)
+    } else {
+        number
+    }
+}
+
+/// Engines that are wrong, the impostors of 01 first, each with a kind of input that shows it.
+#[rustfmt::skip]
+const WRONG: [(&str, Kind, Engine); 12] = [
+    ("takes the first step truly and then only counts", Kind::Plausible, |i| {
+        let n = std::mem::replace(&mut i.n, 1);
+        let number = honest(i);
+        i.n = n;
+        if number != 1 << 16 { return number }
+        let count = Machine::from_record(&i.record).count + n as u32 - 1;
+        i.record[22..26].copy_from_slice(&count.to_le_bytes());
+        n << 16
+    }),
+    ("is deaf to events", Kind::Plausible, |i| {
+        let events = std::mem::take(&mut i.events);
+        let number = honest(i);
+        i.events = events;
+        number
+    }),
+    ("invents the step count", Kind::Plausible, |i| accepted(i, |_, number| number + (1 << 16))),
+    ("says halted before a step", Kind::Corner, |i| accepted(i, |_, number| number | 1 << 8)),
+    ("refuses all", Kind::Wild, |_| 1),
+    ("leaves a fixed state", Kind::Wild, |i| accepted(i, |i, number| { i.record.fill(0); number })),
+    ("leaves all alone", Kind::Plausible, |i| i.n << 16),
+    ("accepts all", Kind::Broken, |i| { let number = honest(i); if number < 8 { 0 } else { number } }),
+    ("changes a byte far away", Kind::Wild, |i| accepted(i, |i, number| { i.memory[0x8765] ^= 1; number })),
+    ("changes an event", Kind::Plausible, |i| accepted(i, |i, number| {
+        i.events.last_mut().into_iter().for_each(|byte| *byte = 1);
+        number
+    })),
+    ("changes what it refuses", Kind::Broken, |i| {
+        let number = honest(i);
+        if let (true, Some(byte)) = (number & 0xFF != 0, i.memory.first_mut()) { *byte ^= 1 }
+        number
+    }),
+    ("replies with more than there is", Kind::Wild, |i| accepted(i, |_, number| number | 1 << 40)),
+];
+
+#[test]
+fn the_oracle_does_not_differ_from_itself() {
+    for kind in KINDS {
+        assert!(compare_many(honest, kind, 1, 300, &|_| ()).is_ok());
+    }
+}
+
+#[test]
+fn every_wrong_engine_is_caught() {
+    for (name, kind, engine) in WRONG {
+        let found = compare_many(engine, kind, 1, 400, &|_| ());
+        let found = found.err().unwrap_or_else(|| panic!("an engine that {name} passes"));
+        assert_eq!(found.difference.given, input(kind, found.seed), "{name}");
+        assert!(!found.difference.what.is_empty());
+    }
+}
+
+#[test]
+fn progress_is_told_until_the_end() {
+    let told = std::sync::Mutex::new(Vec::new());
+    let result = compare_many(honest, Kind::Wild, 5, 101, &|done| told.lock().unwrap().push(done));
+    let mut told = told.into_inner().unwrap();
+    told.sort();
+    assert!(result.is_ok() && told == (1..=101).collect::<Vec<u64>>());
+}
+
+/// An empty folder of this test's own.
+fn empty(name: &str) -> PathBuf {
+    let folder = Path::new(env!("CARGO_TARGET_TMPDIR")).join(name);
+    fs::remove_dir_all(&folder).ok();
+    folder
+}
+
+/// What is wrong about an accepted input with the faked outcome of an engine.
+fn faked(given: &Input, fake: impl Fn(&mut Outcome)) -> Difference {
+    let mut left = given.clone();
+    let oracle = Outcome { reply: honest(&mut left), left };
+    let mut library = oracle.clone();
+    fake(&mut library);
+    let what = difference(given, &library, &oracle).expect("a difference");
+    Difference { what, given: given.clone(), oracle, library }
+}
+
+#[test]
+fn a_difference_is_saved_with_both_outcomes() {
+    let given = input(Kind::Plausible, 3);
+    let wrong = faked(&given, |outcome| {
+        outcome.left.memory[0x9876] = 0x5A;
+        outcome.left.record[16] ^= 0x04;
+    });
+    let place = wrong.save(&empty("saved"), "3-plausible-0").expect("saved");
+    let read = |name: &str| fs::read(place.join(name)).unwrap_or_else(|e| panic!("{name}: {e}"));
+    let text = |name: &str| String::from_utf8(read(name)).expect("text");
+    assert!(place.ends_with("3-plausible-0"));
+    assert_eq!(read("input.in"), given.to_bytes());
+    assert_eq!(saved(&place).expect("read"), given);
+    assert!(text("difference.txt").starts_with("record byte 16 is "));
+    assert_eq!(text("library.txt"), wrong.library.text(&given));
+    assert!(text("library.txt").contains("\n#9876: 00 became 5A\n") && !text("oracle.txt").contains("#9876"));
+    let reply = format!("reply {:016X}: refusal 0, reason ", wrong.oracle.reply);
+    assert!(text("oracle.txt").starts_with(&reply) && text("library.txt").starts_with(&reply));
+    let lines = |name: &str| text(name).lines().take(3).map(str::to_string).collect::<Vec<_>>();
+    assert!(lines("oracle.txt")[1].starts_with("R0 ") && lines("oracle.txt")[2].starts_with("record "));
+    assert_ne!(lines("oracle.txt")[1], lines("library.txt")[1]);
+    // Run again, an honest engine has no difference on the saved input.
+    assert!(compare(honest, &saved(&place).expect("read"), &mut Coverage::default()).is_ok());
+}
+
+/// Inputs that print_state cannot read are saved by their parts alone.
+#[test]
+fn an_input_of_wrong_lengths_is_saved_too() {
+    for (name, given) in [
+        ("memory", Input { memory: vec![7; MEMORY - 1], ..input(Kind::Wild, 4) }),
+        ("record", Input { record: vec![7; RECORD + 1], ..input(Kind::Wild, 4) }),
+        ("n", Input { n: u64::MAX, ..input(Kind::Wild, 4) }),
+        ("nothing", Input { memory: vec![], record: vec![], events: vec![], n: 1 << 32 }),
+    ] {
+        let wrong = faked(&given, |outcome| outcome.reply = 0);
+        let place = wrong.save(&empty("parts"), name).expect("saved");
+        assert_eq!(saved(&place).expect("read"), given, "{name}");
+        assert!(!place.join("input.in").exists(), "{name}");
+        assert!(fs::read_to_string(place.join("oracle.txt")).expect("text").starts_with("reply 000000000000000"));
+    }
+}

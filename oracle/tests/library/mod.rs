@@ -1,0 +1,33 @@
+//! The run call of libxm23.a, for Rust.
+
+use oracle::inputs::Input;
+
+#[link(name = "xm23", kind = "static")]
+extern "C" {
+    pub fn xm23_run(
+        memory: *mut u8,
+        memory_len: usize,
+        record: *mut u8,
+        record_len: usize,
+        events: *const u8,
+        events_len: usize,
+        n: u64,
+    ) -> u64;
+}
+
+/// Runs an input in place by the proved library.
+pub fn library(i: &mut Input) -> u64 {
+    let (memory, record, events) = (&mut i.memory, &mut i.record, &i.events);
+    // Each buffer is lent for its own length, and none overlaps another.
+    unsafe {
+        xm23_run(
+            memory.as_mut_ptr(),
+            memory.len(),
+            record.as_mut_ptr(),
+            record.len(),
+            events.as_ptr(),
+            events.len(),
+            i.n,
+        )
+    }
+}

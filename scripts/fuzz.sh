@@ -1,0 +1,94 @@
+#!/usr/bin/env bash
+# Coverage-guided fuzzing of the calls of libxm23.a by libFuzzer, for so many seconds: fuzz.sh [SECONDS [SEED]]. What is
+# new is told by a C judge compiled with the fuzzer's counters (tests/fuzz). The corpus starts from the example and the
+# readable cases and is kept in build/fuzz. A difference is saved there too, and the exit status is then 1.
+set -eu -o pipefail
+cd "$(dirname "$0")/.."
+
+seconds=${1:-60}
+seed=$((${2:-0} % 4294967296))
+clang=${CLANG:-clang}
+out=build/fuzz
+oracle='--release --offline --locked --manifest-path oracle/Cargo.toml --target-dir oracle/target'
+warn='-std=gnu11 -g -O2 -Wall -Wextra -Werror -Iinclude'
+mkdir -p "$out/seeds" "$out/corpus" "$out/corpus_words"
+
+# The compiler and its runtime may not be here: the rest of 'make fuzz' does without.
+if ! command -v "$clang" > /dev/null; then
+    echo "coverage-guided fuzzing: left out, $clang is not here (Debian: clang and libclang-rt-14-dev)"
+    exit 0
+fi
+echo 'int LLVMFuzzerTestOneInput(const char *data, unsigned long size) { return !data && size; }' > "$out/empty.c"
+if ! "$clang" -fsanitize=fuzzer -o "$out/empty" "$out/empty.c" 2> "$out/empty.log"; then
+    echo "coverage-guided fuzzing: left out, the fuzzer's runtime is not here" \
+        "(Debian: libclang-rt-$("$clang" -dumpversion | cut -d. -f1)-dev)"
+    exit 0
+fi
+
+# target NAME FLAG..: the run target. Only what is to guide the search has counters.
+target() {
+    local name=$1
+    shift
+    for file in tests/fuzz/setup.c bench/xm23_fast.c; do
+        "$clang" $warn -fsanitize=fuzzer-no-link -c -o "$out/$(basename "$file" .c).o" "$file"
+    done
+    "$clang" $warn "$@" -c -o "$out/$name.o" tests/fuzz/run.c
+    "$clang" -fsanitize=fuzzer -o "$out/$name" "$out/$name.o" "$out/setup.o" "$out/xm23_fast.o" \
+        target/staticlib/libxm23.a
+}
+
+# An input of print_state as a seed, where it can be one.
+seed_from() {
+    "$out/pack" < "$1" > "$out/seeds/$2" 2> "$out/pack.log" || rm "$out/seeds/$2"
+}
+
+seeds() {
+    rm -f "$out"/seeds/*
+    "$clang" $warn -o "$out/pack" tests/fuzz/pack.c tests/fuzz/setup.c
+    cargo build $oracle --quiet --example make_input
+    seed_from examples/interrupts.in interrupts
+    for case in tests/cases/*.txt; do
+        oracle/target/release/examples/make_input "$case" > "$out/case.in"
+        seed_from "$out/case.in" "$(basename "$case" .txt)"
+    done
+    echo "coverage-guided fuzzing: $(ls "$out/seeds" | wc -l) seeds"
+}
+
+# search NAME SECONDS FOLDER..: runs a target, tells how far it is, and fails where it found something.
+search() {
+    local name=$1 log=$out/$1.log status=0
+    echo "== $name, $2 s"
+    XM23_FOUND=$out "$out/$name" -max_total_time="$2" -seed="$seed" -timeout=20 -artifact_prefix="$out/$name-" \
+        "${options[@]}" "${@:3}" 2>&1 | tee "$log" | grep --line-buffered -E 'Seed|counters|INITED|pulse|DONE' ||
+        status=$?
+    if [ "$status" -ne 0 ]; then
+        grep -E '^[a-z ]+: reply|^(en|de)coding|^saved in|ERROR|Test unit written' "$log" || true
+        echo "== $name: a difference; see $log"
+    fi
+    [ "$status" -eq 0 ]
+}
+
+# A target that changes a byte now and then must be caught, and the call saved: otherwise nothing that follows counts.
+check_itself() {
+    local found=$out/wrong_found status=0
+    rm -rf "$found"
+    mkdir -p "$found/corpus"
+    target wrong -DWRONG
+    XM23_FOUND=$found timeout 120 "$out/wrong" -max_total_time=100 -artifact_prefix="$found/" "${options[@]}" \
+        "$found/corpus" "$out/seeds" > "$out/wrong.log" 2>&1 || status=$?
+    if [ "$status" -eq 0 ] || ! ls "$found"/run-*/memory.bin > /dev/null; then
+        echo "== the target does not find or save a difference that is there; see $out/wrong.log"
+        return 1
+    fi
+    echo "== a wrong byte is found after $(grep -c -E 'NEW|REDUCE' "$out/wrong.log") new strings, and saved"
+}
+
+options=(-max_len=600)
+seeds
+check_itself
+target run
+search run "$seconds" "$out/corpus" "$out/seeds"
+options=(-max_len=8)
+"$clang" $warn -fsanitize=fuzzer -o "$out/words" tests/fuzz/words.c target/staticlib/libxm23.a
+search words $((seconds / 6 + 1)) "$out/corpus_words"
+echo "coverage-guided fuzzing: no difference"

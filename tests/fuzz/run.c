@@ -1,0 +1,268 @@
+/*
+ * A target of libFuzzer: xm23_run beside the C interpreter of bench/, which is compiled with the fuzzer's counters and
+ * so shows it what is new. Held for every string of commands (setup.h):
+ * - reply, record, all of memory and the events are the interpreter's;
+ * - a refused call leaves every byte as handed over; the parts of a reply fit each other and the record;
+ * - a run of m and then one of n - m closes as the run of n;
+ * - nothing around the lent buffers changes, and nothing behind them is touched.
+ * A difference is saved in a folder of its own (XM23_FOUND, or build/fuzz) for 'make replay', and ends the target.
+ */
+#define _DEFAULT_SOURCE
+
+#include <inttypes.h>
+#include <stdio.h>
+#include <stdlib.h>
+#include <string.h>
+#include <sys/mman.h>
+#include <sys/stat.h>
+#include <unistd.h>
+
+#include "setup.h"
+#include "xm23.h"
+
+uint64_t xm23_fast_run(uint8_t *memory, size_t memory_len, uint8_t *record, size_t record_len, const uint8_t *events,
+                       size_t events_len, uint64_t n);
+size_t LLVMFuzzerMutate(uint8_t *data, size_t size, size_t room);
+int LLVMFuzzerTestOneInput(const uint8_t *data, size_t size);
+size_t LLVMFuzzerCustomMutator(uint8_t *data, size_t size, size_t room, unsigned seed);
+
+enum { GUARD = 0xA5, GUARDS = 64 };
+
+/* ---- buffers that end at a page which must not be touched, with guard bytes before them */
+
+struct lent {
+    uint8_t *end, *at;
+    size_t length;
+};
+
+static void make(struct lent *b, size_t longest)
+{
+    size_t page = (size_t)sysconf(_SC_PAGESIZE), room = (longest + GUARDS + page - 1) / page * page;
+    uint8_t *all = mmap(NULL, room + page, PROT_READ | PROT_WRITE, MAP_PRIVATE | MAP_ANONYMOUS, -1, 0);
+    if (all == MAP_FAILED || mprotect(all + room, page, PROT_NONE) != 0)
+        abort();
+    b->end = all + room;
+}
+
+static void lend(struct lent *b, const uint8_t *bytes, size_t length)
+{
+    b->at = b->end - length;
+    b->length = length;
+    memset(b->at - GUARDS, GUARD, GUARDS);
+    memcpy(b->at, bytes, length);
+}
+
+static int guarded(const struct lent *b)
+{
+    for (const uint8_t *p = b->at - GUARDS; p < b->at; p++)
+        if (*p != GUARD)
+            return 0;
+    return 1;
+}
+
+static int holds(const struct lent *b, const uint8_t *bytes)
+{
+    return memcmp(b->at, bytes, b->length) == 0;
+}
+
+/* ---- a call and what it leaves */
+
+struct outcome {
+    struct lent memory, record, events;
+    uint64_t reply;
+};
+
+static struct setup setup;
+static struct outcome library, interpreter, slices;
+
+static void make_all(struct outcome *o)
+{
+    make(&o->memory, LONGEST_MEMORY);
+    make(&o->record, LONGEST_RECORD);
+    make(&o->events, LONGEST_EVENTS);
+}
+
+static void lend_all(struct outcome *o)
+{
+    lend(&o->memory, setup.memory, setup.memory_len);
+    lend(&o->record, setup.record, setup.record_len);
+    lend(&o->events, setup.events, setup.events_len);
+}
+
+static void advance(struct outcome *o, uint64_t n)
+{
+    o->reply = xm23_run(o->memory.at, o->memory.length, o->record.at, o->record.length, o->events.at,
+                        o->events.length, n);
+}
+
+static int as_handed_over(const struct outcome *o)
+{
+    return holds(&o->memory, setup.memory) && holds(&o->record, setup.record) && holds(&o->events, setup.events);
+}
+
+/* ---- a difference */
+
+static void save_part(const char *folder, const char *name, const uint8_t *bytes, size_t length)
+{
+    char path[512];
+    FILE *f;
+    snprintf(path, sizeof path, "%s/%s", folder, name);
+    f = fopen(path, "wb");
+    if (!f || fwrite(bytes, 1, length, f) != length || fclose(f) != 0)
+        fprintf(stderr, "%s: not written\n", path);
+}
+
+/* Saves the call by its parts, as 'make replay' reads them, and ends the target. */
+static void differ(const char *what)
+{
+    const char *place = getenv("XM23_FOUND");
+    char folder[400], text[64];
+    uint64_t hash = 0xCBF29CE484222325u;
+    for (size_t i = 0; i < sizeof setup.memory; i++)
+        hash = (hash ^ setup.memory[i] ^ setup.record[i % LONGEST_RECORD]) * 0x100000001B3u;
+    snprintf(folder, sizeof folder, "%s/run-%016" PRIX64, place ? place : "build/fuzz", hash);
+    mkdir(folder, 0777);
+    save_part(folder, "memory.bin", setup.memory, setup.memory_len);
+    save_part(folder, "record.bin", setup.record, setup.record_len);
+    save_part(folder, "events.bin", setup.events, setup.events_len);
+    save_part(folder, "n.txt", (uint8_t *)text, (size_t)snprintf(text, sizeof text, "%" PRIu64 "\n", setup.n));
+    save_part(folder, "difference.txt", (const uint8_t *)what, strlen(what));
+    fprintf(stderr, "%s: reply %016" PRIX64, what, library.reply);
+    fprintf(stderr, ", the interpreter's %016" PRIX64 "\n", interpreter.reply);
+    fprintf(stderr, "saved in %s (again: make replay FOUND=%s)\n", folder, folder);
+    abort();
+}
+
+static void check(const char *what, int holds)
+{
+    if (!holds)
+        differ(what);
+}
+
+/* ---- what is held */
+
+static uint32_t count_in(const uint8_t *record)
+{
+    return record[22] | record[23] << 8 | record[24] << 16 | (uint32_t)record[25] << 24;
+}
+
+static void check_reply(void)
+{
+    const uint8_t *record = library.record.at;
+    unsigned refusal = XM23_RUN_REFUSAL(library.reply), reason = XM23_RUN_REASON(library.reply);
+    uint32_t steps = XM23_RUN_STEPS(library.reply);
+    check("the reply has more than its parts", library.reply >> 40 == 0);
+    check("the events are changed", holds(&library.events, setup.events));
+    if (refusal) {
+        check("a refusal has a reason or steps", library.reply == refusal && refusal < 8);
+        check("a refused call changes a byte", as_handed_over(&library));
+        return;
+    }
+    check("the reason is not the halted mark", reason == record[21] && reason < 2);
+    check("the steps are not those of the count", count_in(record) - count_in(setup.record) == steps);
+    check("too few steps, or too many", reason ? steps <= setup.n : steps == setup.n);
+}
+
+static void check_slices(void)
+{
+    uint64_t m = setup.slice % (setup.n + 1), steps;
+    lend_all(&slices);
+    advance(&slices, m);
+    steps = XM23_RUN_STEPS(slices.reply);
+    advance(&slices, setup.n - m);
+    steps += XM23_RUN_STEPS(slices.reply);
+    check("slices leave another memory", holds(&slices.memory, library.memory.at));
+    check("slices leave another record", holds(&slices.record, library.record.at));
+    check("slices give another reply", steps == XM23_RUN_STEPS(library.reply) &&
+                                           (slices.reply & 0xFFFF) == (library.reply & 0xFFFF));
+}
+
+int LLVMFuzzerTestOneInput(const uint8_t *data, size_t size)
+{
+    if (!library.memory.end) {
+        make_all(&library);
+        make_all(&interpreter);
+        make_all(&slices);
+    }
+    unpack(&setup, data, size);
+    lend_all(&library);
+    lend_all(&interpreter);
+    advance(&library, setup.n);
+#ifdef WRONG
+    /* Only to see that a difference is found and saved: a byte that no rule changes. */
+    if (XM23_RUN_REASON(library.reply) == 1 && library.record.at[20])
+        library.memory.at[0x8000] ^= 1;
+#endif
+    interpreter.reply = xm23_fast_run(interpreter.memory.at, setup.memory_len, interpreter.record.at, setup.record_len,
+                                      interpreter.events.at, setup.events_len, setup.n);
+    check("another reply", library.reply == interpreter.reply);
+    check("another record", holds(&library.record, interpreter.record.at));
+    check("another memory", holds(&library.memory, interpreter.memory.at));
+    check("bytes around a buffer are changed",
+          guarded(&library.memory) && guarded(&library.record) && guarded(&library.events));
+    check_reply();
+    if (XM23_RUN_REFUSAL(library.reply) == XM23_ACCEPTED)
+        check_slices();
+    return 0;
+}
+
+/* ---- strings of commands, changed command by command */
+
+static unsigned draw(unsigned *seed, unsigned limit)
+{
+    *seed = *seed * 1103515245u + 12345u;
+    return (*seed >> 16) % limit;
+}
+
+/* Words that random bytes seldom make: returns, faults, SVC, SETPRI, SETCC, CEX, the stack, devices. */
+static const uint16_t words[] = {0x4C2F, 0x4E00, 0x4DA0, 0x4DAA, 0x4D80, 0x4D83, 0x4DC8, 0x4DDF, 0x4DFF, 0x5009,
+                                 0x5349, 0x53BF, 0x5F06, 0x589E, 0x5F2E, 0x58B7, 0x77FF, 0x4D5B, 0x4D64, 0x4CFA};
+
+static void any_command(uint8_t *c, unsigned *seed)
+{
+    unsigned word = words[draw(seed, sizeof words / sizeof *words)];
+    c[0] = (uint8_t)draw(seed, 256);
+    c[1] = (uint8_t)draw(seed, 256);
+    c[2] = (uint8_t)draw(seed, 256);
+    if (draw(seed, 2))
+        c[0] &= 0xF0; /* CODE is what there is most of */
+    if ((c[0] & 15) == CODE && draw(seed, 3) == 0) {
+        c[1] = (uint8_t)(word | draw(seed, 8));
+        c[2] = (uint8_t)(word >> 8);
+    }
+}
+
+/* Puts, drops, doubles or changes a command, or leaves the bytes to libFuzzer's own ways. */
+size_t LLVMFuzzerCustomMutator(uint8_t *data, size_t size, size_t room, unsigned seed)
+{
+    size_t many = size / 3, i = many ? 3 * draw(&seed, (unsigned)many) : 0, tail = 3 * many - i;
+    uint8_t command[3];
+    switch (draw(&seed, 6)) {
+    case 0:
+    case 1:
+        if (3 * many + 3 > room)
+            break;
+        any_command(command, &seed);
+        memmove(data + i + 3, data + i, tail);
+        memcpy(data + i, command, 3);
+        return 3 * many + 3;
+    case 2:
+        if (many < 2)
+            break;
+        memmove(data + i, data + i + 3, tail - 3);
+        return 3 * many - 3;
+    case 3:
+        if (!many)
+            break;
+        LLVMFuzzerMutate(data + i + 1, 2, 2);
+        return 3 * many;
+    case 4:
+        if (!many || 3 * many + 3 > room)
+            break;
+        memmove(data + i + 3, data + i, tail);
+        return 3 * many + 3;
+    default:
+        break;
+    }
+    return LLVMFuzzerMutate(data, size, room);
+}

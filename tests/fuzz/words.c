@@ -1,0 +1,183 @@
+/*
+ * A target of libFuzzer: xm23_decode and xm23_encode beside a decoder and an encoder in C, written from section 14's
+ * rows and compiled with the fuzzer's counters. The string is up to eight bytes: an instruction's number, and a word in
+ * the first two. Held for each: both calls answer as the judge does; what encodes decodes to itself; what decodes
+ * encodes to itself, its ignored bits zero.
+ */
+#include <inttypes.h>
+#include <stdio.h>
+#include <stdlib.h>
+
+#include "xm23.h"
+
+int LLVMFuzzerTestOneInput(const uint8_t *data, size_t size);
+
+/* ---- the judge: section 14, row by row */
+
+/* A field of a format: how far it is from bit 0, and how many values it may have. */
+struct field {
+    uint8_t shift;
+    uint16_t values;
+};
+
+/* A format: its opcode bits, its one-byte fields in order, and its offset of some bits, 0 for none. */
+struct format {
+    uint16_t opcode, many;
+    struct field fields[6];
+    uint8_t offset_shift, offset_bits;
+};
+
+#define SOURCE {3, 8}
+#define DESTINATION {0, 8}
+#define WIDTH {6, 2}
+
+static const struct format formats[19] = {
+    [XM23_FORMAT_BL] = {0x0000, 0, {{0, 0}}, 0, 13},
+    [XM23_FORMAT_BRANCH] = {0x2000, 1, {{10, 8}}, 0, 10},
+    [XM23_FORMAT_ALU] = {0x4000, 5, {{8, 12}, {7, 2}, WIDTH, SOURCE, DESTINATION}, 0, 0},
+    [XM23_FORMAT_MOV] = {0x4C00, 3, {WIDTH, SOURCE, DESTINATION}, 0, 0},
+    [XM23_FORMAT_SWAP] = {0x4C80, 2, {SOURCE, DESTINATION}, 0, 0},
+    [XM23_FORMAT_UNARY] = {0x4D00, 3, {{3, 3}, WIDTH, DESTINATION}, 0, 0},
+    [XM23_FORMAT_SWPB] = {0x4D18, 1, {DESTINATION}, 0, 0},
+    [XM23_FORMAT_SXT] = {0x4D20, 1, {DESTINATION}, 0, 0},
+    [XM23_FORMAT_SETPRI] = {0x4D80, 1, {{0, 8}}, 0, 0},
+    [XM23_FORMAT_SVC] = {0x4DA0, 1, {{0, 16}}, 0, 0},
+    [XM23_FORMAT_SETCC] = {0x4DC0, 1, {{0, 32}}, 0, 0},
+    [XM23_FORMAT_CLRCC] = {0x4DE0, 1, {{0, 32}}, 0, 0},
+    [XM23_FORMAT_CEX] = {0x5000, 3, {{6, 16}, {3, 8}, {0, 8}}, 0, 0},
+    [XM23_FORMAT_LD] = {0x5800, 6, {{9, 2}, {8, 2}, {7, 2}, WIDTH, SOURCE, DESTINATION}, 0, 0},
+    [XM23_FORMAT_ST] = {0x5C00, 6, {{9, 2}, {8, 2}, {7, 2}, WIDTH, SOURCE, DESTINATION}, 0, 0},
+    [XM23_FORMAT_MOVIMM] = {0x6000, 3, {{11, 4}, {3, 256}, DESTINATION}, 0, 0},
+    [XM23_FORMAT_LDR] = {0x8000, 3, {WIDTH, SOURCE, DESTINATION}, 7, 7},
+    [XM23_FORMAT_STR] = {0xC000, 3, {WIDTH, SOURCE, DESTINATION}, 7, 7},
+};
+
+/* The words of a format begin where its row says; each row ends where the next begins. */
+static const struct {
+    uint16_t first;
+    uint8_t format;
+} rows[] = {
+    {0x0000, XM23_FORMAT_BL},      {0x2000, XM23_FORMAT_BRANCH},  {0x4000, XM23_FORMAT_ALU},
+    {0x4C00, XM23_FORMAT_MOV},     {0x4C80, XM23_FORMAT_SWAP},    {0x4D00, XM23_FORMAT_UNARY},
+    {0x4D18, XM23_FORMAT_SWPB},    {0x4D20, XM23_FORMAT_SXT},     {0x4D28, XM23_FORMAT_ILLEGAL},
+    {0x4D40, XM23_FORMAT_UNARY},   {0x4D58, XM23_FORMAT_SWPB},    {0x4D60, XM23_FORMAT_SXT},
+    {0x4D68, XM23_FORMAT_ILLEGAL}, {0x4D80, XM23_FORMAT_SETPRI},  {0x4D88, XM23_FORMAT_ILLEGAL},
+    {0x4DA0, XM23_FORMAT_SVC},     {0x4DB0, XM23_FORMAT_ILLEGAL}, {0x4DC0, XM23_FORMAT_SETCC},
+    {0x4DE0, XM23_FORMAT_CLRCC},   {0x4E00, XM23_FORMAT_ILLEGAL}, {0x5000, XM23_FORMAT_CEX},
+    {0x5400, XM23_FORMAT_ILLEGAL}, {0x5800, XM23_FORMAT_LD},      {0x5C00, XM23_FORMAT_ST},
+    {0x6000, XM23_FORMAT_MOVIMM},  {0x8000, XM23_FORMAT_LDR},     {0xC000, XM23_FORMAT_STR},
+};
+
+static uint8_t format_of(uint16_t word)
+{
+    size_t i = sizeof rows / sizeof *rows - 1;
+    while (rows[i].first > word)
+        i--;
+    return rows[i].format;
+}
+
+/* The least power of two that is no less: a field of 3 or 12 values has 2 or 4 bits. */
+static unsigned mask_of(unsigned values)
+{
+    unsigned power = 1;
+    while (power < values)
+        power *= 2;
+    return power - 1;
+}
+
+static uint64_t judge_decode(uint16_t word)
+{
+    uint8_t format = format_of(word);
+    const struct format *f = &formats[format];
+    uint64_t number = format;
+    for (unsigned i = 0; i < f->many; i++)
+        number |= XM23_PUT_FIELD(1 + i, word >> f->fields[i].shift & mask_of(f->fields[i].values));
+    if (f->offset_bits) {
+        int sign = 1 << (f->offset_bits - 1), bits = word >> f->offset_shift & (2 * sign - 1);
+        number |= XM23_PUT_OFFSET((bits ^ sign) - sign);
+    }
+    return number;
+}
+
+/* Counters that libFuzzer reads beside those of the branches: for each format, the byte that is refused, 0 for none. */
+__attribute__((section("__libfuzzer_extra_counters"))) static volatile uint8_t verdicts[19][8];
+
+static uint32_t refused(unsigned format, unsigned byte)
+{
+    verdicts[format][byte] = 1;
+    return XM23_REFUSED_INSTRUCTION;
+}
+
+/* The first byte from `i` up to `end` that is not 0, or `end`. */
+static unsigned first_used(uint64_t number, unsigned i, unsigned end)
+{
+    while (i < end && !XM23_FIELD(number, i))
+        i++;
+    return i;
+}
+
+static uint32_t judge_encode(uint64_t number)
+{
+    unsigned id = XM23_FORMAT(number), end, byte, word;
+    const struct format *f;
+    if (id == XM23_FORMAT_ILLEGAL || id > XM23_FORMAT_STR)
+        return XM23_REFUSED_INSTRUCTION;
+    f = &formats[id];
+    word = f->opcode;
+    for (unsigned i = 0; i < f->many; i++) {
+        unsigned value = XM23_FIELD(number, 1 + i);
+        if (value >= f->fields[i].values)
+            return refused(id, 1 + i);
+        word |= value << f->fields[i].shift;
+    }
+    end = f->offset_bits ? 6 : 8;
+    byte = first_used(number, 1 + f->many, end);
+    if (byte < end)
+        return refused(id, byte);
+    if (f->offset_bits) {
+        int half = 1 << (f->offset_bits - 1), offset = XM23_OFFSET(number);
+        if (offset < -half || offset >= half)
+            return refused(id, 7);
+        word |= ((unsigned)offset & (2 * (unsigned)half - 1)) << f->offset_shift;
+    }
+    verdicts[id][0] = 1;
+    return (uint32_t)word << 16;
+}
+
+/* ---- what is held */
+
+static void check(const char *what, uint64_t given, uint64_t got, uint64_t expected)
+{
+    if (got == expected)
+        return;
+    fprintf(stderr, "%s %016" PRIX64 ": %016" PRIX64 ", expected %016" PRIX64 "\n", what, given, got, expected);
+    abort();
+}
+
+static void check_word(uint16_t word)
+{
+    uint64_t number = xm23_decode(word);
+    unsigned format = XM23_FORMAT(number);
+    int bit6_ignored = format == XM23_FORMAT_SWAP || format == XM23_FORMAT_SWPB || format == XM23_FORMAT_SXT;
+    uint32_t back = (uint32_t)(bit6_ignored ? word & ~0x40 : word) << 16;
+    check("decoding", word, number, judge_decode(word));
+    check("encoding what was decoded from", word, xm23_encode(number), number ? back : XM23_REFUSED_INSTRUCTION);
+}
+
+static void check_number(uint64_t number)
+{
+    uint32_t reply = xm23_encode(number);
+    check("encoding", number, reply, judge_encode(number));
+    if (XM23_REFUSAL(reply) == XM23_ACCEPTED)
+        check("decoding what was encoded from", number, xm23_decode(XM23_ENCODED(reply)), number);
+}
+
+int LLVMFuzzerTestOneInput(const uint8_t *data, size_t size)
+{
+    uint64_t number = 0;
+    for (size_t i = 0; i < size && i < 8; i++)
+        number |= (uint64_t)data[i] << 8 * i;
+    check_word((uint16_t)number);
+    check_number(number);
+    return 0;
+}

@@ -70,7 +70,7 @@ fn overflows(byte: bool, a: u16, b: u16, result: u16) -> bool
 }
 
 // A logical result written to the destination, with Z and N.
-fn logic_into(byte: bool, dst: u16, result: u16, psw: u16) -> Outcome
+pub fn logic_into(byte: bool, dst: u16, result: u16, psw: u16) -> Outcome
     requires { ⌜ result < 2 ^ widthOf byte ⌝ }
     ensures { λ r. ⌜ r ≡ logical (widthOf byte) dst psw result ⌝ }
 {
@@ -94,7 +94,7 @@ fn sum_into(byte: bool, dst: u16, sum: Sum, overflow: bool, psw: u16) -> Outcome
 }
 
 // dst + src + carry written to the destination, with all four flags.
-fn add_into(byte: bool, dst: u16, src: u16, carry: u16, psw: u16) -> Outcome
+pub fn add_into(byte: bool, dst: u16, src: u16, carry: u16, psw: u16) -> Outcome
     requires { ⌜ carry ≤ 1 ⌝ }
     ensures { λ r. ⌜ r ≡ summed (widthOf byte) dst (low (widthOf byte) src) carry psw ⌝ }
 {
@@ -105,7 +105,7 @@ fn add_into(byte: bool, dst: u16, src: u16, carry: u16, psw: u16) -> Outcome
 }
 
 // dst + not src + carry written to the destination, with all four flags.
-fn subtract_into(byte: bool, dst: u16, src: u16, carry: u16, psw: u16) -> Outcome
+pub fn subtract_into(byte: bool, dst: u16, src: u16, carry: u16, psw: u16) -> Outcome
     requires { ⌜ carry ≤ 1 ⌝ }
     ensures { λ r. ⌜ r ≡ summed (widthOf byte) dst (turned (widthOf byte) src) carry psw ⌝ }
 {

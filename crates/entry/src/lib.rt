@@ -126,11 +126,11 @@ pub fn enter(regs: &mut [u16; 8], mem: &mut [u8], psw: u16, cex: u16, v: u8, fau
     ensures memory { λ r. ⌜ now (mem .exit) ≡
         commit (pushes (coreOf (now (regs .entry)) psw cex)) (now (mem .entry)) ⌝ }
 {
-    let p = vector_psw(mem, v);
-    let pc = vector_pc(mem, v);
+    let status = vector_psw(mem, v);
+    let start = vector_pc(mem, v);
     let sp = push_frame(regs, mem, psw, cex);
-    set_three(regs, 0xFFFF, sp, pc);
-    entered_psw(p, psw / 32 % 8, fault | (psw / 256 % 2 == 1))
+    set_three(regs, 0xFFFF, sp, start);
+    entered_psw(status, psw / 32 % 8, fault | (psw / 256 % 2 == 1))
 }
 
 // A chained entry by vector v, which pushes nothing: the PSW after it. CEX is then clear.

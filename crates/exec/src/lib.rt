@@ -9,7 +9,6 @@ ghost use Rattle.word.specs.Width.{widthOf};
 ghost use Rattle.alu.specs.Alu.{aluOf};
 ghost use Rattle.isa.specs.declared.Instr.the-variants as Instr;
 ghost use Rattle.isa.specs.Fields.{Fields};
-ghost use Rattle.isa.specs.Decode.{unaryOf, controlOf, miscOf, memoryOf, relativeOf, decodeOf};
 ghost use Rattle.machine.specs.declared.Access.the-variants.{Nothing};
 ghost use Rattle.machine.specs.State.{coreOf};
 ghost use Rattle.machine.specs.Effect.{effectOf, plainly, operated};
@@ -18,7 +17,6 @@ use alu::Op;
 use machine::Access;
 use operands::get;
 use operands::put;
-use word::signed;
 
 // The PSW and the CEX state that an instruction leaves, and what it asks for.
 pub struct Done {
@@ -38,7 +36,7 @@ fn quiet(psw: u16, cex: u16) -> Done
     }
 }
 
-fn bl(regs: &mut [u16; 8], psw: u16, cex: u16, off: i16) -> Done
+pub fn bl(regs: &mut [u16; 8], psw: u16, cex: u16, off: i16) -> Done
     requires { ⌜ Fields (Instr.Bl off) ⌝ }
     ensures { λ r. ⌜
         doneWith (now (regs .exit)) r
@@ -50,7 +48,7 @@ fn bl(regs: &mut [u16; 8], psw: u16, cex: u16, off: i16) -> Done
     quiet(psw, put(regs, x, 7, operands::branch_target(pc, off)))
 }
 
-fn branch(regs: &mut [u16; 8], psw: u16, cex: u16, n: u8, off: i16) -> Done
+pub fn branch(regs: &mut [u16; 8], psw: u16, cex: u16, n: u8, off: i16) -> Done
     requires { ⌜ Fields (Instr.Branch n off) ⌝ }
     ensures { λ r. ⌜
         doneWith (now (regs .exit)) r
@@ -64,7 +62,7 @@ fn branch(regs: &mut [u16; 8], psw: u16, cex: u16, n: u8, off: i16) -> Done
     quiet(psw, cex)
 }
 
-fn arithmetic(
+pub fn arithmetic(
     regs: &mut [u16; 8],
     psw: u16,
     cex: u16,
@@ -89,7 +87,7 @@ fn arithmetic(
     quiet(o.psw, put(regs, cex, dst, o.value))
 }
 
-fn mov(regs: &mut [u16; 8], psw: u16, cex: u16, wb: u8, src: u8, dst: u8) -> Done
+pub fn mov(regs: &mut [u16; 8], psw: u16, cex: u16, wb: u8, src: u8, dst: u8) -> Done
     requires { ⌜ Fields (Instr.Mov wb src dst) ⌝ }
     ensures { λ r. ⌜
         doneWith (now (regs .exit)) r
@@ -101,7 +99,7 @@ fn mov(regs: &mut [u16; 8], psw: u16, cex: u16, wb: u8, src: u8, dst: u8) -> Don
     quiet(psw, put(regs, cex, dst, v))
 }
 
-fn swap(regs: &mut [u16; 8], psw: u16, cex: u16, src: u8, dst: u8) -> Done
+pub fn swap(regs: &mut [u16; 8], psw: u16, cex: u16, src: u8, dst: u8) -> Done
     requires { ⌜ Fields (Instr.Swap src dst) ⌝ }
     ensures { λ r. ⌜
         doneWith (now (regs .exit)) r
@@ -114,7 +112,7 @@ fn swap(regs: &mut [u16; 8], psw: u16, cex: u16, src: u8, dst: u8) -> Done
 }
 
 // One operand: SRA, RRC, COMP, SWPB, SXT.
-fn one_operand(regs: &mut [u16; 8], psw: u16, cex: u16, op: Op, byte: bool, dst: u8) -> Done
+pub fn one_operand(regs: &mut [u16; 8], psw: u16, cex: u16, op: Op, byte: bool, dst: u8) -> Done
     requires { ⌜ dst < 8 ⌝ }
     ensures { λ r. ⌜
         doneWith (now (regs .exit)) r
@@ -129,7 +127,7 @@ fn one_operand(regs: &mut [u16; 8], psw: u16, cex: u16, op: Op, byte: bool, dst:
     quiet(o.psw, put(regs, cex, dst, o.value))
 }
 
-fn set_priority(psw: u16, cex: u16, level: u8) -> Done
+pub fn set_priority(psw: u16, cex: u16, level: u8) -> Done
     requires { ⌜ level < 8 ⌝ }
     ensures { λ r. ⌜
         ((regs : List ℕ) → doneWith regs r ≡ effectOf (coreOf regs psw cex) (Instr.SetPri level))
@@ -146,7 +144,7 @@ fn set_priority(psw: u16, cex: u16, level: u8) -> Done
     quiet(operands::priority_put(psw, l), cex)
 }
 
-fn set_flags(psw: u16, cex: u16, flags: u8) -> Done
+pub fn set_flags(psw: u16, cex: u16, flags: u8) -> Done
     requires { ⌜ flags < 32 ⌝ }
     ensures { λ r. ⌜
         ((regs : List ℕ) → doneWith regs r ≡ effectOf (coreOf regs psw cex) (Instr.SetCc flags))
@@ -156,7 +154,7 @@ fn set_flags(psw: u16, cex: u16, flags: u8) -> Done
     quiet(operands::flags_set(psw, f), cex)
 }
 
-fn clear_flags(psw: u16, cex: u16, flags: u8) -> Done
+pub fn clear_flags(psw: u16, cex: u16, flags: u8) -> Done
     requires { ⌜ flags < 32 ⌝ }
     ensures { λ r. ⌜
         ((regs : List ℕ) → doneWith regs r ≡ effectOf (coreOf regs psw cex) (Instr.ClrCc flags))
@@ -165,7 +163,7 @@ fn clear_flags(psw: u16, cex: u16, flags: u8) -> Done
     quiet(operands::flags_cleared(psw, flags as u16), cex)
 }
 
-fn load_cex(psw: u16, cex: u16, n: u8, t: u8, f: u8) -> Done
+pub fn load_cex(psw: u16, cex: u16, n: u8, t: u8, f: u8) -> Done
     requires { ⌜ Fields (Instr.Cex n t f) ⌝ }
     ensures { λ r. ⌜
         ((regs : List ℕ) → doneWith regs r ≡ effectOf (coreOf regs psw cex) (Instr.Cex n t f))
@@ -174,7 +172,7 @@ fn load_cex(psw: u16, cex: u16, n: u8, t: u8, f: u8) -> Done
     quiet(psw, operands::loaded_cex(n, t, f, psw))
 }
 
-fn load_indexed(
+pub fn load_indexed(
     regs: &mut [u16; 8],
     psw: u16,
     cex: u16,
@@ -206,7 +204,7 @@ fn load_indexed(
     }
 }
 
-fn store_indexed(
+pub fn store_indexed(
     regs: &mut [u16; 8],
     psw: u16,
     cex: u16,
@@ -239,7 +237,7 @@ fn store_indexed(
     }
 }
 
-fn move_immediate(regs: &mut [u16; 8], psw: u16, cex: u16, op: u8, byte: u8, dst: u8) -> Done
+pub fn move_immediate(regs: &mut [u16; 8], psw: u16, cex: u16, op: u8, byte: u8, dst: u8) -> Done
     requires { ⌜ Fields (Instr.MovImm op byte dst) ⌝ }
     ensures { λ r. ⌜
         doneWith (now (regs .exit)) r
@@ -250,7 +248,15 @@ fn move_immediate(regs: &mut [u16; 8], psw: u16, cex: u16, op: u8, byte: u8, dst
     quiet(psw, put(regs, cex, dst, v))
 }
 
-fn load_relative(regs: &[u16; 8], psw: u16, cex: u16, off: i16, wb: u8, src: u8, dst: u8) -> Done
+pub fn load_relative(
+    regs: &[u16; 8],
+    psw: u16,
+    cex: u16,
+    off: i16,
+    wb: u8,
+    src: u8,
+    dst: u8,
+) -> Done
     requires { ⌜ Fields (Instr.Ldr off wb src dst) ⌝ }
     ensures { λ r. ⌜
         doneWith (now (regs .entry)) r
@@ -268,7 +274,15 @@ fn load_relative(regs: &[u16; 8], psw: u16, cex: u16, off: i16, wb: u8, src: u8,
     }
 }
 
-fn store_relative(regs: &[u16; 8], psw: u16, cex: u16, off: i16, wb: u8, src: u8, dst: u8) -> Done
+pub fn store_relative(
+    regs: &[u16; 8],
+    psw: u16,
+    cex: u16,
+    off: i16,
+    wb: u8,
+    src: u8,
+    dst: u8,
+) -> Done
     requires { ⌜ Fields (Instr.Str off wb src dst) ⌝ }
     ensures { λ r. ⌜
         doneWith (now (regs .entry)) r
@@ -284,169 +298,4 @@ fn store_relative(regs: &[u16; 8], psw: u16, cex: u16, off: i16, wb: u8, src: u8
             value: get(regs, src),
         },
     }
-}
-
-// A word of no instruction asks for fault 8.
-fn illegal(psw: u16, cex: u16) -> Done
-    ensures { λ r. ⌜
-        ((regs : List ℕ) → doneWith regs r ≡ effectOf (coreOf regs psw cex) Instr.Illegal)
-        ⌝ }
-{
-    Done {
-        psw,
-        cex,
-        access: Access::Fault(8),
-    }
-}
-
-// 4D00 to 4D7F: SRA, RRC, COMP, SWPB, SXT, by bits 5 to 3.
-fn unary_word(regs: &mut [u16; 8], psw: u16, cex: u16, w: u16) -> Done
-    ensures { λ r. ⌜
-        doneWith (now (regs .exit)) r ≡ effectOf (coreOf (now (regs .entry)) psw cex) (unaryOf w)
-        ⌝ }
-{
-    let op = w / 8 % 8;
-    let dst = (w % 8) as u8;
-    if op < 3 {
-        let o = operands::unary(op as u8);
-        return one_operand(regs, psw, cex, o, w / 64 % 2 == 1, dst);
-    }
-    if op < 4 {
-        return one_operand(regs, psw, cex, Op::Swpb, false, dst);
-    }
-    if op < 5 {
-        return one_operand(regs, psw, cex, Op::Sxt, false, dst);
-    }
-    illegal(psw, cex)
-}
-
-// 4D80 to 4DFF: SETPRI, SVC, SETCC, CLRCC.
-fn control_word(psw: u16, cex: u16, w: u16) -> Done
-    ensures { λ r. ⌜
-        ((regs : List ℕ) → doneWith regs r ≡ effectOf (coreOf regs psw cex) (controlOf w))
-        ⌝ }
-{
-    if w < 0x4D88 {
-        return set_priority(psw, cex, (w % 8) as u8);
-    }
-    if w < 0x4DA0 {
-        return illegal(psw, cex);
-    }
-    if w < 0x4DB0 {
-        return Done {
-            psw,
-            cex,
-            access: Access::Trap((w % 16) as u8),
-        };
-    }
-    if w < 0x4DC0 {
-        return illegal(psw, cex);
-    }
-    if w < 0x4DE0 {
-        return set_flags(psw, cex, (w % 32) as u8);
-    }
-    clear_flags(psw, cex, (w % 32) as u8)
-}
-
-// 4C00 to 4FFF: MOV, SWAP, the operations on one register, control.
-fn misc_word(regs: &mut [u16; 8], psw: u16, cex: u16, w: u16) -> Done
-    ensures { λ r. ⌜
-        doneWith (now (regs .exit)) r ≡ effectOf (coreOf (now (regs .entry)) psw cex) (miscOf w)
-        ⌝ }
-{
-    let src = (w / 8 % 8) as u8;
-    let dst = (w % 8) as u8;
-    if w < 0x4C80 {
-        return mov(regs, psw, cex, (w / 64 % 2) as u8, src, dst);
-    }
-    if w < 0x4D00 {
-        return swap(regs, psw, cex, src, dst);
-    }
-    if w < 0x4D80 {
-        return unary_word(regs, psw, cex, w);
-    }
-    if w < 0x4E00 {
-        return control_word(psw, cex, w);
-    }
-    illegal(psw, cex)
-}
-
-// 5000 to 5FFF: CEX, LD, ST.
-fn memory_word(regs: &mut [u16; 8], psw: u16, cex: u16, w: u16) -> Done
-    ensures { λ r. ⌜
-        doneWith (now (regs .exit)) r ≡ effectOf (coreOf (now (regs .entry)) psw cex) (memoryOf w)
-        ⌝ }
-{
-    let wb = (w / 64 % 2) as u8;
-    let src = (w / 8 % 8) as u8;
-    let dst = (w % 8) as u8;
-    if w < 0x5400 {
-        return load_cex(psw, cex, (w / 64 % 16) as u8, src, dst);
-    }
-    if w < 0x5800 {
-        return illegal(psw, cex);
-    }
-    let prpo = (w / 512 % 2) as u8;
-    let dec = (w / 256 % 2) as u8;
-    let inc = (w / 128 % 2) as u8;
-    if w < 0x5C00 {
-        return load_indexed(regs, psw, cex, prpo, dec, inc, wb, src, dst);
-    }
-    store_indexed(regs, psw, cex, prpo, dec, inc, wb, src, dst)
-}
-
-// 8000 to FFFF: LDR, STR.
-fn relative_word(regs: &[u16; 8], psw: u16, cex: u16, w: u16) -> Done
-    ensures { λ r. ⌜
-        doneWith (now (regs .entry)) r
-        ≡ effectOf (coreOf (now (regs .entry)) psw cex) (relativeOf w)
-        ⌝ }
-{
-    let off = signed(64, w / 128 % 128);
-    let wb = (w / 64 % 2) as u8;
-    let src = (w / 8 % 8) as u8;
-    let dst = (w % 8) as u8;
-    if w < 0xC000 {
-        return load_relative(regs, psw, cex, off, wb, src, dst);
-    }
-    store_relative(regs, psw, cex, off, wb, src, dst)
-}
-
-// The effect of the instruction that a word means on the registers, the PSW and the CEX state, and
-// what it asks for. The tests are the decoder's.
-pub fn execute_word(regs: &mut [u16; 8], psw: u16, cex: u16, w: u16) -> Done
-    ensures { λ r. ⌜
-        doneWith (now (regs .exit)) r ≡ effectOf (coreOf (now (regs .entry)) psw cex) (decodeOf w)
-        ⌝ }
-{
-    if w < 0x2000 {
-        return bl(regs, psw, cex, signed(4096, w % 8192));
-    }
-    if w < 0x4000 {
-        return branch(regs, psw, cex, (w / 1024 % 8) as u8, signed(512, w % 1024));
-    }
-    let wb = (w / 64 % 2) as u8;
-    let src = (w / 8 % 8) as u8;
-    let dst = (w % 8) as u8;
-    if w < 0x4C00 {
-        let rc = (w / 128 % 2) as u8;
-        return arithmetic(regs, psw, cex, (w / 256 % 16) as u8, rc, wb, src, dst);
-    }
-    if w < 0x5000 {
-        return misc_word(regs, psw, cex, w);
-    }
-    if w < 0x6000 {
-        return memory_word(regs, psw, cex, w);
-    }
-    if w < 0x8000 {
-        return move_immediate(
-            regs,
-            psw,
-            cex,
-            (w / 2048 % 4) as u8,
-            (w / 8 % 256) as u8,
-            dst,
-        );
-    }
-    relative_word(regs, psw, cex, w)
 }

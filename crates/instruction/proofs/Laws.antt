@@ -22,7 +22,7 @@ use Rattle.machine.specs.Cex.{skips?, lowered}
 use Rattle.machine.specs.Entry.{priority, pushes}
 use Rattle.machine.specs.Effect.{Effect, effectOf, loaded}
 use Rattle.machine.specs.Step as step
-use Rattle.machine.specs.Step.{planned, advanced, faulting, granted, executed, instructionOf, outcome, entered, perform, closed}
+use Rattle.machine.specs.Step.{Plan, planned, advanced, faulting, granted, executed, instructionOf, outcome, entered, perform, closed}
 use Rattle.machine_laws.specs.Bounds.{Bytes, Quits}
 use Rattle.machine_laws.proofs.Effects.{effect-fault-core}
 use Rattle.machine_laws.proofs.Memory.{word-lt}
@@ -184,7 +184,7 @@ module _ (c : Core) (m : List ℕ) where
   unfolding instructionOf
   instruction-asleep h = simp (eq-eqb _ _ h)
 
-  pub instruction-odd : (c .psw / 8 % 2 ≡ 1 → ⊥) → pc c % 2 ≡ 1 → instructionOf c m ≡ faulting c c 9
+  instruction-odd : (c .psw / 8 % 2 ≡ 1 → ⊥) → pc c % 2 ≡ 1 → instructionOf c m ≡ faulting c c 9
   unfolding instructionOf
   instruction-odd h o = simp (ne-eqb _ _ h, eq-eqb _ _ o)
 
@@ -199,6 +199,15 @@ module _ (c : Core) (m : List ℕ) where
       instructionOf c m ≡ executed c (effectOf (advanced c) (decodeOf (wordAt m (pc c)))) m
   unfolding instructionOf
   instruction-runs h o k = simp (ne-eqb _ _ h, ne-eqb _ _ o, k)
+
+-- an odd PC: the fault's own CEX state y is the one before the step
+pub odd-law :
+    (regs m : List ℕ) (psw cex y l n : ℕ) {t : State} →
+    t ≡ closedBy (faulting (coreOf (set regs 7 (getD regs 7 0)) psw cex) (coreOf regs psw y) 9) l n m → y ≡ cex →
+    (psw / 8 % 2 ≡ 1 → ⊥) → getD regs 7 0 % 2 ≡ 1 → t ≡ closedBy (instructionOf (coreOf regs psw cex) m) l n m
+odd-law regs m psw cex y l n e h a o =
+    e ∙ (λ i. closedBy (faulting (coreOf (set-getD regs 7 0 i) psw cex) (coreOf regs psw (h i)) 9) l n m)
+    ∙ ap (λ (p : Plan). closedBy p l n m) (sym (instruction-odd (coreOf regs psw cex) m a o))
 
 pub asleep-law :
     (c : Core) (l n : ℕ) (h : Bool) (m : List ℕ) → h ≡ false → stateFrom c l h (n + 1) m ≡ closedBy (planned c step.sleep) l n m

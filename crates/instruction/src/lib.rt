@@ -178,9 +178,11 @@ fn lower(cex: u16) -> u16
     cex - 8
 }
 
-// Point 7: fetch, PC gains 2, decode, execute.
-fn fetch_execute(regs: &mut [u16; 8], mem: &mut [u8], t: Rest) -> Rest
-    requires { ⌜ (length (now mem) ≡ 65536) × (t .count < 4294967295) ⌝ }
+// Point 7: fetch, PC gains 2, decode, execute. `cex` is the CEX state, its count lowered.
+fn fetch_execute(regs: &mut [u16; 8], mem: &mut [u8], t: Rest, cex: u16) -> Rest
+    requires { ⌜
+        (length (now mem) ≡ 65536) × (t .count < 4294967295) × (cex ≡ lowered (t .cex))
+        ⌝ }
     ensures { λ r. ⌜ stateWith (now (regs .exit)) r (now (mem .exit)) ≡
         closedBy (executed (coreWith (now (regs .entry)) t)
         (effectOf (advanced (coreWith (now (regs .entry)) t))
@@ -191,13 +193,13 @@ fn fetch_execute(regs: &mut [u16; 8], mem: &mut [u8], t: Rest) -> Rest
     let w = memory::read_word(mem, memory::word_of(ByteAddr(pc)));
     let next = std::num::wrapping_add_u16(pc, 2);
     regs[7] = next;
-    let d = exec::execute_word(regs, t.psw, lower(t.cex), w);
+    let d = dispatch::execute_word(regs, t.psw, cex, w);
     grant(regs, mem, t, pc, d)
 }
 
-// Point 6: PC gains 2 and the count is lowered; the word is not decoded.
-fn skip(regs: &mut [u16; 8], t: Rest) -> Rest
-    requires { ⌜ t .count < 4294967295 ⌝ }
+// Point 6: PC gains 2; the word is not decoded. `cex` is the CEX state, its count lowered.
+fn skip(regs: &mut [u16; 8], t: Rest, cex: u16) -> Rest
+    requires { ⌜ (t .count < 4294967295) × (cex ≡ lowered (t .cex)) ⌝ }
     ensures { λ r. ⌜ ((m : List ℕ) → stateWith (now (regs .exit)) r m ≡
         closedBy (planned (advanced (coreWith (now (regs .entry)) t)) skip) (t .lines) (t .count) m)
         ⌝ }
@@ -205,7 +207,7 @@ fn skip(regs: &mut [u16; 8], t: Rest) -> Rest
     regs[7] = std::num::wrapping_add_u16(regs[7], 2);
     Rest {
         psw: t.psw,
-        cex: lower(t.cex),
+        cex,
         lines: t.lines,
         halted: false,
         count: t.count + 1,
@@ -223,11 +225,12 @@ pub fn instruction(regs: &mut [u16; 8], mem: &mut [u8], t: Rest) -> Rest
         return counted(t);
     }
     let pc = regs[7];
+    let cex = lower(t.cex);
     if pc % 2 == 1 {
         return fault(regs, mem, t, pc, t.cex, 9);
     }
     if skips(t.cex) {
-        return skip(regs, t);
+        return skip(regs, t, cex);
     }
-    fetch_execute(regs, mem, t)
+    fetch_execute(regs, mem, t, cex)
 }

@@ -1,6 +1,7 @@
 pub mod Cases
 pub mod Memory
 pub mod Effects
+pub mod Loads
 pub mod Plans
 pub mod Runs
 pub mod Steps

@@ -6,7 +6,8 @@ use mathlib.Core.List.{List, [], _∷_, _++_}
 use Prim.Native.Nat.{ℕ, zero, suc, _+_, _-_, _*_, _/_, _%_, _≤_, _<_}
 use native.Mathlib.Omega.{arith}
 use mir.Val.{boolByte}
-use lib.Dec.{eqb, ltb}
+use lib.Bits.{bitAnd, bitOr, and-block, and-high, and-mask, or-block, or-shifted}
+use lib.Dec.{eqb, ltb, lit<}
 use lib.ListN.{set}
 use borrow.Author.Tests.{lt-ltb, le-ltb, eq-eqb, ne-eqb}
 use Rattle.word.specs.Psw.{putBit, bitOf}
@@ -21,13 +22,49 @@ remainder (suc (suc n)) h = let z : ⊥ = omega arith in elim z [ ]
 
 -- ---- status bytes, as the code works them
 
-pub stored-low : (t v : ℕ) → t / 2 * 2 + v % 2 ≡ putBit 0 t (bitOf 0 v)
+halves : (n : ℕ) → n ≡ n / 16 * 16 + n % 16
+halves n = omega arith
+
+-- the bits that a store to status keeps, and those that it brings
+kept : (t : ℕ) → bitAnd t 0xEE ≡ t / 16 / 2 % 8 * 2 * 16 + t % 16 / 2 % 8 * 2
+kept t =
+    ap (λ (x : ℕ). bitAnd x 0xEE) (halves t) ∙ and-block 4 (t / 16) 14 (t % 16) 14 (omega arith) (lit< tt)
+    ∙ (λ i. and-high (t / 16) 3 1 i * 16 + and-high (t % 16) 3 1 i)
+
+brought : (v : ℕ) → bitAnd v 0x11 ≡ v / 16 % 2 * 16 + v % 16 % 2
+brought v =
+    ap (λ (x : ℕ). bitAnd x 0x11) (halves v) ∙ and-block 4 (v / 16) 1 (v % 16) 1 (omega arith) (lit< tt)
+    ∙ (λ i. and-mask (v / 16) 1 i * 16 + and-mask (v % 16) 1 i)
+
+-- the two put together
+joined : (t v : ℕ) → bitOr (bitAnd t 0xEE) (bitAnd v 0x11) ≡ (t / 16 / 2 % 8 * 2 + v / 16 % 2) * 16 + (t % 16 / 2 % 8 * 2 + v % 16 % 2)
+joined t v =
+    (λ i. bitOr (kept t i) (brought v i))
+    ∙ or-block 4 (t / 16 / 2 % 8 * 2) (v / 16 % 2) (t % 16 / 2 % 8 * 2) (v % 16 % 2) (omega arith) (omega arith)
+    ∙ (λ i. or-shifted (t / 16 / 2 % 8) 1 (v / 16 % 2) (omega arith) i * 16 + or-shifted (t % 16 / 2 % 8) 1 (v % 16 % 2) (omega arith) i)
+
+-- the same, bit by bit
+placed : (t x y q : ℕ) → t < 256 → x < 2 → y < 2 → q ≡ t / 2 * 2 + x
+    → (t / 16 / 2 % 8 * 2 + y) * 16 + (t % 16 / 2 % 8 * 2 + x) ≡ q / 32 * 32 + y * 16 + q % 16
+placed t x y q h hx hy e =
+    let high : t / 16 / 2 % 8 ≡ t / 32 = omega arith in
+    let low : t % 16 / 2 % 8 ≡ t % 16 / 2 = omega arith in
+    let q-high : q / 32 ≡ t / 32 = omega arith in
+    let q-low : q % 16 ≡ t % 16 / 2 * 2 + x = omega arith in
+    rw (high, low, q-high, q-low) (omega arith)
+
+stored-low : (t v : ℕ) → t / 2 * 2 + v % 2 ≡ putBit 0 t (bitOf 0 v)
 stored-low t v = rw (← remainder (v / 1 % 2) (omega arith)) (omega arith)
 
-pub stored-law : (t v q : ℕ) → q ≡ putBit 0 t (bitOf 0 v) → q / 32 * 32 + v / 16 % 2 * 16 + q % 16 ≡ storedStatus t v
-stored-law t v q e =
-    ap (λ (x : ℕ). q / 32 * 32 + x * 16 + q % 16) (remainder (v / 16 % 2) (omega arith))
-    ∙ ap (λ (x : ℕ). putBit 4 x (bitOf 4 v)) e
+pub stored-law : (t v : ℕ) → t < 256 → bitOr (bitAnd t 0xEE) (bitAnd v 0x11) ≡ storedStatus t v
+stored-law t v h =
+    let q = t / 2 * 2 + v % 2 in
+    let e : v % 16 % 2 ≡ v % 2 = omega arith in
+    joined t v
+    ∙ ap (λ (x : ℕ). (t / 16 / 2 % 8 * 2 + v / 16 % 2) * 16 + (t % 16 / 2 % 8 * 2 + x)) e
+    ∙ placed t (v % 2) (v / 16 % 2) q h (omega arith) (omega arith) refl
+    ∙ ap (λ (x : ℕ). q / 32 * 32 + x * 16 + q % 16) (remainder (v / 16 % 2) (omega arith))
+    ∙ ap (λ (x : ℕ). putBit 4 x (bitOf 4 v)) (stored-low t v)
 
 pub cleared-law : (t : ℕ) → putBit 2 (t / 16 * 16 + t % 8) false ≡ clearedStatus t
 cleared-law t =

@@ -94,8 +94,7 @@ fn cleared_status(t: u8) -> u8
 fn stored_status(t: u8, v: u8) -> u8
     ensures { λ r. ⌜ r ≡ storedStatus t v ⌝ }
 {
-    let q = t / 2 * 2 + v % 2;
-    q / 32 * 32 + v / 16 % 2 * 16 + q % 16
+    (t & 0xEE) | (v & 0x11)
 }
 
 // A load by an instruction: the byte, or the word that the byte lies in.

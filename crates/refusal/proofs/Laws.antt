@@ -1,11 +1,14 @@
--- Rules 6 and 7 over the whole list: one record that breaks the rule breaks it for the list. Assumes nothing.
+-- Rules 6 and 7 over the whole list: one record that breaks the rule breaks it for the list; and the step count of a record
+-- that has its length. Assumes nothing.
 use Prim.Native.Nat.{ℕ, zero, suc, _<_, _≤_}
-use mathlib.Core.Bool.{true, false, _&&_, and-false}
+use mathlib.Core.Bool.{true, false, cond, _&&_, and-false}
 use mathlib.Core.List.{List}
 use mathlib.Core.Path.{_≡_, refl, sym, ap, subst, _∙_}
 use native.Mathlib.Omega.{arith}
-use lib.Dec.{eqb}
-use borrow.Author.Tests.{eqb-true, eqb-false}
+use lib.Dec.{eqb, ltb}
+use lib.ListN.{length}
+use borrow.Author.Tests.{eqb-true, eqb-false, le-ltb}
+use Rattle.machine.specs.Record.{fourAt}
 use Rattle.machine.specs.Refusal.{eventFits, eventsFitBelow, inOrder, inOrderBelow}
 use Rattle.machine_laws.proofs.Cases.{bool-cases, and-left, and-both}
 
@@ -45,12 +48,25 @@ module _ (b : List ℕ) where
       (λ q. subst (λ i. inOrderBelow b i ≡ true) (sym (eqb-true n k q)) (order-shorter k e))
       (λ q. let p : suc k ≡ n = omega (arith, eqb-false n k q) in subst (λ i. inOrderBelow b i ≡ true) p e)
 
-  pub disorder-below : (k n : ℕ) → suc k < n → inOrder b k ≡ false → inOrderBelow b n ≡ false
+  pub order-end : (k n : ℕ) → k ≤ n → n ≤ k → inOrderBelow b k ≡ true → inOrderBelow b n ≡ true
+  order-end k n h l e = let p : k ≡ n = omega arith in subst (λ i. inOrderBelow b i ≡ true) p e
+
+  -- record k + 1 breaks the rule, and then every longer list does
+  pub disorder-at : (k : ℕ) → inOrder b k ≡ false → inOrderBelow b (suc (suc k)) ≡ false
   unfolding inOrderBelow
-  disorder-below k zero h e = let z : ⊥ = omega arith in elim z [ ]
-  disorder-below k (suc zero) h e = let z : ⊥ = omega arith in elim z [ ]
-  disorder-below k (suc (suc n)) h e =
-      bool-cases (eqb k n)
-      (λ q. ap (λ x. inOrderBelow b (suc n) && x) (subst (λ i. inOrder b i ≡ false) (eqb-true k n q) e)
-      ∙ and-false (inOrderBelow b (suc n)))
-      (λ q. ap (λ x. x && inOrder b n) (disorder-below k (suc n) (omega (arith, eqb-false k n q)) e))
+  disorder-at k e = ap (λ x. inOrderBelow b (suc k) && x) e ∙ and-false (inOrderBelow b (suc k))
+
+  disorder-next : (k : ℕ) → inOrderBelow b k ≡ false → inOrderBelow b (suc k) ≡ false
+  unfolding inOrderBelow
+  disorder-next zero e = e
+  disorder-next (suc k) e = ap (λ x. x && inOrder b k) e
+
+  pub disorder-longer : (k n : ℕ) → k ≤ n → inOrderBelow b k ≡ false → inOrderBelow b n ≡ false
+  disorder-longer k zero h e = let p : k ≡ 0 = omega arith in subst (λ i. inOrderBelow b i ≡ false) p e
+  disorder-longer k (suc n) h e =
+      bool-cases (eqb k (suc n))
+      (λ q. subst (λ i. inOrderBelow b i ≡ false) (eqb-true k (suc n) q) e)
+      (λ q. disorder-next n (disorder-longer k n (omega (arith, eqb-false k (suc n) q)) e))
+
+pub count-in : (r : List ℕ) (x : ℕ) → x ≡ cond (ltb (length r) 26) 0 (fourAt r 22) → length r ≡ 32 → fourAt r 22 ≡ x
+count-in r x e h = sym (e ∙ ap (λ t. cond t 0 (fourAt r 22)) (le-ltb (length r) 26 (omega arith)))

@@ -1,7 +1,10 @@
 // Whether a run's buffers and step count are accepted, or the first rule that they break.
 ghost use mathlib.Core.Path.{_≡_};
-ghost use Prim.Native.Nat.{_+_, _*_, _≤_};
+ghost use mathlib.Core.Bool.{true, false, cond};
+ghost use Prim.Native.Nat.{suc, _+_, _*_, _<_, _≤_};
+ghost use lib.Dec.{ltb};
 ghost use lib.ListN.{length};
+ghost use Rattle.machine.specs.Record.{fourAt};
 ghost use Rattle.machine.specs.Events.{eventAt, eventCount};
 ghost use Rattle.machine.specs.Refusal.{recordFits, eventsFit, verdictOf, refusalNumber};
 ghost use Rattle.machine.specs.Refusal.{eventFits, eventsFitBelow, inOrder, inOrderBelow};
@@ -53,13 +56,13 @@ fn event_fits(events: &[u8], k: usize) -> bool
     two_at(events, 8 * k + 6) == 0
 }
 
-// Rule 6, of the whole list.
-fn all_fit(events: &[u8]) -> bool
-    ensures { λ x. ⌜ x ≡ eventsFitBelow (now (events .entry)) (eventCount (now (events .entry))) ⌝ }
+// Rule 6, of the first `count` records.
+fn fields_fit(events: &[u8], count: usize) -> bool
+    requires { ⌜ 8 * count ≤ length (now events) ⌝ }
+    ensures { λ x. ⌜ x ≡ eventsFitBelow (now (events .entry)) count ⌝ }
 {
-    let n = events.len() / 8;
     let mut k: usize = 0;
-    while k < n {
+    while k < count {
         if !event_fits(events, k) {
             return false;
         }
@@ -76,23 +79,35 @@ fn in_order(events: &[u8], k: usize) -> bool
     four_at(events, 8 * k) <= four_at(events, 8 * (k + 1))
 }
 
-// Rule 7, of the whole list.
-fn all_in_order(events: &[u8]) -> bool
-    ensures { λ x. ⌜ x ≡ inOrderBelow (now (events .entry)) (eventCount (now (events .entry))) ⌝ }
+// Rule 7: how many records come before the first that breaks it, all of them where none does.
+fn records_in_order(events: &[u8]) -> usize
+    ensures within { λ x. ⌜ x ≤ eventCount (now (events .entry)) ⌝ }
+    ensures before { λ x. ⌜ inOrderBelow (now (events .entry)) x ≡ true ⌝ }
+    ensures first { λ x. ⌜ (x < eventCount (now (events .entry))
+        → inOrderBelow (now (events .entry)) (suc x) ≡ false) ⌝ }
 {
     let n = events.len() / 8;
     let mut k: usize = 0;
     while k + 1 < n {
         if !in_order(events, k) {
-            return false;
+            return k + 1;
         }
         k += 1;
     }
-    true
+    n
 }
 
-// The first rule that is broken, in the order in which they are tested. The sum of the step count
-// and n is compared once the record is known to have its length.
+// The step count of a record, 0 where the record ends before it does.
+fn count_of(r: &[u8]) -> u32
+    ensures { λ x. ⌜ x ≡ cond (ltb (length (now (r .entry))) 26) 0 (fourAt (now (r .entry)) 22) ⌝ }
+{
+    if r.len() < 26 {
+        return 0;
+    }
+    four_at(r, 22)
+}
+
+// The first rule that is broken, in the order in which they are tested.
 pub fn verdict(memory: &[u8], state: &[u8], events: &[u8], n: u64) -> Verdict
     ensures { λ r. ⌜ r
         ≡ verdictOf (now (memory .entry)) (now (state .entry)) (now (events .entry)) n ⌝ }
@@ -103,11 +118,12 @@ pub fn verdict(memory: &[u8], state: &[u8], events: &[u8], n: u64) -> Verdict
     if 1000000 < n {
         return Verdict::StepCount;
     }
+    let sum = count_of(state) as u64 + n;
     if state.len() != 32 {
         return Verdict::RecordLength;
     }
-    if 4294967295 < four_at(state, 22) as u64 + n {
-        return Verdict::StepCount;
+    if 4294967295 < sum {
+        return Verdict::StepCount; // the sum of 2, compared once 3 has passed
     }
     if !record_fits(state) {
         return Verdict::RecordBits;
@@ -115,12 +131,13 @@ pub fn verdict(memory: &[u8], state: &[u8], events: &[u8], n: u64) -> Verdict
     if !events_fit(events.len()) {
         return Verdict::EventsLength;
     }
-    let fit = all_fit(events);
-    let ordered = all_in_order(events);
+    let count = events.len() / 8;
+    let ordered = records_in_order(events);
+    let fit = fields_fit(events, count);
     if !fit {
         return Verdict::EventFields;
     }
-    if !ordered {
+    if ordered < count {
         return Verdict::EventOrder;
     }
     Verdict::Accepted

@@ -1,20 +1,28 @@
--- A run as its loop goes: a step with no event due, one turn, and the two ways in which it ends. Assumes nothing.
-use Prim.Native.Nat.{ℕ, suc, _+_, _-_, _<_, _≤_}
-use mathlib.Core.Bool.{true, false}
+-- A run as its loop goes: steps with no event due, the stretch after a step, one turn, and the two ways in which it ends.
+-- Assumes nothing.
+use Prim.Native.Nat.{ℕ, _+_, _-_, _/_, _%_, _<_, _≤_}
+use mathlib.Core.Bool.{Bool, true, false, not, _&&_, _||_, true≢false, false≢true}
 use mathlib.Core.List.{List}
-use mathlib.Core.Path.{_≡_, sym, ap, _∙_}
+use mathlib.Core.Path.{_≡_, refl, sym, ap, _∙_}
 use native.Mathlib.Omega.{arith}
-use native.Mathlib.Numerals.{add-one}
+use lib.Dec.{eqb}
+use lib.ListN.{getD}
 use borrow.Author.Tests.{lt-ltb}
-use Rattle.machine.specs.State.{State}
+use Rattle.machine.specs.State.{State, coreOf}
 use Rattle.machine.specs.Events.{Event, eventAt, eventCount, eventsOf}
-use Rattle.machine.specs.Devices.{deliver, deliverAt}
-use Rattle.machine.specs.Step.{finished, stepOf}
+use Rattle.machine.specs.Devices.{deliver}
+use Rattle.machine.specs.Step.{finished}
 use Rattle.machine.specs.Run.{ran, runOf}
-use Rattle.machine_laws.proofs.Runs.{step-live, run-zero, run-next, run-stays}
-use Rattle.devices.specs.Cursor.{Ordered}
+use Rattle.machine_laws.proofs.Cases.{and-left, and-right, eq-of}
+use Rattle.machine_laws.proofs.Runs.{run-zero, run-stays, run-append}
+use Rattle.devices.specs.Cursor.{Ordered, stateFrom}
 use Rattle.devices.proofs.Laws.{behind-later, index-quiet}
-use Rattle.run.specs.Due.{dueOf, Awaits}
+use Rattle.entry.specs.declared.Rest.{Rest}
+use Rattle.entry.specs.Rest.{stateWith}
+use Rattle.quiet_memory.specs.Served.{quietState}
+use Rattle.quiet.specs.Stretch.{Undisturbed}
+use Rattle.quiet.proofs.Laws.{Reaches, run-turn}
+use Rattle.run.specs.Due.{dueOf, Awaits, Quiet}
 
 due-in : (b : List ℕ) (k : ℕ) → k < eventCount b → dueOf b k ≡ eventAt b k .step
 unfolding dueOf
@@ -24,28 +32,74 @@ pub awaits-first : (b : List ℕ) (due k : ℕ) → due ≡ dueOf b 0 → Awaits
 awaits-first b due k e = ((omega arith, λ j h. absurd (omega arith)), e)
 
 module _ (b : List ℕ) (next due k : ℕ) (a : Awaits b next due k) where
-  -- before the step of the next record no event is due
-  pub quiet : (s : State) → Ordered b → k < due → deliverAt k (eventsOf b) s ≡ s
-  quiet s o h = index-quiet b k next s o (a .0) (λ l. let e : due ≡ eventAt b next .step = a .1 ∙ due-in b next l in omega arith)
+  pub awaits-later : (j : ℕ) → k ≤ j → Awaits b next due j
+  awaits-later j h = (behind-later b next k j h (a .0), a .1)
 
-  pub awaits-later : Awaits b next due (k + 1)
-  awaits-later = (behind-later b next k (k + 1) (omega arith) (a .0), a .1)
+  -- before the step of the next record no event is due
+  pub undisturbed : Ordered b → Undisturbed (eventsOf b) k due
+  undisturbed o j h l s =
+      index-quiet b j next s o (awaits-later j h .0) (λ q. let e : due ≡ eventAt b next .step = a .1 ∙ due-in b next q in omega arith)
+
+-- ---- the stretch after a step
+
+neither : (a b : Bool) → a || b ≡ false → (a ≡ false) × (b ≡ false)
+neither true b e = absurd (true≢false e)
+neither false b e = (refl, e)
+
+pub not-false : (b : Bool) → not b ≡ false → b ≡ true
+not-false true e = refl
+not-false false e = absurd (true≢false e)
+
+not-true : (b : Bool) → not b ≡ true → b ≡ false
+not-true true e = absurd (false≢true e)
+not-true false e = refl
+
+pub tests-quiet :
+    (regs : List ℕ) (t : Rest) → t .halted || not (eqb (t .lines) 0) || not (eqb (t .cex) 0) ≡ false →
+    eqb (getD regs 7 0 % 2) 0 && not (eqb (t .psw / 8 % 2) 1) ≡ true → Quiet regs t
+tests-quiet regs t e f =
+    let p = neither _ _ e in
+    let q = neither _ _ (p .0) in
+    let even = eqb (getD regs 7 0 % 2) 0 in
+    let awake = not (eqb (t .psw / 8 % 2) 1) in (
+      q .0,
+      eq-of (not-false _ (q .1)),
+      eq-of (not-false _ (p .1)),
+      (eq-of (and-left even awake f), not-true _ (and-right even awake f)),
+    )
+
+pub stretch-none : (ev : List Event) (s : State) (n : ℕ) → ran s (n - n) ≡ runOf ev s (n - n)
+stretch-none ev s n = let e : n - n ≡ 0 = omega arith in rw e (sym (run-zero ev s))
+
+pub stretch-done :
+    (regs m regs₁ m₁ : List ℕ) (t : Rest) (due psw j : ℕ) (ev : List Event) → Quiet regs t → j ≤ due - t .count →
+    Reaches regs (t .psw) m regs₁ psw m₁ j → Undisturbed ev (t .count) due →
+    ran (quietState regs₁ psw 0 (t .count + j) m₁) (t .count + j - t .count) ≡ runOf ev (stateWith regs t m) (t .count + j - t .count)
+stretch-done regs m regs₁ m₁ t due psw j ev q h f u =
+    let n = t .count in
+    let e : n + j - n ≡ j = omega arith in
+    let s : quietState regs (t .psw) 0 n m ≡ stateWith regs t m =
+    λ i. stateFrom (coreOf regs (t .psw) (sym (q .2) i)) (sym (q .1) i) (sym (q .0) i) n m in
+    rw e (f ev n (λ i a b. u i a (omega arith)) ∙ ap (λ x. runOf ev x j) s)
+
+-- ---- a run
 
 module _ (ev : List Event) (s₀ : State) where
   pub run-start : ran s₀ 0 ≡ runOf ev s₀ 0
   run-start = sym (run-zero ev s₀)
 
-  -- one turn: the events of a step, and then the step
-  pub run-turn :
-      (s t u : State) (k : ℕ) → ran s k ≡ runOf ev s₀ k → s .halted ≡ false → t ≡ deliver ev s → u ≡ finished t →
-      ran u (k + 1) ≡ runOf ev s₀ (k + 1)
-  run-turn s t u k e h p q =
-      let r = sym (ap (λ x. x .state) e) in
-      let f : stepOf ev s ≡ u = step-live ev s h ∙ ap finished (sym p) ∙ sym q in
-      let g = run-next ev s₀ k (ap (λ x. x .halted) r ∙ h) in
-      let w : runOf ev s₀ (suc k) ≡ ran u (suc k) =
-      g ∙ ap (λ x. ran (stepOf ev (x .state)) (suc (x .steps))) (sym e) ∙ ap (λ x. ran x (suc k)) f in
-      rw (add-one k) (sym w)
+  -- one turn: the events of a step, the step, and a stretch of j more
+  pub run-turns :
+      (s t u v : State) (k j : ℕ) → ran s k ≡ runOf ev s₀ k → s .halted ≡ false → t ≡ deliver ev s → u ≡ finished t →
+      ran v j ≡ runOf ev u j → ran v (k + (1 + j)) ≡ runOf ev s₀ (k + (1 + j))
+  run-turns s t u v k j e h p q r =
+      let w = run-turn ev s₀ s t u k e h p q in
+      let a : k + (1 + j) ≡ k + 1 + j = omega arith in
+      rw a
+      (sym
+      (run-append ev s₀ (k + 1) j
+      ∙ ap (λ x. ran (runOf ev (x .state) j .state) (x .steps + runOf ev (x .state) j .steps)) (sym w)
+      ∙ ap (λ x. ran (x .state) (k + 1 + x .steps)) (sym r)))
 
   -- all steps done, and halted before that
   pub run-full : (s : State) (k n : ℕ) → ran s k ≡ runOf ev s₀ k → k ≤ n → n ≤ k → ran s k ≡ runOf ev s₀ n

@@ -1,13 +1,19 @@
 -- `exec::set_priority` meets its contract. Assumes nothing.
+use Prim.Native.Nat.{_<_}
+use native.Mathlib.Omega.{arith}
 use borrow.Author.Tests.{lt-ltb, le-ltb}
 use borrow.Author.Needs.{needs}
+use Rattle.word.specs.Psw.{current}
 use Rattle.machine.specs.Effect.{effectOf}
 use Rattle.exec.proofs.set_priority.Statement.{statement}
 use Rattle.exec.proofs.set_priority.Tie as tie
 
 returns : tie.Need-returns
 unfolding effectOf
-returns c = λ regs. rw (lt-ltb _ _ (c .if1 .taken))
+returns c =
+    let a = c .before .args in
+    let up : current (a .psw) < a .level = omega arith in
+    λ regs. rw (lt-ltb _ _ up)
 
 priority-put-requires : tie.Need-priority-put-requires
 priority-put-requires c κs = search needs

@@ -26,15 +26,12 @@ wrapping-add-u16-requires c κs = search needs
 element-write-regs : tie.Need-element-write-regs
 element-write-regs c = search needs
 
-lower-requires : tie.Need-lower-requires
-lower-requires c κs = search needs
-
 execute-word-requires : tie.Need-execute-word-requires
 execute-word-requires c κs = search needs
 
 grant-requires : tie.Need-grant-requires
 grant-requires c κs =
-    let p = c .before .before .before .before .before .before .before .before .before .before .before .pre in (
+    let p = c .before .before .before .before .before .before .before .before .before .before .pre in (
       p .0,
       p .1,
       subst (λ (e : Effect). Within (e .access)) (sym (c .before .before .execute-word .ensures)) (effect-within _ _ (decode-fields _)),
@@ -45,14 +42,14 @@ same-length c = search needs
 
 returns : tie.Need-returns
 returns c =
-    let b = c .before .before .before .before .before .before .before .before .before in
+    let b = c .before .before .before .before .before .before .before .before in
     let a = b .before .before .before .before .before .args in
     let x = coreOf (now (a .regs)) (a .t .psw) (a .t .cex) in
     let e = fetched (now (a .regs)) (now (a .mem)) (a .t .psw) (a .t .cex) _ _ _ _ _
     (b .before .word-of .ensures .0)
     (b .read-word .ensures)
-    (c .before .before .before .before .before .before .before .before .wrapping-add-u16 .ensures)
-    (c .before .before .before .before .before .before .lower .ensures)
+    (c .before .before .before .before .before .before .before .wrapping-add-u16 .ensures)
+    (b .before .before .before .before .before .pre .2)
     (c .before .before .before .before .before .execute-word .ensures) in
     c .before .before .grant .ensures x refl refl refl (fetched-quits _ _ _ e)
     ∙ ap (λ (y : Effect). closedBy (executed x y (now (a .mem))) (a .t .lines) (a .t .count) (now (a .mem))) e
@@ -66,7 +63,6 @@ fetch-execute-spec =
     read-word-requires
     wrapping-add-u16-requires
     element-write-regs
-    lower-requires
     execute-word-requires
     grant-requires
     same-length

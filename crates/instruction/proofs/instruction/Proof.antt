@@ -1,14 +1,11 @@
-use Prim.Native.Nat.{ℕ}
-use mathlib.Core.List.{List}
-use mathlib.Core.Path.{ap, sym, _∙_}
-use lib.Seq.{set-getD}
+use mathlib.Core.Path.{refl, ap, sym, _∙_}
 use borrow.Author.Needs.{needs}
 use denote.Ref.{now}
-use Rattle.machine.specs.Step.{Plan, faulting}
+use Rattle.machine.specs.Step.{Plan}
 use Rattle.machine.specs.State.{coreOf}
 use Rattle.entry.specs.Rest.{stateWith}
 use Rattle.instruction.specs.Closed.{closedBy}
-use Rattle.instruction.proofs.Laws.{instruction-asleep, instruction-odd, instruction-skips, instruction-runs, asleep-law}
+use Rattle.instruction.proofs.Laws.{instruction-asleep, instruction-skips, instruction-runs, odd-law, asleep-law}
 use Rattle.instruction.proofs.instruction.Statement.{statement}
 use Rattle.instruction.proofs.instruction.Tie as tie
 
@@ -27,6 +24,9 @@ returns c =
 element-copy-out-pc : tie.Need-element-copy-out-pc
 element-copy-out-pc c = search needs
 
+lower-requires : tie.Need-lower-requires
+lower-requires c κs = search needs
+
 fault-requires : tie.Need-fault-requires
 fault-requires c κs = search needs
 
@@ -36,13 +36,9 @@ same-length c = search needs
 returns-2 : tie.Need-returns-2
 returns-2 c =
     let b = c .before .before .before .before .before in
-    let a = b .before .before .before .before .before .args in
-    let x = coreOf (now (a .regs)) (a .t .psw) (a .t .cex) in
-    let m = now (a .mem) in
-    let before = set-getD (now (a .regs)) 7 0 in
-    c .before .before .fault .ensures
-    ∙ ap (λ (l : List ℕ). closedBy (faulting (coreOf l (a .t .psw) (a .t .cex)) x 9) (a .t .lines) (a .t .count) m) before
-    ∙ ap (λ (p : Plan). closedBy p (a .t .lines) (a .t .count) m) (sym (instruction-odd x m (b .before .before .if1 .left) (b .if2 .taken)))
+    let a = b .before .before .before .before .before .before .args in
+    odd-law (now (a .regs)) (now (a .mem)) (a .t .psw) (a .t .cex) _ (a .t .lines) (a .t .count)
+    (c .before .before .fault .ensures) refl (b .before .before .before .if1 .left) (b .if2 .taken)
 
 skips-requires : tie.Need-skips-requires
 skips-requires c κs = search needs
@@ -53,11 +49,11 @@ skip-requires c κs = search needs
 returns-3 : tie.Need-returns-3
 returns-3 c =
     let b = c .before .before .before in
-    let a = b .before .before .before .before .before .before .args in
+    let a = b .before .before .before .before .before .before .before .args in
     let x = coreOf (now (a .regs)) (a .t .psw) (a .t .cex) in
     let m = now (a .mem) in
     let k = sym (b .skips .ensures) ∙ c .before .before .if3 .taken in
-    let plan = instruction-skips x m (b .before .before .before .if1 .left) (b .before .if2 .left) k in
+    let plan = instruction-skips x m (b .before .before .before .before .if1 .left) (b .before .if2 .left) k in
     c .skip .ensures m ∙ ap (λ (p : Plan). closedBy p (a .t .lines) (a .t .count) m) (sym plan)
 
 fetch-execute-requires : tie.Need-fetch-execute-requires
@@ -69,11 +65,11 @@ same-length-2 c = search needs
 returns-4 : tie.Need-returns-4
 returns-4 c =
     let b = c .before .before .before .before .before in
-    let a = b .before .before .before .before .before .before .before .args in
+    let a = b .before .before .before .before .before .before .before .before .args in
     let x = coreOf (now (a .regs)) (a .t .psw) (a .t .cex) in
     let m = now (a .mem) in
     let k = sym (b .before .skips .ensures) ∙ b .if3 .left in
-    let plan = instruction-runs x m (b .before .before .before .before .if1 .left) (b .before .before .if2 .left) k in
+    let plan = instruction-runs x m (b .before .before .before .before .before .if1 .left) (b .before .before .if2 .left) k in
     c .before .before .fetch-execute .ensures ∙ ap (λ (p : Plan). closedBy p (a .t .lines) (a .t .count) m) (sym plan)
 
 pub instruction-spec : {M : Type 1} → statement M
@@ -83,6 +79,7 @@ instruction-spec =
     counted-requires
     returns
     element-copy-out-pc
+    lower-requires
     fault-requires
     same-length
     returns-2

@@ -13,18 +13,15 @@ wrapping-add-u16-requires c κs = search needs
 element-write-regs : tie.Need-element-write-regs
 element-write-regs c = search needs
 
-lower-requires : tie.Need-lower-requires
-lower-requires c κs = search needs
-
-add-t9 : tie.Need-add-t9
-add-t9 c = search needs
+add-t10 : tie.Need-add-t10
+add-t10 c = search needs
 
 returns : tie.Need-returns
 returns c =
-    let a = c .before .before .before .before .args in
+    let a = c .before .before .before .args in
     λ m. skip-law (now (a .regs)) m (a .t .psw) (a .t .cex) _ _ (a .t .lines) (a .t .count)
-    (c .before .before .wrapping-add-u16 .ensures)
-    (c .before .lower .ensures)
+    (c .before .wrapping-add-u16 .ensures)
+    (c .before .before .before .pre .1)
 
 pub skip-spec : {M : Type 1} → statement M
 skip-spec =
@@ -33,6 +30,5 @@ skip-spec =
     element-copy-out-wrapping-add-u16
     wrapping-add-u16-requires
     element-write-regs
-    lower-requires
-    add-t9
+    add-t10
     returns)

@@ -1,13 +1,15 @@
 use mathlib.Core.Path.{sym}
+use native.Mathlib.Omega.{arith}
 use borrow.Author.Needs.{needs}
-use Rattle.run.proofs.Laws.{quiet, awaits-later}
+use Rattle.run.proofs.Laws.{undisturbed, awaits-later}
 use Rattle.run.proofs.deliver_due.Statement.{statement}
 use Rattle.run.proofs.deliver_due.Tie as tie
 
 returns : tie.Need-returns
 returns c =
     let a = c .before .before .before .pre .1 in
-    (λ k h. sym (quiet _ _ _ _ a _ (c .before .before .before .pre .2) (c .if1 .taken)), awaits-later _ _ _ _ a)
+    let o = c .before .before .before .pre .2 in
+    (λ k h. sym (undisturbed _ _ _ _ a o _ (omega arith) (c .if1 .taken) _), awaits-later _ _ _ _ a _ (omega arith))
 
 deliver-requires : tie.Need-deliver-requires
 deliver-requires c κs = search needs

@@ -2,7 +2,7 @@
 -- gained them, and the index awaits the next event. Assumes nothing.
 use Prim.Native.Nat.{_+_, _-_, _≤_}
 use mathlib.Core.Logic.{⊎-elim}
-use mathlib.Core.Path.{_≡_, refl, ap, sym, subst, _∙_}
+use mathlib.Core.Path.{_≡_, refl, ap, _∙_}
 use native.Mathlib.Omega.{arith}
 use denote.Ref.{now}
 use lib.ListN.{length}
@@ -11,7 +11,7 @@ use Rattle.machine.specs.Events.{eventsOf}
 use Rattle.machine.specs.Run.{ran, runOf, reasonOf}
 use Rattle.entry.specs.Rest.{stateWith}
 use Rattle.run.specs.Due.{Awaits}
-use Rattle.run.proofs.Laws.{awaits-first, run-start, run-turn, run-full, run-stopped}
+use Rattle.run.proofs.Laws.{awaits-first, awaits-later, undisturbed, run-start, run-turns, run-full, run-stopped}
 use Rattle.run.proofs.run.Statement.{statement}
 use Rattle.run.proofs.run.Tie as tie
 
@@ -42,26 +42,60 @@ step-due-requires c κs =
     let f = c .before .before .before .before .before .before in
     (omega arith, omega arith, f .if1 .left)
 
+sub-stretch : tie.Need-sub-stretch Inv-loop μ-loop
+sub-stretch c = omega arith
+
+sub-stretch-2 : tie.Need-sub-stretch-2 Inv-loop μ-loop
+sub-stretch-2 c = omega arith
+
+stretch-requires : tie.Need-stretch-requires Inv-loop μ-loop
+stretch-requires c κs =
+    let p = c .before .before .before .before .step-due in
+    let l = c .before .before .before .before .before .before .before .before .before .before .before .before .before in
+    let s = l .before .before .before .before .before .pre in
+    let k : p .result .count ≡ l .loop .t .count + 1 = ap (λ (x : State). x .count) (p .ensures) in
+    (omega (arith, s .0), omega (arith, s .1))
+
+sub-done : tie.Need-sub-done Inv-loop μ-loop
+sub-done c = omega arith
+
 add-done : tie.Need-add-done Inv-loop μ-loop
-add-done c = omega arith
+add-done c =
+    let f = c .before .before .before .stretch .ensures .1 in
+    let d = c .before .before .before .before .before .before .before .before .before .before .before .before .before in
+    omega (arith, d .before .before .before .loop-test, d .before .before .before .before .loop .inv .0)
+
+add-done-2 : tie.Need-add-done-2 Inv-loop μ-loop
+add-done-2 c =
+    let f = c .before .before .before .stretch .ensures .1 in
+    let d = c .before .before .before .before .before .before .before .before .before .before .before .before .before in
+    let s = d .before .before .before .before .before .before .before .before .before .pre in
+    omega (arith, d .before .before .before .loop-test, d .before .before .before .before .loop .inv .0, s .1)
 
 loop-less : tie.Need-loop-less Inv-loop μ-loop
 loop-less c = omega arith
 
 loop-again : tie.Need-loop-again Inv-loop μ-loop
 loop-again c =
-    let p = c .before .before .step-due in
-    let d = c .before .before .before .before .before .before .before in
+    let f = c .before .before .before .stretch in
+    let p = c .before .before .before .before .before .before .before .before .step-due in
+    let d = c .before .before .before .before .before .before .before .before .before .before .before .before .before in
     let l = d .before .before .before .before .loop in
-    let b = now (d .before .before .before .before .before .before .before .before .before .args .events) in
+    let s = d .before .before .before .before .before .before .before .before .before in
+    let b = now (s .args .events) in
     let a = d .deliver-due .result in
-    let k : p .result .count ≡ l .t .count + 1 = ap (λ (x : State). x .count) (p .ensures) in (
+    let k : p .result .count ≡ l .t .count + 1 = ap (λ (x : State). x .count) (p .ensures) in
+    let w = awaits-later b (a .next) (a .due) _ (d .deliver-due .ensures .1) in (
       omega arith,
       omega arith,
       omega arith,
-      subst (Awaits b (a .next) (a .due)) (sym k) (d .deliver-due .ensures .1),
-      run-turn _ _ _ _ _ _ (l .inv .4) (d .before .before .if1 .left) (d .deliver-due .ensures .0 _ _) (p .ensures),
+      w _ (omega arith),
+      run-turns _ _ _ _ _ _ _ _ (l .inv .4) (d .before .before .if1 .left) (d .deliver-due .ensures .0 _ _) (p .ensures)
+          (f .ensures .0 (eventsOf b) (undisturbed b (a .next) (a .due) _ (w _ (omega arith)) (s .pre .2))),
     )
+
+put-together-requires : tie.Need-put-together-requires Inv-loop μ-loop
+put-together-requires c κs = tt
 
 reason-of-requires : tie.Need-reason-of-requires Inv-loop μ-loop
 reason-of-requires c κs = tt
@@ -71,16 +105,17 @@ same-length c = omega arith
 
 returns : tie.Need-returns Inv-loop μ-loop
 returns c =
-    let l = c .before .before .loop in
-    let a = c .before .before .before .before .before .before .before .args in
+    let l = c .before .before .before .loop in
+    let a = c .before .before .before .before .before .before .before .before .args in
     let ev = eventsOf (now (a .events)) in
     let s = stateOf (a .m) (now (a .memory)) in
     let e : ran (stateWith (l .regs) (l .t) (l .memory)) (l .done) ≡ runOf ev s (a .n) =
     ⊎-elim
     (λ w. run-full ev s _ _ _ (l .inv .4) (l .inv .0) (w .left))
     (λ w. run-stopped ev s _ _ _ (l .inv .4) (l .inv .0) (w .1 .taken))
-    (c .before .loop-test .came) in
-    (e, (c .reason-of .ensures ∙ ap reasonOf e, l .inv .0))
+    (c .before .before .loop-test .came) in
+    let p = c .before .put-together .ensures (l .memory) in
+    (ap (λ x. ran x (l .done)) p ∙ e, (c .reason-of .ensures ∙ ap reasonOf e, l .inv .0))
 
 pub run-spec : {M : Type 1} → statement M
 run-spec =
@@ -92,9 +127,15 @@ run-spec =
     loop-holds
     deliver-due-requires
     step-due-requires
+    sub-stretch
+    sub-stretch-2
+    stretch-requires
+    sub-done
     add-done
+    add-done-2
     loop-less
     loop-again
+    put-together-requires
     reason-of-requires
     same-length
     returns)

@@ -1,0 +1,177 @@
+-- What the code of a quiet machine's instruction leaves, put together as its definition has it. l is the registers with PC
+-- past the instruction, m the memory before it, p the PSW. Assumes nothing.
+use Prim.Native.Nat.{ℕ, _+_, _/_, _%_, _<_, _≤_}
+use native.Mathlib.Omega.{arith}
+use mathlib.Core.Bool.{Bool, true, false, cond, _||_}
+use mathlib.Core.List.{List}
+use mathlib.Core.Logic.{inl, inr, ⊎-elim}
+use mathlib.Core.Path.{_≡_, refl, sym, ap, subst, _∙_}
+use lib.Dec.{T, eqb, ltb}
+use lib.IntN.{ℤ}
+use lib.ListN.{getD, set}
+use lib.Seq.{getD-set-other}
+use borrow.Author.Tests.{eqb-false, lt-ltb, le-ltb}
+use Rattle.isa.specs.declared.Instr.{Instr}
+use Rattle.isa.specs.declared.Instr.the-variants as Instr
+use Rattle.isa.specs.Decode.{relativeOf, decodeOf}
+use Rattle.machine.specs.declared.Access.the-variants as asks
+use Rattle.machine.specs.State.{coreOf, moved}
+use Rattle.machine.specs.Memory.{commit}
+use Rattle.machine.specs.Devices.{storeWrites}
+use Rattle.machine.specs.Effect.{Effect, effect, effectOf, moves?, adjusted}
+use Rattle.machine.specs.Step.{planned, loads, executed}
+use Rattle.exec.proofs.Laws.{loading, storing}
+use Rattle.instruction.proofs.Laws.{granted-nothing, granted-load, granted-store}
+use Rattle.quiet_registers.specs.Quiet.{calm, Steady, Tried}
+use Rattle.quiet_memory.specs.Served.{quietState, carriedOut, Served, Taken}
+
+-- ---- the CEX state and PC
+
+-- a CEX state of 0 stays
+pub cex-calm : (moves pc : Bool) → _≡_ {A = ℕ} (cond moves (cond pc 0 0) 0) 0
+cex-calm true true = refl
+cex-calm true false = refl
+cex-calm false pc = refl
+
+-- a write to another register
+pub pc-set : (l : List ℕ) (i v : ℕ) → i < 7 → getD (set l i v) 7 0 ≡ getD l 7 0
+pc-set l i v h = getD-set-other l i 7 v 0 (λ e. omega arith)
+
+-- a steady machine whose PC and PSW stay is steady
+steady-kept : (l k : List ℕ) (p : ℕ) → getD k 7 0 ≡ getD l 7 0 → Steady l p → Steady k p
+steady-kept l k p e h = (ap (λ (x : ℕ). x % 2) e ∙ h .0, h .1)
+
+-- ---- what is granted
+
+module _ (x : Instr) (l k m : List ℕ) (p : ℕ) where
+  -- a load's registers before it are k; k′ and m′ are after it
+  pub served-load :
+      (k′ m′ : List ℕ) (byte : Bool) (at dst : ℕ) → p < 65536 →
+      effect (calm k p) (asks.Load byte at dst) ≡ effectOf (calm l p) x →
+      ((q t n : ℕ) → quietState k′ q t (n + 1) m′ ≡ carriedOut (planned (calm k q) (loads byte at dst)) t n m) →
+      getD k′ 7 0 ≡ getD l 7 0 → Served x l p m k′ p m′
+  served-load k′ m′ byte at dst hp e f g = (
+    hp,
+    (λ b t n.
+        granted-load b (calm k p) (asks.Load byte at dst) t n m byte at dst refl (f p t n)
+        ∙ ap (λ (y : Effect). carriedOut (executed b y m) t n m) e),
+    steady-kept l k′ p g,
+  )
+
+  pub served-store :
+      (m′ : List ℕ) (byte : Bool) (at v : ℕ) → p < 65536 →
+      effect (calm k p) (asks.Store byte at v) ≡ effectOf (calm l p) x → m′ ≡ commit (storeWrites byte m at v) m →
+      getD k 7 0 ≡ getD l 7 0 → Served x l p m k p m′
+  served-store m′ byte at v hp e f g = (
+    hp,
+    (λ b t n.
+        granted-store b (calm k p) (asks.Store byte at v) t n m byte at v m′ refl f
+        ∙ ap (λ (y : Effect). carriedOut (executed b y m) t n m) e),
+    steady-kept l k p g,
+  )
+
+  -- an instruction that touches registers alone
+  pub tried-taken : (r : ℕ) → Tried x l p k r → Taken x l p m k r m
+  tried-taken r =
+      ⊎-elim (λ h. inl (h .0, h .1, refl))
+      (λ h.
+      inr (
+        h .0,
+        (λ b t n.
+            granted-nothing b (calm k r) asks.Nothing t n m refl ∙ ap (λ (y : Effect). carriedOut (executed b y m) t n m) (sym (h .1))),
+        h .2,
+      ))
+
+-- ---- LD and ST
+
+pc-moves : (moves : Bool) (l : List ℕ) (i v : ℕ) → i < 7 → getD (cond moves (set l i v) l) 7 0 ≡ getD l 7 0
+pc-moves true l i v h = pc-set l i v h
+pc-moves false l i v h = refl
+
+-- an adjustment of another register leaves PC
+pub pc-adjusted :
+    (moves : Bool) (l k : List ℕ) (i v : ℕ) → i < 7 → k ≡ cond moves (set l i v) l → getD k 7 0 ≡ getD l 7 0
+pc-adjusted moves l k i v h e = ap (λ (x : List ℕ). getD x 7 0) e ∙ pc-moves moves l i v h
+
+module _ (l k : List ℕ) (p y prpo dec inc wb i : ℕ) {a b at : ℕ} (ha : a ≡ getD l i 0) (hb : b ≡ adjusted a dec inc wb)
+    (ht : at ≡ cond (eqb prpo 1) b a)
+    (w : (k ≡ cond (moves? dec inc) (set l i b) l) × (y ≡ cond (moves? dec inc) (cond (eqb i 7) 0 0) 0)) where
+  calm-after : 0 ≡ y
+  calm-after = sym (w .1 ∙ cex-calm (moves? dec inc) (eqb i 7))
+
+  pub load-effect :
+      (dst : ℕ) → effect (calm k p) (asks.Load (eqb wb 1) at dst) ≡ effectOf (calm l p) (Instr.Ld prpo dec inc wb i dst)
+  load-effect dst =
+      ap (λ (x : ℕ). effect (coreOf k p x) (asks.Load (eqb wb 1) at dst)) calm-after
+      ∙ loading l k p 0 y prpo dec inc wb i ha hb ht w dst
+
+  pub store-effect :
+      (src : ℕ) {v : ℕ} → v ≡ getD l src 0 →
+      effect (calm k p) (asks.Store (eqb wb 1) at v) ≡ effectOf (calm l p) (Instr.St prpo dec inc wb src i)
+  store-effect src {v} h =
+      ap (λ (x : ℕ). effect (coreOf k p x) (asks.Store (eqb wb 1) at v)) calm-after
+      ∙ storing l k p 0 y prpo dec inc wb i ha hb ht w src h
+
+-- two registers that are not R7, as LD's one test tells
+neither : (t u : Bool) → (t || u) ≡ false → (t ≡ false) × (u ≡ false)
+neither true u e = absurd (subst T e tt)
+neither false true e = absurd (subst T e tt)
+neither false false e = (refl, refl)
+
+pub below-seven : (i j : ℕ) → i < 8 → j < 8 → (eqb i 7 || eqb j 7) ≡ false → (i < 7) × (j < 7)
+below-seven i j hi hj e =
+    let n = neither (eqb i 7) (eqb j 7) e in
+    let f = eqb-false i 7 (n .0) in
+    let g = eqb-false j 7 (n .1) in
+    (omega arith, omega arith)
+
+-- ---- LDR and STR
+
+module _ (l : List ℕ) (p wb i : ℕ) (off : ℤ) {a at : ℕ} (ha : a ≡ getD l i 0) (ht : at ≡ moved a off) where
+  from-base : at ≡ moved (getD l i 0) off
+  from-base = ht ∙ ap (λ (x : ℕ). moved x off) ha
+
+  pub load-relative-effect :
+      (dst : ℕ) → effect (calm l p) (asks.Load (eqb wb 1) at dst) ≡ effectOf (calm l p) (Instr.Ldr off wb i dst)
+  unfolding effectOf
+  load-relative-effect dst = λ j. effect (calm l p) (asks.Load (eqb wb 1) (from-base j) dst)
+
+  pub store-relative-effect :
+      (src : ℕ) {v : ℕ} → v ≡ getD l src 0 →
+      effect (calm l p) (asks.Store (eqb wb 1) at v) ≡ effectOf (calm l p) (Instr.Str off wb src i)
+  unfolding effectOf
+  store-relative-effect src h = λ j. effect (calm l p) (asks.Store (eqb wb 1) (from-base j) (h j))
+
+-- ---- words from 5800
+
+module _ (w : ℕ) (h : 0x5800 ≤ w) where
+  decode-high :
+      decodeOf w ≡
+      cond (ltb w 0x6000)
+      (cond (ltb w 0x5C00)
+      (Instr.Ld (w / 512 % 2) (w / 256 % 2) (w / 128 % 2) (w / 64 % 2) (w / 8 % 8) (w % 8))
+      (Instr.St (w / 512 % 2) (w / 256 % 2) (w / 128 % 2) (w / 64 % 2) (w / 8 % 8) (w % 8)))
+      (cond (ltb w 0x8000) (Instr.MovImm (w / 2048 % 4) (w / 8 % 256) (w % 8)) (relativeOf w))
+  unfolding decodeOf
+  decode-high =
+      let p : 0x2000 ≤ w = omega arith in
+      let q : 0x4000 ≤ w = omega arith in
+      let r : 0x4C00 ≤ w = omega arith in
+      let s : 0x5000 ≤ w = omega arith in
+      let t : 0x5400 ≤ w = omega arith in
+      simp (le-ltb _ _ p, le-ltb _ _ q, le-ltb _ _ r, le-ltb _ _ s, le-ltb _ _ t, le-ltb _ _ h)
+
+  pub decode-load :
+      w < 0x5C00 → decodeOf w ≡ Instr.Ld (w / 512 % 2) (w / 256 % 2) (w / 128 % 2) (w / 64 % 2) (w / 8 % 8) (w % 8)
+  decode-load k = decode-high ∙ rw (lt-ltb w 0x6000 (omega arith), lt-ltb w 0x5C00 k) refl
+
+  pub decode-store :
+      0x5C00 ≤ w → w < 0x6000
+      → decodeOf w ≡ Instr.St (w / 512 % 2) (w / 256 % 2) (w / 128 % 2) (w / 64 % 2) (w / 8 % 8) (w % 8)
+  decode-store j k = decode-high ∙ rw (lt-ltb w 0x6000 k, le-ltb w 0x5C00 j) refl
+
+  pub decode-immediate : 0x6000 ≤ w → w < 0x8000 → decodeOf w ≡ Instr.MovImm (w / 2048 % 4) (w / 8 % 256) (w % 8)
+  decode-immediate j k = decode-high ∙ rw (le-ltb w 0x6000 j, lt-ltb w 0x8000 k) refl
+
+  pub decode-relative : 0x8000 ≤ w → decodeOf w ≡ relativeOf w
+  decode-relative j = decode-high ∙ rw (le-ltb w 0x6000 (omega arith), le-ltb w 0x8000 j) refl

@@ -1,0 +1,183 @@
+-- What an instruction that touches registers and flags alone leaves of a quiet machine. l is the registers, p the PSW
+-- before it, m and r those after it. Assumes nothing.
+use Prim.Native.Nat.{ℕ, zero, suc, _%_, _<_}
+use mathlib.Core.Bool.{Bool, true, false, cond}
+use mathlib.Core.List.{List, [], _∷_}
+use mathlib.Core.Path.{_≡_, refl, sym, ap, _∙_}
+use native.Mathlib.Nat.{mod-eq-of-lt}
+use native.Mathlib.Omega.{arith}
+use lib.Bits.{bitAnd, bitOr, bitXor}
+use lib.Dec.{eqb}
+use lib.IntN.{ℤ, pos, negsuc}
+use lib.ListN.{getD, set}
+use lib.Seq.{getD-set-other}
+use Rattle.word.specs.Width.{widthOf, low, turned}
+use Rattle.word.specs.Psw.{asleep?}
+use Rattle.alu.specs.declared.Op.{Op}
+use Rattle.alu.specs.declared.Op.the-variants.{And, Or, Xor, Cmp, Bit}
+use Rattle.alu.specs.declared.Outcome.{Outcome}
+use Rattle.alu.specs.Alu.{aluOf, logical, summed, tested}
+use Rattle.alu.proofs.Laws.{alu-asleep, alu-psw-word}
+use Rattle.isa.specs.declared.Instr.{Instr}
+use Rattle.isa.specs.declared.Instr.the-variants as i
+use Rattle.machine.specs.State.{Core, moved, doubled, withPsw, put}
+use Rattle.machine.specs.Effect.{Effect, effectOf, plainly, operated, operand, binaryOf, flagsOnly?, branched, takenOf}
+use Rattle.exec.specs.declared.Done.{Done}
+use Rattle.exec.specs.Done.{doneWith}
+use Rattle.quiet_registers.specs.Quiet.{calm, Steady, Executed}
+
+-- ---- a core with CEX state 0, steady where the machine was
+
+abbrev Calm : List ℕ → ℕ → Core → Type 0
+Calm l p c = (c .cex ≡ 0) × (Steady l p → Steady (c .regs) (c .psw))
+
+cleared : (b : Bool) → _≡_ {A = ℕ} (cond b 0 0) 0
+cleared true = refl
+cleared false = refl
+
+module _ (l : List ℕ) (p : ℕ) where
+  same : Calm l p (calm l p)
+  same = (refl, λ s. s)
+
+  either : (b : Bool) (c d : Core) → Calm l p c → Calm l p d → Calm l p (cond b c d)
+  either true c d h k = h
+  either false c d h k = k
+
+  -- a write to a register below R7, and flags
+  written : (n v q : ℕ) → n < 7 → asleep? q ≡ asleep? p → Calm l p (withPsw (put (calm l p) n v) q)
+  written n v q h e =
+      let k : getD (set l n v) 7 0 ≡ getD l 7 0 = getD-set-other l n 7 v 0 (λ q. omega arith) in
+      (cleared (eqb n 7), λ s. (ap (λ (x : ℕ). x % 2) k ∙ s .0, e ∙ s .1))
+
+  -- an instruction that leaves such a core is executed
+  settled : (x : Instr) (m : List ℕ) (r : ℕ) (c : Core) → effectOf (calm l p) x ≡ plainly c → Calm l p c
+      → m ≡ c .regs → r ≡ c .psw → r < 65536 → Executed x l p m r
+  settled x m r c e k hm hr h =
+      let f : calm m r ≡ c = λ j. record { regs = hm j; psw = hr j; cex = sym (k .0) j } in
+      (h, e ∙ ap plainly (sym f), λ s. rw (hm, hr) (k .1 s))
+
+-- the registers that its code leaves
+left : {m : List ℕ} {d : Done} {c : Core} → doneWith m d ≡ plainly c → m ≡ c .regs
+left h = ap (λ (e : Effect). e .core .regs) h
+
+-- ---- one register
+
+module _ (l m : List ℕ) (p : ℕ) {d : Done} (hp : p < 65536) where
+  pub moving : (wb src dst : ℕ) → dst < 7 → doneWith m d ≡ effectOf (calm l p) (i.Mov wb src dst)
+      → Executed (i.Mov wb src dst) l p m p
+  unfolding effectOf
+  moving wb src dst h e = settled l p (i.Mov wb src dst) m p _ refl (written l p dst _ p h refl) (left e) refl hp
+
+  pub moving-byte : (op b dst : ℕ) → dst < 7 → doneWith m d ≡ effectOf (calm l p) (i.MovImm op b dst)
+      → Executed (i.MovImm op b dst) l p m p
+  unfolding effectOf
+  moving-byte op b dst h e = settled l p (i.MovImm op b dst) m p _ refl (written l p dst _ p h refl) (left e) refl hp
+
+-- ---- operations
+
+module _ (l : List ℕ) (p op rc wb src dst : ℕ) where
+  abbrev outcome : Outcome
+  outcome = aluOf (binaryOf op) (widthOf (eqb wb 1)) (getD l dst 0) (operand (calm l p) rc src) p
+
+  awake : asleep? (outcome .psw) ≡ asleep? p
+  awake = alu-asleep (binaryOf op) (widthOf (eqb wb 1)) (getD l dst 0) (operand (calm l p) rc src) p
+
+  flagged-calm : Calm l p (withPsw (calm l p) (outcome .psw))
+  flagged-calm = (refl, λ s. (s .0, awake ∙ s .1))
+
+  -- by the general code
+  pub operating : (m : List ℕ) {d : Done} → dst < 7 → d .psw < 65536
+      → doneWith m d ≡ effectOf (calm l p) (i.Alu op rc wb src dst) → Executed (i.Alu op rc wb src dst) l p m (d .psw)
+  unfolding effectOf
+  operating m {d} h f e =
+      settled l p (i.Alu op rc wb src dst) m (d .psw) _ refl
+      (either l p (flagsOnly? op) _ _ flagged-calm (written l p dst (outcome .value) (outcome .psw) h awake))
+      (left e) (ap (λ (x : Effect). x .core .psw) e) f
+
+  -- by the code of the operation b, number n, on words
+  module _ (b : Op) (n : ℕ) {v s : ℕ} {o : Outcome} (hp : p < 65536) (hn : op ≡ n) (hb : b ≡ binaryOf n) (hw : wb ≡ 0)
+      (hv : v ≡ getD l dst 0) (hs : s ≡ operand (calm l p) rc src) (ho : o ≡ aluOf b (widthOf false) v s p) where
+    result : o ≡ outcome
+    result =
+        let k : eqb wb 1 ≡ false = rw hw refl in
+        rw (ho, hb, hn, k, hv, hs)
+
+    fits : o .psw < 65536
+    fits = rw result (alu-psw-word (binaryOf op) (widthOf (eqb wb 1)) (getD l dst 0) (operand (calm l p) rc src) p hp)
+
+    pub computing : flagsOnly? n ≡ false → dst < 7 → (m : List ℕ) {r : ℕ} → (r ≡ o .psw) × (m ≡ set l dst (o .value))
+        → Executed (i.Alu op rc wb src dst) l p m r
+    unfolding effectOf
+    computing t h m {r} w =
+        settled l p (i.Alu op rc wb src dst) m r (operated (calm l p) dst outcome) (rw (hn, t) refl)
+        (written l p dst (outcome .value) (outcome .psw) h awake)
+        (w .1 ∙ ap (λ (x : Outcome). set l dst (x .value)) result) (w .0 ∙ ap (λ (x : Outcome). x .psw) result) (rw (w .0) fits)
+
+    pub testing : flagsOnly? n ≡ true → Executed (i.Alu op rc wb src dst) l p l (o .psw)
+    unfolding effectOf
+    testing t =
+        settled l p (i.Alu op rc wb src dst) l (o .psw) (withPsw (calm l p) (outcome .psw)) (rw (hn, t) refl) flagged-calm refl
+        (ap (λ (x : Outcome). x .psw) result) fits
+
+-- ---- logic on words
+
+-- a word is its own low bits
+low-word : (x : ℕ) → x < 65536 → low (widthOf false) x ≡ x
+unfolding widthOf
+low-word x h = mod-eq-of-lt h
+
+module _ (d s p : ℕ) {o : Outcome} (hd : d < 65536) (hs : s < 65536) where
+  pub and-words : o ≡ logical (widthOf false) d p (bitAnd d s) → o ≡ aluOf And (widthOf false) d s p
+  unfolding aluOf
+  and-words h = rw (low-word d hd, low-word s hs) h
+
+  pub or-words : o ≡ logical (widthOf false) d p (bitOr d s) → o ≡ aluOf Or (widthOf false) d s p
+  unfolding aluOf
+  or-words h = rw (low-word d hd, low-word s hs) h
+
+  pub xor-words : o ≡ logical (widthOf false) d p (bitXor d s) → o ≡ aluOf Xor (widthOf false) d s p
+  unfolding aluOf
+  xor-words h = rw (low-word d hd, low-word s hs) h
+
+  pub bit-words : o ≡ logical (widthOf false) d p (bitAnd d s) → tested d o ≡ aluOf Bit (widthOf false) d s p
+  unfolding aluOf
+  bit-words h = rw (low-word d hd, low-word s hs) (ap (tested d) h)
+
+pub cmp-words : (d s p : ℕ) {o : Outcome} → o ≡ summed (widthOf false) d (turned (widthOf false) s) 1 p
+    → tested d o ≡ aluOf Cmp (widthOf false) d s p
+unfolding aluOf
+cmp-words d s p h = ap (tested d) h
+
+-- ---- branches
+
+-- from an even PC to an even target
+moved-even : (a : ℕ) (z : ℤ) → a % 2 ≡ 0 → moved a (doubled z) % 2 ≡ 0
+moved-even a (pos n) h = omega arith
+moved-even a (negsuc n) h = omega arith
+
+set-even : (l : List ℕ) (n v : ℕ) → v % 2 ≡ 0 → getD (set l n v) n 0 % 2 ≡ 0
+set-even [] n v h = refl
+set-even (x ∷ l) zero v h = h
+set-even (x ∷ l) (suc n) v h = set-even l n v h
+
+module _ (l : List ℕ) (p : ℕ) where
+  branched-calm : (c : Core) (off : ℤ) → Calm l p c → Calm l p (branched c off)
+  branched-calm c off k =
+      (refl, λ s. (set-even (c .regs) 7 _ (moved-even (getD (c .regs) 7 0) off (k .1 s .0)), k .1 s .1))
+
+module _ (l m : List ℕ) (p : ℕ) {d : Done} (hp : p < 65536) where
+  pub linking : (off : ℤ) → doneWith m d ≡ effectOf (calm l p) (i.Bl off) → Executed (i.Bl off) l p m p
+  unfolding effectOf
+  linking off e =
+      settled l p (i.Bl off) m p _ refl
+      (branched-calm l p (put (calm l p) 5 (getD l 7 0)) off (written l p 5 (getD l 7 0) p (omega arith) refl)) (left e) refl hp
+
+  pub branching : (n : ℕ) (off : ℤ) → doneWith m d ≡ effectOf (calm l p) (i.Branch n off) → Executed (i.Branch n off) l p m p
+  unfolding effectOf
+  branching n off e =
+      settled l p (i.Branch n off) m p _ refl
+      (either l p (takenOf n p) _ _ (branched-calm l p (calm l p) off (same l p)) (same l p)) (left e) (kept (takenOf n p)) hp
+    where
+      kept : (b : Bool) → p ≡ cond b (branched (calm l p) off) (calm l p) .psw
+      kept true = refl
+      kept false = refl

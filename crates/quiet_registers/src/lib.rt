@@ -1,0 +1,141 @@
+// Instructions of a quiet machine that touch registers and flags alone. Each function takes the
+// word w, PC being past it, and gives the PSW after it, or 65,536 and has left all alone: then the
+// step is done in the general way. A write to R7 is left alone, so PC stays even.
+ghost use mathlib.Core.Path.{_≡_};
+ghost use Prim.Native.Nat.{_/_, _%_, _<_, _≤_};
+ghost use lib.ListN.{set};
+ghost use Rattle.isa.specs.declared.Instr.the-variants as Instr;
+ghost use Rattle.isa.specs.Decode.{decodeOf};
+ghost use Rattle.quiet_registers.specs.Quiet.{Executed, Tried, operation};
+use alu::Outcome;
+use operands::get;
+use operands::put;
+use word::signed;
+
+// The result of an operation written to a register that is not R7: its PSW.
+fn write(regs: &mut [u16; 8], dst: u8, o: Outcome) -> u32
+    requires { ⌜ dst < 7 ⌝ }
+    ensures { λ r. ⌜
+        (r ≡ o .psw) × (now (regs .exit) ≡ set (now (regs .entry)) dst (o .value))
+        ⌝ }
+{
+    put(regs, 0, dst, o.value);
+    o.psw as u32
+}
+
+// ADD to BIS, any of them at any width.
+fn operate(regs: &mut [u16; 8], psw: u16, w: u16) -> u32
+    requires { ⌜ (0x4000 ≤ w) × (w < 0x4C00) × (w % 8 < 7) ⌝ }
+    ensures { λ r. ⌜ Executed (operation w) (now (regs .entry)) psw (now (regs .exit)) r ⌝ }
+{
+    let op = (w / 256 % 16) as u8;
+    let rc = (w / 128 % 2) as u8;
+    let wb = (w / 64 % 2) as u8;
+    let d = exec::arithmetic(regs, psw, 0, op, rc, wb, (w / 8 % 8) as u8, (w % 8) as u8);
+    d.psw as u32
+}
+
+// The same for words. The operations that programs use most stand here with their width, which the
+// compiler then knows.
+fn operate_on_words(regs: &mut [u16; 8], psw: u16, w: u16) -> u32
+    requires { ⌜ (0x4000 ≤ w) × (w < 0x4C00) × (w % 8 < 7) × (w / 64 % 2 ≡ 0) ⌝ }
+    ensures { λ r. ⌜ Executed (operation w) (now (regs .entry)) psw (now (regs .exit)) r ⌝ }
+{
+    let dst = (w % 8) as u8;
+    let d = get(regs, dst);
+    let s = operands::operand(regs, (w / 128 % 2) as u8, (w / 8 % 8) as u8);
+    match w / 256 % 16 {
+        0 => write(regs, dst, alu::add_into(false, d, s, 0, psw)),
+        2 => write(regs, dst, alu::subtract_into(false, d, s, 1, psw)),
+        5 => {
+            let o = alu::subtract_into(false, d, s, 1, psw);
+            o.psw as u32
+        }
+        6 => write(regs, dst, alu::logic_into(false, d, d ^ s, psw)),
+        7 => write(regs, dst, alu::logic_into(false, d, d & s, psw)),
+        8 => write(regs, dst, alu::logic_into(false, d, d | s, psw)),
+        9 => {
+            let o = alu::logic_into(false, d, d & s, psw);
+            o.psw as u32
+        }
+        _ => operate(regs, psw, w),
+    }
+}
+
+// 4000 to 4BFF: ADD to BIS.
+fn operation_word(regs: &mut [u16; 8], psw: u16, w: u16) -> u32
+    requires { ⌜ (0x4000 ≤ w) × (w < 0x4C00) ⌝ }
+    ensures { λ r. ⌜ Tried (operation w) (now (regs .entry)) psw (now (regs .exit)) r ⌝ }
+{
+    if w % 8 == 7 {
+        return 65536;
+    }
+    if w / 64 % 2 == 1 {
+        return operate(regs, psw, w);
+    }
+    operate_on_words(regs, psw, w)
+}
+
+// 4C00 to 4C7F: MOV.
+fn move_word(regs: &mut [u16; 8], psw: u16, w: u16) -> u32
+    ensures { λ r. ⌜
+        Tried (Instr.Mov (w / 64 % 2) (w / 8 % 8) (w % 8)) (now (regs .entry)) psw (now (regs .exit)) r
+        ⌝ }
+{
+    let dst = (w % 8) as u8;
+    if dst == 7 {
+        return 65536;
+    }
+    exec::mov(regs, psw, 0, (w / 64 % 2) as u8, (w / 8 % 8) as u8, dst);
+    psw as u32
+}
+
+// 6000 to 7FFF: MOVL, MOVLZ, MOVLS, MOVH.
+pub fn immediate_word(regs: &mut [u16; 8], psw: u16, w: u16) -> u32
+    ensures { λ r. ⌜
+        Tried
+        (Instr.MovImm (w / 2048 % 4) (w / 8 % 256) (w % 8))
+        (now (regs .entry))
+        psw
+        (now (regs .exit))
+        r
+        ⌝ }
+{
+    let dst = (w % 8) as u8;
+    if dst == 7 {
+        return 65536;
+    }
+    let byte = (w / 8 % 256) as u8;
+    exec::move_immediate(regs, psw, 0, (w / 2048 % 4) as u8, byte, dst);
+    psw as u32
+}
+
+// 0000 to 3FFF: BL and the branches. Their targets are even where PC is.
+fn branch_word(regs: &mut [u16; 8], psw: u16, w: u16) -> u32
+    requires { ⌜ w < 0x4000 ⌝ }
+    ensures { λ r. ⌜ Executed (decodeOf w) (now (regs .entry)) psw (now (regs .exit)) r ⌝ }
+{
+    if w < 0x2000 {
+        exec::bl(regs, psw, 0, signed(4096, w % 8192));
+        return psw as u32;
+    }
+    exec::branch(regs, psw, 0, (w / 1024 % 8) as u8, signed(512, w % 1024));
+    psw as u32
+}
+
+// 0000 to 57FF. SWAP, the operations on one register, control and CEX are left alone.
+pub fn register_word(regs: &mut [u16; 8], psw: u16, w: u16) -> u32
+    requires { ⌜ w < 0x5800 ⌝ }
+    ensures { λ r. ⌜ Tried (decodeOf w) (now (regs .entry)) psw (now (regs .exit)) r ⌝ }
+{
+    if w < 0x4000 {
+        return branch_word(regs, psw, w);
+    }
+    if w < 0x4C00 {
+        return operation_word(regs, psw, w);
+    }
+    if w < 0x4C80 {
+        return move_word(regs, psw, w);
+    }
+    65536
+}

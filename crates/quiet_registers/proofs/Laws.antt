@@ -11,7 +11,7 @@ use lib.Dec.{eqb}
 use lib.IntN.{ℤ, pos, negsuc}
 use lib.ListN.{getD, set}
 use lib.Seq.{getD-set-other}
-use Rattle.word.specs.Width.{widthOf, low, turned}
+use Rattle.word.specs.Width.{widthOf, low, withLow, turned}
 use Rattle.word.specs.Psw.{asleep?}
 use Rattle.alu.specs.declared.Op.{Op}
 use Rattle.alu.specs.declared.Op.the-variants.{And, Or, Xor, Cmp, Bit}
@@ -35,6 +35,11 @@ cleared : (b : Bool) → _≡_ {A = ℕ} (cond b 0 0) 0
 cleared true = refl
 cleared false = refl
 
+set-even : (l : List ℕ) (n v : ℕ) → v % 2 ≡ 0 → getD (set l n v) n 0 % 2 ≡ 0
+set-even [] n v h = refl
+set-even (x ∷ l) zero v h = h
+set-even (x ∷ l) (suc n) v h = set-even l n v h
+
 module _ (l : List ℕ) (p : ℕ) where
   same : Calm l p (calm l p)
   same = (refl, λ s. s)
@@ -49,6 +54,16 @@ module _ (l : List ℕ) (p : ℕ) where
       let k : getD (set l n v) 7 0 ≡ getD l 7 0 = getD-set-other l n 7 v 0 (λ q. omega arith) in
       (cleared (eqb n 7), λ s. (ap (λ (x : ℕ). x % 2) k ∙ s .0, e ∙ s .1))
 
+  -- one more register below R7
+  written-too : (c : Core) (n v : ℕ) → n < 7 → Calm l p c → Calm l p (put c n v)
+  written-too c n v h k =
+      let f : getD (set (c .regs) n v) 7 0 ≡ getD (c .regs) 7 0 = getD-set-other (c .regs) n 7 v 0 (λ q. omega arith) in
+      (ap (cond (eqb n 7) 0) (k .0) ∙ cleared (eqb n 7), λ s. (ap (λ (x : ℕ). x % 2) f ∙ k .1 s .0, k .1 s .1))
+
+  -- an even number written to R7
+  directed : (n v : ℕ) → n ≡ 7 → v % 2 ≡ 0 → Calm l p (put (calm l p) n v)
+  directed n v h e = (cleared (eqb n 7), λ s. (rw h (set-even l 7 v e), s .1))
+
   -- an instruction that leaves such a core is executed
   settled : (x : Instr) (m : List ℕ) (r : ℕ) (c : Core) → effectOf (calm l p) x ≡ plainly c → Calm l p c
       → m ≡ c .regs → r ≡ c .psw → r < 65536 → Executed x l p m r
@@ -62,16 +77,49 @@ left h = ap (λ (e : Effect). e .core .regs) h
 
 -- ---- one register
 
+-- low bits come with their parity
+copied-even : (byte : Bool) (x v : ℕ) → v % 2 ≡ 0 → withLow (widthOf byte) x (low (widthOf byte) v) % 2 ≡ 0
+unfolding widthOf
+copied-even true x v h = omega arith
+copied-even false x v h = omega arith
+
 module _ (l m : List ℕ) (p : ℕ) {d : Done} (hp : p < 65536) where
   pub moving : (wb src dst : ℕ) → dst < 7 → doneWith m d ≡ effectOf (calm l p) (i.Mov wb src dst)
       → Executed (i.Mov wb src dst) l p m p
   unfolding effectOf
   moving wb src dst h e = settled l p (i.Mov wb src dst) m p _ refl (written l p dst _ p h refl) (left e) refl hp
 
+  pub moving-to-pc : (wb src dst : ℕ) → dst ≡ 7 → getD l src 0 % 2 ≡ 0 → doneWith m d ≡ effectOf (calm l p) (i.Mov wb src dst)
+      → Executed (i.Mov wb src dst) l p m p
+  unfolding effectOf
+  moving-to-pc wb src dst h v e =
+      settled l p (i.Mov wb src dst) m p _ refl
+      (directed l p dst _ h (copied-even (eqb wb 1) (getD l dst 0) (getD l src 0) v)) (left e) refl hp
+
   pub moving-byte : (op b dst : ℕ) → dst < 7 → doneWith m d ≡ effectOf (calm l p) (i.MovImm op b dst)
       → Executed (i.MovImm op b dst) l p m p
   unfolding effectOf
   moving-byte op b dst h e = settled l p (i.MovImm op b dst) m p _ refl (written l p dst _ p h refl) (left e) refl hp
+
+  pub swapping : (src dst : ℕ) → src < 7 → dst < 7 → doneWith m d ≡ effectOf (calm l p) (i.Swap src dst)
+      → Executed (i.Swap src dst) l p m p
+  unfolding effectOf
+  swapping src dst h k e =
+      settled l p (i.Swap src dst) m p _ refl
+      (written-too l p (put (calm l p) src (getD l dst 0)) dst (getD l src 0) k (written l p src (getD l dst 0) p h refl))
+      (left e) refl hp
+
+-- an operation b on one register, which is what the instruction x means
+module _ (l : List ℕ) (p : ℕ) (x : Instr) (b : Op) (w dst : ℕ) where
+  abbrev altered : Outcome
+  altered = aluOf b w (getD l dst 0) 0 p
+
+  pub operating-on-one : (m : List ℕ) {d : Done} → effectOf (calm l p) x ≡ plainly (operated (calm l p) dst altered) → dst < 7
+      → d .psw < 65536 → doneWith m d ≡ plainly (operated (calm l p) dst altered) → Executed x l p m (d .psw)
+  operating-on-one m {d} hx h f e =
+      settled l p x m (d .psw) _ hx
+      (written l p dst (altered .value) (altered .psw) h (alu-asleep b w (getD l dst 0) 0 p)) (left e)
+      (ap (λ (y : Effect). y .core .psw) e) f
 
 -- ---- operations
 
@@ -154,11 +202,6 @@ cmp-words d s p h = ap (tested d) h
 moved-even : (a : ℕ) (z : ℤ) → a % 2 ≡ 0 → moved a (doubled z) % 2 ≡ 0
 moved-even a (pos n) h = omega arith
 moved-even a (negsuc n) h = omega arith
-
-set-even : (l : List ℕ) (n v : ℕ) → v % 2 ≡ 0 → getD (set l n v) n 0 % 2 ≡ 0
-set-even [] n v h = refl
-set-even (x ∷ l) zero v h = h
-set-even (x ∷ l) (suc n) v h = set-even l n v h
 
 module _ (l : List ℕ) (p : ℕ) where
   branched-calm : (c : Core) (off : ℤ) → Calm l p c → Calm l p (branched c off)

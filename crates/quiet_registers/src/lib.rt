@@ -1,12 +1,14 @@
 // Instructions of a quiet machine that touch registers and flags alone. Each function takes the
 // word w, PC being past it, and gives the PSW after it, or 65,536 and has left all alone: then the
-// step is done in the general way. A write to R7 is left alone, so PC stays even.
+// step is done in the general way. R7 is written by BL, branches and a MOV of an even number
+// alone, so PC stays even.
 ghost use mathlib.Core.Path.{_≡_};
 ghost use Prim.Native.Nat.{_/_, _%_, _<_, _≤_};
 ghost use lib.ListN.{set};
 ghost use Rattle.isa.specs.declared.Instr.the-variants as Instr;
-ghost use Rattle.isa.specs.Decode.{decodeOf};
+ghost use Rattle.isa.specs.Decode.{unaryOf, decodeOf};
 ghost use Rattle.quiet_registers.specs.Quiet.{Executed, Tried, operation};
+use alu::Op;
 use alu::Outcome;
 use operands::get;
 use operands::put;
@@ -76,18 +78,69 @@ fn operation_word(regs: &mut [u16; 8], psw: u16, w: u16) -> u32
     operate_on_words(regs, psw, w)
 }
 
-// 4C00 to 4C7F: MOV.
+// 4C00 to 4C7F: MOV. The low bit of the source is that of the new PC, in the byte form too.
 fn move_word(regs: &mut [u16; 8], psw: u16, w: u16) -> u32
     ensures { λ r. ⌜
-        Tried (Instr.Mov (w / 64 % 2) (w / 8 % 8) (w % 8)) (now (regs .entry)) psw (now (regs .exit)) r
+        Tried
+        (Instr.Mov (w / 64 % 2) (w / 8 % 8) (w % 8))
+        (now (regs .entry))
+        psw
+        (now (regs .exit))
+        r
         ⌝ }
 {
+    let src = (w / 8 % 8) as u8;
+    let dst = (w % 8) as u8;
+    if dst == 7 {
+        if get(regs, src) % 2 == 1 {
+            return 65536;
+        }
+    }
+    exec::mov(regs, psw, 0, (w / 64 % 2) as u8, src, dst);
+    psw as u32
+}
+
+// 4C80 to 4CFF: SWAP.
+fn swap_word(regs: &mut [u16; 8], psw: u16, w: u16) -> u32
+    ensures { λ r. ⌜
+        Tried (Instr.Swap (w / 8 % 8) (w % 8)) (now (regs .entry)) psw (now (regs .exit)) r
+        ⌝ }
+{
+    let src = (w / 8 % 8) as u8;
+    let dst = (w % 8) as u8;
+    if src == 7 {
+        return 65536;
+    }
+    if dst == 7 {
+        return 65536;
+    }
+    exec::swap(regs, psw, 0, src, dst);
+    psw as u32
+}
+
+// 4D00 to 4D7F: SRA, RRC, COMP, SWPB, SXT, by bits 5 to 3. Those of no instruction are left alone.
+fn single_word(regs: &mut [u16; 8], psw: u16, w: u16) -> u32
+    ensures { λ r. ⌜ Tried (unaryOf w) (now (regs .entry)) psw (now (regs .exit)) r ⌝ }
+{
+    let op = w / 8 % 8;
     let dst = (w % 8) as u8;
     if dst == 7 {
         return 65536;
     }
-    exec::mov(regs, psw, 0, (w / 64 % 2) as u8, (w / 8 % 8) as u8, dst);
-    psw as u32
+    if op < 3 {
+        let o = operands::unary(op as u8);
+        let d = exec::one_operand(regs, psw, 0, o, w / 64 % 2 == 1, dst);
+        return d.psw as u32;
+    }
+    if op < 4 {
+        let d = exec::one_operand(regs, psw, 0, Op::Swpb, false, dst);
+        return d.psw as u32;
+    }
+    if op < 5 {
+        let d = exec::one_operand(regs, psw, 0, Op::Sxt, false, dst);
+        return d.psw as u32;
+    }
+    65536
 }
 
 // 6000 to 7FFF: MOVL, MOVLZ, MOVLS, MOVH.
@@ -123,7 +176,7 @@ fn branch_word(regs: &mut [u16; 8], psw: u16, w: u16) -> u32
     psw as u32
 }
 
-// 0000 to 57FF. SWAP, the operations on one register, control and CEX are left alone.
+// 0000 to 57FF. Control, CEX and the words of no instruction are left alone.
 pub fn register_word(regs: &mut [u16; 8], psw: u16, w: u16) -> u32
     requires { ⌜ w < 0x5800 ⌝ }
     ensures { λ r. ⌜ Tried (decodeOf w) (now (regs .entry)) psw (now (regs .exit)) r ⌝ }
@@ -136,6 +189,12 @@ pub fn register_word(regs: &mut [u16; 8], psw: u16, w: u16) -> u32
     }
     if w < 0x4C80 {
         return move_word(regs, psw, w);
+    }
+    if w < 0x4D00 {
+        return swap_word(regs, psw, w);
+    }
+    if w < 0x4D80 {
+        return single_word(regs, psw, w);
     }
     65536
 }

@@ -40,8 +40,43 @@ returns-3 c =
       lt-ltb _ _ (d .if3 .taken),
     ) (c .move-word .ensures)
 
+swap-word-requires : tie.Need-swap-word-requires
+swap-word-requires c κs = search needs
+
 returns-4 : tie.Need-returns-4
-returns-4 c = inl (refl, refl)
+unfolding decodeOf
+returns-4 c =
+    let d = c .before .before in
+    let w = d .before .before .before .before .args .w in
+    rw (
+      le-ltb w 0x2000 (omega arith),
+      le-ltb w 0x4000 (omega arith),
+      le-ltb w 0x4C00 (omega arith),
+      lt-ltb w 0x5000 (omega arith),
+      le-ltb _ _ (d .before .if3 .left),
+      lt-ltb _ _ (d .if4 .taken),
+    ) (c .swap-word .ensures)
+
+single-word-requires : tie.Need-single-word-requires
+single-word-requires c κs = search needs
+
+returns-5 : tie.Need-returns-5
+unfolding decodeOf
+returns-5 c =
+    let d = c .before .before in
+    let w = d .before .before .before .before .before .args .w in
+    rw (
+      le-ltb w 0x2000 (omega arith),
+      le-ltb w 0x4000 (omega arith),
+      le-ltb w 0x4C00 (omega arith),
+      lt-ltb w 0x5000 (omega arith),
+      le-ltb w 0x4C80 (omega arith),
+      le-ltb _ _ (d .before .if4 .left),
+      lt-ltb _ _ (d .if5 .taken),
+    ) (c .single-word .ensures)
+
+returns-6 : tie.Need-returns-6
+returns-6 c = inl (refl, refl)
 
 pub register-word-spec : {M : Type 1} → statement M
 register-word-spec =
@@ -53,4 +88,8 @@ register-word-spec =
     returns-2
     move-word-requires
     returns-3
-    returns-4)
+    swap-word-requires
+    returns-4
+    single-word-requires
+    returns-5
+    returns-6)

@@ -1,12 +1,13 @@
--- In a quiet state a step is the instruction's step, and a stretch of them is a run in which no event is due.
+-- In a quiet state a step is the instruction's step, and a stretch of them is a run in which no event is due. A machine
+-- that sleeps with no line waiting changes nothing but its count until an event is due.
 -- Assumes nothing.
 use Prim.Native.Nat.{ℕ, zero, suc, _+_, _*_, _/_, _%_, _<_}
 use native.Mathlib.Omega.{arith}
 use native.Mathlib.Numerals.{add-one}
-use mathlib.Core.Bool.{Bool, false, not, _&&_, and-false}
+use mathlib.Core.Bool.{Bool, true, false, not, _&&_, and-false}
 use mathlib.Core.List.{List, [], _∷_}
 use mathlib.Core.Logic.{inl, inr, ⊎-elim}
-use mathlib.Core.Path.{_≡_, refl, sym, ap, _∙_}
+use mathlib.Core.Path.{_≡_, refl, sym, ap, subst, _∙_}
 use lib.Dec.{eqb}
 use lib.ListN.{getD, set}
 use lib.Seq.{set-set, set-getD}
@@ -15,13 +16,14 @@ use Rattle.word.specs.Psw.{asleep?}
 use Rattle.isa.specs.declared.Instr.{Instr}
 use Rattle.isa.specs.Decode.{decodeOf}
 use Rattle.machine.specs.State.{State, pc, wrap}
-use Rattle.machine.specs.Memory.{byteAt, wordAt, firstByte}
+use Rattle.machine.specs.Memory.{byteAt, wordAt, firstByte, commit}
 use Rattle.machine.specs.Events.{Event}
 use Rattle.machine.specs.Devices.{deliver}
 use Rattle.machine.specs.Entry.{bestFrom}
 use Rattle.machine.specs.Effect.{effectOf}
 use Rattle.machine.specs.Step as step
-use Rattle.machine.specs.Step.{Plan, Interrupt, chosen, returns?, interruptOf, advanced, executed, instructionOf, finished, stepOf}
+use Rattle.machine.specs.Step.{Plan, Interrupt, planned, chosen, returns?, interruptOf, advanced, executed, instructionOf}
+use Rattle.machine.specs.Step.{planOf, perform, finished, stepOf}
 use Rattle.machine.specs.Run.{ran, runOf}
 use Rattle.machine_laws.proofs.Plans.{plan-live}
 use Rattle.machine_laws.proofs.Runs.{step-live, run-zero, run-next}
@@ -160,3 +162,55 @@ pub reaches-same :
     Reaches regs₀ psw₀ m₀ regs₁ psw m₁ j
 reaches-same regs₀ m₀ regs m regs₁ m₁ psw₀ psw j f e g ev k u =
     (λ i. ran (quietState (e i) psw 0 (k + j) (g i)) j) ∙ f ev k u
+
+-- ---- sleep
+
+-- not halted, no line waiting, SLP set
+abbrev pub Asleep : State → Type 0
+Asleep s = (s .halted ≡ false) × (s .lines ≡ 0) × (asleep? (s .core .psw) ≡ true)
+
+-- s with the count n
+abbrev pub withCount : State → ℕ → State
+withCount s n = record { core = s .core; lines = s .lines; halted = s .halted; count = n; mem = s .mem }
+
+module _ (s : State) (h : Asleep s) where
+  not-woken : interruptOf (s .core) 0 (s .mem) ≡ step.nothing
+  unfolding interruptOf bestFrom
+  not-woken = rw (h .2) refl
+
+  sleeps : instructionOf (s .core) (s .mem) ≡ planned (s .core) step.sleep
+  unfolding instructionOf
+  sleeps = rw (h .2) refl
+
+  sleep-plan : planOf s ≡ planned (s .core) step.sleep
+  sleep-plan =
+      let c = s .core in
+      plan-live s (h .0)
+      ∙ ap (λ (l : ℕ). chosen (interruptOf c l (s .mem)) c (instructionOf c (s .mem))) (h .1)
+      ∙ ap (λ (i : Interrupt). chosen i c (instructionOf c (s .mem))) not-woken
+      ∙ sleeps
+
+  -- a step asleep changes nothing but the count
+  pub sleep-step-law : finished s ≡ withCount s (s .count + 1)
+  unfolding perform commit
+  sleep-step-law =
+      ap (λ (p : Plan). carriedOut p (s .lines) (s .count) (s .mem)) sleep-plan
+      ∙ (λ i. record { core = s .core; lines = s .lines; halted = sym (h .0) i; count = s .count + 1; mem = s .mem })
+
+-- nor does a run asleep in which no event is due
+pub sleep-run :
+    (ev : List Event) (s : State) (k : ℕ) → Asleep s → Undisturbed ev (s .count) (s .count + k) →
+    ran (withCount s (s .count + k)) k ≡ runOf ev s k
+sleep-run ev s zero h u =
+    let e : s .count + 0 ≡ s .count = omega arith in
+    ap (λ (n : ℕ). ran (withCount s n) 0) e ∙ sym (run-zero ev s)
+sleep-run ev s (suc k) h u =
+    let n = s .count in
+    let t = withCount s (n + k) in
+    let e : n + (k + 1) ≡ n + k + 1 = omega arith in
+    subst (λ (j : ℕ). ran (withCount s (n + j)) j ≡ runOf ev s j) (add-one k)
+    (run-turn ev s t t (withCount s (n + (k + 1))) k
+    (sleep-run ev s k h (λ i a b. u i a (omega arith)))
+    (h .0)
+    (sym (u (n + k) (omega arith) (omega arith) t))
+    (ap (withCount s) e ∙ sym (sleep-step-law t h)))

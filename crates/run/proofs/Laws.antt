@@ -21,7 +21,7 @@ use Rattle.entry.specs.declared.Rest.{Rest}
 use Rattle.entry.specs.Rest.{stateWith}
 use Rattle.quiet_memory.specs.Served.{quietState}
 use Rattle.quiet.specs.Stretch.{Undisturbed}
-use Rattle.quiet.proofs.Laws.{Reaches, run-turn}
+use Rattle.quiet.proofs.Laws.{Reaches, Asleep, withCount, run-turn, sleep-run}
 use Rattle.run.specs.Due.{dueOf, Awaits, Quiet}
 
 due-in : (b : List ℕ) (k : ℕ) → k < eventCount b → dueOf b k ≡ eventAt b k .step
@@ -70,6 +70,21 @@ tests-quiet regs t e f =
 
 pub stretch-none : (ev : List Event) (s : State) (n : ℕ) → ran s (n - n) ≡ runOf ev s (n - n)
 stretch-none ev s n = let e : n - n ≡ 0 = omega arith in rw e (sym (run-zero ev s))
+
+pub tests-asleep :
+    (regs m : List ℕ) (t : Rest) → t .halted || not (eqb (t .lines) 0) || not (eqb (t .psw / 8 % 2) 1) ≡ false → Asleep (stateWith regs t m)
+tests-asleep regs m t e =
+    let p = neither _ _ e in
+    let q = neither _ _ (p .0) in
+    (q .0, eq-of (not-false _ (q .1)), not-false _ (p .1))
+
+pub stretch-asleep :
+    (ev : List Event) (s : State) (due j : ℕ) → Asleep s → j ≤ due - s .count → Undisturbed ev (s .count) due →
+    ran (withCount s (s .count + j)) (s .count + j - s .count) ≡ runOf ev s (s .count + j - s .count)
+stretch-asleep ev s due j a h u =
+    let n = s .count in
+    let e : n + j - n ≡ j = omega arith in
+    rw e (sleep-run ev s j a (λ i b c. u i b (omega arith)))
 
 pub stretch-done :
     (regs m regs₁ m₁ : List ℕ) (t : Rest) (due psw j : ℕ) (ev : List Event) → Quiet regs t → j ≤ due - t .count →

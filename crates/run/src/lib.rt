@@ -89,7 +89,29 @@ fn is_quiet(regs: &[u16; 8], t: Rest) -> bool
     (regs[7] % 2 == 0) & (t.psw / 8 % 2 != 1)
 }
 
-// After a step: the quiet steps that follow it, at most `left` and none where an event is due.
+// Asleep with no line waiting, a step changes nothing but the count: all steps before the next
+// event pass at once, at most `left`. Any other machine stays as it is.
+fn sleep_on(t: Rest, due: u64, left: u32) -> Rest
+    requires { ⌜ t .count + left ≤ 4294967295 ⌝ }
+    ensures state { λ r. ⌜ ((regs mem : List ℕ) (ev : List Event) → Undisturbed ev (t .count) due →
+        ran (stateWith regs r mem) (r .count - t .count)
+        ≡ runOf ev (stateWith regs t mem) (r .count - t .count)) ⌝ }
+    ensures count { λ r. ⌜ (t .count ≤ r .count) × (r .count ≤ t .count + left) ⌝ }
+{
+    if t.halted | (t.lines != 0) | (t.psw / 8 % 2 != 1) {
+        return t;
+    }
+    Rest {
+        psw: t.psw,
+        cex: t.cex,
+        lines: t.lines,
+        halted: t.halted,
+        count: t.count + until(t.count, due, left),
+    }
+}
+
+// After a step: the quiet steps that follow it, or those slept through, at most `left` and none
+// where an event is due.
 fn stretch(regs: &mut [u16; 8], mem: &mut [u8], t: Rest, due: u64, left: u32) -> Rest
     requires { ⌜ (length (now mem) ≡ 65536) × (t .count + left ≤ 4294967295) ⌝ }
     ensures state { λ r. ⌜ ((ev : List Event) → Undisturbed ev (t .count) due →
@@ -98,7 +120,7 @@ fn stretch(regs: &mut [u16; 8], mem: &mut [u8], t: Rest, due: u64, left: u32) ->
     ensures count { λ r. ⌜ (t .count ≤ r .count) × (r .count ≤ t .count + left) ⌝ }
 {
     if !is_quiet(regs, t) {
-        return t;
+        return sleep_on(t, due, left);
     }
     let q = quiet::quiet_run(regs, mem, t.psw, until(t.count, due, left));
     Rest {

@@ -1,15 +1,18 @@
 use native.Mathlib.Omega.{arith}
 use borrow.Author.Needs.{needs}
 use denote.Ref.{now}
-use Rattle.run.proofs.Laws.{not-false, stretch-none, stretch-done}
+use Rattle.run.proofs.Laws.{not-false, stretch-done}
 use Rattle.run.proofs.stretch.Statement.{statement}
 use Rattle.run.proofs.stretch.Tie as tie
 
 is-quiet-requires : tie.Need-is-quiet-requires
 is-quiet-requires c κs = search needs
 
+sleep-on-requires : tie.Need-sleep-on-requires
+sleep-on-requires c κs = search needs
+
 returns : tie.Need-returns
-returns c = (λ ev u. stretch-none ev _ _, (omega arith, omega arith))
+returns c = (c .sleep-on .ensures .0 _ _, c .sleep-on .ensures .1)
 
 until-requires : tie.Need-until-requires
 until-requires c κs = search needs
@@ -41,6 +44,7 @@ stretch-spec =
     tie.close
     (tie.spec
     is-quiet-requires
+    sleep-on-requires
     returns
     until-requires
     quiet-run-requires

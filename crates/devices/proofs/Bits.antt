@@ -1,16 +1,16 @@
 -- One bit set or cleared by a mask, at any place k, and the status byte after an event.
 -- Assumes nothing.
-use mathlib.Core.Path.{_≡_, refl, sym, ap, ap₂, _∙_}
+use mathlib.Core.Path.{_≡_, sym, ap, ap₂, _∙_}
 use mathlib.Core.Bool.{true, false, or-true, or-false}
-use Prim.Native.Nat.{ℕ, zero, suc, _+_, _-_, _*_, _/_, _%_, _^_, _<_}
+use Prim.Native.Nat.{ℕ, _+_, _-_, _*_, _/_, _%_, _^_, _<_}
 use native.Mathlib.Nat.{mod-lt, lt-of-lt-of-le, add-comm, one-mul}
 use native.Mathlib.Omega.{arith}
-use mir.Val.{boolByte}
-use lib.Dec.{eqb, lit<}
+use lib.Dec.{lit<}
 use lib.Bits.{bitAnd, bitOr, or-step, or-block, or-zero-r, and-block, and-mask}
 use lib.Pow.{pow-add, pow-pos, pow-mono, split, shr-shr, shr-mod, mod-mod-pow, ones-lt, ones-split, shl-exact}
 use borrow.Author.Tests.{eq-eqb, ne-eqb}
 use Rattle.word.specs.Psw.{bitOf, putBit}
+use Rattle.word.proofs.Laws.{bit-back}
 use Rattle.machine.specs.Devices.{eventStatus}
 
 -- ---- masks
@@ -57,16 +57,10 @@ and-all-but d p h l =
 
 -- ---- the status byte after an event, where DBA was set before it and where not
 
--- a bit, read and put again, is the remainder by 2
-remainder : (n : ℕ) → n < 2 → n ≡ boolByte (eqb n 1)
-remainder zero h = refl
-remainder (suc zero) h = refl
-remainder (suc (suc n)) h = let z : ⊥ = omega arith in elim z [ ]
-
 pub event-again : (t : ℕ) → t / 4 % 2 ≡ 1 → t / 16 * 16 + 12 + t % 4 ≡ eventStatus t
 event-again t h = rw (eq-eqb (t / 4 % 2) 1 h, or-true (bitOf 3 t)) (omega arith)
 
 pub event-first : (t : ℕ) → (t / 4 % 2 ≡ 1 → ⊥) → t / 8 * 8 + 4 + t % 4 ≡ eventStatus t
 event-first t h =
     let e : t / 16 * 16 + t / 8 % 2 * 8 + t % 8 ≡ t = omega arith in
-    rw (ne-eqb (t / 4 % 2) 1 h, or-false (bitOf 3 t), ← remainder (t / 8 % 2) (omega arith), e)
+    rw (ne-eqb (t / 4 % 2) 1 h, or-false (bitOf 3 t), bit-back (t / 8 % 2) (omega arith), e)

@@ -1,19 +1,13 @@
 -- What holds of every decoded word: each field lies in its format's bounds, so a register is below 8. Assumes nothing.
 use Prim.Native.Nat.{ℕ, _+_, _/_, _%_, _<_, _≤_}
-use mathlib.Core.Path.{_≡_, refl}
-use mathlib.Core.Bool.{Bool, true, false}
 use native.Mathlib.Omega.{arith}
 use borrow.Author.Tests.{ltb-true, ltb-false}
 use lib.Dec.{ltb}
 use lib.Signed.{mag}
 use Rattle.word.specs.Offset.{signedOf}
+use Rattle.word.proofs.Laws.{bool-cases}
 use Rattle.isa.specs.Decode.{unaryOf, controlOf, miscOf, memoryOf, relativeOf, decodeOf}
 use Rattle.isa.specs.Fields.{Fields}
-
--- a fact by the two values of a test
-bool-cases : {P : Type 0} (b : Bool) → (b ≡ true → P) → (b ≡ false → P) → P
-bool-cases true p q = p refl
-bool-cases false p q = q refl
 
 -- an offset of a format lies from -half to half - 1
 pub signed-mag : (half n : ℕ) → n < half + half → mag (signedOf half n) < half

@@ -4,6 +4,7 @@ use Prim.Native.Nat.{ℕ, _<_}
 use mathlib.Core.Path.{_≡_, refl, sym, ap, _∙_}
 use mathlib.Core.Bool.{Bool, true, false, cond, not, true≢false, false≢true, _&&_}
 use lib.Dec.{T, eqb, eqb→eq}
+use borrow.Author.Tests.{not-false}
 use Rattle.isa.specs.declared.Instr.{Instr}
 use Rattle.isa.specs.declared.Instr.the-variants.{Illegal, Bl, Branch, Alu, Mov, Swap, Unary, Swpb, Sxt, SetPri, Svc, SetCc, ClrCc, Cex, Ld}
 use Rattle.isa.specs.declared.Instr.the-variants.{St, MovImm, Ldr, Str}
@@ -94,10 +95,6 @@ illegal-of (St a b c d f g) e = absurd (true≢false e)
 illegal-of (MovImm a b c) e = absurd (true≢false e)
 illegal-of (Ldr a b c d) e = absurd (true≢false e)
 illegal-of (Str a b c d) e = absurd (true≢false e)
-
-not-false : (b : Bool) → not b ≡ false → b ≡ true
-not-false true e = refl
-not-false false e = absurd (true≢false e)
 
 pub illegal-exactly : IllegalExactly
 illegal-exactly w h = (

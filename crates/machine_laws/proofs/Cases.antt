@@ -1,4 +1,5 @@
 -- A test's value as a fact about its numbers, a fact as the test's value, and proofs by cases. Assumes nothing.
+pub use Rattle.word.proofs.Laws.{bool-cases}
 use Prim.Native.Nat.{ℕ, _<_, _≤_}
 use mathlib.Core.Bool.{Bool, true, false, _&&_, false≢true}
 use mathlib.Core.List.{List, [], _∷_}
@@ -7,11 +8,7 @@ use mathlib.Core.Path.{_≡_, refl, sym, subst}
 use lib.Dec.{T, eqb, ltb, leb}
 use borrow.Author.Tests.{ltb-true, ltb-false, leb-true, leb-false, eqb-true, eqb-false, lt-ltb, le-ltb, le-leb, lt-leb, eq-eqb, ne-eqb}
 
--- a fact by the two values of a test, and by the two shapes of a list
-pub bool-cases {ℓ} : {P : Type ℓ} (b : Bool) → (b ≡ true → P) → (b ≡ false → P) → P
-bool-cases true f g = f refl
-bool-cases false f g = g refl
-
+-- a fact by the two shapes of a list, as `bool-cases` has it by the two values of a test
 pub list-cases {ℓ ℓ′} : {A : Type ℓ} {R : Type ℓ′} (l : List A) → (l ≡ [] → R) → ((x : A) (xs : List A) → l ≡ x ∷ xs → R) → R
 list-cases [] f g = f refl
 list-cases (x ∷ xs) f g = g x xs refl

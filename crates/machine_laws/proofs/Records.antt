@@ -9,8 +9,8 @@ use mathlib.Core.Path.{_≡_, refl, sym, ap, subst, _∙_}
 use lib.Dec.{eqb, ltb, leb, lit<}
 use lib.ListN.{length, getD, drop}
 use lib.Seq.{drop-cons, drop-length}
-use mir.Val.{boolByte}
 use borrow.Author.Tests.{not-false}
+use Rattle.word.proofs.Laws.{bit-read, bit-back}
 use Rattle.machine.specs.declared.Verdict.{Verdict}
 use Rattle.machine.specs.declared.Verdict.the-variants.{Accepted, MemoryLength, StepCount, RecordLength, RecordBits, EventsLength}
 use Rattle.machine.specs.declared.Verdict.the-variants.{EventFields, EventOrder}
@@ -74,7 +74,7 @@ four-3 a b c d h k l m =
     let e : (a + 256 * b + 65536 * (c + 256 * d)) / 16777216 ≡ d = omega arith in
     rw e (omega arith)
 
-four-back : (n : ℕ) → n ≤ 4294967295
+pub four-back : (n : ℕ) → n ≤ 4294967295
     → countByte n 1 + 256 * countByte n 0x100 + 65536 * (countByte n 0x10000 + 256 * countByte n 0x1000000) ≡ n
 four-back n h =
     let a : n ≡ n / 256 * 256 + n % 256 = omega arith in
@@ -86,15 +86,6 @@ four-back n h =
   where
     join : (n q r t x y z u : ℕ) → n ≡ q * 256 + x → q ≡ r * 256 + y → r ≡ t * 256 + z → u ≡ t → x + 256 * y + 65536 * (z + 256 * u) ≡ n
     join n q r t x y z u a b c d = omega arith
-
-mark-back : (x : ℕ) → x < 2 → boolByte (eqb x 1) ≡ x
-mark-back zero h = refl
-mark-back (suc zero) h = refl
-mark-back (suc (suc x)) h = absurd (omega arith)
-
-mark-read : (b : Bool) → eqb (boolByte b) 1 ≡ b
-mark-read true = refl
-mark-read false = refl
 
 -- ---- reading after writing gives the state
 
@@ -110,7 +101,7 @@ record-read s t h =
     record {
       core = record { regs = regs i; psw = psw i; cex = cex i };
       lines = s .lines;
-      halted = mark-read (s .halted) i;
+      halted = bit-read (s .halted) i;
       count = four-back (s .count) h i;
       mem = s .mem;
     }
@@ -140,7 +131,7 @@ module _ (memory r events : List ℕ) (n : ℕ) (P : Passed memory r events n) (
       let c1 = four-1 (byteAt r 22) (byteAt r 23) (byteAt r 24) (byteAt r 25) (b 22) (b 23) in
       let c2 = four-2 (byteAt r 22) (byteAt r 23) (byteAt r 24) (byteAt r 25) (b 22) (b 23) (b 24) in
       let c3 = four-3 (byteAt r 22) (byteAt r 23) (byteAt r 24) (byteAt r 25) (b 22) (b 23) (b 24) (b 25) in
-      let mark = mark-back (byteAt r 21) (P .halted-mark) in
+      let mark = bit-back (byteAt r 21) (P .halted-mark) in
       (λ i.
       low-is 0 i ∷ high-is 0 i ∷ low-is 2 i ∷ high-is 2 i ∷ low-is 4 i ∷ high-is 4 i ∷ low-is 6 i ∷ high-is 6 i
       ∷ low-is 8 i ∷ high-is 8 i ∷ low-is 10 i ∷ high-is 10 i ∷ low-is 12 i ∷ high-is 12 i ∷ low-is 14 i ∷ high-is 14 i
@@ -154,7 +145,7 @@ module _ (memory r events : List ℕ) (n : ℕ) (P : Passed memory r events n) (
 -- ---- what an accepted run has settled
 
 -- a test that would have refused was not met
-not-met : (t : Bool) (x y : Verdict) → refusalNumber x ≢ 0 → cond t x y ≡ Accepted → (t ≡ false) × (y ≡ Accepted)
+pub not-met : (t : Bool) (x y : Verdict) → refusalNumber x ≢ 0 → cond t x y ≡ Accepted → (t ≡ false) × (y ≡ Accepted)
 not-met true x y h e = absurd (h (ap refusalNumber e))
 not-met false x y h e = (refl, e)
 

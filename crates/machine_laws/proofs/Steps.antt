@@ -82,7 +82,7 @@ event-count : (e : Event) (s : State) → eventOn e s .count ≡ s .count
 unfolding eventOn
 event-count e s = bool-cases (ena? (byteAt (s .mem) (statusOf (e .device)))) (λ q. rw q refl) (λ q. rw q refl)
 
-event-size : (e : Event) (s : State) → length (eventOn e s .mem) ≡ length (s .mem)
+pub event-size : (e : Event) (s : State) → length (eventOn e s .mem) ≡ length (s .mem)
 unfolding eventOn
 event-size e s =
     bool-cases (ena? (byteAt (s .mem) (statusOf (e .device))))

@@ -17,9 +17,9 @@ use Rattle.machine.specs.Step.{Act, perform, outcomeOf, stepOf}
 use Rattle.machine.specs.Step.{stopped, pull, chain, accept, sleep, fault, halt, skip, trap, plain, loads, stores}
 use Rattle.machine_laws.specs.Bounds.{Each, EventFits, TidyCore, Among, Pushed, MayWrite}
 use Rattle.machine_laws.proofs.Cases.{bool-cases, eq-of, lt-of, ge-of, not-eq, and-left}
-use Rattle.machine_laws.proofs.Memory.{unwritten, commit-length, writes-append}
+use Rattle.machine_laws.proofs.Memory.{unwritten, writes-append}
 use Rattle.machine_laws.proofs.Runs.{step-halted, step-live}
-use Rattle.machine_laws.proofs.Steps.{deliver-size}
+use Rattle.machine_laws.proofs.Steps.{event-size, deliver-size}
 
 -- ---- addresses below 16
 
@@ -55,19 +55,13 @@ event-bytes e s a f h k =
     (λ q. rw q (unwritten (eventWrites e t) (s .mem) a k (devices-untouched (eventWrites e t) a (event-devices e t (f .0)) h)))
     (λ q. rw q refl)
 
-event-length : (e : Event) (s : State) → length (eventOn e s .mem) ≡ length (s .mem)
-unfolding eventOn
-event-length e s =
-    let t = byteAt (s .mem) (statusOf (e .device)) in
-    bool-cases (ena? t) (λ q. rw q (commit-length (eventWrites e t) (s .mem))) (λ q. rw q refl)
-
 pub deliver-bytes : (k : ℕ) (ev : List Event) (s : State) (a : ℕ) → Each EventFits ev → 16 ≤ a → a < length (s .mem)
     → byteAt (deliverAt k ev s .mem) a ≡ byteAt (s .mem) a
 unfolding deliverAt
 deliver-bytes k [] s a f h l = refl
 deliver-bytes k (e ∷ es) s a f h l =
     let t = cond (eqb (e .step) k) (eventOn e s) s in
-    deliver-bytes k es t a (f .1) h (bool-cases (eqb (e .step) k) (λ q. rw (q, event-length e s) l) (λ q. rw q l))
+    deliver-bytes k es t a (f .1) h (bool-cases (eqb (e .step) k) (λ q. rw (q, event-size e s) l) (λ q. rw q l))
     ∙ bool-cases (eqb (e .step) k) (λ q. rw q (event-bytes e s a (f .0) h l)) (λ q. rw q refl)
 
 -- ---- loads and stores by instructions

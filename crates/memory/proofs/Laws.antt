@@ -3,22 +3,16 @@
 use mathlib.Core.Path.{_≡_, refl, sym, ap, _∙_}
 use mathlib.Core.Bool.{true, false, and-false}
 use mathlib.Core.List.{List, [], _∷_, _++_}
-use Prim.Native.Nat.{ℕ, zero, suc, _+_, _-_, _*_, _/_, _%_, _≤_, _<_}
+use Prim.Native.Nat.{ℕ, _+_, _-_, _*_, _/_, _%_, _≤_, _<_}
 use native.Mathlib.Omega.{arith}
-use mir.Val.{boolByte}
 use lib.Bits.{bitAnd, bitOr, and-block, and-high, and-mask, or-block, or-shifted}
-use lib.Dec.{eqb, ltb, lit<}
+use lib.Dec.{ltb, lit<}
 use lib.ListN.{set}
 use borrow.Author.Tests.{lt-ltb, le-ltb, eq-eqb, ne-eqb}
 use Rattle.word.specs.Psw.{putBit, bitOf}
+use Rattle.word.proofs.Laws.{bit-back}
 use Rattle.machine.specs.Memory.{byteAt, even, lowByte, highByte, Write, commit, valueAt}
 use Rattle.machine.specs.Devices.{clearedStatus, storedStatus, loadWrites, byteWrites, storeWrites}
-
--- a bit, read and put again, is the remainder by 2
-remainder : (n : ℕ) → n < 2 → n ≡ boolByte (eqb n 1)
-remainder zero h = refl
-remainder (suc zero) h = refl
-remainder (suc (suc n)) h = let z : ⊥ = omega arith in elim z [ ]
 
 -- ---- status bytes, as the code works them
 
@@ -54,7 +48,7 @@ placed t x y q h hx hy e =
     rw (high, low, q-high, q-low) (omega arith)
 
 stored-low : (t v : ℕ) → t / 2 * 2 + v % 2 ≡ putBit 0 t (bitOf 0 v)
-stored-low t v = rw (← remainder (v / 1 % 2) (omega arith)) (omega arith)
+stored-low t v = rw (bit-back (v / 1 % 2) (omega arith)) (omega arith)
 
 pub stored-law : (t v : ℕ) → t < 256 → bitOr (bitAnd t 0xEE) (bitAnd v 0x11) ≡ storedStatus t v
 stored-law t v h =
@@ -63,7 +57,7 @@ stored-law t v h =
     joined t v
     ∙ ap (λ (x : ℕ). (t / 16 / 2 % 8 * 2 + v / 16 % 2) * 16 + (t % 16 / 2 % 8 * 2 + x)) e
     ∙ placed t (v % 2) (v / 16 % 2) q h (omega arith) (omega arith) refl
-    ∙ ap (λ (x : ℕ). q / 32 * 32 + x * 16 + q % 16) (remainder (v / 16 % 2) (omega arith))
+    ∙ ap (λ (x : ℕ). q / 32 * 32 + x * 16 + q % 16) (sym (bit-back (v / 16 % 2) (omega arith)))
     ∙ ap (λ (x : ℕ). putBit 4 x (bitOf 4 v)) (stored-low t v)
 
 pub cleared-law : (t : ℕ) → putBit 2 (t / 16 * 16 + t % 8) false ≡ clearedStatus t

@@ -1,5 +1,5 @@
 -- An advance from its parts: turned back, or run; and the step count in a machine's own record. Assumes nothing.
-use Prim.Native.Nat.{ℕ, suc, _+_, _*_, _/_, _%_, _<_, _≤_, _^_}
+use Prim.Native.Nat.{ℕ, suc, _+_, _*_, _<_, _≤_, _^_}
 use mathlib.Core.Bool.{Bool, true, false, cond, not}
 use mathlib.Core.List.{List}
 use mathlib.Core.Logic.{_≢_}
@@ -11,35 +11,22 @@ use Rattle.machine.specs.declared.Verdict.{Verdict}
 use Rattle.machine.specs.declared.Verdict.the-variants.{Accepted, MemoryLength, StepCount, RecordLength, RecordBits, EventsLength}
 use Rattle.machine.specs.declared.Verdict.the-variants.{EventFields, EventOrder}
 use Rattle.machine.specs.State.{State}
-use Rattle.machine.specs.Record.{fourAt, recordOf, countByte}
+use Rattle.machine.specs.Record.{fourAt, recordOf}
 use Rattle.machine.specs.Events.{eventsOf}
 use Rattle.machine.specs.Step.{stepOf}
 use Rattle.machine.specs.Refusal.{verdictOf, refusalNumber}
 use Rattle.machine.specs.Run.{Run, ran, runOf, reasonOf, reasonNumber}
 use Rattle.machine_laws.specs.Passed.{Passed}
 use Rattle.machine_laws.proofs.Cases.{bool-cases}
+use Rattle.machine_laws.proofs.Records.{four-back}
 use Rattle.machine_laws.proofs.Runs.{step-halted, run-zero, run-next, run-halted}
 use Rattle.open_machine.specs.Advance.{Advance, advancedBy, advanceFor, advanceOf}
 
 -- ---- the step count
 
-four-bytes : (n : ℕ) → n < 2 ^ 32
-    → countByte n 1 + 256 * countByte n 0x100 + 65536 * (countByte n 0x10000 + 256 * countByte n 0x1000000) ≡ n
-four-bytes n h =
-    let l : n < 4294967296 = h in
-    let a : n ≡ n / 256 * 256 + n % 256 = omega arith in
-    let b : n / 256 ≡ n / 65536 * 256 + n / 256 % 256 = omega arith in
-    let c : n / 65536 ≡ n / 16777216 * 256 + n / 65536 % 256 = omega arith in
-    let d : n / 16777216 % 256 ≡ n / 16777216 = omega arith in
-    let e : n / 1 ≡ n = omega arith in
-    rw e (join n (n / 256) (n / 65536) (n / 16777216) (n % 256) (n / 256 % 256) (n / 65536 % 256) (n / 16777216 % 256) a b c d)
-  where
-    join : (n q r t x y z u : ℕ) → n ≡ q * 256 + x → q ≡ r * 256 + y → r ≡ t * 256 + z → u ≡ t → x + 256 * y + 65536 * (z + 256 * u) ≡ n
-    join n q r t x y z u a b c d = omega arith
-
 record-count : (s : State) → s .count < 2 ^ 32 → fourAt (recordOf s) 22 ≡ s .count
 unfolding recordOf
-record-count s h = four-bytes (s .count) h
+record-count s h = let l : s .count < 4294967296 = h in four-back (s .count) (omega arith)
 
 pub count-fits : (s : State) (memory r events : List ℕ) (n : ℕ) → Passed memory r events n → r ≡ recordOf s → s .count < 2 ^ 32
     → s .count + n ≤ 4294967295
@@ -77,10 +64,6 @@ accepted EventOrder s x e = absurd (omega arith)
 mark : (h : Bool) → boolByte h ≡ reasonNumber (cond h Halted Done)
 mark true = refl
 mark false = refl
-
-pub mark-le : (h : Bool) → boolByte h ≤ 1
-mark-le true = omega arith
-mark-le false = omega arith
 
 module _
     (s : State) (r events : List ℕ) (n k : ℕ) (v : Verdict) (w : r ≡ recordOf s) (e : v ≡ verdictOf (s .mem) r events n)

@@ -5,7 +5,7 @@ use Prim.Native.Nat.{ℕ, zero, suc, _+_, _*_, _/_, _%_, _<_}
 use native.Mathlib.Omega.{arith}
 use native.Mathlib.Numerals.{add-one}
 use mathlib.Core.Bool.{Bool, true, false, not, _&&_, and-false}
-use mathlib.Core.List.{List, [], _∷_}
+use mathlib.Core.List.{List}
 use mathlib.Core.Logic.{inl, inr, ⊎-elim}
 use mathlib.Core.Path.{_≡_, refl, sym, ap, subst, _∙_}
 use lib.Dec.{eqb}
@@ -28,6 +28,7 @@ use Rattle.machine.specs.Run.{ran, runOf}
 use Rattle.machine_laws.proofs.Plans.{plan-live}
 use Rattle.machine_laws.proofs.Runs.{step-live, run-zero, run-next}
 use Rattle.quiet_registers.specs.Quiet.{calm, Steady}
+use Rattle.quiet_registers.proofs.Laws.{set-even}
 use Rattle.quiet_memory.specs.Served.{quietState, carriedOut, Untouched, Served, Taken}
 use Rattle.quiet.specs.Stretch.{Undisturbed, Stepped}
 
@@ -65,12 +66,6 @@ module _ (regs m : List ℕ) (psw : ℕ) (h : Steady regs psw) where
       ap (λ (p : Plan). carriedOut p 0 n m)
       (plan-live s refl ∙ ap (λ (i : Interrupt). chosen i c (instructionOf c m)) no-interrupt ∙ fetches)
 
--- an even number written is read back even, also past the end of the list
-even-set : (l : List ℕ) (i x : ℕ) → x % 2 ≡ 0 → getD (set l i x) i 0 % 2 ≡ 0
-even-set [] i x h = refl
-even-set (y ∷ l) zero x h = h
-even-set (y ∷ l) (suc i) x h = even-set l i x h
-
 -- the second answer of `Stepped`
 abbrev pub Went : (regs : List ℕ) (psw : ℕ) (m regs₁ : List ℕ) (r : ℕ) → List ℕ → Type 0
 Went regs psw m regs₁ r m₁ =
@@ -107,7 +102,7 @@ module _ (regs m regs₁ m₁ : List ℕ) (psw r : ℕ) where
         λ n. v .1 c 0 n
             ∙ (λ j. carriedOut (executed c (effectOf (calm (set regs 7 (ex j)) psw) (decodeOf (y j))) m) 0 n m)
             ∙ sym (quiet-step-law regs m psw h n),
-        v .2 (even-set regs 7 x even-next, h .1),
+        v .2 (set-even regs 7 x even-next, h .1),
       ))
       t
 

@@ -5,8 +5,9 @@ use native.Mathlib.Omega.{arith}
 use mathlib.Core.Bool.{Bool, true, false, cond, _||_}
 use mathlib.Core.List.{List}
 use mathlib.Core.Logic.{inl, inr, ⊎-elim}
-use mathlib.Core.Path.{_≡_, refl, sym, ap, subst, _∙_}
-use lib.Dec.{T, eqb, ltb}
+use mathlib.Core.Path.{_≡_, refl, sym, ap, _∙_}
+use mathlib.Mathlib.Data.Bool.Basic.{or-eq-false-eq-eq-false-and-eq-false}
+use lib.Dec.{eqb, ltb}
 use lib.IntN.{ℤ}
 use lib.ListN.{getD, set}
 use lib.Seq.{getD-set-other}
@@ -113,14 +114,9 @@ module _ (l k : List ℕ) (p y prpo dec inc wb i : ℕ) {a b at : ℕ} (ha : a �
       ∙ storing l k p 0 y prpo dec inc wb i ha hb ht w src h
 
 -- two registers that are not R7, as LD's one test tells
-neither : (t u : Bool) → (t || u) ≡ false → (t ≡ false) × (u ≡ false)
-neither true u e = absurd (subst T e tt)
-neither false true e = absurd (subst T e tt)
-neither false false e = (refl, refl)
-
 pub below-seven : (i j : ℕ) → i < 8 → j < 8 → (eqb i 7 || eqb j 7) ≡ false → (i < 7) × (j < 7)
 below-seven i j hi hj e =
-    let n = neither (eqb i 7) (eqb j 7) e in
+    let n = or-eq-false-eq-eq-false-and-eq-false (eqb i 7) (eqb j 7) .0 e in
     let f = eqb-false i 7 (n .0) in
     let g = eqb-false j 7 (n .1) in
     (omega arith, omega arith)

@@ -35,7 +35,7 @@ cleared : (b : Bool) → _≡_ {A = ℕ} (cond b 0 0) 0
 cleared true = refl
 cleared false = refl
 
-set-even : (l : List ℕ) (n v : ℕ) → v % 2 ≡ 0 → getD (set l n v) n 0 % 2 ≡ 0
+pub set-even : (l : List ℕ) (n v : ℕ) → v % 2 ≡ 0 → getD (set l n v) n 0 % 2 ≡ 0
 set-even [] n v h = refl
 set-even (x ∷ l) zero v h = h
 set-even (x ∷ l) (suc n) v h = set-even l n v h

@@ -83,7 +83,7 @@ choose-nothing (chains d) c p h a = absurd (true≢false h)
 choose-nothing (accepts d) c p h a = absurd (false≢true a)
 choose-nothing nothing c p h a = refl
 
-each-map : (P Q : ℕ → Type 0) → ((a : ℕ) → P a → Q a) → (l : List ℕ) → Each P l → Each Q l
+pub each-map : (P Q : ℕ → Type 0) → ((a : ℕ) → P a → Q a) → (l : List ℕ) → Each P l → Each Q l
 each-map P Q f [] h = tt
 each-map P Q f (a ∷ l) h = (f a (h .0), each-map P Q f l (h .1))
 

@@ -28,6 +28,7 @@ use Rattle.resume.specs.Frames.{Start, Frame, Calm, none?, acceptsNone?, readsO
 use Rattle.resume.specs.Frames.{foreign?}
 use Rattle.resume.specs.Resume.{Found, Premises, Resumes}
 use Rattle.resume.specs.Depth.{executes?, setPri?, setsPriority?, DepthPremises, Shallow}
+use Rattle.resume.proofs.Step.{each-map}
 use Rattle.resume.proofs.Resume.{resumes}
 use Rattle.resume.proofs.Depth.{depth}
 use Rattle.resume_example.specs.Example.{zeros, program, memory, r, events}
@@ -128,10 +129,6 @@ pull? (stores byte a v) = false
 abbrev newest : Frame → List Frame → Frame
 newest f [] = f
 newest f (g ∷ fs) = g
-
-each-map : (P Q : ℕ → Type 0) → ((a : ℕ) → P a → Q a) → (l : List ℕ) → Each P l → Each Q l
-each-map P Q f [] h = tt
-each-map P Q f (a ∷ l) h = (f a (h .0), each-map P Q f l (h .1))
 
 abbrev Restored : ℕ → Type 0
 Restored k = (f : Frame) (fs : List Frame) → act ev s k ≡ pull → frames ev s k ≡ f ∷ fs → Found (f .held) (due ev s k)

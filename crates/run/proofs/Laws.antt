@@ -1,13 +1,14 @@
 -- A run as its loop goes: steps with no event due, the stretch after a step, one turn, and the two ways in which it ends.
 -- Assumes nothing.
 use Prim.Native.Nat.{ℕ, _+_, _-_, _/_, _%_, _<_, _≤_}
-use mathlib.Core.Bool.{Bool, true, false, not, _&&_, _||_, true≢false, false≢true}
+use mathlib.Core.Bool.{Bool, true, false, not, _&&_, _||_}
 use mathlib.Core.List.{List}
-use mathlib.Core.Path.{_≡_, refl, sym, ap, _∙_}
+use mathlib.Core.Path.{_≡_, sym, ap, _∙_}
 use native.Mathlib.Omega.{arith}
 use lib.Dec.{eqb}
 use lib.ListN.{getD}
-use borrow.Author.Tests.{lt-ltb}
+use mathlib.Mathlib.Data.Bool.Basic.{or-eq-false-eq-eq-false-and-eq-false}
+use borrow.Author.Tests.{lt-ltb, not-true, not-false}
 use Rattle.machine.specs.State.{State, coreOf}
 use Rattle.machine.specs.Events.{Event, eventAt, eventCount, eventsOf}
 use Rattle.machine.specs.Devices.{deliver}
@@ -42,24 +43,12 @@ module _ (b : List ℕ) (next due k : ℕ) (a : Awaits b next due k) where
 
 -- ---- the stretch after a step
 
-neither : (a b : Bool) → a || b ≡ false → (a ≡ false) × (b ≡ false)
-neither true b e = absurd (true≢false e)
-neither false b e = (refl, e)
-
-pub not-false : (b : Bool) → not b ≡ false → b ≡ true
-not-false true e = refl
-not-false false e = absurd (true≢false e)
-
-not-true : (b : Bool) → not b ≡ true → b ≡ false
-not-true true e = absurd (false≢true e)
-not-true false e = refl
-
 pub tests-quiet :
     (regs : List ℕ) (t : Rest) → t .halted || not (eqb (t .lines) 0) || not (eqb (t .cex) 0) ≡ false →
     eqb (getD regs 7 0 % 2) 0 && not (eqb (t .psw / 8 % 2) 1) ≡ true → Quiet regs t
 tests-quiet regs t e f =
-    let p = neither _ _ e in
-    let q = neither _ _ (p .0) in
+    let p = or-eq-false-eq-eq-false-and-eq-false _ _ .0 e in
+    let q = or-eq-false-eq-eq-false-and-eq-false _ _ .0 (p .0) in
     let even = eqb (getD regs 7 0 % 2) 0 in
     let awake = not (eqb (t .psw / 8 % 2) 1) in (
       q .0,
@@ -74,8 +63,8 @@ stretch-none ev s n = let e : n - n ≡ 0 = omega arith in rw e (sym (run-zero e
 pub tests-asleep :
     (regs m : List ℕ) (t : Rest) → t .halted || not (eqb (t .lines) 0) || not (eqb (t .psw / 8 % 2) 1) ≡ false → Asleep (stateWith regs t m)
 tests-asleep regs m t e =
-    let p = neither _ _ e in
-    let q = neither _ _ (p .0) in
+    let p = or-eq-false-eq-eq-false-and-eq-false _ _ .0 e in
+    let q = or-eq-false-eq-eq-false-and-eq-false _ _ .0 (p .0) in
     (q .0, eq-of (not-false _ (q .1)), not-false _ (p .1))
 
 pub stretch-asleep :

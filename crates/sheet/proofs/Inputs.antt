@@ -1,9 +1,9 @@
 -- An input from its parts, and what an accepted one has settled. Assumes nothing.
 use Prim.Native.Nat.{ℕ, _+_, _-_, _≤_}
 use mathlib.Core.Path.{_≡_, refl, sym, ap, _∙_}
-use mathlib.Core.Bool.{Bool, true, false, cond}
+use mathlib.Core.Bool.{true, cond}
 use mathlib.Core.List.{List, [], _∷_}
-use mathlib.Core.Logic.{_≢_, ⊎-elim}
+use mathlib.Core.Logic.{⊎-elim}
 use native.Mathlib.Omega.{arith}
 use lib.Dec.{ltb}
 use lib.ListN.{length, take, drop, length-take, length-drop}
@@ -17,10 +17,10 @@ use Rattle.machine.specs.State.{stateOf}
 use Rattle.machine.specs.Record.{stateIn}
 use Rattle.machine.specs.Events.{eventCount, eventsOf}
 use Rattle.machine.specs.Run.{Run, ran, runOf}
-use Rattle.machine.specs.Refusal.{eventsFitBelow, inOrderBelow, refusalNumber, verdictOf}
+use Rattle.machine.specs.Refusal.{eventsFitBelow, inOrderBelow, verdictOf}
 use Rattle.machine_laws.specs.Passed.{Passed}
 use Rattle.machine_laws.proofs.Cases.{not-lt, ge-of}
-use Rattle.machine_laws.proofs.Records.{passed}
+use Rattle.machine_laws.proofs.Records.{passed, not-met}
 use Rattle.run.proofs.Calls.{events-fit, events-ordered, count-fits}
 use Rattle.sheet.specs.Sheet.{stepsIn, recordIn, memoryIn, eventsIn, inputVerdict, lineOf, refusedLine, answered, sheetOf}
 use Rattle.sheet.specs.Parts.{runIn}
@@ -60,11 +60,6 @@ line-of-parts b m x {mem} {after} em en er es ee ex et =
 pub record Ready (b : List ℕ) : Type 0 where
   pub size : 65572 ≤ length b
   pub rules : Passed (memoryIn b) (recordIn b) (eventsIn b) (stepsIn b)
-
--- a test that would have refused was not met
-not-met : (t : Bool) (x y : Verdict) → refusalNumber x ≢ 0 → cond t x y ≡ Accepted → (t ≡ false) × (y ≡ Accepted)
-not-met true x y h e = absurd (h (ap refusalNumber e))
-not-met false x y h e = (refl, e)
 
 pub ready : (b : List ℕ) → inputVerdict b ≡ Accepted → Ready b
 unfolding inputVerdict

@@ -1,9 +1,9 @@
--- What the layers above cite of widths, bits and the PSW's fields: each law is over every width or every place.
+-- What the layers above cite of tests, widths, bits and the PSW's fields: each law is over every width or every place.
 -- Assumes nothing.
 use mathlib.Core.Path.{_≡_, refl, sym, ap, _∙_}
 use mathlib.Core.Bool.{Bool, true, false}
 use mathlib.Core.Logic.{_⊎_, inl, inr, ⊎-elim}
-use Prim.Native.Nat.{ℕ, suc, _+_, _-_, _*_, _/_, _%_, _^_, _≤_, _<_}
+use Prim.Native.Nat.{ℕ, zero, suc, _+_, _-_, _*_, _/_, _%_, _^_, _≤_, _<_}
 use native.Mathlib.Nat.{mod-lt, div-eq-of-lt, add-mul, mul-assoc, mul-comm, div-lt-iff-lt-mul, one-mul}
 use native.Mathlib.Decide.{decLe}
 use native.Mathlib.Omega.{arith}
@@ -12,6 +12,23 @@ use lib.Bits.{bitAnd, and-mask, mask-lt}
 use lib.Pow.{ones-sub-lt, pow-pos, pow-add, high, low as low-part, field, mod-mod-pow, shr-shr}
 use Rattle.word.specs.Width.{widthOf, bit, low, withLow, turned}
 use Rattle.word.specs.Psw.{bitOf, putBit, current, previous}
+
+-- ---- tests
+
+-- a fact by the two values of a test
+pub bool-cases {ℓ} : {P : Type ℓ} (b : Bool) → (b ≡ true → P) → (b ≡ false → P) → P
+bool-cases true f g = f refl
+bool-cases false f g = g refl
+
+-- a test made a number reads back, and so does a number below 2 made a test
+pub bit-read : (b : Bool) → eqb (bit b) 1 ≡ b
+bit-read true = refl
+bit-read false = refl
+
+pub bit-back : (n : ℕ) → n < 2 → bit (eqb n 1) ≡ n
+bit-back zero h = refl
+bit-back (suc zero) h = refl
+bit-back (suc (suc n)) h = absurd (omega arith)
 
 -- ---- widths
 
@@ -135,13 +152,9 @@ module _ (k p : ℕ) (b : Bool) where
   pub put-lt : (n : ℕ) → k < n → p < 2 ^ n → putBit k p b < 2 ^ n
   put-lt n h l = same-fits (putBit k p b) p n (put-above n h) l
 
-read : (b : Bool) → eqb (bit b) 1 ≡ b
-read true = refl
-read false = refl
-
 -- the same in the words of the PSW: the bit put reads back, and every other bit stays
 pub put-same : (k p : ℕ) (b : Bool) → bitOf k (putBit k p b) ≡ b
-put-same k p b = ap (λ (x : ℕ). eqb x 1) (put-here k p b) ∙ read b
+put-same k p b = ap (λ (x : ℕ). eqb x 1) (put-here k p b) ∙ bit-read b
 
 pub put-other : (j k p : ℕ) (b : Bool) → (j ≡ k → ⊥) → bitOf j (putBit k p b) ≡ bitOf j p
 put-other j k p b h = ap (λ (x : ℕ). eqb x 1) (put-elsewhere k p b j h)

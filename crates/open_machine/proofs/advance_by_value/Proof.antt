@@ -5,11 +5,12 @@ use mathlib.Core.Path.{ap}
 use native.Mathlib.Omega.{arith}
 use denote.Struct.Laws as LL
 use borrow.Author.Needs.{needs}
+use Rattle.word.proofs.Laws.{bit-le}
 use Rattle.machine.specs.State.{stateOf}
 use Rattle.machine.proofs.Machine as T
 use Rattle.machine.proofs.Machine.Laws as T′
 use Rattle.run.proofs.Calls.{events-fit, events-ordered, call-passed}
-use Rattle.open_machine.proofs.Laws.{count-fits, mark-le, advance-refused, advance-ran}
+use Rattle.open_machine.proofs.Laws.{count-fits, advance-refused, advance-ran}
 use Rattle.open_machine.proofs.advance_by_value.Statement.{statement}
 use Rattle.open_machine.proofs.advance_by_value.Tie as tie
 
@@ -63,7 +64,7 @@ cast-reply c = search needs
 
 mul-reply : tie.Need-mul-reply
 mul-reply c =
-    let h = mark-le (c .before .before .before .before .run .result .machine .halted) in
+    let h = bit-le (c .before .before .before .before .run .result .machine .halted) in
     omega arith
 
 cast-reply-2 : tie.Need-cast-reply-2
@@ -74,7 +75,7 @@ mul-reply-2 c = search needs
 
 add-reply : tie.Need-add-reply
 add-reply c =
-    let h = mark-le (c .before .before .before .before .before .run .result .machine .halted) in
+    let h = bit-le (c .before .before .before .before .before .run .result .machine .halted) in
     omega arith
 
 same-length-2 : tie.Need-same-length-2

@@ -7,11 +7,12 @@ use native.Mathlib.Omega.{arith}
 use denote.Ref.{now}
 use denote.Struct.Laws as LL
 use borrow.Author.Needs.{needs}
+use Rattle.word.proofs.Laws.{bit-le}
 use Rattle.machine.specs.State.{stateOf}
 use Rattle.machine.proofs.Machine as T
 use Rattle.machine.proofs.Machine.Laws as T′
 use Rattle.run.proofs.Calls.{events-fit, events-ordered, call-passed}
-use Rattle.open_machine.proofs.Laws.{count-fits, mark-le, advance-refused, advance-ran, run-one}
+use Rattle.open_machine.proofs.Laws.{count-fits, advance-refused, advance-ran, run-one}
 use Rattle.open_machine.proofs.step_by_value.Statement.{statement}
 use Rattle.open_machine.proofs.step_by_value.Tie as tie
 
@@ -60,7 +61,7 @@ cast-reply c = search needs
 
 mul-reply : tie.Need-mul-reply
 mul-reply c =
-    let h = mark-le (c .before .before .before .before .before .step .result .machine .halted) in
+    let h = bit-le (c .before .before .before .before .before .step .result .machine .halted) in
     omega arith
 
 cast-reply-2 : tie.Need-cast-reply-2
@@ -68,13 +69,13 @@ cast-reply-2 c = search needs
 
 mul-reply-2 : tie.Need-mul-reply-2
 mul-reply-2 c =
-    let h = mark-le (not (c .before .before .before .before .before .before .before .before .before .before .before .before .before .before .before .before .before .args .m .halted)) in
+    let h = bit-le (not (c .before .before .before .before .before .before .before .before .before .before .before .before .before .before .before .before .before .args .m .halted)) in
     omega arith
 
 add-reply : tie.Need-add-reply
 add-reply c =
-    let h = mark-le (c .before .before .before .before .before .step .result .machine .halted) in
-    let k = mark-le (not (c .before .before .before .before .before .before .before .before .before .before .before .before .before .before .before .before .before .args .m .halted)) in
+    let h = bit-le (c .before .before .before .before .before .step .result .machine .halted) in
+    let k = bit-le (not (c .before .before .before .before .before .before .before .before .before .before .before .before .before .before .before .before .before .args .m .halted)) in
     omega arith
 
 same-length-2 : tie.Need-same-length-2

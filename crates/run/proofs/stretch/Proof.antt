@@ -1,7 +1,8 @@
 use native.Mathlib.Omega.{arith}
 use borrow.Author.Needs.{needs}
 use denote.Ref.{now}
-use Rattle.run.proofs.Laws.{not-false, stretch-done}
+use borrow.Author.Tests.{not-false}
+use Rattle.run.proofs.Laws.{stretch-done}
 use Rattle.run.proofs.stretch.Statement.{statement}
 use Rattle.run.proofs.stretch.Tie as tie
 

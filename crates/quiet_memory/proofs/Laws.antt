@@ -1,6 +1,6 @@
 -- What the code of a quiet machine's instruction leaves, put together as its definition has it. l is the registers with PC
 -- past the instruction, m the memory before it, p the PSW. Assumes nothing.
-use Prim.Native.Nat.{ℕ, _+_, _/_, _%_, _<_, _≤_}
+use Prim.Native.Nat.{ℕ, _+_, _*_, _/_, _%_, _<_, _≤_}
 use native.Mathlib.Omega.{arith}
 use mathlib.Core.Bool.{Bool, true, false, cond, _||_}
 use mathlib.Core.List.{List}
@@ -19,11 +19,11 @@ use Rattle.machine.specs.declared.Access.the-variants as asks
 use Rattle.machine.specs.State.{coreOf, moved}
 use Rattle.machine.specs.Memory.{commit}
 use Rattle.machine.specs.Devices.{storeWrites}
-use Rattle.machine.specs.Effect.{Effect, effect, effectOf, moves?, adjusted}
+use Rattle.machine.specs.Effect.{Effect, effect, effectOf, operand, moves?, adjusted}
 use Rattle.machine.specs.Step.{planned, loads, executed}
 use Rattle.exec.proofs.Laws.{loading, storing}
 use Rattle.instruction.proofs.Laws.{granted-nothing, granted-load, granted-store}
-use Rattle.quiet_registers.specs.Quiet.{calm, Steady, Tried}
+use Rattle.quiet_registers.specs.Quiet.{calm, Steady, Tried, Words, operation, named}
 use Rattle.quiet_memory.specs.Served.{quietState, carriedOut, Served, Taken}
 
 -- ---- the CEX state and PC
@@ -171,3 +171,43 @@ module _ (w : ℕ) (h : 0x5800 ≤ w) where
 
   pub decode-relative : 0x8000 ≤ w → decodeOf w ≡ relativeOf w
   decode-relative j = decode-high ∙ rw (le-ltb w 0x6000 (omega arith), le-ltb w 0x8000 j) refl
+
+-- ---- words by their ten leading bits
+
+-- operation op on words; rc tells a constant from a register
+module _ (op rc w : ℕ) (ho : op < 12) (hr : rc < 2) (h : w / 64 ≡ 0x100 + op * 4 + rc * 2) where
+  decode-operation : decodeOf w ≡ operation w
+  unfolding decodeOf
+  decode-operation =
+      let p : 0x2000 ≤ w = omega arith in
+      let q : 0x4000 ≤ w = omega arith in
+      let r : w < 0x4C00 = omega arith in
+      simp (le-ltb _ _ p, le-ltb _ _ q, lt-ltb _ _ r)
+
+  pub operand-words :
+      (l : List ℕ) (p : ℕ) {s : ℕ} → s ≡ operand (calm l p) rc (w / 8 % 8) → Words op w × (s ≡ named l p w)
+  operand-words l p e =
+      let k : w / 128 % 2 ≡ rc = omega arith in
+      ((omega arith, omega arith, omega arith, omega arith), e ∙ ap (λ (x : ℕ). operand (calm l p) x (w / 8 % 8)) (sym k))
+
+  pub operation-taken :
+      (l k m : List ℕ) (p r : ℕ) → Tried (operation w) l p k r → Taken (decodeOf w) l p m k r m
+  operation-taken l k m p r t = rw decode-operation (tried-taken (operation w) l k m p r t)
+
+module _ (w : ℕ) where
+  pub decode-load-plain : w / 64 ≡ 0x160 → decodeOf w ≡ Instr.Ld 0 0 0 0 (w / 8 % 8) (w % 8)
+  decode-load-plain h =
+      let a : w / 512 % 2 ≡ 0 = omega arith in
+      let b : w / 256 % 2 ≡ 0 = omega arith in
+      let c : w / 128 % 2 ≡ 0 = omega arith in
+      let d : w / 64 % 2 ≡ 0 = omega arith in
+      decode-load w (omega arith) (omega arith) ∙ (λ j. Instr.Ld (a j) (b j) (c j) (d j) (w / 8 % 8) (w % 8))
+
+  pub decode-store-plain : w / 64 ≡ 0x170 → decodeOf w ≡ Instr.St 0 0 0 0 (w / 8 % 8) (w % 8)
+  decode-store-plain h =
+      let a : w / 512 % 2 ≡ 0 = omega arith in
+      let b : w / 256 % 2 ≡ 0 = omega arith in
+      let c : w / 128 % 2 ≡ 0 = omega arith in
+      let d : w / 64 % 2 ≡ 0 = omega arith in
+      decode-store w (omega arith) (omega arith) (omega arith)
+      ∙ (λ j. Instr.St (a j) (b j) (c j) (d j) (w / 8 % 8) (w % 8))

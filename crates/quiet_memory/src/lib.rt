@@ -6,6 +6,7 @@ ghost use lib.ListN.{length, getD};
 ghost use Rattle.word.specs.Offset.{signedOf};
 ghost use Rattle.isa.specs.declared.Instr.the-variants as Instr;
 ghost use Rattle.isa.specs.Decode.{relativeOf, decodeOf};
+ghost use Rattle.machine.specs.Effect.{constantOf};
 ghost use Rattle.machine.specs.Step.{planned, loads};
 ghost use Rattle.quiet_registers.specs.Quiet.{calm};
 ghost use Rattle.quiet_memory.specs.Served.{quietState, carriedOut, Served, Taken};
@@ -137,8 +138,34 @@ fn high_word(regs: &mut [u16; 8], mem: &mut [u8], psw: u16, w: u16) -> u32
     relative_word(regs, mem, psw, w)
 }
 
-// Any word.
-pub fn quiet_word(regs: &mut [u16; 8], mem: &mut [u8], psw: u16, w: u16) -> u32
+// 5800 to 583F: LD of a word with no adjustment.
+fn load_plain(regs: &mut [u16; 8], mem: &mut [u8], psw: u16, w: u16) -> u32
+    requires { ⌜ length (now mem) ≡ 65536 ⌝ }
+    ensures { λ r. ⌜ Taken (Instr.Ld 0 0 0 0 (w / 8 % 8) (w % 8))
+        (now (regs .entry)) psw (now (mem .entry)) (now (regs .exit)) r (now (mem .exit)) ⌝ }
+{
+    let dst = (w % 8) as u8;
+    if dst == 7 {
+        return 65536;
+    }
+    let at = get(regs, (w / 8 % 8) as u8);
+    load(regs, mem, false, at, dst);
+    psw as u32
+}
+
+// 5C00 to 5C3F: ST of a word with no adjustment.
+fn store_plain(regs: &[u16; 8], mem: &mut [u8], psw: u16, w: u16) -> u32
+    requires { ⌜ length (now mem) ≡ 65536 ⌝ }
+    ensures { λ r. ⌜ Served (Instr.St 0 0 0 0 (w / 8 % 8) (w % 8))
+        (now (regs .entry)) psw (now (mem .entry)) (now (regs .entry)) r (now (mem .exit)) ⌝ }
+{
+    let at = get(regs, (w % 8) as u8);
+    memory::store(mem, false, ByteAddr(at), get(regs, (w / 8 % 8) as u8));
+    psw as u32
+}
+
+// Any word, by the ranges of the decoder.
+fn any_word(regs: &mut [u16; 8], mem: &mut [u8], psw: u16, w: u16) -> u32
     requires { ⌜ length (now mem) ≡ 65536 ⌝ }
     ensures { λ r. ⌜ Taken (decodeOf w)
         (now (regs .entry)) psw (now (mem .entry)) (now (regs .exit)) r (now (mem .exit)) ⌝ }
@@ -147,4 +174,40 @@ pub fn quiet_word(regs: &mut [u16; 8], mem: &mut [u8], psw: u16, w: u16) -> u32
         return quiet_registers::register_word(regs, psw, w);
     }
     high_word(regs, mem, psw, w)
+}
+
+// The operand of an operation's word: the register, or the constant, of bits 5 to 3.
+fn register_of(regs: &[u16; 8], w: u16) -> u16
+    ensures { λ r. ⌜ r ≡ getD (now (regs .entry)) (w / 8 % 8) 0 ⌝ }
+{
+    get(regs, (w / 8 % 8) as u8)
+}
+
+fn constant_of(w: u16) -> u16
+    ensures { λ r. ⌜ r ≡ constantOf (w / 8 % 8) ⌝ }
+{
+    operands::constant((w / 8 % 8) as u8)
+}
+
+// Any word; those of most programs by their ten leading bits at once.
+pub fn quiet_word(regs: &mut [u16; 8], mem: &mut [u8], psw: u16, w: u16) -> u32
+    requires { ⌜ length (now mem) ≡ 65536 ⌝ }
+    ensures { λ r. ⌜ Taken (decodeOf w)
+        (now (regs .entry)) psw (now (mem .entry)) (now (regs .exit)) r (now (mem .exit)) ⌝ }
+{
+    match w / 64 {
+        0x100 => quiet_registers::add_words(regs, psw, w, register_of(regs, w)),
+        0x102 => quiet_registers::add_words(regs, psw, w, constant_of(w)),
+        0x108 => quiet_registers::subtract_words(regs, psw, w, register_of(regs, w)),
+        0x10A => quiet_registers::subtract_words(regs, psw, w, constant_of(w)),
+        0x114 => quiet_registers::compare_words(regs, psw, w, register_of(regs, w)),
+        0x116 => quiet_registers::compare_words(regs, psw, w, constant_of(w)),
+        0x118 => quiet_registers::xor_words(regs, psw, w, register_of(regs, w)),
+        0x11C => quiet_registers::and_words(regs, psw, w, register_of(regs, w)),
+        0x120 => quiet_registers::or_words(regs, psw, w, register_of(regs, w)),
+        0x124 => quiet_registers::bit_words(regs, psw, w, register_of(regs, w)),
+        0x160 => load_plain(regs, mem, psw, w),
+        0x170 => store_plain(regs, mem, psw, w),
+        _ => any_word(regs, mem, psw, w),
+    }
 }

@@ -7,7 +7,7 @@ ghost use Prim.Native.Nat.{_/_, _%_, _<_, _≤_};
 ghost use lib.ListN.{set};
 ghost use Rattle.isa.specs.declared.Instr.the-variants as Instr;
 ghost use Rattle.isa.specs.Decode.{unaryOf, decodeOf};
-ghost use Rattle.quiet_registers.specs.Quiet.{Executed, Tried, operation};
+ghost use Rattle.quiet_registers.specs.Quiet.{Executed, Tried, Words, operation, named};
 use alu::Op;
 use alu::Outcome;
 use operands::get;
@@ -37,31 +37,84 @@ fn operate(regs: &mut [u16; 8], psw: u16, w: u16) -> u32
     d.psw as u32
 }
 
-// The same for words. The operations that programs use most stand here with their width, which the
-// compiler then knows.
-fn operate_on_words(regs: &mut [u16; 8], psw: u16, w: u16) -> u32
-    requires { ⌜ (0x4000 ≤ w) × (w < 0x4C00) × (w % 8 < 7) × (w / 64 % 2 ≡ 0) ⌝ }
-    ensures { λ r. ⌜ Executed (operation w) (now (regs .entry)) psw (now (regs .exit)) r ⌝ }
+// The operations that programs use most, on words, so that the compiler knows operation and width.
+// s is the operand that the word names, a register or a constant.
+pub fn add_words(regs: &mut [u16; 8], psw: u16, w: u16, s: u16) -> u32
+    requires { ⌜ Words 0 w × (s ≡ named (now regs) psw w) ⌝ }
+    ensures { λ r. ⌜ Tried (operation w) (now (regs .entry)) psw (now (regs .exit)) r ⌝ }
 {
     let dst = (w % 8) as u8;
-    let d = get(regs, dst);
-    let s = operands::operand(regs, (w / 128 % 2) as u8, (w / 8 % 8) as u8);
-    match w / 256 % 16 {
-        0 => write(regs, dst, alu::add_into(false, d, s, 0, psw)),
-        2 => write(regs, dst, alu::subtract_into(false, d, s, 1, psw)),
-        5 => {
-            let o = alu::subtract_into(false, d, s, 1, psw);
-            o.psw as u32
-        }
-        6 => write(regs, dst, alu::logic_into(false, d, d ^ s, psw)),
-        7 => write(regs, dst, alu::logic_into(false, d, d & s, psw)),
-        8 => write(regs, dst, alu::logic_into(false, d, d | s, psw)),
-        9 => {
-            let o = alu::logic_into(false, d, d & s, psw);
-            o.psw as u32
-        }
-        _ => operate(regs, psw, w),
+    if dst == 7 {
+        return 65536;
     }
+    let d = get(regs, dst);
+    write(regs, dst, alu::add_into(false, d, s, 0, psw))
+}
+
+pub fn subtract_words(regs: &mut [u16; 8], psw: u16, w: u16, s: u16) -> u32
+    requires { ⌜ Words 2 w × (s ≡ named (now regs) psw w) ⌝ }
+    ensures { λ r. ⌜ Tried (operation w) (now (regs .entry)) psw (now (regs .exit)) r ⌝ }
+{
+    let dst = (w % 8) as u8;
+    if dst == 7 {
+        return 65536;
+    }
+    let d = get(regs, dst);
+    write(regs, dst, alu::subtract_into(false, d, s, 1, psw))
+}
+
+pub fn compare_words(regs: &[u16; 8], psw: u16, w: u16, s: u16) -> u32
+    requires { ⌜ Words 5 w × (s ≡ named (now regs) psw w) ⌝ }
+    ensures { λ r. ⌜ Executed (operation w) (now (regs .entry)) psw (now (regs .entry)) r ⌝ }
+{
+    let d = get(regs, (w % 8) as u8);
+    let o = alu::subtract_into(false, d, s, 1, psw);
+    o.psw as u32
+}
+
+pub fn xor_words(regs: &mut [u16; 8], psw: u16, w: u16, s: u16) -> u32
+    requires { ⌜ Words 6 w × (s ≡ named (now regs) psw w) ⌝ }
+    ensures { λ r. ⌜ Tried (operation w) (now (regs .entry)) psw (now (regs .exit)) r ⌝ }
+{
+    let dst = (w % 8) as u8;
+    if dst == 7 {
+        return 65536;
+    }
+    let d = get(regs, dst);
+    write(regs, dst, alu::logic_into(false, d, d ^ s, psw))
+}
+
+pub fn and_words(regs: &mut [u16; 8], psw: u16, w: u16, s: u16) -> u32
+    requires { ⌜ Words 7 w × (s ≡ named (now regs) psw w) ⌝ }
+    ensures { λ r. ⌜ Tried (operation w) (now (regs .entry)) psw (now (regs .exit)) r ⌝ }
+{
+    let dst = (w % 8) as u8;
+    if dst == 7 {
+        return 65536;
+    }
+    let d = get(regs, dst);
+    write(regs, dst, alu::logic_into(false, d, d & s, psw))
+}
+
+pub fn or_words(regs: &mut [u16; 8], psw: u16, w: u16, s: u16) -> u32
+    requires { ⌜ Words 8 w × (s ≡ named (now regs) psw w) ⌝ }
+    ensures { λ r. ⌜ Tried (operation w) (now (regs .entry)) psw (now (regs .exit)) r ⌝ }
+{
+    let dst = (w % 8) as u8;
+    if dst == 7 {
+        return 65536;
+    }
+    let d = get(regs, dst);
+    write(regs, dst, alu::logic_into(false, d, d | s, psw))
+}
+
+pub fn bit_words(regs: &[u16; 8], psw: u16, w: u16, s: u16) -> u32
+    requires { ⌜ Words 9 w × (s ≡ named (now regs) psw w) ⌝ }
+    ensures { λ r. ⌜ Executed (operation w) (now (regs .entry)) psw (now (regs .entry)) r ⌝ }
+{
+    let d = get(regs, (w % 8) as u8);
+    let o = alu::logic_into(false, d, d & s, psw);
+    o.psw as u32
 }
 
 // 4000 to 4BFF: ADD to BIS.
@@ -72,10 +125,7 @@ fn operation_word(regs: &mut [u16; 8], psw: u16, w: u16) -> u32
     if w % 8 == 7 {
         return 65536;
     }
-    if w / 64 % 2 == 1 {
-        return operate(regs, psw, w);
-    }
-    operate_on_words(regs, psw, w)
+    operate(regs, psw, w)
 }
 
 // 4C00 to 4C7F: MOV. The low bit of the source is that of the new PC, in the byte form too.

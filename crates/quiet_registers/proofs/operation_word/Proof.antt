@@ -14,12 +14,5 @@ operate-requires c κs = search needs
 returns-2 : tie.Need-returns-2
 returns-2 c = inr (c .operate .ensures)
 
-operate-on-words-requires : tie.Need-operate-on-words-requires
-operate-on-words-requires c κs = search needs
-
-returns-3 : tie.Need-returns-3
-returns-3 c = inr (c .operate-on-words .ensures)
-
 pub operation-word-spec : {M : Type 1} → statement M
-operation-word-spec =
-    tie.close (tie.spec returns operate-requires returns-2 operate-on-words-requires returns-3)
+operation-word-spec = tie.close (tie.spec returns operate-requires returns-2)

@@ -1,0 +1,40 @@
+-- `quiet_memory::store_plain` meets its contract. Assumes nothing.
+use Prim.Native.Nat.{_/_, _%_}
+use native.Mathlib.Omega.{arith}
+use mathlib.Core.Path.{refl}
+use denote.Ref.{now}
+use borrow.Author.Needs.{needs}
+use Rattle.quiet_memory.proofs.Laws.{served-store, store-effect}
+use Rattle.quiet_memory.proofs.store_plain.Statement.{statement}
+use Rattle.quiet_memory.proofs.store_plain.Tie as tie
+
+cast-get : tie.Need-cast-get
+cast-get c = search needs
+
+get-requires : tie.Need-get-requires
+get-requires c κs = search needs
+
+cast-get-2 : tie.Need-cast-get-2
+cast-get-2 c = search needs
+
+get-requires-2 : tie.Need-get-requires-2
+get-requires-2 c κs = search needs
+
+store-requires : tie.Need-store-requires
+store-requires c κs = search needs
+
+same-length : tie.Need-same-length
+same-length c = search needs
+
+returns : tie.Need-returns
+returns c =
+    let d = c .before .before .before in
+    let a = d .before .before .before .before .args in
+    let l = now (a .regs) in
+    let e = store-effect l l (a .psw) 0 0 0 0 0 (a .w % 8) (d .before .before .get .ensures) refl refl (refl, refl) (a .w / 8 % 8)
+    (d .get2 .ensures) in
+    served-store _ l l (now (a .mem)) (a .psw) _ _ _ _ (omega arith) e (c .before .before .store .ensures) refl
+
+pub store-plain-spec : {M : Type 1} → statement M
+store-plain-spec =
+    tie.close (tie.spec cast-get get-requires cast-get-2 get-requires-2 store-requires same-length returns)

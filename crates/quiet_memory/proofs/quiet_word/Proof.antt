@@ -70,6 +70,15 @@ xor-words-requires c κs =
     let a = d .before .before .args in
     operand-words 6 0 (a .w) (omega arith) (omega arith) (d .match .keys7) (now (a .regs)) (a .psw) (c .register-of4 .ensures)
 
+constant-of-requires-4 : tie.Need-constant-of-requires-4
+constant-of-requires-4 c κs = search needs
+
+xor-words-requires-2 : tie.Need-xor-words-requires-2
+xor-words-requires-2 c κs =
+    let d = c .before .before in
+    let a = d .before .before .args in
+    operand-words 6 1 (a .w) (omega arith) (omega arith) (d .match .keys8) (now (a .regs)) (a .psw) (c .constant-of4 .ensures)
+
 register-of-requires-5 : tie.Need-register-of-requires-5
 register-of-requires-5 c κs = search needs
 
@@ -77,7 +86,16 @@ and-words-requires : tie.Need-and-words-requires
 and-words-requires c κs =
     let d = c .before .before .before in
     let a = d .before .before .args in
-    operand-words 7 0 (a .w) (omega arith) (omega arith) (d .match .keys8) (now (a .regs)) (a .psw) (c .register-of5 .ensures)
+    operand-words 7 0 (a .w) (omega arith) (omega arith) (d .match .keys9) (now (a .regs)) (a .psw) (c .register-of5 .ensures)
+
+constant-of-requires-5 : tie.Need-constant-of-requires-5
+constant-of-requires-5 c κs = search needs
+
+and-words-requires-2 : tie.Need-and-words-requires-2
+and-words-requires-2 c κs =
+    let d = c .before .before in
+    let a = d .before .before .args in
+    operand-words 7 1 (a .w) (omega arith) (omega arith) (d .match .keys10) (now (a .regs)) (a .psw) (c .constant-of5 .ensures)
 
 register-of-requires-6 : tie.Need-register-of-requires-6
 register-of-requires-6 c κs = search needs
@@ -86,7 +104,16 @@ or-words-requires : tie.Need-or-words-requires
 or-words-requires c κs =
     let d = c .before .before .before in
     let a = d .before .before .args in
-    operand-words 8 0 (a .w) (omega arith) (omega arith) (d .match .keys9) (now (a .regs)) (a .psw) (c .register-of6 .ensures)
+    operand-words 8 0 (a .w) (omega arith) (omega arith) (d .match .keys11) (now (a .regs)) (a .psw) (c .register-of6 .ensures)
+
+constant-of-requires-6 : tie.Need-constant-of-requires-6
+constant-of-requires-6 c κs = search needs
+
+or-words-requires-2 : tie.Need-or-words-requires-2
+or-words-requires-2 c κs =
+    let d = c .before .before in
+    let a = d .before .before .args in
+    operand-words 8 1 (a .w) (omega arith) (omega arith) (d .match .keys12) (now (a .regs)) (a .psw) (c .constant-of6 .ensures)
 
 register-of-requires-7 : tie.Need-register-of-requires-7
 register-of-requires-7 c κs = search needs
@@ -95,7 +122,16 @@ bit-words-requires : tie.Need-bit-words-requires
 bit-words-requires c κs =
     let d = c .before .before in
     let a = d .before .before .args in
-    operand-words 9 0 (a .w) (omega arith) (omega arith) (d .match .keys10) (now (a .regs)) (a .psw) (c .register-of7 .ensures)
+    operand-words 9 0 (a .w) (omega arith) (omega arith) (d .match .keys13) (now (a .regs)) (a .psw) (c .register-of7 .ensures)
+
+constant-of-requires-7 : tie.Need-constant-of-requires-7
+constant-of-requires-7 c κs = search needs
+
+bit-words-requires-2 : tie.Need-bit-words-requires-2
+bit-words-requires-2 c κs =
+    let d = c .before .before in
+    let a = d .before .before .args in
+    operand-words 9 1 (a .w) (omega arith) (omega arith) (d .match .keys14) (now (a .regs)) (a .psw) (c .constant-of7 .ensures)
 
 load-plain-requires : tie.Need-load-plain-requires
 load-plain-requires c κs = search needs
@@ -157,46 +193,74 @@ returns-7 c =
 
 returns-8 : tie.Need-returns-8
 returns-8 c =
-    let d = c .before .before .before .before in
+    let d = c .before .before .before in
     let a = d .before .before .args in
-    operation-taken 7 0 (a .w) (omega arith) (omega arith) (d .match .keys8)
-    (now (a .regs)) _ (now (a .mem)) (a .psw) _ (c .and-words .ensures)
+    operation-taken 6 1 (a .w) (omega arith) (omega arith) (d .match .keys8)
+    (now (a .regs)) _ (now (a .mem)) (a .psw) _ (c .xor-words2 .ensures)
 
 returns-9 : tie.Need-returns-9
 returns-9 c =
     let d = c .before .before .before .before in
     let a = d .before .before .args in
-    operation-taken 8 0 (a .w) (omega arith) (omega arith) (d .match .keys9)
-    (now (a .regs)) _ (now (a .mem)) (a .psw) _ (c .or-words .ensures)
+    operation-taken 7 0 (a .w) (omega arith) (omega arith) (d .match .keys9)
+    (now (a .regs)) _ (now (a .mem)) (a .psw) _ (c .and-words .ensures)
 
 returns-10 : tie.Need-returns-10
 returns-10 c =
     let d = c .before .before .before in
     let a = d .before .before .args in
-    operation-taken 9 0 (a .w) (omega arith) (omega arith) (d .match .keys10)
+    operation-taken 7 1 (a .w) (omega arith) (omega arith) (d .match .keys10)
+    (now (a .regs)) _ (now (a .mem)) (a .psw) _ (c .and-words2 .ensures)
+
+returns-11 : tie.Need-returns-11
+returns-11 c =
+    let d = c .before .before .before .before in
+    let a = d .before .before .args in
+    operation-taken 8 0 (a .w) (omega arith) (omega arith) (d .match .keys11)
+    (now (a .regs)) _ (now (a .mem)) (a .psw) _ (c .or-words .ensures)
+
+returns-12 : tie.Need-returns-12
+returns-12 c =
+    let d = c .before .before .before in
+    let a = d .before .before .args in
+    operation-taken 8 1 (a .w) (omega arith) (omega arith) (d .match .keys12)
+    (now (a .regs)) _ (now (a .mem)) (a .psw) _ (c .or-words2 .ensures)
+
+returns-13 : tie.Need-returns-13
+returns-13 c =
+    let d = c .before .before .before in
+    let a = d .before .before .args in
+    operation-taken 9 0 (a .w) (omega arith) (omega arith) (d .match .keys13)
     (now (a .regs)) _ (now (a .mem)) (a .psw) _ (inr (c .bit-words .ensures))
+
+returns-14 : tie.Need-returns-14
+returns-14 c =
+    let d = c .before .before .before in
+    let a = d .before .before .args in
+    operation-taken 9 1 (a .w) (omega arith) (omega arith) (d .match .keys14)
+    (now (a .regs)) _ (now (a .mem)) (a .psw) _ (inr (c .bit-words2 .ensures))
 
 same-length : tie.Need-same-length
 same-length c = search needs
 
-returns-11 : tie.Need-returns-11
-returns-11 c =
+returns-15 : tie.Need-returns-15
+returns-15 c =
     let d = c .before .before .before .before .before in
-    rw (decode-load-plain _ (d .match .keys11)) (c .before .before .load-plain .ensures)
+    rw (decode-load-plain _ (d .match .keys15)) (c .before .before .load-plain .ensures)
 
 same-length-2 : tie.Need-same-length-2
 same-length-2 c = search needs
 
-returns-12 : tie.Need-returns-12
-returns-12 c =
+returns-16 : tie.Need-returns-16
+returns-16 c =
     let d = c .before .before .before .before .before in
-    rw (decode-store-plain _ (d .match .keys12)) (inr (c .before .before .store-plain .ensures))
+    rw (decode-store-plain _ (d .match .keys16)) (inr (c .before .before .store-plain .ensures))
 
 same-length-3 : tie.Need-same-length-3
 same-length-3 c = search needs
 
-returns-13 : tie.Need-returns-13
-returns-13 c = search needs
+returns-17 : tie.Need-returns-17
+returns-17 c = search needs
 
 pub quiet-word-spec : {M : Type 1} → statement M
 quiet-word-spec =
@@ -216,12 +280,20 @@ quiet-word-spec =
     compare-words-requires-2
     register-of-requires-4
     xor-words-requires
+    constant-of-requires-4
+    xor-words-requires-2
     register-of-requires-5
     and-words-requires
+    constant-of-requires-5
+    and-words-requires-2
     register-of-requires-6
     or-words-requires
+    constant-of-requires-6
+    or-words-requires-2
     register-of-requires-7
     bit-words-requires
+    constant-of-requires-7
+    bit-words-requires-2
     load-plain-requires
     store-plain-requires
     any-word-requires
@@ -235,9 +307,13 @@ quiet-word-spec =
     returns-8
     returns-9
     returns-10
-    same-length
     returns-11
-    same-length-2
     returns-12
+    returns-13
+    returns-14
+    same-length
+    returns-15
+    same-length-2
+    returns-16
     same-length-3
-    returns-13)
+    returns-17)

@@ -40,6 +40,12 @@ def below(names):
     return found
 
 
+def changed_since(time_then, crate):
+    """Whether a file of a crate was changed while it was proved: then rt is to be asked again."""
+    paths = glob.glob(f"crates/{crate}/**", recursive=True)
+    return any(os.path.getmtime(path) >= time_then for path in paths if "/must-fail" not in path)
+
+
 def clock(seconds):
     return f"{int(seconds) // 60}:{int(seconds) % 60:02} min" if seconds >= 60 else f"{int(seconds)} s"
 
@@ -153,9 +159,9 @@ def main():
         else:
             status = progress.rt(*(["check", name] if kind == "program" else ["ci"]))
         ended.set()
-    if place and status == 0:
-        # As old as the files that it was made from: one that is changed from now on is newer.
-        os.utime(place, (progress.began, progress.began))
+    if place and status == 0 and not any(changed_since(progress.began, crate) for crate in wanted):
+        # Newer than every file that it was made from, so that make asks no more.
+        os.utime(place)
     if status:
         print(f"prove.py: not all is proved; what rt printed: {path}", file=sys.stderr)
     elif new > 2:

@@ -41,7 +41,7 @@ def below(names):
 
 
 def changed_since(time_then, crate):
-    """Whether a file of a crate was changed while it was proved: then rt is to be asked again."""
+    """Whether a file of a crate was changed since then."""
     paths = glob.glob(f"crates/{crate}/**", recursive=True)
     return any(os.path.getmtime(path) >= time_then for path in paths if "/must-fail" not in path)
 
@@ -159,9 +159,10 @@ def main():
         else:
             status = progress.rt(*(["check", name] if kind == "program" else ["ci"]))
         ended.set()
-    if place and status == 0 and not any(changed_since(progress.began, crate) for crate in wanted):
-        # Newer than every file that it was made from, so that make asks no more.
-        os.utime(place)
+    if place and status == 0:
+        # Newer than every file that it was made from, so that make asks no more; unless one was changed meanwhile.
+        stale = any(changed_since(progress.began, crate) for crate in wanted)
+        os.utime(place, (progress.began - 1,) * 2 if stale else None)
     if status:
         print(f"prove.py: not all is proved; what rt printed: {path}", file=sys.stderr)
     elif new > 2:

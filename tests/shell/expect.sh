@@ -1,6 +1,8 @@
 # Read by the tests of this folder: commands as a person types them, held to their status, output and errors.
 # Each script ends with 'count', which prints 'N passed, M failed'.
 
+# Of a make that runs these tests nothing is handed on.
+unset MAKEFLAGS MFLAGS MAKELEVEL
 passed=0
 failed=0
 room=$(mktemp -d)

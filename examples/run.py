@@ -1,5 +1,4 @@
 import ctypes, sys
-
 xm23 = ctypes.CDLL(sys.argv[1] if len(sys.argv) > 1 else "libxm23.so")
 buffer, length = ctypes.c_char_p, ctypes.c_size_t
 xm23.xm23_run.argtypes = [buffer, length, buffer, length, buffer, length, ctypes.c_uint64]

@@ -47,7 +47,7 @@ def changed_since(time_then, crate):
 
 
 def clock(seconds):
-    return f"{int(seconds) // 60}:{int(seconds) % 60:02} min" if seconds >= 60 else f"{int(seconds)} s"
+    return f"{int(seconds) // 60} min {int(seconds) % 60} s" if seconds >= 60 else f"{int(seconds)} s"
 
 
 class Progress:
@@ -64,16 +64,19 @@ class Progress:
             self.spoke = time.time()
             print(text, flush=True)
 
+    def elapsed(self):
+        return f"; {clock(time.time() - self.began)} so far"
+
     def crate(self, name, seconds):
         """A crate is proved, in so many seconds; unchanged since it was last proved: None."""
         self.crates.add(name)
         if seconds is not None:
             self.proved += 1
-            self.say(f"proved {name} ({len(self.crates)} of {self.total}, {seconds} s)")
+            self.say(f"proved {name} ({len(self.crates)} of {self.total}, {seconds} s){self.elapsed()}")
 
     def edit(self, name, seconds):
         self.tried.add(name)
-        self.say(f"refused {name} (edit {len(self.tried)} of {self.edits}, {seconds} s)")
+        self.say(f"refused {name} (edit {len(self.tried)} of {self.edits}, {seconds} s){self.elapsed()}")
 
     def line(self, text):
         print(text, file=self.log, flush=True)
@@ -100,7 +103,7 @@ class Progress:
     def watch(self, ended):
         while not ended.wait(1):
             if time.time() - self.spoke >= SILENCE:
-                self.say(f"  at work on {', '.join(self.at_work())}; {clock(time.time() - self.began)} so far")
+                self.say(f"at work on {', '.join(self.at_work())}{self.elapsed()}")
 
     def rt(self, *words):
         """Runs rt. Gives its status."""

@@ -1,6 +1,6 @@
 # XM-23 examination machine. 'make help' lists what there is.
 
-.PHONY: help run lib install uninstall input list report test fuzz replay bench clean
+.PHONY: help run lib install uninstall input list report test fuzz fuzz_words replay bench clean
 
 CFLAGS = -std=c99 -pedantic -O2 -Wall -Wextra -Werror -Iinclude
 ORACLE = --offline --locked --manifest-path oracle/Cargo.toml --target-dir oracle/target
@@ -40,7 +40,8 @@ uninstall:
 input:
 	@scripts/input.sh '$(CASE)' '$(if $(filter command%,$(origin OUT)),$(OUT))'
 
-report: target/bin/print_state
+# Nothing is built for an input that is not there.
+report: $(shell test -e '$(INPUT)' && echo target/bin/print_state)
 	@scripts/report.sh '$(INPUT)' '$(OUT)' '$(TITLE)' '$(EXPECT)'
 
 list: build/decode_image
@@ -49,11 +50,18 @@ list: build/decode_image
 test:
 	@scripts/test.sh
 
-fuzz: $(ARCHIVE)
+fuzz: fuzz_words $(ARCHIVE)
 	@scripts/oracle.sh fuzz '$(INPUTS)' $(SEED)
 	@scripts/fuzz.sh '$(FUZZ_SECONDS)' $(SEED)
 
-replay: $(ARCHIVE)
+# Before anything is built.
+fuzz_words:
+	@for word in 'INPUTS=$(INPUTS)' 'SEED=$(SEED)' 'FUZZ_SECONDS=$(FUZZ_SECONDS)'; do \
+	    case $${word#*=} in *[!0-9]*) echo "make fuzz: $$word is no number" >&2; exit 2 ;; esac; \
+	done
+
+replay: $(if $(FOUND),$(ARCHIVE))
+	@[ -n '$(FOUND)' ] || { echo 'make replay: FOUND=build/fuzz/.. is missing: a saved difference' >&2; exit 2; }
 	@scripts/oracle.sh fuzz replay '$(FOUND)'
 
 bench: $(ARCHIVE) target/staticlib/libprobe.a build/libxm23_fast.a

@@ -36,7 +36,6 @@ fn main() -> ExitCode {
 fn command(words: &[&str]) -> Outcome {
     let number = |name: &str, text: &str| text.parse::<u64>().map_err(|_| format!("{name}={text} is no number"));
     match *words {
-        ["replay", ""] => Err("FOUND is missing: the folder of a saved difference, as build/fuzz/..".to_string()),
         ["replay", place] => replay(Path::new(place)),
         [inputs] => Ok(fuzz(number("INPUTS", inputs)?, clock())),
         [inputs, seed] => Ok(fuzz(number("INPUTS", inputs)?, number("SEED", seed)?)),

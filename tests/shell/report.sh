@@ -28,6 +28,10 @@ stale
 expect 'a missing input' 2 '' 'report.sh: no/such.in: no such file' scripts/report.sh no/such.in "$page"
 gone 'a missing input'
 stale
+expect 'a missing input, by make' 2 '' 'report.sh: no/such.in: no such file.*Error 2' \
+    make -s --no-print-directory report INPUT=no/such.in OUT="$page"
+gone 'a missing input, by make'
+stale
 expect 'a folder as input' 2 '' 'report.sh: examples: cannot be read as a file' scripts/report.sh examples "$page"
 gone 'a folder as input'
 expect 'no words' 2 '' 'report.sh: usage: .*' scripts/report.sh

@@ -9,10 +9,11 @@ cd "$(dirname "$0")/../.."
 stopped='.*make: \*\*\* .* Error 2'
 make="make -s --no-print-directory"
 
-expect 'make fuzz INPUTS=abc' 2 '' "(compiling fuzz[^.]*)?fuzz: INPUTS=abc is no number$stopped" $make fuzz INPUTS=abc
-expect 'make fuzz SEED=x' 2 '' "fuzz: SEED=x is no number$stopped" $make fuzz SEED=x
+expect 'make fuzz INPUTS=abc' 2 '' "make fuzz: INPUTS=abc is no number$stopped" $make fuzz INPUTS=abc
+expect 'make fuzz SEED=x' 2 '' "make fuzz: SEED=x is no number$stopped" $make fuzz SEED=x
+expect 'fuzz with no number' 2 '' '(compiling fuzz[^.]*)?fuzz: INPUTS=abc is no number' scripts/oracle.sh fuzz abc
 expect 'fuzz.sh' 2 '' 'fuzz.sh: FUZZ_SECONDS=1m or SEED= is no number' scripts/fuzz.sh 1m
-expect 'make replay' 2 '' "fuzz: FOUND is missing: .*$stopped" $make replay
+expect 'make replay' 2 '' "make replay: FOUND=.* is missing: .*$stopped" $make replay
 expect 'make replay of nothing' 2 '' "fuzz: no/such: No such file .*$stopped" $make replay FOUND=no/such
 expect 'make input' 2 '' "input.sh: CASE is missing: .*$stopped" $make input
 expect 'make input of nothing' 2 '' ".*no/such.txt: No such file .*$stopped" $make input CASE=no/such.txt

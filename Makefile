@@ -17,6 +17,9 @@ SEED =
 FUZZ_SECONDS = 60
 FOUND =
 
+# A word as one word of the shell, whatever is in it.
+quoted = '$(subst ','\'',$1)'
+
 VERSION := $(shell scripts/version.sh)
 ARCHIVE = target/staticlib/libxm23.a
 SHARED = build/libxm23.so.$(VERSION)
@@ -31,18 +34,18 @@ lib: $(ARCHIVE)
 	@echo '$<'
 
 install: target/bin/print_state $(ARCHIVE) $(SHARED)
-	@scripts/install.sh install '$(PREFIX)' '$(DESTDIR)'
+	@scripts/install.sh install $(call quoted,$(PREFIX)) $(call quoted,$(DESTDIR))
 
 uninstall:
-	@scripts/install.sh uninstall '$(PREFIX)' '$(DESTDIR)'
+	@scripts/install.sh uninstall $(call quoted,$(PREFIX)) $(call quoted,$(DESTDIR))
 
 # print_state's input, of a readable case.
 input:
-	@scripts/input.sh '$(CASE)' '$(if $(filter command%,$(origin OUT)),$(OUT))'
+	@scripts/input.sh $(call quoted,$(CASE)) $(if $(filter command%,$(origin OUT)),$(call quoted,$(OUT)))
 
 # Nothing is built for an input that is not there.
-report: $(shell test -e '$(INPUT)' && echo target/bin/print_state)
-	@scripts/report.sh '$(INPUT)' '$(OUT)' '$(TITLE)' '$(EXPECT)'
+report: $(shell test -e $(call quoted,$(INPUT)) && echo target/bin/print_state)
+	@scripts/report.sh $(call quoted,$(INPUT)) $(call quoted,$(OUT)) $(call quoted,$(TITLE)) $(call quoted,$(EXPECT))
 
 list: build/decode_image
 	@build/decode_image examples/copy_words.img 1000
@@ -51,18 +54,18 @@ test:
 	@scripts/test.sh
 
 fuzz: fuzz_words $(ARCHIVE)
-	@scripts/oracle.sh fuzz '$(INPUTS)' $(SEED)
-	@scripts/fuzz.sh '$(FUZZ_SECONDS)' $(SEED)
+	@scripts/oracle.sh fuzz $(INPUTS) $(SEED)
+	@scripts/fuzz.sh $(FUZZ_SECONDS) $(SEED)
 
 # Before anything is built.
 fuzz_words:
-	@for word in 'INPUTS=$(INPUTS)' 'SEED=$(SEED)' 'FUZZ_SECONDS=$(FUZZ_SECONDS)'; do \
+	@for word in $(foreach name,INPUTS SEED FUZZ_SECONDS,$(call quoted,$(name)=$($(name)))); do \
 	    case $${word#*=} in *[!0-9]*) echo "make fuzz: $$word is no number" >&2; exit 2 ;; esac; \
 	done
 
 replay: $(if $(FOUND),$(ARCHIVE))
-	@[ -n '$(FOUND)' ] || { echo 'make replay: FOUND=build/fuzz/.. is missing: a saved difference' >&2; exit 2; }
-	@scripts/oracle.sh fuzz replay '$(FOUND)'
+	@[ -n $(call quoted,$(FOUND)) ] || { echo 'make replay: FOUND=build/fuzz/.. is missing: a saved difference' >&2; exit 2; }
+	@scripts/oracle.sh fuzz replay $(call quoted,$(FOUND))
 
 bench: $(ARCHIVE) target/staticlib/libprobe.a build/libxm23_fast.a
 	@cargo bench $(ORACLE) --bench decode
@@ -88,8 +91,8 @@ build/libxm23_fast.a: bench/xm23_fast.c
 	@gcc -std=gnu11 -O2 -Wall -Wextra -Werror -c -o build/xm23_fast.o $<
 	@ar rcs $@ build/xm23_fast.o
 
-# What a crate is made of: its files and those of the crates that it stands on. Where one is newer, has come or has gone,
-# rt is asked, and proves what has changed.
+# What a crate is made of: its files and those of the crates that it stands on. Where one is newer, has come or has
+# gone, rt is asked, and proves what has changed.
 folders = $(wildcard $(addprefix crates/,$1 $(shell sed -n 's/^$1://p' crates.txt)))
 sources = crates.txt $(shell find $(folders) ! -path '*/must-fail*')
 

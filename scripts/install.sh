@@ -1,7 +1,7 @@
 #!/usr/bin/env bash
-# install.sh install|uninstall PREFIX DESTDIR: the header, both libraries, xm23.pc, the manual pages and print_state, below
-# DESTDIR/PREFIX. What is installed reads nothing of this folder. Uninstalling removes the same files, of any version, and
-# no folder.
+# install.sh install|uninstall PREFIX DESTDIR: the header, both libraries, xm23.pc, the manual pages and print_state,
+# below DESTDIR/PREFIX. What is installed reads nothing of this folder. Uninstalling removes the same files, of any
+# version, and no folder.
 set -eu -o pipefail
 if [ $# -ne 3 ] || [[ $1 != install && $1 != uninstall || $2 != /* ]]; then
     echo "install.sh: PREFIX '${2:-}' is not an absolute path" >&2
@@ -29,14 +29,16 @@ files="bin/print_state include/xm23.h lib/libxm23.a lib/libxm23.so.$version lib/
     lib/pkgconfig/xm23.pc share/man/man1/print_state.1 share/man/man3/xm23.3 $(pages)"
 
 install_all() {
-    local page
+    local page pc
     put 755 target/bin/print_state bin/print_state
     put 644 include/xm23.h include/xm23.h
     put 644 target/staticlib/libxm23.a lib/libxm23.a
     put 755 "build/libxm23.so.$version" "lib/libxm23.so.$version"
     ln -sf "libxm23.so.$version" "$to/lib/libxm23.so.$major_minor"
     ln -sf "libxm23.so.$major_minor" "$to/lib/libxm23.so"
-    sed -e "s|@PREFIX@|$prefix|" -e "s|@VERSION@|$version|" xm23.pc.in > build/xm23.pc
+    pc=$(< xm23.pc.in)
+    pc=${pc//@PREFIX@/"$prefix"}
+    printf '%s\n' "${pc//@VERSION@/"$version"}" > build/xm23.pc
     put 644 build/xm23.pc lib/pkgconfig/xm23.pc
     put 644 man/print_state.1 share/man/man1/print_state.1
     put 644 man/xm23.3 share/man/man3/xm23.3

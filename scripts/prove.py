@@ -103,7 +103,7 @@ class Progress:
     def watch(self, ended):
         while not ended.wait(1):
             if time.time() - self.spoke >= SILENCE:
-                self.say(f"at work on {', '.join(self.at_work())}{self.elapsed()}")
+                self.say(f"at work on {', '.join(self.at_work()) or 'the rest'}{self.elapsed()}")
 
     def rt(self, *words):
         """Runs rt. Gives its status."""
@@ -150,9 +150,10 @@ def main():
         return 2
     path = f"build/log/prove_{name}.out"
     new = len(wanted) if kind == "all" else sum(not os.path.exists(f"target/stamp/{crate}") for crate in wanted)
-    if new > 2:
-        print(f"proving {new} crates, which takes some minutes the first time; what rt prints: {path}", flush=True)
     edits = len(glob.glob("crates/*/must-fail/*.edit"))
+    what = f", then trying {edits} edits" if kind == "all" else ", which takes some minutes the first time"
+    if new > 2:
+        print(f"proving {new} crates{what}; what rt prints: {path}", flush=True)
     os.makedirs("build/log", exist_ok=True)
     with open(path, "w", encoding="utf-8") as log:
         progress, ended = Progress(log, len(wanted), edits), threading.Event()

@@ -1,7 +1,7 @@
 #!/usr/bin/env bash
 # Every test of the repository, part by part, ending at the first part that fails. Each part tells its number, its own
-# count and the time; build/log has all that it printed, which is shown where it failed. The very last line is 'N passed,
-# M failed' over all parts; the exit status is 0 only where M is 0. No network.
+# count and the time; build/log has all that it printed, which is shown where it failed. The very last line is
+# 'N passed, M failed' over all parts; the exit status is 0 only where M is 0. No network.
 set -eu -o pipefail
 parts=$(grep -c "^ *part '" "$0")
 cd "$(dirname "$0")/.."
@@ -42,8 +42,7 @@ count_status() {
     echo '1 0'
 }
 
-# What is shown of a part while it runs: of the proofs and of what counts itself everything, of cargo a line for each test
-# program.
+# What is shown of a part while it runs: of what counts itself everything, of cargo a line for each test program.
 show() {
     case $1 in
         count_line) cat ;;

@@ -1,5 +1,5 @@
-//! Makes an input of print_state from a readable case: `make_input CASE.txt > CASE.in`. With `--line` it prints the line
-//! that the oracle gives for it instead. Status 2, and `file:line: text`, where the case has a mistake.
+//! Makes an input of print_state from a readable case: `make_input CASE.txt > CASE.in`. With `--line` it prints the
+//! line that the oracle gives for it instead. Status 2, and `file:line: text`, where the case has a mistake.
 
 use oracle::{case, machine};
 use std::io::Write;

@@ -1,6 +1,6 @@
 //! Writes the report of an input of print_state: `report INPUT PRINTED PAGE [TITLE [EXPECTED]]`. PRINTED holds what the
-//! proved program printed for INPUT. Status 0: PAGE is written; 1: the oracle's line is another, and no PAGE is written;
-//! 2: bad usage, or a file that cannot be read or written.
+//! proved program printed for INPUT. Status 0: PAGE is written; 1: the oracle's line is another, and no PAGE is
+//! written; 2: bad usage, or a file that cannot be read or written.
 
 use oracle::report::{report, Wanted};
 use std::fs;

@@ -1,6 +1,6 @@
-//! What a page shows and how: its parts, the order of its sections, HTML and style. Who computes them is not asked here:
-//! a page is made of texts and tables alone. It stands alone, with no script, no picture and no address of another page,
-//! and every text is escaped where it is put in.
+//! What a page shows and how: its parts, the order of its sections, HTML and style. Who computes them is not asked
+//! here: a page is made of texts and tables. It stands alone, with no script, no picture and no address of another
+//! page, and every text is escaped where it is put in.
 
 /// The sections in their order; two in one entry stand beside each other where there is room.
 const ORDER: [&[&str]; 13] = [
@@ -169,6 +169,9 @@ pub fn page(document: &Document) -> String {
     for entry in ORDER {
         out += &entry_of(document, entry);
     }
+    // One that the order does not name is shown all the same.
+    let others = document.sections.iter().filter(|section| !ORDER.concat().contains(&section.id));
+    out.extend(others.map(section));
     out + &format!("<footer>{}</footer>\n</main>\n</body>\n</html>\n", escape(&document.footer))
 }
 

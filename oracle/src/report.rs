@@ -1,6 +1,6 @@
 //! The closing state of one run as a page for examiners: the printed line, and what it and the memory say. This is who
-//! computes it; what is shown, and in which order, is `page`. The same words give the same page, byte for byte: no date,
-//! no name of a file, no order that is left to chance.
+//! computes it; what is shown, and in which order, is `page`. The same words give the same page, byte for byte: no
+//! date, no name of a file, no order that is left to chance.
 
 mod memory;
 mod refused;

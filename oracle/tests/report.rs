@@ -364,6 +364,10 @@ Fill        st R1,R2+
     let page = page_of(&program(NESTED, &[(0, 1, 0x55)], 1, |m| m.regs[LR] = 0x4241));
     let rows = self::rows(&page, "changed");
     assert_eq!(rows[0], ["#0002", "11", "15", ".", "device 1"]);
+    let inputs = " org #0002\n byte #12\n byte #00\n byte #12";
+    let both = page_of(&program(inputs, &[(0, 1, 0x41), (0, 2, 0x42)], 1, |_| ()));
+    assert_eq!(self::rows(&both, "changed")[0], ["#0002", "12 00", "16 41", ".A", "device 1"]);
+    assert_eq!(self::rows(&both, "changed")[1], ["#0004", "12 00", "16 42", ".B", "device 2"]);
     assert_eq!(rows[1], ["#07FC", "00 00", "41 42", "AB", ""]);
     assert_eq!(rows[2], ["#07FF", "00", "10", ".", ""]);
     assert!(page_of(&program(NESTED, &[], 5, |_| ())).contains("No byte of the memory is other than at the start."));

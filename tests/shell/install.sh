@@ -7,8 +7,8 @@ cd "$(dirname "$0")/../.."
 make="make -s --no-print-directory"
 version=$(scripts/version.sh)
 prefix=$room/usr
-files='bin/print_state include/xm23.h lib/libxm23.a lib/libxm23.so lib/libxm23.so.'${version%.*}' lib/libxm23.so.'$version'
-    lib/pkgconfig/xm23.pc share/man/man1/print_state.1 share/man/man3/xm23.3 share/man/man3/xm23_decode.3'
+files="bin/print_state include/xm23.h lib/libxm23.a lib/libxm23.so lib/libxm23.so.${version%.*} lib/libxm23.so.$version
+    lib/pkgconfig/xm23.pc share/man/man1/print_state.1 share/man/man3/xm23.3 share/man/man3/xm23_decode.3"
 
 # there FOLDER: what lies below it that is no folder.
 there() {
@@ -55,7 +55,8 @@ said='accepted, steps 1, R0 1'
 expect "README's example in C" 0 "$said" '' built gcc -std=c99 -pedantic "$room/readme.c"
 expect "README's example in C++" 0 "$said" '' built g++ -std=c++11 -x c++ "$room/readme.c" -x none
 expect "the manual's example in C" 0 'accepted, reason 0, 1000 steps' '' built gcc -std=c99 -pedantic "$room/manual.c"
-expect "the manual's example in C++" 0 'accepted, reason 0, 1000 steps' '' built g++ -std=c++11 -x c++ "$room/manual.c" -x none
+expect "the manual's example in C++" 0 'accepted, reason 0, 1000 steps' '' \
+    built g++ -std=c++11 -x c++ "$room/manual.c" -x none
 expect "README's example in Python" 0 'refusal 0 steps 1 R0 1' '' python3 -B examples/run.py "$prefix/lib/libxm23.so"
 expect 'by its name' 0 'refusal 0 steps 1 R0 1' '' env LD_LIBRARY_PATH="$prefix/lib" python3 -B examples/run.py
 same 'is that of README' "$(cat "$room/readme.py")" "$(cat examples/run.py)"

@@ -20,8 +20,8 @@ cp "$page" "$room/first.html"
 expect 'by make, the path alone' 0 "$page" '' make -s --no-print-directory report OUT="$page"
 same 'the same page' "$(cmp "$page" "$room/first.html" && echo yes)" yes
 expect 'with a title and the expected line' 0 "$page" '' make -s --no-print-directory report OUT="$page" \
-    TITLE='Paper 7' EXPECT="$(target/bin/print_state < "$input")"
-same 'the title' "$(grep -c '<h1>Paper 7</h1>' "$page")" 1
+    TITLE="Paper 7, the candidate's" EXPECT="$(target/bin/print_state < "$input")"
+same 'the title' "$(grep -c '<h1>Paper 7, the candidate&#39;s</h1>' "$page")" 1
 same 'the agreement' "$(grep -c 'Agrees with the line' "$page")" 1
 
 stale
@@ -35,7 +35,8 @@ stale
 expect 'a folder as input' 2 '' 'report.sh: examples: cannot be read as a file' scripts/report.sh examples "$page"
 gone 'a folder as input'
 expect 'no words' 2 '' 'report.sh: usage: .*' scripts/report.sh
-expect 'a page below a file' 2 '' ".*report.sh: $input/page.html: cannot be written" scripts/report.sh "$input" "$input/page.html"
+expect 'a page below a file' 2 '' ".*report.sh: $input/page.html: cannot be written" \
+    scripts/report.sh "$input" "$input/page.html"
 expect 'a page that is a folder' 2 '' ".*report.sh: $room/new: cannot be written" scripts/report.sh "$input" "$room/new"
 expect 'a page on a full disk' 2 '' '.*report: .*page.html: .*' env XM23_BIN=target/bin bash -c "
     ulimit -f 8; trap '' XFSZ; exec scripts/report.sh $input $page"

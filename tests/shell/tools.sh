@@ -1,6 +1,6 @@
 #!/usr/bin/env bash
-# Mistakes of the person who types: one line, 'file:line: text' where a file has the mistake, status 2. And the legend, on
-# every kind of line.
+# Mistakes of the person who types: one line, 'file:line: text' where a file has the mistake, status 2. And the legend,
+# on every kind of line.
 set -u
 cd "$(dirname "$0")/../.."
 . tests/shell/expect.sh

@@ -30,7 +30,7 @@ fn alike(run: &Followed, at: usize) -> usize {
     (at..run.memory.len()).take_while(|&i| pair(i) == pair(at) && run.given[i] != run.memory[i]).count()
 }
 
-/// The changed bytes as rows, none past a multiple of `WIDTH` but a folded one.
+/// The changed bytes as rows, none but a folded one past a multiple of `WIDTH`, or of a word among devices and vectors.
 fn pieces(run: &Followed) -> Vec<Piece> {
     let changed = |i: usize| i < run.memory.len() && run.given[i] != run.memory[i];
     let (mut all, mut at) = (Vec::new(), 0);
@@ -40,7 +40,8 @@ fn pieces(run: &Followed) -> Vec<Piece> {
             continue;
         }
         let folded = alike(run, at);
-        let room = WIDTH - at % WIDTH;
+        let width = if place(even(at as u16)).is_some() { 2 } else { WIDTH };
+        let room = width - at % width;
         let row = (1..room).take_while(|&k| changed(at + k) && alike(run, at + k) < FOLDED).count() + 1;
         let (length, alike) = if folded >= FOLDED { (folded, true) } else { (row, false) };
         all.push(Piece { at, length, alike });
@@ -60,7 +61,7 @@ fn characters(of: &[u8]) -> String {
 fn piece_row(run: &Followed, piece: &Piece) -> Row {
     let &Piece { at, length, alike } = piece;
     let (then, now) = (&run.given[at..at + length], &run.memory[at..at + length]);
-    let remark = place(at as u16 & !1).unwrap_or_default();
+    let remark = place(even(at as u16)).unwrap_or_default();
     if alike {
         let (address, times) = (hex(at as u16), format!("{} bytes, all alike", grouped(length as u64)));
         let range = format!("{address} to {}", hex((at + length - 1) as u16));

@@ -1,71 +1,107 @@
 # XM-23 examination machine. 'make help' lists what there is.
 
-.PHONY: help run lib list report test fuzz replay bench clean
+.PHONY: help run lib install uninstall input list report test fuzz fuzz_words replay bench clean
 
 CFLAGS = -std=c99 -pedantic -O2 -Wall -Wextra -Werror -Iinclude
 ORACLE = --offline --locked --manifest-path oracle/Cargo.toml --target-dir oracle/target
 EXAMPLE = examples/interrupts
-INPUTS = 100000
+PREFIX = /usr/local
+DESTDIR =
+CASE =
 INPUT = $(EXAMPLE).in
 OUT = build/report.html
+TITLE =
+EXPECT =
+INPUTS = 100000
 SEED =
 FUZZ_SECONDS = 60
 FOUND =
 
-# The list of commands in README.md.
+# A word as one word of the shell, whatever is in it.
+quoted = '$(subst ','\'',$1)'
+
+VERSION := $(shell scripts/version.sh)
+ARCHIVE = target/staticlib/libxm23.a
+SHARED = build/libxm23.so.$(VERSION)
+
 help:
-	@sed -n '/^    make run /,/^    make help /s/^    //p' README.md
+	@cat docs/COMMANDS.txt
 
 run: target/bin/print_state
 	@target/bin/print_state < $(EXAMPLE).in | python3 -B scripts/legend.py
 
-# The archive to link, with include/xm23.h.
-lib: target/staticlib/libxm23.a
+lib: $(ARCHIVE)
 	@echo '$<'
 
-report: target/bin/print_state
-	@scripts/report.sh '$(INPUT)' '$(OUT)'
-	@echo '$(OUT)'
+install: target/bin/print_state $(ARCHIVE) $(SHARED)
+	@scripts/install.sh install $(call quoted,$(PREFIX)) $(call quoted,$(DESTDIR))
+
+uninstall:
+	@scripts/install.sh uninstall $(call quoted,$(PREFIX)) $(call quoted,$(DESTDIR))
+
+# print_state's input, of a readable case.
+input:
+	@scripts/input.sh $(call quoted,$(CASE)) $(if $(filter command%,$(origin OUT)),$(call quoted,$(OUT)))
+
+# Nothing is built for an input that is not there.
+report: $(shell test -e $(call quoted,$(INPUT)) && echo target/bin/print_state)
+	@scripts/report.sh $(call quoted,$(INPUT)) $(call quoted,$(OUT)) $(call quoted,$(TITLE)) $(call quoted,$(EXPECT))
 
 list: build/decode_image
-	build/decode_image examples/copy_words.img 1000
+	@build/decode_image examples/copy_words.img 1000
 
 test:
 	@scripts/test.sh
 
-fuzz: target/staticlib/libxm23.a
-	@cargo run --quiet --release $(ORACLE) --example fuzz -- $(INPUTS) $(SEED)
+fuzz: fuzz_words $(ARCHIVE)
+	@scripts/oracle.sh fuzz $(INPUTS) $(SEED)
 	@scripts/fuzz.sh $(FUZZ_SECONDS) $(SEED)
 
-replay: target/staticlib/libxm23.a
-	@cargo run --quiet --release $(ORACLE) --example fuzz -- replay $(FOUND)
+# Before anything is built.
+fuzz_words:
+	@for word in $(foreach name,INPUTS SEED FUZZ_SECONDS,$(call quoted,$(name)=$($(name)))); do \
+	    case $${word#*=} in *[!0-9]*) echo "make fuzz: $$word is no number" >&2; exit 2 ;; esac; \
+	done
 
-bench: target/staticlib/libxm23.a target/staticlib/libprobe.a build/libxm23_fast.a
+replay: $(if $(FOUND),$(ARCHIVE))
+	@[ -n $(call quoted,$(FOUND)) ] || { echo 'make replay: FOUND=build/fuzz/.. is missing: a saved difference' >&2; exit 2; }
+	@scripts/oracle.sh fuzz replay $(call quoted,$(FOUND))
+
+bench: $(ARCHIVE) target/staticlib/libprobe.a build/libxm23_fast.a
 	@cargo bench $(ORACLE) --bench decode
 	@cargo bench $(ORACLE) --bench operations
 	@cargo bench $(ORACLE) --bench run
 
-# The example's input, after a change of its source.
-$(EXAMPLE).in: $(EXAMPLE).txt
-	cargo run --release $(ORACLE) --example make_input -- $(EXAMPLE).txt > $@
-
 clean:
 	rm -rf target build oracle/target
 
-build/%: examples/%.c include/xm23.h target/staticlib/libxm23.a
+# The example's input, after a change of its source.
+$(EXAMPLE).in: $(EXAMPLE).txt
+	@scripts/input.sh $< $@
+
+build/%: examples/%.c include/xm23.h $(ARCHIVE)
 	@mkdir -p build
-	gcc $(CFLAGS) -o $@ $< target/staticlib/libxm23.a
+	@gcc $(CFLAGS) -o $@ $< $(ARCHIVE)
+
+build/libxm23.so.%: $(ARCHIVE)
+	@scripts/shared.sh '$<' '$@'
 
 build/libxm23_fast.a: bench/xm23_fast.c
 	@mkdir -p build
-	gcc -std=gnu11 -O2 -Wall -Wextra -Werror -c -o build/xm23_fast.o $<
-	ar rcs $@ build/xm23_fast.o
+	@gcc -std=gnu11 -O2 -Wall -Wextra -Werror -c -o build/xm23_fast.o $<
+	@ar rcs $@ build/xm23_fast.o
 
-# A file of a crate that is newer, or one that has come or gone: rt is asked, and proves what has changed.
-SOURCES := crates.txt $(shell find crates ! -path '*/must-fail*')
+# What a crate is made of: its files and those of the crates that it stands on. Where one is newer, has come or has
+# gone, rt is asked, and proves what has changed.
+folders = $(wildcard $(addprefix crates/,$1 $(shell sed -n 's/^$1://p' crates.txt)))
+sources = crates.txt $(shell find $(folders) ! -path '*/must-fail*')
 
-target/staticlib/lib%.a: $(SOURCES)
+target/staticlib/libxm23.a: $(call sources,xm23)
+target/staticlib/libprobe.a: $(call sources,probe)
+target/bin/print_state: $(call sources,print_state)
+
+target/staticlib/lib%.a:
 	@scripts/prove.py archive $*
 
-target/bin/%: $(SOURCES)
+target/bin/%:
 	@scripts/prove.py program $*

@@ -13,8 +13,12 @@ fn folder(variable: &str, otherwise: &str) -> PathBuf {
 
 fn main() {
     let (libs, fast) = (folder("XM23_LIBS", "../target/staticlib"), folder("XM23_FAST", "../build"));
-    for (folder, name) in [(&libs, "xm23"), (&libs, "probe"), (&fast, "xm23_fast")] {
-        println!("cargo:rustc-link-search=native={}", folder.display());
-        println!("cargo:rerun-if-changed={}", folder.join(format!("lib{name}.a")).display());
-    }
+    println!("cargo:rustc-link-search=native={}", libs.display());
+    println!("cargo:rustc-link-search=native={}", fast.display());
+    // Cargo takes what is not there for changed, each time. So the folder is watched, whatever archives it has by now;
+    // of the C interpreter its source, from which make builds it.
+    let _ = std::fs::create_dir_all(&libs);
+    println!("cargo:rerun-if-changed={}", libs.display());
+    println!("cargo:rerun-if-changed=../bench/xm23_fast.c");
+    println!("cargo:rerun-if-changed=build.rs");
 }

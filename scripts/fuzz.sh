@@ -6,6 +6,10 @@ set -eu -o pipefail
 cd "$(dirname "$0")/.."
 
 seconds=${1:-60}
+if [[ ! $seconds =~ ^[0-9]+$ || ! ${2:-0} =~ ^[0-9]+$ ]]; then
+    echo "fuzz.sh: FUZZ_SECONDS=$seconds or SEED=${2:-} is no number" >&2
+    exit 2
+fi
 seed=$((${2:-0} % 4294967296))
 clang=${CLANG:-clang}
 out=build/fuzz

@@ -11,8 +11,8 @@ def named(bits, names):
 
 def legend(line):
     """A row for each field: its name, the field as printed, what it says."""
-    fields = line.split()
-    if len(fields) == 1:
+    fields = line.split(" ")
+    if len(fields) == 1 and line[:1] == "R":
         return [("refusal", line[1:], sentence(int(line[1:])))]
     reason, steps, *words = fields
     psw, cex, lines = (int(word, 16) for word in words[8:])
@@ -30,14 +30,17 @@ def legend(line):
 
 
 def main():
-    line = sys.stdin.readline().rstrip("\n")
-    if not line:
-        sys.exit("legend.py: no line to read")
+    line = sys.stdin.readline()
+    try:
+        rows = legend(line.rstrip("\n"))
+    except (ValueError, IndexError):
+        print(f"legend.py: not a line of print_state: {line.rstrip()!r}", file=sys.stderr)
+        return 2
     print(line)
-    print()
-    for name, field, says in legend(line):
+    for name, field, says in rows:
         print(f"  {name:8}{field:8}{says}".rstrip())
+    return 0
 
 
 if __name__ == "__main__":
-    main()
+    sys.exit(main())

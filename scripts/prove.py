@@ -40,8 +40,14 @@ def below(names):
     return found
 
 
+def changed_since(time_then, crate):
+    """Whether a file of a crate was changed since then."""
+    paths = glob.glob(f"crates/{crate}/**", recursive=True)
+    return any(os.path.getmtime(path) >= time_then for path in paths if "/must-fail" not in path)
+
+
 def clock(seconds):
-    return f"{int(seconds) // 60}:{int(seconds) % 60:02} min" if seconds >= 60 else f"{int(seconds)} s"
+    return f"{int(seconds) // 60} min {int(seconds) % 60} s" if seconds >= 60 else f"{int(seconds)} s"
 
 
 class Progress:
@@ -58,16 +64,19 @@ class Progress:
             self.spoke = time.time()
             print(text, flush=True)
 
+    def elapsed(self):
+        return f"; {clock(time.time() - self.began)} so far"
+
     def crate(self, name, seconds):
         """A crate is proved, in so many seconds; unchanged since it was last proved: None."""
         self.crates.add(name)
         if seconds is not None:
             self.proved += 1
-            self.say(f"proved {name} ({len(self.crates)} of {self.total}, {seconds} s)")
+            self.say(f"proved {name} ({len(self.crates)} of {self.total}, {seconds} s){self.elapsed()}")
 
     def edit(self, name, seconds):
         self.tried.add(name)
-        self.say(f"refused {name} (edit {len(self.tried)} of {self.edits}, {seconds} s)")
+        self.say(f"refused {name} (edit {len(self.tried)} of {self.edits}, {seconds} s){self.elapsed()}")
 
     def line(self, text):
         print(text, file=self.log, flush=True)
@@ -94,7 +103,7 @@ class Progress:
     def watch(self, ended):
         while not ended.wait(1):
             if time.time() - self.spoke >= SILENCE:
-                self.say(f"  at work on {', '.join(self.at_work())}; {clock(time.time() - self.began)} so far")
+                self.say(f"at work on {', '.join(self.at_work()) or 'the rest'}{self.elapsed()}")
 
     def rt(self, *words):
         """Runs rt. Gives its status."""
@@ -141,9 +150,10 @@ def main():
         return 2
     path = f"build/log/prove_{name}.out"
     new = len(wanted) if kind == "all" else sum(not os.path.exists(f"target/stamp/{crate}") for crate in wanted)
-    if new > 2:
-        print(f"proving {new} crates, which takes some minutes the first time; what rt prints: {path}", flush=True)
     edits = len(glob.glob("crates/*/must-fail/*.edit"))
+    what = f", then trying {edits} edits" if kind == "all" else ", which takes some minutes the first time"
+    if new > 2:
+        print(f"proving {new} crates{what}; what rt prints: {path}", flush=True)
     os.makedirs("build/log", exist_ok=True)
     with open(path, "w", encoding="utf-8") as log:
         progress, ended = Progress(log, len(wanted), edits), threading.Event()
@@ -154,8 +164,9 @@ def main():
             status = progress.rt(*(["check", name] if kind == "program" else ["ci"]))
         ended.set()
     if place and status == 0:
-        # As old as the files that it was made from: one that is changed from now on is newer.
-        os.utime(place, (progress.began, progress.began))
+        # Newer than every file that it was made from, so that make asks no more; unless one was changed meanwhile.
+        stale = any(changed_since(progress.began, crate) for crate in wanted)
+        os.utime(place, (progress.began - 1,) * 2 if stale else None)
     if status:
         print(f"prove.py: not all is proved; what rt printed: {path}", file=sys.stderr)
     elif new > 2:
@@ -164,4 +175,7 @@ def main():
 
 
 if __name__ == "__main__":
-    sys.exit(main())
+    try:
+        sys.exit(main())
+    except KeyboardInterrupt:
+        sys.exit("prove.py: stopped; what is proved stays proved")

@@ -1,11 +1,14 @@
 #!/usr/bin/env bash
-# Every test of the repository, part by part, ending at the first part that fails. Each part prints its own count.
-# The very last line is 'N passed, M failed' over all parts; the exit status is 0 only where M is 0. No network.
+# Every test of the repository, part by part, ending at the first part that fails. Each part tells its number, its own
+# count and the time; build/log has all that it printed, which is shown where it failed. The very last line is
+# 'N passed, M failed' over all parts; the exit status is 0 only where M is 0. No network.
 set -eu -o pipefail
+parts=$(grep -c "^ *part '" "$0")
 cd "$(dirname "$0")/.."
 
 passed=0
 failed=0
+at=0
 build=build
 log=$build/log
 xm23=target/staticlib/libxm23.a
@@ -39,12 +42,22 @@ count_status() {
     echo '1 0'
 }
 
+# What is shown of a part while it runs: of what counts itself everything, of cargo a line for each test program.
+show() {
+    case $1 in
+        count_line) cat ;;
+        count_cargo) grep --line-buffered -E '^ +Running |^test result' || true ;;
+        *) cat > /dev/null ;;
+    esac
+}
+
 # part NAME COUNTER COMMAND..: runs the command, adds up what it counted, and stops the script if anything failed.
 part() {
-    local name=$1 counter=$2 out=$log/${1// /_}.out status=0 counts p f
+    local name=$1 counter=$2 out=$log/${1// /_}.out status=0 counts p f began=$SECONDS
     shift 2
-    echo "== $name"
-    "$@" 2>&1 | tee "$out" || status=$?
+    at=$((at + 1))
+    echo "== part $at of $parts: $name"
+    "$@" 2>&1 | tee "$out" | show "$counter" || status=$?
     counts=$($counter "$out")
     if [ -z "$counts" ] || [ "$counts" = '0 0' ]; then
         echo "$name: counted nothing"
@@ -54,7 +67,10 @@ part() {
     if [ "$status" -ne 0 ] && [ "$f" -eq 0 ]; then
         p=0 f=1
     fi
-    echo "-- $name: $p passed, $f failed"
+    if [ "$f" -ne 0 ] && [ "$counter" != count_line ]; then
+        cat "$out"
+    fi
+    echo "-- $name: $p passed, $f failed ($((SECONDS - began)) s; $((SECONDS / 60)) min $((SECONDS % 60)) s in all)"
     passed=$((passed + p))
     failed=$((failed + f))
     [ "$f" -eq 0 ]
@@ -86,20 +102,11 @@ example_host() {
         diff - <("$build/host" 7 examples/interrupts.in examples/interrupts.in)
 }
 
-# The report carries the program's line; of a program that prints another one there is no page.
-report() {
-    local other=$build/other
-    mkdir -p "$other" && printf '#!/bin/sh\necho R1\n' > "$other/print_state" && chmod +x "$other/print_state" &&
-        ! XM23_BIN=$other scripts/report.sh examples/interrupts.in "$other/report.html" 2> "$other/said" &&
-        grep -q 'THE LINES DIFFER' "$other/said" && [ ! -e "$other/report.html" ] &&
-        scripts/report.sh examples/interrupts.in "$build/report.html"
-}
-
 part 'what the trace refuses' count_line python3 -B scripts/trace_test.py
 part 'trace to 01' count_line python3 -B scripts/trace.py
 part 'sentences of the refusals' count_line python3 -B scripts/refusals.py
 part 'layout of proofs and code' count_status rt fmt --check
-part 'proofs and must-fail edits' count_line rt ci
+part 'proofs and must-fail edits' count_line scripts/prove.py all
 part 'static library xm23' count_status rt staticlib xm23
 part 'static library probe' count_status rt staticlib probe
 part 'oracle' count_cargo \
@@ -110,8 +117,12 @@ part 'hostile host' count_line hostile
 if command -v valgrind > /dev/null; then
     part 'hostile host under valgrind' count_line valgrind -q --error-exitcode=9 "$build/hostile" short
 else
-    echo '== hostile host under valgrind: left out, valgrind is not here'
+    echo '== left out: hostile host under valgrind, which is not here'
+    parts=$((parts - 1))
 fi
 part 'example listing' count_status listing
 part 'example host' count_status example_host
-part 'report' count_status report
+part 'the program' count_line tests/shell/program.sh
+part 'installing' count_line tests/shell/install.sh
+part 'the report' count_line tests/shell/report.sh
+part 'mistakes and the legend' count_line tests/shell/tools.sh

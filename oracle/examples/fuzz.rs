@@ -1,6 +1,7 @@
 //! Compares the library with the oracle on more inputs than the gate does. `fuzz INPUTS [SEED]` runs so many of each
 //! kind, from a seed of the clock if none is given, and saves the first difference under build/fuzz. `fuzz replay
-//! FOLDER` runs a saved input again. The exit status is 1 where there is a difference.
+//! FOLDER` runs a saved input again. The exit status is 1 where there is a difference, and 2, with one line, where the
+//! command cannot be carried out.
 
 #[path = "../tests/library/mod.rs"]
 mod library;
@@ -17,17 +18,29 @@ use std::time::{Duration, Instant, SystemTime, UNIX_EPOCH};
 /// How often progress is told.
 const PAUSE: Duration = Duration::from_secs(2);
 
+/// What was found: no difference, one, or nothing since the command cannot be carried out.
+type Outcome = Result<bool, String>;
+
 fn main() -> ExitCode {
     let words: Vec<String> = std::env::args().skip(1).collect();
     let words: Vec<&str> = words.iter().map(String::as_str).collect();
-    let number = |text: &str| text.parse::<u64>().unwrap_or_else(|_| panic!("{text} is no number"));
-    let fine = match words[..] {
+    match command(&words) {
+        Ok(fine) => ExitCode::from(u8::from(!fine)),
+        Err(text) => {
+            eprintln!("fuzz: {text}");
+            ExitCode::from(2)
+        }
+    }
+}
+
+fn command(words: &[&str]) -> Outcome {
+    let number = |name: &str, text: &str| text.parse::<u64>().map_err(|_| format!("{name}={text} is no number"));
+    match *words {
         ["replay", place] => replay(Path::new(place)),
-        [inputs] => fuzz(number(inputs), clock()),
-        [inputs, seed] => fuzz(number(inputs), number(seed)),
-        _ => panic!("fuzz INPUTS [SEED], or fuzz replay FOLDER"),
-    };
-    ExitCode::from(u8::from(!fine))
+        [inputs] => Ok(fuzz(number("INPUTS", inputs)?, clock())),
+        [inputs, seed] => Ok(fuzz(number("INPUTS", inputs)?, number("SEED", seed)?)),
+        _ => Err("usage: fuzz INPUTS [SEED], or fuzz replay FOLDER".to_string()),
+    }
 }
 
 /// A seed that no other run has had.
@@ -68,17 +81,17 @@ fn report(found: Found, first: u64) -> bool {
 }
 
 /// Runs a saved input again, and tells what both leave where they differ.
-fn replay(place: &Path) -> bool {
-    let input = saved(place).unwrap_or_else(|e| panic!("{}: {e}", place.display()));
+fn replay(place: &Path) -> Outcome {
+    let input = saved(place).map_err(|e| format!("{}: {e}", place.display()))?;
     match compare(library, &input, &mut Coverage::default()) {
         Ok(outcome) => {
             println!("no difference; both leave\n{}", outcome.text(&input));
-            true
+            Ok(true)
         }
         Err(difference) => {
             println!("{}", difference.what);
             println!("oracle:\n{}library:\n{}", difference.oracle.text(&input), difference.library.text(&input));
-            false
+            Ok(false)
         }
     }
 }

@@ -5,11 +5,11 @@
 //! `start` (`R0=00FF PSW=60E0 CEX=.. LINES=.. HALTED=1 COUNT=..`, hexadecimal; PC #1000 and SP #0800 if not named),
 //! `source`, `events` (`step device data` on each line, step in base ten; `x9` behind it is nine of them), `n`, `line`,
 //! `bytes` (`0100=34`, afterwards), `printed`, `decides`. Every key but `start`, `events`, `bytes` and `printed` must
-//! be there.
+//! be there in a case of the repository; an input is made of `source` and `n` alone.
 
-use crate::asm::assemble;
+use crate::asm::{try_assemble, Mistake};
 use crate::inputs::Input;
-use crate::machine::{event_record, Event, Machine, PC, SP};
+use crate::machine::{event_record, Event, Machine, LR, PC, SP};
 use std::collections::HashMap;
 use std::path::PathBuf;
 
@@ -24,86 +24,128 @@ pub struct Case {
 }
 
 const KEYS: [&str; 10] = ["title", "from", "start", "source", "events", "n", "line", "bytes", "printed", "decides"];
-const NEEDED: [&str; 6] = ["title", "from", "source", "n", "line", "decides"];
+/// What an input is made of, and what a case of the repository has besides.
+const NEEDED: [&str; 2] = ["source", "n"];
+const OF_A_CASE: [&str; 4] = ["title", "from", "line", "decides"];
 
-fn hex(text: &str) -> u32 {
-    u32::from_str_radix(text, 16).unwrap_or_else(|_| panic!("{text} is no number"))
+/// A key's value: the line of the key, and the text behind it with the lines below it.
+struct Value {
+    line: usize,
+    text: String,
+}
+
+type Values = HashMap<String, Value>;
+
+/// What is wrong with a part of a value, where something is.
+type Outcome<T> = Result<T, String>;
+
+fn hex(text: &str) -> Outcome<u32> {
+    u32::from_str_radix(text, 16).map_err(|_| format!("{text} is no hexadecimal number"))
+}
+
+fn fitting<T: TryFrom<u32>>(name: &str, value: u32) -> Outcome<T> {
+    T::try_from(value).map_err(|_| format!("{name}={value:X} does not fit"))
 }
 
 /// `NAME=VALUE`.
-fn pair(text: &str) -> (&str, u32) {
-    let (name, value) = text.split_once('=').unwrap_or_else(|| panic!("{text} has no ="));
-    (name, hex(value))
+fn pair(text: &str) -> Outcome<(&str, u32)> {
+    let (name, value) = text.split_once('=').ok_or_else(|| format!("{text} has no ="))?;
+    Ok((name, hex(value)?))
 }
 
-fn start(text: &str) -> Machine {
+fn start(text: &str) -> Outcome<Machine> {
     let mut m = Machine::default();
     (m.regs[PC], m.regs[SP]) = (0x1000, 0x0800);
-    for (name, value) in text.split_whitespace().map(pair) {
-        match name {
-            "PSW" => m.psw = value as u16,
-            "CEX" => m.cex = value as u16,
-            "LINES" => m.lines = value as u8,
-            "HALTED" => m.halted = value == 1,
-            "COUNT" => m.count = value,
-            "LR" => m.regs[5] = value as u16,
-            "SP" => m.regs[SP] = value as u16,
-            "PC" => m.regs[PC] = value as u16,
-            _ => {
-                let register: usize = name.strip_prefix('R').and_then(|n| n.parse().ok()).expect("a register");
-                m.regs[register] = value as u16;
-            }
+    for part in text.split_whitespace() {
+        let (name, value) = pair(part)?;
+        let register = ["R0", "R1", "R2", "R3", "R4", "R5", "R6", "R7"].iter().position(|&r| r == name);
+        match (name, register) {
+            (_, Some(register)) => m.regs[register] = fitting(name, value)?,
+            ("LR", _) => m.regs[LR] = fitting(name, value)?,
+            ("SP", _) => m.regs[SP] = fitting(name, value)?,
+            ("PC", _) => m.regs[PC] = fitting(name, value)?,
+            ("PSW", _) => m.psw = fitting(name, value)?,
+            ("CEX", _) => m.cex = fitting(name, value)?,
+            ("LINES", _) => m.lines = fitting(name, value)?,
+            ("HALTED", _) => m.halted = value == 1,
+            ("COUNT", _) => m.count = value,
+            _ => return Err(format!("{name} is no part of the start")),
         }
     }
-    m
+    Ok(m)
 }
 
 /// A line of events: one, or as many equal ones as it says.
-fn events(line: &str) -> Vec<Event> {
+fn events(line: &str) -> Outcome<Vec<Event>> {
+    let wrong = || format!("'{}' is no event: step device data [xTIMES]", line.trim());
     let parts: Vec<&str> = line.split_whitespace().collect();
     let (step, device, data, times) = match parts[..] {
+        [] => return Ok(Vec::new()),
         [step, device, data] => (step, device, data, "x1"),
         [step, device, data, times] => (step, device, data, times),
-        _ => panic!("{line} is no event"),
+        _ => return Err(wrong()),
     };
-    let (step, device) = (step.parse().expect("a step"), device.parse().expect("a device"));
-    let times = times.strip_prefix('x').and_then(|times| times.parse().ok()).expect("how many times");
-    vec![Event { step, device, data: hex(data) as u8 }; times]
+    let times: usize = times.strip_prefix('x').and_then(|times| times.parse().ok()).ok_or_else(wrong)?;
+    let (step, device) = (step.parse().map_err(|_| wrong())?, device.parse().map_err(|_| wrong())?);
+    Ok(vec![Event { step, device, data: fitting("data", hex(data)?)? }; times])
 }
 
 /// The keys of a file with their values, the lines of a value joined by line feeds.
-fn keys(text: &str) -> HashMap<String, String> {
-    let mut all: Vec<(String, String)> = Vec::new();
-    for line in text.lines() {
+fn keys(text: &str) -> Result<Values, Mistake> {
+    let mut all: Vec<(String, Value)> = Vec::new();
+    for (place, line) in text.lines().enumerate() {
+        let wrong = |text: String| Mistake::new(place + 1, text);
         if line.starts_with(' ') || line.is_empty() {
-            let last = all.last_mut().expect("a key before its lines");
-            last.1 += &format!("\n{line}");
+            if let Some((_, value)) = all.last_mut() {
+                value.text += &format!("\n{line}");
+            } else if !line.trim().is_empty() {
+                return Err(wrong("a line of a value, and no key above it".into()));
+            }
         } else {
-            let (key, value) = line.split_once(':').unwrap_or_else(|| panic!("{line} has no key"));
-            assert!(KEYS.contains(&key), "{key} is no key");
-            all.push((key.to_string(), value.trim().to_string()));
+            let (key, value) = line.split_once(':').ok_or_else(|| wrong(format!("'{line}' has no key")))?;
+            if !KEYS.contains(&key) {
+                return Err(wrong(format!("{key} is no key; the keys are {}", KEYS.join(", "))));
+            }
+            all.push((key.to_string(), Value { line: place + 1, text: value.trim().to_string() }));
         }
     }
-    all.into_iter().collect()
+    Ok(all.into_iter().collect())
 }
 
-pub fn parse(name: &str, text: &str) -> Case {
-    let keys = keys(text);
-    for key in NEEDED {
-        assert!(keys.contains_key(key), "{name} has no {key}");
+/// The values that every input must have are there.
+fn have(values: &Values, needed: &[&str]) -> Result<(), Mistake> {
+    match needed.iter().find(|&&key| !values.contains_key(key)) {
+        Some(key) => Err(Mistake::new(1, format!("the key {key} is missing"))),
+        None => Ok(()),
     }
-    let get = |key: &str| keys.get(key).map_or("", |value| value.as_str());
-    let list = get("events").lines().filter(|line| !line.trim().is_empty()).flat_map(events);
+}
+
+/// Reads a case, of which only `source` and `n` must be there.
+pub fn parse(name: &str, text: &str) -> Result<Case, Mistake> {
+    let values = keys(text)?;
+    have(&values, &NEEDED)?;
+    let get = |key: &str| values.get(key).map_or("", |value| value.text.as_str());
+    let line = |key: &str| values.get(key).map_or(0, |value| value.line);
+    let at = |key: &'static str| move |text: String| (key, text);
+    let wrong = |(key, text): (&str, String)| Mistake::new(line(key), text);
+    // A line of source starts in its fifth column, so that labels do.
+    let program = try_assemble(&get("source").replace("\n    ", "\n"))
+        .map_err(|m| Mistake::new(line("source") + m.line - 1, m.text))?;
+    let mut list = Vec::new();
+    for (place, text) in get("events").lines().enumerate() {
+        list.extend(events(text).map_err(|text| Mistake::new(line("events") + place, text))?);
+    }
+    let n: u32 = get("n").parse().map_err(|_| wrong(("n", format!("'{}' is no number of steps", get("n")))))?;
     let input = Input {
-        // A line of source starts in its fifth column, so that labels do.
-        memory: assemble(&get("source").replace("\n    ", "\n")).memory(),
-        record: start(get("start")).to_record().to_vec(),
-        events: list.flat_map(event_record).collect(),
-        n: get("n").parse().expect("a number of steps"),
+        memory: program.memory(),
+        record: start(get("start")).map_err(at("start")).map_err(wrong)?.to_record().to_vec(),
+        events: list.into_iter().flat_map(event_record).collect(),
+        n: n.into(),
     };
-    let bytes = get("bytes").split_whitespace().map(pair).map(|(address, byte)| (hex(address) as u16, byte as u8));
-    let bytes = bytes.collect();
-    Case { name: name.into(), title: get("title").into(), input, line: get("line").to_string() + "\n", bytes }
+    let byte = |(address, byte): (&str, u32)| Ok((fitting(address, hex(address)?)?, fitting(address, byte)?));
+    let bytes: Outcome<_> = get("bytes").split_whitespace().map(|text| pair(text).and_then(byte)).collect();
+    let bytes = bytes.map_err(at("bytes")).map_err(wrong)?;
+    Ok(Case { name: name.into(), title: get("title").into(), input, line: get("line").to_string() + "\n", bytes })
 }
 
 /// The cases of 01's list, the example of its sheet, and its plausible misreadings.
@@ -135,7 +177,7 @@ pub const OF_01: [&str; 25] = [
     "01-asleep-at-ffff",
 ];
 
-/// Every case of the repository, by name.
+/// Every case of the repository, by name. A mistake in one is a panic.
 pub fn all() -> Vec<Case> {
     let folder = PathBuf::from(env!("CARGO_MANIFEST_DIR")).join("../tests/cases");
     let entries = std::fs::read_dir(&folder).unwrap_or_else(|e| panic!("{}: {e}", folder.display()));
@@ -143,7 +185,9 @@ pub fn all() -> Vec<Case> {
     paths.sort();
     let read = |path: &PathBuf| {
         let name = path.file_stem().unwrap().to_string_lossy().into_owned();
-        parse(&name, &std::fs::read_to_string(path).unwrap_or_else(|e| panic!("{}: {e}", path.display())))
+        let text = std::fs::read_to_string(path).unwrap_or_else(|e| panic!("{}: {e}", path.display()));
+        let case = keys(&text).and_then(|values| have(&values, &OF_A_CASE)).and_then(|()| parse(&name, &text));
+        case.unwrap_or_else(|m| panic!("{}:{}: {}", path.display(), m.line, m.text))
     };
     paths.iter().map(read).collect()
 }

@@ -1,23 +1,70 @@
-//! A run followed step by step: its last steps, the frames that are open at its close, what became of its events.
+//! A run followed step by step: its last steps, its entries and returns, the frames that are open at its close, what
+//! became of its events.
 
-use crate::machine::{cut, even, events_of, refusal, word_at, Act, Event, Machine, Parts, Ran, Trace, PC, SP};
+use crate::machine::{cut, even, events_of, refusal, word_at, Act, Event, Machine, Parts, Ran, Trace, ENA, IE, PC, SP};
 use std::collections::VecDeque;
 
 /// How many of the newest steps are kept.
-pub const KEPT: usize = 8;
+pub const KEPT: usize = 32;
+/// How many entries, returns and faults are kept at most, of the first and of the last.
+pub const TURNS: usize = 48;
 
 /// The words of a frame from SP upwards: the entry pushed PC first and CEX last.
 pub const FRAME: [&str; 4] = ["CEX", "PSW", "LR", "PC"];
 
-/// A step that was taken.
+/// A step that was taken, with the machine before and after it.
 #[derive(Clone, Copy, Debug, PartialEq, Eq)]
 pub struct Taken {
-    /// Step count and PC before it.
-    pub count: u32,
-    pub pc: u16,
+    pub before: Machine,
+    pub after: Machine,
     pub act: Act,
     /// The word that was fetched, or skipped.
     pub word: Option<u16>,
+    /// The frames of the run that are open after it.
+    pub open: usize,
+}
+
+impl Taken {
+    /// The step's own number: the step count before it.
+    pub fn count(&self) -> u32 {
+        self.before.count
+    }
+
+    pub fn pc(&self) -> u16 {
+        self.before.regs[PC]
+    }
+}
+
+/// The first and the last of a list that may be long.
+pub struct Ends<T> {
+    pub first: Vec<T>,
+    pub last: VecDeque<T>,
+    /// How many there were in all.
+    pub all: usize,
+    keep: usize,
+}
+
+impl<T> Ends<T> {
+    fn new(keep: usize) -> Ends<T> {
+        Ends { first: Vec::new(), last: VecDeque::new(), all: 0, keep }
+    }
+
+    fn push(&mut self, item: T) {
+        self.all += 1;
+        if self.first.len() < self.keep {
+            self.first.push(item);
+            return;
+        }
+        if self.last.len() == self.keep {
+            self.last.pop_front();
+        }
+        self.last.push_back(item);
+    }
+
+    /// How many between the first and the last are not kept.
+    pub fn left_out(&self) -> usize {
+        self.all - self.first.len() - self.last.len()
+    }
 }
 
 /// A frame that an entry of the run pushed and no return has pulled.
@@ -43,15 +90,22 @@ impl Frame {
     }
 }
 
-/// What became of the records of the event list.
-#[derive(Clone, Copy, Debug, Default, PartialEq, Eq)]
-pub struct Events {
-    /// Of steps before the run's first.
-    pub passed_over: usize,
-    /// Of steps that the run took.
-    pub applied: usize,
-    /// Of later steps.
-    pub not_reached: usize,
+/// What became of an event.
+#[derive(Clone, Copy, Debug, PartialEq, Eq)]
+pub enum Fate {
+    /// Its step is before the run's first.
+    PassedOver,
+    /// Its step is after the run's last.
+    NotReached,
+    /// The device's status before it; whether the device's line was waiting already; the entry that answered its line.
+    Applied { status: u8, waiting: bool, entered: Option<Entered> },
+}
+
+/// The entry that answered a line: the step, and whether it was chained to a return.
+#[derive(Clone, Copy, Debug, PartialEq, Eq)]
+pub struct Entered {
+    pub count: u32,
+    pub chained: bool,
 }
 
 /// An accepted run, followed to its close.
@@ -59,9 +113,15 @@ pub struct Followed {
     pub n: u32,
     pub start: Machine,
     pub close: Machine,
+    /// The memory at the start, and at the close.
+    pub given: Vec<u8>,
     pub memory: Vec<u8>,
     pub ran: Ran,
-    pub events: Events,
+    pub events: Vec<Event>,
+    /// What became of each event.
+    pub fates: Vec<Fate>,
+    /// The events of each device whose line waits, by their places in the list.
+    waiting: [Vec<usize>; 8],
     /// The frames that are open, the oldest first.
     pub frames: Vec<Frame>,
     /// Frames opened in all, and how many were open together at most.
@@ -69,10 +129,17 @@ pub struct Followed {
     pub deepest: usize,
     /// Returns that pulled with no frame of the run open.
     pub stray: u32,
+    /// Every entry, return and fault, or the first and the last of them.
+    pub turns: Ends<Taken>,
     /// The newest steps, the oldest of them first.
     pub last: VecDeque<Taken>,
     /// The newest step that executed an instruction.
     pub executed: Option<Taken>,
+}
+
+/// Whether an event on a device with this status raises its line.
+pub fn raises(status: u8) -> bool {
+    status & ENA != 0 && status & IE != 0
 }
 
 /// Follows the run of an input of the program; a refused one gives its number.
@@ -81,58 +148,99 @@ pub fn follow(input: &[u8]) -> Result<Followed, u8> {
     if let Some(number) = refusal(memory, n.into(), record, events) {
         return Err(number);
     }
-    let mut run = Followed::new(n, Machine::from_record(record), memory.to_vec());
-    let events = events_of(events);
-    while run.ran.steps < n && run.step(&events) {}
-    run.close_with(&events);
+    let mut run = Followed::new(n, Machine::from_record(record), memory.to_vec(), events_of(events));
+    while run.ran.steps < n && run.step() {}
+    run.ran.reason = u8::from(run.close.halted);
     Ok(run)
 }
 
 impl Followed {
-    fn new(n: u32, start: Machine, memory: Vec<u8>) -> Followed {
+    fn new(n: u32, start: Machine, memory: Vec<u8>, events: Vec<Event>) -> Followed {
+        let fate = |event: &Event| if event.step < start.count { Fate::PassedOver } else { Fate::NotReached };
         Followed {
             n,
             start,
             close: start,
+            given: memory.clone(),
             memory,
             ran: Ran { reason: 0, steps: 0 },
-            events: Events::default(),
+            fates: events.iter().map(fate).collect(),
+            events,
+            waiting: Default::default(),
             frames: Vec::new(),
             opened: 0,
             deepest: 0,
             stray: 0,
+            turns: Ends::new(TURNS),
             last: VecDeque::new(),
             executed: None,
         }
     }
 
     /// One step; false if the machine is halted.
-    fn step(&mut self, events: &[Event]) -> bool {
+    fn step(&mut self) -> bool {
         let before = self.close;
-        let Some(trace) = self.close.step(&mut self.memory, events) else { return false };
+        let Some(trace) = self.close.step(&mut self.memory, &self.events) else { return false };
         self.ran.steps += 1;
-        self.keep(&before, &trace);
+        self.apply(&before, &trace);
         match trace.act {
-            Act::Accept(_) | Act::Fault(_) | Act::Trap(_) => self.open(before.count, trace.act),
-            Act::Chain(device) => self.chain(device),
+            Act::Accept(device) => {
+                self.open(before.count, trace.act);
+                self.answer(device, Entered { count: before.count, chained: false });
+            }
+            Act::Fault(_) | Act::Trap(_) => self.open(before.count, trace.act),
+            Act::Chain(device) => {
+                self.chain(device);
+                self.answer(device, Entered { count: before.count, chained: true });
+            }
             Act::Pull => self.stray += u32::from(self.frames.pop().is_none()),
             Act::Sleep | Act::Halt(_) | Act::Skip | Act::Execute(_) => {}
         }
+        self.keep(before, &trace);
         true
     }
 
-    fn keep(&mut self, before: &Machine, trace: &Trace) {
-        let pc = before.regs[PC];
+    fn keep(&mut self, before: Machine, trace: &Trace) {
         // A skip writes nothing, so the word that it passed is still there.
-        let skipped = (trace.act == Act::Skip).then(|| word_at(&self.memory, pc));
-        let taken = Taken { count: before.count, pc, act: trace.act, word: trace.word.or(skipped) };
+        let skipped = (trace.act == Act::Skip).then(|| word_at(&self.memory, before.regs[PC]));
+        let (after, open) = (self.close, self.frames.len());
+        let taken = Taken { before, after, act: trace.act, word: trace.word.or(skipped), open };
         if matches!(trace.act, Act::Execute(_) | Act::Trap(_)) {
             self.executed = Some(taken);
+        }
+        if !matches!(trace.act, Act::Execute(_) | Act::Skip | Act::Sleep) {
+            self.turns.push(taken);
         }
         if self.last.len() == KEPT {
             self.last.pop_front();
         }
         self.last.push_back(taken);
+    }
+
+    /// The events of the step just taken.
+    fn apply(&mut self, before: &Machine, trace: &Trace) {
+        let first = self.events.partition_point(|e| e.step < before.count);
+        let mut lines = before.lines;
+        for (place, &(device, status)) in trace.due.iter().enumerate() {
+            let line = 1 << device;
+            self.fates[first + place] = Fate::Applied { status, waiting: lines & line != 0, entered: None };
+            if raises(status) {
+                lines |= line;
+                self.waiting[usize::from(device)].push(first + place);
+            }
+        }
+    }
+
+    /// An entry answers a device's line: all the events behind it, or the first where the line waits on.
+    fn answer(&mut self, device: u8, by: Entered) {
+        let waits = self.close.lines >> device & 1 == 1;
+        let places = &mut self.waiting[usize::from(device)];
+        let answered = if waits { places.len().min(1) } else { places.len() };
+        for place in places.drain(..answered) {
+            if let Fate::Applied { entered, .. } = &mut self.fates[place] {
+                *entered = Some(by);
+            }
+        }
     }
 
     /// The entry just taken opens a frame.
@@ -151,13 +259,6 @@ impl Followed {
             frame.chains += 1;
             frame.chained = Some(device);
         }
-    }
-
-    fn close_with(&mut self, events: &[Event]) {
-        self.ran.reason = u8::from(self.close.halted);
-        let before = |count: u32| events.partition_point(|e| e.step < count);
-        let (first, next) = (before(self.start.count), before(self.close.count));
-        self.events = Events { passed_over: first, applied: next - first, not_reached: events.len() - next };
     }
 
     /// The newest open frame that has a word at an even address, with the word's place in `FRAME`.

@@ -5,11 +5,23 @@ use oracle::asm::assemble;
 use oracle::case;
 use oracle::inputs::{input, Input, KINDS};
 use oracle::machine::*;
-use oracle::report::{cksum, report};
+use oracle::report::{cksum, report, Wanted};
 
 /// The page of an input whose line the oracle and the program agree on.
 fn page_of(input: &[u8]) -> String {
-    report(input, &sheet(input).0).expect("one line")
+    page_with(input, "", "")
+}
+
+/// The same with a title and the line that was expected.
+fn page_with(input: &[u8], title: &str, expected: &str) -> String {
+    let wanted = Wanted { title: title.to_string(), expected: expected.to_string() };
+    report(input, &sheet(input).0, &wanted).expect("one line")
+}
+
+/// The verdict of a page.
+fn verdict(page: &str) -> &str {
+    let rest = page.split_once("<p id=\"verdict\">").expect("a verdict").1;
+    rest.split_once("</p>").expect("its end").0
 }
 
 /// An input with the program at #1000, SP #0800 and these events, changed as `change` has it.
@@ -72,10 +84,11 @@ fn the_same_input_gives_the_same_page() {
 fn another_line_gives_no_page() {
     let input = program(NESTED, &[], 5, |_| ());
     let line = sheet(&input).0;
-    let differs = report(&input, "R4\n").expect_err("two lines");
+    let none = Wanted::default();
+    let differs = report(&input, "R4\n", &none).expect_err("two lines");
     assert_eq!((differs.oracle, differs.printed.as_str()), (line.clone(), "R4\n"));
-    assert!(report(&input, line.trim_end()).is_err(), "the line has lost its LF");
-    assert!(report(&input, &line).is_ok());
+    assert!(report(&input, line.trim_end(), &none).is_err(), "the line has lost its LF");
+    assert!(report(&input, &line, &none).is_ok());
 }
 
 #[test]
@@ -97,15 +110,20 @@ fn nested_frames_stand_from_sp_upwards() {
     assert_eq!(page.matches("<tbody class=\"frame\">").count(), 2);
     let frames = rows(&page, "frames");
     assert_eq!(frames[0][..5], ["2", "line 2 accepted", "3", "#07EE", "#0000"]);
-    assert_eq!(frames[1], ["1", "line 1 accepted", "1", "#07F8", "#0000", "#0000", "#BEEF", "#1000", "as pushed"]);
+    assert_eq!(frames[0][5], "#0040: priority 2, previous 0, no flag");
+    assert_eq!(frames[1][..5], ["1", "line 1 accepted", "1", "#07F8", "#0000"]);
+    assert_eq!(frames[1][5..], ["#0000: priority 0, previous 0, no flag", "#BEEF", "#1000", "as pushed"]);
+    // The rules stand below the drawing.
+    let (drawing, rule) = (page.find("The stack, the lowest address first"), page.find("A thick border marks a frame"));
+    assert!(drawing < rule && rule < page.find("id=\"frames\""));
 }
 
 #[test]
 fn a_pulled_frame_is_no_longer_marked() {
     // Step 3 enters the second handler, 4 and 5 run it, 6 pulls.
     let page = page_of(&program(NESTED, &[(1, 1, 0), (3, 2, 0)], 7, |_| ()));
-    assert!(page.contains("The last step, at step count 6: return: pulled CEX, PSW, LR, PC; PC was #FFFF."));
-    assert!(page.contains("The last instruction executed, at step count 5: executed; MOV LR,PC, word #4C2F at #2102."));
+    assert!(page.contains("The last step, at step 6: return: pulled CEX, PSW, LR, PC; PC was #FFFF."));
+    assert!(page.contains("The last instruction executed, at step 5: executed; MOV LR,PC, word #4C2F at #2102."));
     let marks: Vec<String> = rows(&page, "stack").iter().map(|row| row[2].clone()).collect();
     assert_eq!(marks, ["-", "1", "1", "1", "1", "-", "-", "-"]);
     assert!(page.contains("1 open at the close, at most 2 open together"));
@@ -115,7 +133,7 @@ fn a_pulled_frame_is_no_longer_marked() {
 fn a_chained_entry_keeps_its_frame() {
     // Line 3 is not above priority 5 but above priority 2, so that the return at step 6 chains it.
     let page = page_of(&program(NESTED, &[(1, 1, 0), (3, 2, 0), (4, 3, 0)], 7, |_| ()));
-    assert!(page.contains("at step count 6: return, chained entry: line 3, nothing pushed;"));
+    assert!(page.contains("at step 6: return, chained entry: line 3, nothing pushed;"));
     assert_eq!(rows(&page, "frames")[0][8], "as pushed; 1 chained onto it, the newest line 3");
     assert_eq!(page.matches("<tbody class=\"frame\">").count(), 2);
 }
@@ -257,8 +275,195 @@ fn each_refusal_has_a_page() {
         let page = page_of(&input);
         assert!(page.contains(&format!("<pre id=\"line\">R{number}</pre>")), "{number}");
         assert!(page.contains(&format!("Refusal {number}</h2>")) && page.contains(found), "{number}: {found}");
+        assert!(verdict(&page).starts_with(&format!("REFUSED with {number}: ")), "{number}");
+        assert!(!page.contains("no refusal has this number"), "{number}");
         assert!(page.contains("No step was taken") && !page.contains("id=\"stack\""), "{number}");
     }
+}
+
+#[test]
+fn the_verdict_is_one_sentence() {
+    let halting = " org #1000\n bl Next\nNext mov R0,PC\n org #2000\n word #4E00";
+    let faulted = |pc: u16| move |m: &mut Machine| (m.psw, m.regs[PC], m.regs[0]) = (FLT, pc, 0x2000);
+    for (input, expected) in [
+        (program(NESTED, &[], 120, |_| ()), "Ran all 120 steps."),
+        (program(NESTED, &[], 1_000_000, |_| ()), "Ran all 1,000,000 steps."),
+        (program(NESTED, &[], 1, |_| ()), "Ran the 1 step asked for."),
+        (program(NESTED, &[], 0, |_| ()), "Ran no step: n is 0."),
+        (program(halting, &[], 9, faulted(0x1000)), "HALTED at step 2: illegal word #4E00 at #2000."),
+        (program("", &[], 9, faulted(0x0801)), "HALTED at step 0: odd PC #0801."),
+        (
+            program(" org #1000\n setpri $3", &[], 9, faulted(0x1000)),
+            "HALTED at step 0: priority fault, SETPRI $3 at #1000.",
+        ),
+        (program("", &[], 9, |m| m.halted = true), "HALTED before the first step: a halted machine takes none."),
+        (vec![0; 35], "REFUSED with 3: the state record is not 32 bytes."),
+        (vec![0; 36], "REFUSED with 1: memory is not 65,536 bytes."),
+    ] {
+        assert_eq!(verdict(&page_of(&input)), expected);
+    }
+}
+
+#[test]
+fn every_field_of_the_line_has_its_name() {
+    let input = program(NESTED, &[], 5, |_| ());
+    let page = page_of(&input);
+    let (names, line) = (page.matches("<dt>").count(), sheet(&input).0);
+    assert_eq!(names, line.trim_end().split(' ').count());
+    assert!(page.contains("<dt>R7 PC</dt><dd>1000</dd>") && page.contains("<dt>steps</dt><dd>5</dd>"));
+    assert!(page_of(&[]).contains("<dt>refusal</dt><dd>R3</dd>"));
+}
+
+#[test]
+fn the_expected_line_agrees_or_not() {
+    let input = program(NESTED, &[], 5, |_| ());
+    let line = sheet(&input).0;
+    assert!(!page_of(&input).contains("agreement\">"));
+    let page = page_with(&input, "", &line);
+    assert!(page.contains("<p id=\"agreement\">Agrees with the line that was expected.</p>"));
+    let page = page_with(&input, "", &line.replace("1000", "1002"));
+    assert!(page.contains("DOES NOT AGREE with the line that was expected, in R7 PC:"));
+    assert!(page.contains("<div class=\"differs\"><dt>R7 PC</dt><dd>1000</dd></div>"));
+    for other in ["R3", "0 5", "nonsense", "0 5 <b>"] {
+        let page = page_with(&input, "", other);
+        assert!(page.contains("DOES NOT AGREE with the line that was expected:"), "{other}");
+        assert!(balanced(&page), "{other}");
+    }
+}
+
+#[test]
+fn a_title_is_text_alone() {
+    let input = program(NESTED, &[], 5, |_| ());
+    let page = page_with(&input, "Paper 7 </style><script>\"; } body { display: none", "");
+    assert!(page.contains("<h1>Paper 7 &lt;/style&gt;&lt;script&gt;&quot;; } body { display: none</h1>"));
+    assert!(page.contains("content: \"Paper 7 stylescript;  body  display: none. Input of 65,572 bytes, cksum "));
+    assert!(balanced(&page) && !page.contains("<script"));
+    assert!(page.contains("counter(page)"));
+}
+
+#[test]
+fn bytes_that_changed() {
+    // 32 words of #4121 are folded, but for the first row up to a multiple of 8; then single bytes.
+    let fill = "
+            org #1000
+Fill        st R1,R2+
+            sub $1,R0
+            bne Fill
+            st.b R3,R4
+            bra Fill
+            org #0300
+            byte #7F
+    ";
+    let change = |m: &mut Machine| m.regs[..5].copy_from_slice(&[32, 0x4141, 0x0202, 0x2A, 0x0300]);
+    let page = page_of(&program(fill, &[], 97, change));
+    let rows = rows(&page, "changed");
+    assert_eq!(rows[0], ["#0202 to #0241", "00", "41", "A", "64 bytes, all alike"]);
+    assert_eq!(rows[1], ["#0300", "7F", "2A", "*", ""]);
+    assert_eq!(rows.len(), 2);
+    assert!(page.contains("65 bytes are other than at the start"));
+    let page = page_of(&program(NESTED, &[(0, 1, 0x55)], 1, |m| m.regs[LR] = 0x4241));
+    let rows = self::rows(&page, "changed");
+    assert_eq!(rows[0], ["#0002", "11", "15", ".", "device 1"]);
+    let inputs = " org #0002\n byte #12\n byte #00\n byte #12";
+    let both = page_of(&program(inputs, &[(0, 1, 0x41), (0, 2, 0x42)], 1, |_| ()));
+    assert_eq!(self::rows(&both, "changed")[0], ["#0002", "12 00", "16 41", ".A", "device 1"]);
+    assert_eq!(self::rows(&both, "changed")[1], ["#0004", "12 00", "16 42", ".B", "device 2"]);
+    assert_eq!(rows[1], ["#07FC", "00 00", "41 42", "AB", ""]);
+    assert_eq!(rows[2], ["#07FF", "00", "10", ".", ""]);
+    assert!(page_of(&program(NESTED, &[], 5, |_| ())).contains("No byte of the memory is other than at the start."));
+}
+
+#[test]
+fn many_changed_bytes_are_cut() {
+    // A byte in every 16.
+    let spread = " org #1000\nNext st.b R1,R2\n add $16,R2\n bra Next";
+    let page = page_of(&program(spread, &[], 300, |m| (m.regs[1], m.regs[2]) = (7, 0x2000)));
+    assert_eq!(rows(&page, "changed").len(), 64);
+    assert!(page.contains("The table has 64 rows at most. 36 more bytes are left out."));
+}
+
+#[test]
+fn events_and_what_became_of_each() {
+    // Device 1 and 2 as in NESTED; 3 waits behind 2; 4 is not enabled; 1 overruns.
+    let events = [(0, 7, 1), (2, 1, 0), (3, 4, 0), (4, 2, 0x41), (5, 3, 0), (6, 1, 0), (7, 1, 0), (99, 1, 0)];
+    let page = page_of(&program(NESTED, &events, 7, |m| m.count = 1));
+    let all: Vec<String> = rows(&page, "events").iter().map(|row| row[4].clone()).collect();
+    assert_eq!(
+        all,
+        [
+            "passed over: before the run&#39;s first step",
+            "ready; line raised; accepted at step 2",
+            "no effect: ENA is 0",
+            "ready; line raised; accepted at step 4",
+            "ready; line raised; chained at step 7",
+            "ready; OF set, since DBA was 1; line raised; still waiting",
+            "ready; OF set, since DBA was 1; line already waiting; still waiting",
+            "not reached: after the run&#39;s last step",
+        ]
+    );
+    assert_eq!(rows(&page, "events")[3][..4], ["4", "4", "2", "#41 &#39;A&#39;"]);
+    let many: Vec<(u32, u8, u8)> = (0..200).map(|step| (step, 7, 0)).collect();
+    let page = page_of(&program(NESTED, &many, 1, |_| ()));
+    assert_eq!(rows(&page, "events").len(), 97);
+    assert_eq!(rows(&page, "events")[48][4], "104 more are left out");
+    assert!(page_of(&program(NESTED, &[], 1, |_| ())).contains("The input has no events."));
+}
+
+#[test]
+fn every_entry_return_and_fault() {
+    let page = page_of(&program(NESTED, &[(1, 1, 0), (3, 2, 0), (4, 3, 0)], 300, |_| ()));
+    let turns = rows(&page, "turns");
+    assert_eq!(turns[0], ["1", "entry: line 1 accepted", "#1000", "#2000", "2", "1"]);
+    assert_eq!(turns[1], ["3", "entry: line 2 accepted", "#2002", "#2100", "5", "2"]);
+    assert_eq!(turns[2], ["6", "return, chained entry: line 3, nothing pushed", "#FFFF", "#2100", "3", "2"]);
+    assert_eq!(turns[3], ["9", "return: pulled CEX, PSW, LR, PC", "#FFFF", "#2002", "2", "1"]);
+    assert_eq!(turns.len(), 4);
+    // A handler that returns at once, entered again and again.
+    let trap = " org #1000\nHere svc $5\n bra Here\n org #2000\n mov LR,PC\n org #FFD4\n word #0020\n word #2000";
+    let page = page_of(&program(trap, &[], 1_000, |_| ()));
+    assert_eq!(rows(&page, "turns").len(), 97);
+    assert_eq!(rows(&page, "turns")[48][1], "404 more are left out");
+    assert!(page.contains("500 in all, in the order of the run"));
+    assert!(page_of(&program("", &[], 5, |_| ())).contains("The run has no entry, no return and no fault."));
+}
+
+#[test]
+fn the_last_steps_with_what_they_left() {
+    let count = " org #1000\nHere add $1,R1\n st R1,-SP\n bra Here";
+    let page = page_of(&program(count, &[], 90, |_| ()));
+    let last = rows(&page, "last");
+    assert_eq!(last.len(), 32);
+    assert_eq!(last[31], ["89", "#1004", "#3FFD", "BRA #1000", ""]);
+    assert_eq!(last[30], ["88", "#1002", "#5F0E", "ST R1,-SP", "SP #07C4"]);
+    assert_eq!(last[29], ["87", "#1000", "#4089", "ADD $1,R1", "R1 #001E"]);
+    let page = page_of(&program(NESTED, &[(0, 1, 0)], 1, |_| ()));
+    let entered = ["0", "#1000", "", "entry: line 1 accepted", "LR #FFFF, SP #07F8, PSW #0040"];
+    assert_eq!(rows(&page, "last")[0], entered);
+}
+
+#[test]
+fn the_program_around_pc() {
+    let page = page_of(&program(NESTED, &[], 5, |_| ()));
+    let around = rows(&page, "around");
+    assert_eq!(around.len(), 17);
+    assert_eq!(around[8], ["#1000", "#3FFF", "BRA #1000", "PC"]);
+    assert_eq!([&around[0][0], &around[16][0]], ["#0FF0", "#1010"]);
+    // A return is to be taken: the program is where the last instruction was.
+    let page = page_of(&program(NESTED, &[(1, 1, 0), (3, 2, 0)], 6, |_| ()));
+    assert_eq!(rows(&page, "around")[8], ["#2102", "#4C2F", "MOV LR,PC", "last executed"]);
+    let page = page_of(&program("", &[], 0, |m| m.regs[PC] = 1));
+    assert_eq!(rows(&page, "around")[8][3], "PC");
+    assert!(page.contains("PC is odd"));
+}
+
+#[test]
+fn bold_is_what_is_not_as_at_the_start() {
+    let page = page_of(&program(" org #1000\n add $1,R1\n cmp R1,R1", &[], 2, |_| ()));
+    assert!(page.contains("<td class=\"n s\">#0001</td><td class=\"n\">1</td>"));
+    assert!(page.contains("<td class=\"n s\">#1004</td>"));
+    // R1, PC, and C and Z of the PSW.
+    let body = page.split_once("id=\"registers\"").unwrap().1.split_once("id=\"changed\"").unwrap().0;
+    assert_eq!(body.matches("class=\"n s\"").count(), 4);
 }
 
 /// Every tag that is opened is closed, in its order.

@@ -173,7 +173,7 @@ fn readable_cases() {
 fn the_example_input() {
     let read = |name: &str| std::fs::read(format!("{}/../examples/{name}", env!("CARGO_MANIFEST_DIR"))).expect(name);
     let source = String::from_utf8(read("interrupts.txt")).expect("text");
-    let case = case::parse("interrupts", &source);
+    let case = case::parse("interrupts", &source).expect("no mistake");
     assert!(case.input.to_bytes() == read("interrupts.in"), "examples/interrupts.in is not of examples/interrupts.txt");
     assert_eq!(same("interrupts", &case.input.to_bytes()), case.line);
     let memory = sheet(&case.input.to_bytes()).1.expect("an accepted run");

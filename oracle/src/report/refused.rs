@@ -1,8 +1,11 @@
 //! The page of a refused input: which refusal it is, what 01 asks, and what this input has instead.
 
 use super::{grouped, hex, hex_byte, row};
-use crate::html::Page;
 use crate::machine::{cut, events_of, Machine, Parts, CEX_USED, EVENT, MAX_EVENTS, PSW_ZERO};
+use crate::page::{table, text, Section};
+
+/// The header of the library, which has the sentence of each refusal.
+const HEADER: &str = include_str!("../../../include/xm23.h");
 
 /// What 01 asks, under each number from 1.
 const RULES: [&str; 7] = [
@@ -18,24 +21,38 @@ const RULES: [&str; 7] = [
 /// The part of an input that each number is about.
 const PARTS: [&str; 7] = ["memory", "n", "state record", "state record", "events", "events", "events"];
 
-pub fn refusal(page: &mut Page, number: u8, input: &[u8]) {
+/// The sentence of a refusal, as `xm23_refusal_text` has it.
+pub fn sentence(number: u8) -> &'static str {
+    let number = format!(" {number}");
+    let constant = HEADER.lines().filter_map(|line| line.strip_prefix("#define XM23_REFUSED_"));
+    let name = constant.filter_map(|rest| rest.strip_suffix(&number)).next().unwrap_or_default();
+    let case = format!("    case XM23_REFUSED_{name}: return \"");
+    let text = HEADER.lines().find_map(|line| line.strip_prefix(&case)?.strip_suffix("\";"));
+    text.unwrap_or("no refusal has this number")
+}
+
+pub fn verdict(number: u8) -> String {
+    format!("REFUSED with {number}: {}.", sentence(number))
+}
+
+pub fn section(number: u8, input: &[u8]) -> Section {
     let of = |list: &[&'static str; 7]| list[usize::from(number) - 1];
-    let what = [
+    let what = vec![
         row(["Refusal", &number.to_string()]),
         row(["It is about", of(&PARTS)]),
         row(["What 01 asks", of(&RULES)]),
         row(["What this input has", &found(number, input)]),
     ];
-    page.table("Why the input was refused", &["Item", "Value"], what.to_vec());
-    page.paragraph(
-        "No step was taken: a refused run leaves memory, state record and events as they were handed over, so there is \
-         no closing state to show.",
-    );
-    page.paragraph(
-        "01 is the paper of house rules. An input under 36 bytes is 3 and short memory is 1, whatever else is wrong. \
-         Then the rules are tried in this order, and the first that is broken is named: 2 for n alone; 2 for the sum \
-         of step count and n; 4; 5; 6; 7.",
-    );
+    let kept = "No step was taken: a refused run leaves memory, state record and events as they were handed over, so \
+                there is no closing state to show.";
+    let order = "01 is the paper of house rules. An input under 36 bytes is 3 and short memory is 1, whatever else is \
+                 wrong. Then the rules are tried in this order, and the first that is broken is named: 2 for n alone; \
+                 2 for the sum of step count and n; 4; 5; 6; 7.";
+    Section::new(
+        "refusal",
+        format!("Refusal {number}"),
+        vec![table("Why the input was refused", &["Item", "Value"], what), text(kept), text(order)],
+    )
 }
 
 /// What of the input breaks the rule.

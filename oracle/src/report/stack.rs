@@ -1,9 +1,10 @@
 //! The stack from SP upwards with the open frames in it, and the list of these frames.
 
-use super::{act_text, grouped, hex, row};
+use super::state::psw_text;
+use super::{act_text, grouped, hex, place, row};
 use crate::follow::{Followed, Frame, FRAME};
-use crate::html::{Group, Page};
 use crate::machine::{even, word_at, Act, SP};
+use crate::page::{groups, table, text, Cell, Group, Row, Section};
 
 /// The words that are drawn: at least, and at most.
 const LEAST: u16 = 8;
@@ -21,28 +22,30 @@ fn reach(run: &Followed) -> u16 {
     above.max().map_or(0, |up| up / 2 + 1)
 }
 
-pub fn drawing(page: &mut Page, run: &Followed) {
+pub fn drawing(run: &Followed) -> Section {
     let (sp, reach) = (run.close.regs[SP], reach(run));
     let words = reach.clamp(LEAST, MOST);
-    let mut groups: Vec<Group> = Vec::new();
+    let mut all: Vec<Group> = Vec::new();
     let mut owner = None;
     for i in 0..words {
         let at = even(sp).wrapping_add(2 * i);
         let frame = run.frame_at(at).map(|(frame, _)| frame.number);
-        if groups.is_empty() || frame != owner {
-            groups.push(Group { frame: frame.is_some(), rows: Vec::new() });
+        if all.is_empty() || frame != owner {
+            all.push(Group { frame: frame.is_some(), rows: Vec::new() });
             owner = frame;
         }
-        groups.last_mut().expect("a group").rows.push(word_row(run, at));
+        all.last_mut().expect("a group").rows.push(word_row(run, at));
     }
-    page.paragraph(
+    let columns = ["Address", "Word", "Frame", "Part", "Remark"];
+    let drawing = groups("The stack, the lowest address first", &columns, all);
+    let rule = text(
         "A thick border marks a frame: the four words that an entry of this run pushed and that no return has pulled, \
          at the place where the entry put them, CEX lowest and PC highest. A word that two open frames share is marked \
          as the newer one's. The oracle followed the run to find the frames: the words alone do not show them, and a \
          frame from before the run is not marked.",
     );
-    page.paragraph(&drawn(sp, words, reach));
-    page.groups("The stack, the lowest address first", &["Address", "Word", "Frame", "Part", "Remark"], &groups);
+    let heading = format!("Stack from SP {} upwards", hex(sp));
+    Section::new("stack", heading, vec![drawing, text(drawn(sp, words, reach)), rule])
 }
 
 /// How far the drawing goes.
@@ -60,7 +63,7 @@ fn drawn(sp: u16, words: u16, reach: u16) -> String {
     text
 }
 
-fn word_row(run: &Followed, at: u16) -> Vec<String> {
+fn word_row(run: &Followed, at: u16) -> Row {
     let word = word_at(&run.memory, at);
     let (mut frame, mut part, mut remarks) = ("-".to_string(), "-", Vec::new());
     if at == even(run.close.regs[SP]) {
@@ -79,36 +82,20 @@ fn word_row(run: &Followed, at: u16) -> Vec<String> {
     row([&hex(at), &hex(word), &frame, part, &remarks.join("; ")])
 }
 
-/// What else an even address is.
-fn place(at: u16) -> Option<String> {
-    match at {
-        0..=0x000F => Some(format!("device {}", at / 2)),
-        0xFFC0.. => Some(format!("vector {}, {}", (at - 0xFFC0) / 4, if at & 2 == 0 { "PSW" } else { "entry point" })),
-        _ => None,
-    }
-}
-
-pub fn open_frames(page: &mut Page, run: &Followed) {
-    if run.frames.is_empty() {
-        page.paragraph("No frame of this run is open.");
-        return;
-    }
-    page.paragraph(
-        "Frames are numbered in the order in which the run opened them; a return that pulls closes the newest.",
-    );
+pub fn open_frames(run: &Followed) -> Section {
     let newest = run.frames.iter().rev().take(LISTED);
-    page.table(
-        &format!(
-            "{} of {} open frames, the newest first, with the words that each entry pushed",
-            newest.len(),
-            grouped(run.frames.len() as u64)
-        ),
-        &["Frame", "Opened by", "Count", "From", "CEX", "PSW", "LR", "PC", "Since then"],
-        newest.map(|frame| frame_row(run, frame)).collect(),
-    );
+    let (listed, all) = (newest.len(), grouped(run.frames.len() as u64));
+    let caption = format!("{listed} of {all} open frames, the newest first, with the words that each entry pushed");
+    let columns = ["Frame", "Opened by", "Step", "From", "CEX", "PSW", "LR", "PC", "Since then"];
+    let rule = "Frames are numbered in the order in which the run opened them; a return that pulls closes the newest.";
+    let blocks = match listed {
+        0 => vec![text("No frame of this run is open.")],
+        _ => vec![table(caption, &columns, newest.map(|frame| frame_row(run, frame)).collect()), text(rule)],
+    };
+    Section::new("frames", "Open frames", blocks)
 }
 
-fn frame_row(run: &Followed, frame: &Frame) -> Vec<String> {
+fn frame_row(run: &Followed, frame: &Frame) -> Row {
     let places = frame.places();
     let changed: Vec<&str> =
         (0..4).filter(|&i| word_at(&run.memory, places[i]) != frame.words[i]).map(|i| FRAME[i]).collect();
@@ -119,9 +106,12 @@ fn frame_row(run: &Followed, frame: &Frame) -> Vec<String> {
     if let Some(device) = frame.chained {
         since += &format!("; {} chained onto it, the newest line {device}", frame.chains);
     }
-    let [cex, psw, lr, pc] = frame.words.map(hex);
+    let [cex, psw, lr, pc] = frame.words;
     let (number, count) = (frame.number.to_string(), grouped(frame.count.into()));
-    row([&number, opener(frame.act).as_str(), &count, &hex(places[0]), &cex, &psw, &lr, &pc, &since])
+    let mut cells = row([&number, &opener(frame.act), &count, &hex(places[0]), &hex(cex), &psw_text(psw), &hex(lr)]);
+    cells.push(hex(pc).into());
+    cells.push(Cell::strong_if(!changed.is_empty(), since));
+    cells
 }
 
 /// What opened a frame.

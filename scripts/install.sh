@@ -1,0 +1,61 @@
+#!/usr/bin/env bash
+# install.sh install|uninstall PREFIX DESTDIR: the header, both libraries, xm23.pc, the manual pages and print_state,
+# below DESTDIR/PREFIX. What is installed reads nothing of this folder. Uninstalling removes the same files, of any
+# version, and no folder.
+set -eu -o pipefail
+if [ $# -ne 3 ] || [[ $1 != install && $1 != uninstall || $2 != /* ]]; then
+    echo "install.sh: PREFIX '${2:-}' is not an absolute path" >&2
+    exit 2
+fi
+verb=$1 prefix=${2%/} to=$3${2%/}
+cd "$(dirname "$0")/.."
+version=$(scripts/version.sh)
+major_minor=${version%.*}
+calls=$(sed -n 's/^\(static inline \)\{0,1\}[a-z].*[ *]\(xm23_[a-z_]*\)(.*/\2/p' include/xm23.h | sort -u)
+
+put() { # MODE FILE PLACE
+    install -D -m "$1" "$2" "$to/$3"
+}
+
+# The pages of the single calls lead to xm23.3.
+pages() {
+    local call
+    for call in $calls; do
+        echo "share/man/man3/$call.3"
+    done
+}
+
+files="bin/print_state include/xm23.h lib/libxm23.a lib/libxm23.so.$version lib/libxm23.so.$major_minor lib/libxm23.so
+    lib/pkgconfig/xm23.pc share/man/man1/print_state.1 share/man/man3/xm23.3 $(pages)"
+
+install_all() {
+    local page pc
+    put 755 target/bin/print_state bin/print_state
+    put 644 include/xm23.h include/xm23.h
+    put 644 target/staticlib/libxm23.a lib/libxm23.a
+    put 755 "build/libxm23.so.$version" "lib/libxm23.so.$version"
+    ln -sf "libxm23.so.$version" "$to/lib/libxm23.so.$major_minor"
+    ln -sf "libxm23.so.$major_minor" "$to/lib/libxm23.so"
+    pc=$(< xm23.pc.in)
+    pc=${pc//@PREFIX@/"$prefix"}
+    printf '%s\n' "${pc//@VERSION@/"$version"}" > build/xm23.pc
+    put 644 build/xm23.pc lib/pkgconfig/xm23.pc
+    put 644 man/print_state.1 share/man/man1/print_state.1
+    put 644 man/xm23.3 share/man/man3/xm23.3
+    echo '.so man3/xm23.3' > build/xm23_call.3
+    for page in $(pages); do
+        put 644 build/xm23_call.3 "$page"
+    done
+}
+
+if [ "$verb" = install ]; then
+    install_all
+    for file in $files; do
+        echo "$to/$file"
+    done
+else
+    for file in $files; do
+        rm -f "$to/$file"
+    done
+    rm -f "$to"/lib/libxm23.so.[0-9]*
+fi

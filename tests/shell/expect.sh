@@ -1,0 +1,43 @@
+# Read by the tests of this folder: commands as a person types them, held to their status, output and errors.
+# Each script ends with 'count', which prints 'N passed, M failed'.
+
+# Of a make that runs these tests nothing is handed on.
+unset MAKEFLAGS MFLAGS MAKELEVEL
+passed=0
+failed=0
+room=$(mktemp -d)
+trap 'rm -rf "$room"' EXIT
+
+# same WHAT GOT EXPECTED
+same() {
+    if [ "$2" = "$3" ]; then
+        passed=$((passed + 1))
+    else
+        failed=$((failed + 1))
+        printf '%s\n  got:      %s\n  expected: %s\n' "$1" "$2" "$3"
+    fi
+}
+
+# like WHAT GOT PATTERN: the whole text, by an extended regular expression.
+like() {
+    if [[ $2 =~ ^($3)$ ]]; then
+        same "$1" yes yes
+    else
+        same "$1" "$2" "like $3"
+    fi
+}
+
+# expect WHAT STATUS OUT ERR COMMAND..: the status, and what is printed on both outputs, as patterns.
+expect() {
+    local what=$1 status=$2 out=$3 err=$4 got=0
+    shift 4
+    "$@" > "$room/out" 2> "$room/err" || got=$?
+    same "$what: status" "$got" "$status"
+    like "$what: output" "$(cat "$room/out")" "$out"
+    like "$what: errors" "$(cat "$room/err")" "$err"
+}
+
+count() {
+    echo "$passed passed, $failed failed"
+    [ "$failed" -eq 0 ]
+}

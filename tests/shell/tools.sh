@@ -1,0 +1,61 @@
+#!/usr/bin/env bash
+# Mistakes of the person who types: one line, 'file:line: text' where a file has the mistake, status 2. And the legend,
+# on every kind of line.
+set -u
+cd "$(dirname "$0")/../.."
+. tests/shell/expect.sh
+
+# make's own last line names the target and the status.
+stopped='.*make: \*\*\* .* Error 2'
+make="make -s --no-print-directory"
+
+expect 'make fuzz INPUTS=abc' 2 '' "make fuzz: INPUTS=abc is no number$stopped" $make fuzz INPUTS=abc
+expect 'make fuzz SEED=x' 2 '' "make fuzz: SEED=x is no number$stopped" $make fuzz SEED=x
+expect 'fuzz with no number' 2 '' '(compiling fuzz[^.]*)?fuzz: INPUTS=abc is no number' scripts/oracle.sh fuzz abc
+expect 'fuzz.sh' 2 '' 'fuzz.sh: FUZZ_SECONDS=1m or SEED= is no number' scripts/fuzz.sh 1m
+expect 'make replay' 2 '' "make replay: FOUND=.* is missing: .*$stopped" $make replay
+expect 'make replay of nothing' 2 '' "fuzz: no/such: No such file .*$stopped" $make replay FOUND=no/such
+expect 'make input' 2 '' "input.sh: CASE is missing: .*$stopped" $make input
+expect 'make input of nothing' 2 '' ".*no/such.txt: No such file .*$stopped" $make input CASE=no/such.txt
+
+# wrong LINE TEXT SOURCE: a case with a mistake in that line, and an older input beside it.
+wrong() {
+    printf '%b' "$3" > "$room/case.txt"
+    touch "$room/case.in"
+    expect "a case: $2" 2 '' "$room/case.txt:$1: $2" scripts/input.sh "$room/case.txt" "$room/case.in"
+    same 'leaves no input' "$(ls "$room"/case.in 2> /dev/null)" ''
+}
+wrong 1 'the key n is missing' 'source:\n            org #1000\n'
+wrong 3 'HALT is no statement' 'n: 5\nsource:\n            halt\n'
+wrong 4 'operands: 2 needed, 1 given' 'n: 5\nsource:\n            org #1000\n            add R1\n'
+wrong 3 'NOWHERE is no value, and no label' 'n: 5\nsource:\n            bra Nowhere\n'
+wrong 2 "'many' is no number of steps" 'source:\nn: many\n'
+wrong 1 'speed is no key; the keys are .*' 'speed: 5\n'
+wrong 1 "'nothing' has no key" 'nothing\n'
+wrong 2 'R9 is no part of the start' 'n: 5\nstart: R9=1\nsource:\n'
+wrong 2 'R1=12345 does not fit' 'n: 5\nstart: R1=12345\nsource:\n'
+wrong 4 "'7 0' is no event: .*" 'n: 5\nsource:\nevents:\n    7 0\n'
+printf 'n: 5\nsource:\n            org #1000\n    Here    bra Here\n' > "$room/case.txt"
+expect 'the least case' 0 "$room/case.in" '' scripts/input.sh "$room/case.txt" "$room/case.in"
+same 'runs' "$(target/bin/print_state < "$room/case.in")" '0 5 0000 0000 0000 0000 0000 0000 0800 1000 0000 00 00'
+
+# The legend of an accepted line has a row for each field; of a refusal, its sentence.
+legend() {
+    echo "$1" | python3 -B scripts/legend.py
+}
+line=$(target/bin/print_state < examples/interrupts.in)
+expect 'a line' 0 "$line.*reason .*R7 +1000 +PC.*PSW .*CEX .*lines .*none" '' legend "$line"
+same 'a row for each field' "$(legend "$line" | tail -n +3 | wc -l)" "$(echo "$line" | wc -w)"
+expect 'a halted machine' 0 '.*reason +1 +halted.*' '' legend "1 ${line#* }"
+for n in $(sed -n 's/^#define XM23_REFUSED_[A-Z_]* \([0-9]*\)$/\1/p' include/xm23.h); do
+    expect "R$n" 0 "R$n.*refusal $n .*" '' legend "R$n"
+    same "R$n has a sentence" "$(legend "R$n" | grep -c 'no refusal has this number')" 0
+done
+expect 'no line' 2 '' 'legend.py: not a line of print_state: .*' legend ''
+expect 'another line' 2 '' 'legend.py: not a line of print_state: .*' legend 'hello world'
+expect 'a line that is cut' 2 '' 'legend.py: not a line of print_state: .*' legend '0 120 00E7'
+
+expect 'no kit' 2 '' 'prove.py: rt is not here: .*' env PATH="$room" \
+    "$(python3 -c 'import sys; print(sys.executable)')" scripts/prove.py program print_state
+expect 'no such crate' 2 '' 'prove.py: .*' scripts/prove.py program nothing
+count

@@ -23,7 +23,7 @@ extern "C" {
 /* ---- version: of this header, as one number; xm23_version gives that of the library */
 
 #define XM23_VERSION_MAJOR 0
-#define XM23_VERSION_MINOR 3
+#define XM23_VERSION_MINOR 4
 #define XM23_VERSION_PATCH 0
 #define XM23_VERSION (XM23_VERSION_MAJOR * 65536 + XM23_VERSION_MINOR * 256 + XM23_VERSION_PATCH)
 
@@ -199,6 +199,51 @@ static inline const char *xm23_refusal_text(unsigned refusal)
 #define XM23_CEX_TR 14 /* always true */
 #define XM23_CEX_FL 15 /* always false */
 
+/* ---- operations: the rows of 003's section 14 in order. Word and byte form, register and constant are one. */
+
+#define XM23_OPERATION_ILLEGAL 0
+#define XM23_OPERATION_BL 1
+#define XM23_OPERATION_BEQ 2
+#define XM23_OPERATION_BNE 3
+#define XM23_OPERATION_BC 4
+#define XM23_OPERATION_BNC 5
+#define XM23_OPERATION_BN 6
+#define XM23_OPERATION_BGE 7
+#define XM23_OPERATION_BLT 8
+#define XM23_OPERATION_BRA 9
+#define XM23_OPERATION_ADD 10
+#define XM23_OPERATION_ADDC 11
+#define XM23_OPERATION_SUB 12
+#define XM23_OPERATION_SUBC 13
+#define XM23_OPERATION_DADD 14
+#define XM23_OPERATION_CMP 15
+#define XM23_OPERATION_XOR 16
+#define XM23_OPERATION_AND 17
+#define XM23_OPERATION_OR 18
+#define XM23_OPERATION_BIT 19
+#define XM23_OPERATION_BIC 20
+#define XM23_OPERATION_BIS 21
+#define XM23_OPERATION_MOV 22
+#define XM23_OPERATION_SWAP 23
+#define XM23_OPERATION_SRA 24
+#define XM23_OPERATION_RRC 25
+#define XM23_OPERATION_COMP 26
+#define XM23_OPERATION_SWPB 27
+#define XM23_OPERATION_SXT 28
+#define XM23_OPERATION_SETPRI 29
+#define XM23_OPERATION_SVC 30
+#define XM23_OPERATION_SETCC 31
+#define XM23_OPERATION_CLRCC 32
+#define XM23_OPERATION_CEX 33
+#define XM23_OPERATION_LD 34
+#define XM23_OPERATION_ST 35
+#define XM23_OPERATION_MOVL 36
+#define XM23_OPERATION_MOVLZ 37
+#define XM23_OPERATION_MOVLS 38
+#define XM23_OPERATION_MOVH 39
+#define XM23_OPERATION_LDR 40
+#define XM23_OPERATION_STR 41
+
 /* ---- calls */
 
 /*
@@ -235,6 +280,23 @@ uint32_t xm23_encode(uint64_t instruction);
 
 /* The word in a reply of xm23_encode that refuses nothing. */
 #define XM23_ENCODED(reply) ((uint16_t)((reply) >> 16))
+
+/*
+ * The operation of a word, and the longest unbroken range of words around it that all have that operation. Illegal
+ * counts as one operation. A word that has the operation and lies beyond others is not of the range: SRA has two.
+ *
+ * word     in: any word.
+ * result   one reply: 0 in bits 7-0, XM23_RANGE_OPERATION in 15-8, XM23_RANGE_FIRST in 31-16, XM23_RANGE_LAST in 47-32,
+ *          0 in 63-48. The first and the last word are of the range.
+ * refusals none.
+ * defined  crates/isa_ranges/specs/Ranges.antt, rangeReply: operationOf, firstOf, lastOf.
+ */
+uint64_t xm23_range(uint16_t word);
+
+/* The parts of a reply of xm23_range. The operation is XM23_OPERATION_... */
+#define XM23_RANGE_OPERATION(reply) ((unsigned)((reply) >> 8 & 0xFF))
+#define XM23_RANGE_FIRST(reply) ((uint16_t)((reply) >> 16))
+#define XM23_RANGE_LAST(reply) ((uint16_t)((reply) >> 32))
 
 /*
  * Runs a machine for n steps, or until it halts. To advance a machine further, call again with the memory and the

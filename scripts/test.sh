@@ -108,6 +108,8 @@ part 'sentences of the refusals' count_line python3 -B scripts/refusals.py
 part 'layout of proofs and code' count_status rt fmt --check
 part 'proofs and must-fail edits' count_line scripts/prove.py all
 part 'static library xm23' count_status rt staticlib xm23
+part 'what the tables show' count_line python3 -B scripts/tables_test.py
+part 'tables of the decoder' count_line python3 -B scripts/tables.py
 part 'static library probe' count_status rt staticlib probe
 part 'oracle' count_cargo \
     cargo test --offline --locked --release --manifest-path oracle/Cargo.toml --target-dir oracle/target

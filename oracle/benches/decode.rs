@@ -1,6 +1,8 @@
-//! Time of a decode and of an encode, the proved library beside the oracle, on the same random words.
+//! Time of a decode, of an encode and of a range, the proved library beside the oracle, on the same random words. Of the
+//! range the oracle has a table with an entry for each word.
 
 use oracle::number;
+use oracle::operation;
 use oracle::random::Random;
 
 mod timing;
@@ -9,6 +11,7 @@ mod timing;
 extern "C" {
     fn xm23_decode(word: u16) -> u64;
     fn xm23_encode(instruction: u64) -> u32;
+    fn xm23_range(word: u16) -> u64;
 }
 
 fn main() {
@@ -23,4 +26,6 @@ fn main() {
         |&n| u64::from(unsafe { xm23_encode(n) }),
         |&n| u64::from(number::xm23_encode(n)),
     );
+    let ranges = operation::replies();
+    timing::compare("range", &words, |&w| unsafe { xm23_range(w) }, |&w| ranges[usize::from(w)]);
 }

@@ -175,59 +175,7 @@ pub fn encode(instr: Instr) -> Option<u16> {
 #[cfg(test)]
 mod tests {
     use super::*;
-
-    /// Section 14 row by row. Letters are fields, in the order of the row; a dot is an ignored bit.
-    const ROWS: [(&str, &str); 41] = [
-        ("000ooooooooooooo", "BL"),
-        ("001000oooooooooo", "BEQ"),
-        ("001001oooooooooo", "BNE"),
-        ("001010oooooooooo", "BC"),
-        ("001011oooooooooo", "BNC"),
-        ("001100oooooooooo", "BN"),
-        ("001101oooooooooo", "BGE"),
-        ("001110oooooooooo", "BLT"),
-        ("001111oooooooooo", "BRA"),
-        ("01000000rwsssddd", "ADD"),
-        ("01000001rwsssddd", "ADDC"),
-        ("01000010rwsssddd", "SUB"),
-        ("01000011rwsssddd", "SUBC"),
-        ("01000100rwsssddd", "DADD"),
-        ("01000101rwsssddd", "CMP"),
-        ("01000110rwsssddd", "XOR"),
-        ("01000111rwsssddd", "AND"),
-        ("01001000rwsssddd", "OR"),
-        ("01001001rwsssddd", "BIT"),
-        ("01001010rwsssddd", "BIC"),
-        ("01001011rwsssddd", "BIS"),
-        ("010011000wsssddd", "MOV"),
-        ("010011001.sssddd", "SWAP"),
-        ("010011010w000ddd", "SRA"),
-        ("010011010w001ddd", "RRC"),
-        ("010011010w010ddd", "COMP"),
-        ("010011010.011ddd", "SWPB"),
-        ("010011010.100ddd", "SXT"),
-        ("0100110110000ppp", "SETPRI"),
-        ("010011011010aaaa", "SVC"),
-        ("01001101110fffff", "SETCC"),
-        ("01001101111fffff", "CLRCC"),
-        ("010100cccctttfff", "CEX"),
-        ("010110pdiwsssddd", "LD"),
-        ("010111pdiwsssddd", "ST"),
-        ("01100bbbbbbbbddd", "MOVL"),
-        ("01101bbbbbbbbddd", "MOVLZ"),
-        ("01110bbbbbbbbddd", "MOVLS"),
-        ("01111bbbbbbbbddd", "MOVH"),
-        ("10ooooooowsssddd", "LDR"),
-        ("11ooooooowsssddd", "STR"),
-    ];
-
-    fn matches(row: &str, word: u16) -> bool {
-        row.chars().enumerate().all(|(i, c)| match c {
-            '0' => word >> (15 - i) & 1 == 0,
-            '1' => word >> (15 - i) & 1 == 1,
-            _ => true,
-        })
-    }
+    use crate::operation::{matches, ROWS};
 
     /// The fields of a row in its order, `o` sign-extended.
     fn fields(row: &str, word: u16) -> Vec<i32> {

@@ -1,5 +1,5 @@
-//! The XM-23 examination machine in plain Rust, written from the papers alone: 01, the house rules, and 003, the
-//! ISA paper. It shares no text with the proved crates. Simple comes before fast.
+//! The XM-23 examination machine in plain Rust, written from the papers alone: 01, the house rules, 02, the
+//! change requests, and 003, the ISA paper. It shares no text with the proved crates. Simple comes before fast.
 
 pub mod alu;
 pub mod asm;
@@ -13,6 +13,7 @@ pub mod isa;
 pub mod listing;
 pub mod machine;
 pub mod number;
+pub mod operation;
 pub mod page;
 pub mod programs;
 pub mod random;

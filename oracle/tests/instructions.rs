@@ -1,12 +1,14 @@
-//! libxm23.a beside the oracle: every word, random instruction numbers, and the near misses of every format.
+//! libxm23.a beside the oracle: every word and its range, random instruction numbers, and the near misses of every format.
 
 use oracle::number;
+use oracle::operation;
 use oracle::random::Random;
 
 #[link(name = "xm23", kind = "static")]
 extern "C" {
     fn xm23_decode(word: u16) -> u64;
     fn xm23_encode(instruction: u64) -> u32;
+    fn xm23_range(word: u16) -> u64;
 }
 
 fn decode(word: u16) -> u64 {
@@ -92,6 +94,13 @@ fn every_word_decodes_and_comes_back() {
         let kept = if ignored { word & !0x40 } else { word };
         let reply = if number == 0 { 8 } else { u32::from(kept) << 16 };
         assert_eq!(same_encoding(number), reply, "word {word:04X}");
+    }
+}
+
+#[test]
+fn every_word_has_its_range() {
+    for (word, reply) in (0..=u16::MAX).zip(operation::replies()) {
+        assert_eq!(unsafe { xm23_range(word) }, reply, "word {word:04X}");
     }
 }
 

@@ -110,6 +110,42 @@ static void sentences(void)
     same("no refusal", (uint64_t)strcmp(xm23_refusal_text(UINT_MAX), none), 0);
 }
 
+static void range(const char *what, uint16_t word, unsigned operation, uint16_t first, uint16_t last)
+{
+    uint64_t reply = xm23_range(word);
+    same(what, XM23_RANGE_OPERATION(reply), operation);
+    same(what, XM23_RANGE_FIRST(reply), first);
+    same(what, XM23_RANGE_LAST(reply), last);
+    same(what, reply & 0xFFFF0000000000FF, 0);
+}
+
+/* Ranges by hand, and every range from #0000 up: each begins where the one before it ends, with another operation. */
+static void ranges(void)
+{
+    unsigned count = 0, before = XM23_OPERATION_ILLEGAL;
+    uint32_t word = 0;
+    range("first word", 0x0000, XM23_OPERATION_BL, 0x0000, 0x1FFF);
+    range("byte form", 0x4040, XM23_OPERATION_ADD, 0x4000, 0x40FF);
+    range("mov", 0x4C7F, XM23_OPERATION_MOV, 0x4C00, 0x4C7F);
+    range("swap", 0x4C80, XM23_OPERATION_SWAP, 0x4C80, 0x4CFF);
+    range("sra", 0x4D07, XM23_OPERATION_SRA, 0x4D00, 0x4D07);
+    range("sra.b", 0x4D43, XM23_OPERATION_SRA, 0x4D40, 0x4D47);
+    range("illegal", 0x4D3F, XM23_OPERATION_ILLEGAL, 0x4D28, 0x4D3F);
+    range("illegal again", 0x4D9F, XM23_OPERATION_ILLEGAL, 0x4D88, 0x4D9F);
+    range("movh", 0x7FFF, XM23_OPERATION_MOVH, 0x7800, 0x7FFF);
+    range("last word", 0xFFFF, XM23_OPERATION_STR, 0xC000, 0xFFFF);
+    while (word <= 0xFFFF) {
+        uint64_t reply = xm23_range((uint16_t)word);
+        same("begins there", XM23_RANGE_FIRST(reply), word);
+        same("another operation", XM23_RANGE_OPERATION(reply) != before, 1);
+        same("an operation", XM23_RANGE_OPERATION(reply) <= XM23_OPERATION_STR, 1);
+        before = XM23_RANGE_OPERATION(reply);
+        word = (uint32_t)XM23_RANGE_LAST(reply) + 1;
+        count++;
+    }
+    same("ranges", count, 52);
+}
+
 /* The macros take a reply apart. */
 static void parts(void)
 {
@@ -319,6 +355,7 @@ int main(void)
     sentences();
     accepted_instructions();
     refused_instructions();
+    ranges();
     parts();
     accepted_runs();
     near_misses();

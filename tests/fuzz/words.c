@@ -1,8 +1,8 @@
 /*
- * A target of libFuzzer: xm23_decode and xm23_encode beside a decoder and an encoder in C, written from section 14's
- * rows and compiled with the fuzzer's counters. The string is up to eight bytes: an instruction's number, and a word in
- * the first two. Held for each: both calls answer as the judge does; what encodes decodes to itself; what decodes
- * encodes to itself, its ignored bits zero.
+ * A target of libFuzzer: xm23_decode, xm23_encode and xm23_range beside a decoder and an encoder in C, written from
+ * section 14's rows and compiled with the fuzzer's counters. The string is up to eight bytes: an instruction's number,
+ * and a word in the first two. Held for each: the calls answer as the judge does; what encodes decodes to itself; what
+ * decodes encodes to itself, its ignored bits zero.
  */
 #include <inttypes.h>
 #include <stdio.h>
@@ -144,6 +144,33 @@ static uint32_t judge_encode(uint64_t number)
     return (uint32_t)word << 16;
 }
 
+/* The operation of a word: the number of its format's first one, and the field that tells several apart. */
+static unsigned judge_operation(uint16_t word)
+{
+    static const uint8_t first[19] = {0, 1, 2, 10, 22, 23, 24, 27, 28, 29, 30, 31, 32, 33, 34, 35, 36, 40, 41};
+    uint64_t number = judge_decode(word);
+    unsigned format = XM23_FORMAT(number);
+    int several = format == XM23_FORMAT_BRANCH || format == XM23_FORMAT_ALU || format == XM23_FORMAT_UNARY ||
+                  format == XM23_FORMAT_MOVIMM;
+    return first[format] + (several ? XM23_FIELD(number, 1) : 0);
+}
+
+/* The range around each word, from neighbour to neighbour, worked out once. */
+static uint64_t judge_range(uint16_t word)
+{
+    static uint16_t firsts[65536], lasts[65536];
+    static uint8_t operations[65536];
+    if (!lasts[0]) {
+        for (int w = 0; w < 65536; w++) {
+            operations[w] = (uint8_t)judge_operation((uint16_t)w);
+            firsts[w] = w && operations[w] == operations[w - 1] ? firsts[w - 1] : (uint16_t)w;
+        }
+        for (int w = 65535; w >= 0; w--)
+            lasts[w] = w < 65535 && operations[w] == operations[w + 1] ? lasts[w + 1] : (uint16_t)w;
+    }
+    return (uint64_t)operations[word] << 8 | (uint64_t)firsts[word] << 16 | (uint64_t)lasts[word] << 32;
+}
+
 /* ---- what is held */
 
 static void check(const char *what, uint64_t given, uint64_t got, uint64_t expected)
@@ -161,6 +188,7 @@ static void check_word(uint16_t word)
     int bit6_ignored = format == XM23_FORMAT_SWAP || format == XM23_FORMAT_SWPB || format == XM23_FORMAT_SXT;
     uint32_t back = (uint32_t)(bit6_ignored ? word & ~0x40 : word) << 16;
     check("decoding", word, number, judge_decode(word));
+    check("the range around", word, xm23_range(word), judge_range(word));
     check("encoding what was decoded from", word, xm23_encode(number), number ? back : XM23_REFUSED_INSTRUCTION);
 }
 

@@ -2,4 +2,3 @@ pub mod Decode
 pub mod Encode
 pub mod Canon
 pub mod Fields
-pub mod Illegal

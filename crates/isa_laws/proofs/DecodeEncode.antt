@@ -1,5 +1,5 @@
--- A legal word decoded and encoded is that word with its ignored bits zero, and a word is illegal exactly if it lies in the
--- listed ranges: one test, computed at each of the 65,536 words. Assumes nothing.
+-- A legal word decoded and encoded is that word with its ignored bits zero, and a word is illegal exactly if its operation
+-- is: one test, computed at each of the 65,536 words; the listed ranges are those of that operation. Assumes nothing.
 use Prim.Native.Nat.{ℕ, _<_}
 use mathlib.Core.Path.{_≡_, refl, sym, ap, _∙_}
 use mathlib.Core.Bool.{Bool, true, false, cond, not, true≢false, false≢true, _&&_}
@@ -13,38 +13,45 @@ use Rattle.isa.specs.declared.Encoded.the-variants.{Word, Refused}
 use Rattle.isa.specs.Decode.{decodeOf}
 use Rattle.isa.specs.Encode.{encodeOf}
 use Rattle.isa.specs.Canon.{isLegal, canonOf}
-use Rattle.isa.specs.Illegal.{listedIllegal}
+use Rattle.isa_ranges.specs.declared.Operation.the-variants as op
+use Rattle.isa_ranges.specs.Operation.{operationIn, operationOf, operationNumber, sameOperation}
+use Rattle.isa_ranges.specs.Ranges.{listedIllegal}
+use Rattle.isa_ranges.proofs.All.{part, at-word}
+use Rattle.isa_ranges.proofs.Rows.{row-operation}
 use Rattle.isa_laws.specs.Theorems.{DecodeEncode, IllegalExactly}
-use Rattle.isa_laws.proofs.All.{part, at-word}
 
 abbrev isWord : Encoded → ℕ → Bool
 isWord (Word v) w = eqb v w
 isWord Refused w = false
 
--- the two facts of a word as one test: by whether it is listed, whether it is legal, and what its instruction's word is
+-- the two facts of a word as one test: by whether its operation is the illegal one, whether it is legal, and what its instruction's word is
 abbrev agree : Bool → Bool → Bool → Bool
 agree listed legal back = cond listed (not legal) (legal && back)
 
+-- the operation of a word is the illegal one
+abbrev pub illegal? : ℕ → Bool
+illegal? w = sameOperation (operationOf w) op.Illegal
+
 test : ℕ → Bool
-test w = agree (listedIllegal w) (isLegal (decodeOf w)) (isWord (encodeOf (decodeOf w)) (canonOf w))
+test w = agree (illegal? w) (isLegal (decodeOf w)) (isWord (encodeOf (decodeOf w)) (canonOf w))
 
 q0 : T (part test 0)
-unfolding test listedIllegal decodeOf encodeOf canonOf
+unfolding test decodeOf encodeOf canonOf operationIn operationNumber
 q0 = tt
 
 q1 : T (part test 1)
-unfolding test listedIllegal decodeOf encodeOf canonOf
+unfolding test decodeOf encodeOf canonOf operationIn operationNumber
 q1 = tt
 
 q2 : T (part test 2)
-unfolding test listedIllegal decodeOf encodeOf canonOf
+unfolding test decodeOf encodeOf canonOf operationIn operationNumber
 q2 = tt
 
 q3 : T (part test 3)
-unfolding test listedIllegal decodeOf encodeOf canonOf
+unfolding test decodeOf encodeOf canonOf operationIn operationNumber
 q3 = tt
 
-checked : (w : ℕ) → w < 65536 → T (agree (listedIllegal w) (isLegal (decodeOf w)) (isWord (encodeOf (decodeOf w)) (canonOf w)))
+checked : (w : ℕ) → w < 65536 → T (agree (illegal? w) (isLegal (decodeOf w)) (isWord (encodeOf (decodeOf w)) (canonOf w)))
 unfolding test
 checked w h = at-word test q0 q1 q2 q3 w h
 
@@ -67,13 +74,17 @@ legal-of false true back t = refl
 legal-of false false back t = absurd t
 
 -- as an equation of tests
-pub legal-listed : (w : ℕ) → w < 65536 → isLegal (decodeOf w) ≡ not (listedIllegal w)
-legal-listed w h = legal-of (listedIllegal w) (isLegal (decodeOf w)) (isWord (encodeOf (decodeOf w)) (canonOf w)) (checked w h)
+pub legal-operation : (w : ℕ) → w < 65536 → isLegal (decodeOf w) ≡ not (illegal? w)
+legal-operation w h = legal-of (illegal? w) (isLegal (decodeOf w)) (isWord (encodeOf (decodeOf w)) (canonOf w)) (checked w h)
+
+legal-listed : (w : ℕ) → w < 65536 → isLegal (decodeOf w) ≡ not (listedIllegal w)
+unfolding listedIllegal
+legal-listed w h = legal-operation w h ∙ ap (λ o. not (sameOperation o op.Illegal)) (row-operation w h)
 
 pub decode-encode : DecodeEncode
 decode-encode w h e =
     is-word (encodeOf (decodeOf w)) (canonOf w)
-    (back-of (listedIllegal w) (isLegal (decodeOf w)) (isWord (encodeOf (decodeOf w)) (canonOf w)) e (checked w h))
+    (back-of (illegal? w) (isLegal (decodeOf w)) (isWord (encodeOf (decodeOf w)) (canonOf w)) e (checked w h))
 
 illegal-of : (i : Instr) → isLegal i ≡ false → i ≡ Illegal
 illegal-of Illegal e = refl

@@ -1,8 +1,8 @@
 -- What holds of the instruction set, as statements; the proofs folder has a proof of each. decodeOf and encodeOf are
 -- the decoder and the encoder, numberOf and encodeNumber what the two calls of a C host exchange. Assumes nothing.
-use Prim.Native.Nat.{ℕ, zero, suc, _+_, _/_, _%_, _<_}
+use Prim.Native.Nat.{ℕ, _/_, _%_, _<_}
 use mathlib.Core.Path.{_≡_}
-use mathlib.Core.Bool.{Bool, true, cond, not}
+use mathlib.Core.Bool.{true, not}
 use mathlib.Core.Logic.{_↔_}
 use Rattle.isa.specs.declared.Instr.{Instr}
 use Rattle.isa.specs.declared.Instr.the-variants.{Illegal}
@@ -12,7 +12,8 @@ use Rattle.isa.specs.Decode.{decodeOf}
 use Rattle.isa.specs.Encode.{encodeOf}
 use Rattle.isa.specs.Canon.{isLegal, canonOf}
 use Rattle.isa.specs.Fields.{Fields}
-use Rattle.isa.specs.Illegal.{listedIllegal}
+use Rattle.isa_ranges.specs.Ranges.{listedIllegal}
+use Rattle.isa_ranges.specs.Count.{countBelow}
 use Rattle.isa_number.specs.Number.{numberOf, instrOf}
 use Rattle.isa_number.specs.Reply.{replyOf, refusalNumber, encodeNumber}
 
@@ -29,11 +30,6 @@ DecodeEncode = (w : ℕ) → w < 65536 → isLegal (decodeOf w) ≡ true → enc
 -- A word is illegal exactly if it lies in the listed ranges. [003 14]
 abbrev pub IllegalExactly : Type 0
 IllegalExactly = (w : ℕ) → w < 65536 → (decodeOf w ≡ Illegal) ↔ (listedIllegal w ≡ true)
-
--- How many numbers below n pass a test. [003 14]
-unfoldable pub countBelow : ℕ → (ℕ → Bool) → ℕ
-countBelow zero f = 0
-countBelow (suc n) f = cond (f n) 1 0 + countBelow n f
 
 -- 1,624 words are illegal. [003 14]
 abbrev pub IllegalCount : Type 0

@@ -6,6 +6,10 @@ pub use Rattle.isa_number.specs.Number.{numberOf}
 -- xm23_encode replies encodeNumber instruction: replyOf gives the reply for each answer of the encoder, refusalNumber
 -- its refusal. [01 Who can be turned back]
 pub use Rattle.isa_number.specs.Reply.{encodeNumber, replyOf, refusalNumber}
+-- xm23_range replies rangeReply word: operationOf, firstOf and lastOf of the word, which say its operation and the ends
+-- of its range. [02 §4]
+pub use Rattle.isa_ranges.specs.Operation.{operationOf, operationNumber}
+pub use Rattle.isa_ranges.specs.Ranges.{firstOf, lastOf, rangeReply}
 -- xm23_run replies and leaves what runCallOf gives for its buffers and n; Resumption is demand 3 of that call.
 -- [01 Who can be turned back; 01 Resumption]
 pub use Rattle.machine.specs.Call.{Closing, runCallOf}
@@ -13,4 +17,4 @@ pub use Rattle.resume_call.specs.Resumption.{Resumption}
 
 -- xm23_version replies versionNumber: major, minor and patch, which are those of the header.
 abbrev pub versionNumber : ℕ
-versionNumber = 0 * 65536 + 3 * 256 + 0
+versionNumber = 0 * 65536 + 4 * 256 + 0

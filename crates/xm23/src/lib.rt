@@ -2,20 +2,23 @@
 // calls.
 // The definitions that the replies equal are gathered in specs/Api.antt.
 ghost use mathlib.Core.Path.{_≡_};
-ghost use Rattle.xm23.specs.Api.{decodeOf, numberOf, encodeNumber, runCallOf, Resumption};
-ghost use Rattle.xm23.specs.Api.{versionNumber};
+ghost use Rattle.xm23.specs.Api.{versionNumber, decodeOf, numberOf, encodeNumber};
+ghost use Rattle.xm23.specs.Api.{rangeReply, runCallOf, Resumption};
 use isa::Encoded;
 use isa::decode;
 use isa::encode;
 use isa_number::from_number;
 use isa_number::number;
+use isa_ranges::ends_of;
+use isa_ranges::operation_number;
+use isa_ranges::operation_of;
 
 // The version of the library: major in bits 31-16, minor in 15-8, patch in 7-0.
 #[no_mangle]
 pub extern "C" fn xm23_version() -> u32
     ensures reply { λ r. ⌜ r ≡ versionNumber ⌝ }
 {
-    0x000300
+    0x000400
 }
 
 // The number of the instruction that a word means; that of the illegal one is 0.
@@ -39,6 +42,17 @@ pub extern "C" fn xm23_encode(instruction: u64) -> u32
         Encoded::Word(w) => w as u32 * 65536,
         Encoded::Refused => 8,
     }
+}
+
+// The operation of a word in bits 15-8, and the longest unbroken range around it whose words all
+// have that operation: its first word in bits 31-16, its last in bits 47-32.
+#[no_mangle]
+pub extern "C" fn xm23_range(word: u16) -> u64
+    ensures reply { λ r. ⌜ r ≡ rangeReply word ⌝ }
+{
+    let operation = operation_number(operation_of(decode(word)));
+    let ends = ends_of(word);
+    operation as u64 * 0x100 + ends.first as u64 * 0x10000 + ends.last as u64 * 0x100000000
 }
 
 // A run of n steps of the machine that the state record holds, with the event list: refusal in bits

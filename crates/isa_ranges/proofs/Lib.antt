@@ -1,0 +1,5 @@
+pub mod All
+pub mod Operations
+pub mod Rows
+pub mod Ranges
+pub mod Count

@@ -1,0 +1,17 @@
+use mathlib.Core.Path.{_∙_}
+use Rattle.isa_ranges.proofs.Rows.{bits-rows}
+use borrow.Author.Needs.{needs}
+use Rattle.isa_ranges.proofs.ends_of.Statement.{statement}
+use Rattle.isa_ranges.proofs.ends_of.Tie as tie
+use Rattle.isa_ranges.proofs.ends_of.Reads as reads
+use Rattle.isa_ranges.proofs.ends_of.Lts as lts
+use Rattle.isa_ranges.proofs.bits_ends.Reads as bits-ends-reads
+
+bits-ends-requires : tie.Need-bits-ends-requires
+bits-ends-requires c κs = search needs
+
+returns : tie.Need-returns
+returns c = c .bits-ends .ensures ∙ bits-rows (c .before .args .w) (search needs)
+
+pub ends-of-spec : {M : Type 1} → statement M
+ends-of-spec = tie.close (tie.spec bits-ends-requires returns)

@@ -1,0 +1,18 @@
+use borrow.Author.Needs.{needs}
+use borrow.Author.Tests.{lt-ltb, le-ltb}
+use Rattle.isa_ranges.proofs.unary_operation.Statement.{statement}
+use Rattle.isa_ranges.proofs.unary_operation.Tie as tie
+use Rattle.isa_ranges.proofs.unary_operation.Reads as reads
+use Rattle.isa_ranges.proofs.unary_operation.Lts as lts
+
+returns : tie.Need-returns
+returns c = search (needs, lt-ltb, le-ltb)
+
+returns-2 : tie.Need-returns-2
+returns-2 c = search (needs, lt-ltb, le-ltb)
+
+returns-3 : tie.Need-returns-3
+returns-3 c = search (needs, lt-ltb, le-ltb)
+
+pub unary-operation-spec : {M : Type 1} → statement M
+unary-operation-spec = tie.close (tie.spec returns returns-2 returns-3)

@@ -1,0 +1,5 @@
+pub mod Operation
+pub mod Ranges
+pub mod Count
+pub mod Bits
+pub mod Theorems

@@ -1,0 +1,133 @@
+//! The operations of 003 section 14, row by row, and the longest unbroken range around each word whose words all have its
+//! operation (02 §4), found by looking from each word to its neighbour.
+
+/// Section 14 row by row. Letters are fields, in the order of the row; a dot is an ignored bit.
+pub const ROWS: [(&str, &str); 41] = [
+    ("000ooooooooooooo", "BL"),
+    ("001000oooooooooo", "BEQ"),
+    ("001001oooooooooo", "BNE"),
+    ("001010oooooooooo", "BC"),
+    ("001011oooooooooo", "BNC"),
+    ("001100oooooooooo", "BN"),
+    ("001101oooooooooo", "BGE"),
+    ("001110oooooooooo", "BLT"),
+    ("001111oooooooooo", "BRA"),
+    ("01000000rwsssddd", "ADD"),
+    ("01000001rwsssddd", "ADDC"),
+    ("01000010rwsssddd", "SUB"),
+    ("01000011rwsssddd", "SUBC"),
+    ("01000100rwsssddd", "DADD"),
+    ("01000101rwsssddd", "CMP"),
+    ("01000110rwsssddd", "XOR"),
+    ("01000111rwsssddd", "AND"),
+    ("01001000rwsssddd", "OR"),
+    ("01001001rwsssddd", "BIT"),
+    ("01001010rwsssddd", "BIC"),
+    ("01001011rwsssddd", "BIS"),
+    ("010011000wsssddd", "MOV"),
+    ("010011001.sssddd", "SWAP"),
+    ("010011010w000ddd", "SRA"),
+    ("010011010w001ddd", "RRC"),
+    ("010011010w010ddd", "COMP"),
+    ("010011010.011ddd", "SWPB"),
+    ("010011010.100ddd", "SXT"),
+    ("0100110110000ppp", "SETPRI"),
+    ("010011011010aaaa", "SVC"),
+    ("01001101110fffff", "SETCC"),
+    ("01001101111fffff", "CLRCC"),
+    ("010100cccctttfff", "CEX"),
+    ("010110pdiwsssddd", "LD"),
+    ("010111pdiwsssddd", "ST"),
+    ("01100bbbbbbbbddd", "MOVL"),
+    ("01101bbbbbbbbddd", "MOVLZ"),
+    ("01110bbbbbbbbddd", "MOVLS"),
+    ("01111bbbbbbbbddd", "MOVH"),
+    ("10ooooooowsssddd", "LDR"),
+    ("11ooooooowsssddd", "STR"),
+];
+
+/// Whether a word has the printed bits of a row.
+pub fn matches(row: &str, word: u16) -> bool {
+    row.chars().enumerate().all(|(i, c)| match c {
+        '0' => word >> (15 - i) & 1 == 0,
+        '1' => word >> (15 - i) & 1 == 1,
+        _ => true,
+    })
+}
+
+/// The operation of a word: 0 illegal, or its row's number from 1 on.
+pub fn operation(word: u16) -> u8 {
+    ROWS.iter().position(|(row, _)| matches(row, word)).map_or(0, |at| at as u8 + 1)
+}
+
+/// Operation, first and last word of the range around each word.
+pub fn ranges() -> Vec<(u8, u16, u16)> {
+    let mut found: Vec<(u8, u16, u16)> = (0..=u16::MAX).map(|word| (operation(word), word, word)).collect();
+    for at in 1..found.len() {
+        if found[at].0 == found[at - 1].0 {
+            found[at].1 = found[at - 1].1;
+        }
+    }
+    for at in (1..found.len()).rev() {
+        if found[at - 1].0 == found[at].0 {
+            found[at - 1].2 = found[at].2;
+        }
+    }
+    found
+}
+
+/// What `xm23_range` must answer for each word: operation in bits 15-8, first word in 31-16, last in 47-32.
+pub fn replies() -> Vec<u64> {
+    let reply = |(operation, first, last)| u64::from(operation) << 8 | u64::from(first) << 16 | u64::from(last) << 32;
+    ranges().into_iter().map(reply).collect()
+}
+
+#[cfg(test)]
+mod tests {
+    use super::*;
+
+    fn number(name: &str) -> u8 {
+        ROWS.iter().position(|row| row.1 == name).map_or(0, |at| at as u8 + 1)
+    }
+
+    #[test]
+    fn the_numbers_of_the_operations() {
+        let named =
+            ["BL", "BRA", "ADD", "BIS", "MOV", "SWAP", "SRA", "SXT", "SETPRI", "CEX", "LD", "MOVL", "MOVH", "STR"];
+        assert_eq!(named.map(number), [1, 9, 10, 21, 22, 23, 24, 28, 29, 33, 34, 36, 39, 41]);
+        assert_eq!(operation(0x4E00), 0);
+    }
+
+    #[test]
+    fn there_are_52_ranges() {
+        let all = ranges();
+        assert_eq!(all.iter().enumerate().filter(|(word, range)| *word == usize::from(range.1)).count(), 52);
+        let words = |o: u8| all.iter().filter(|range| range.0 == o).count();
+        assert_eq!((words(0), words(number("SWAP")), words(number("SXT"))), (1624, 128, 16));
+    }
+
+    #[test]
+    fn ranges_by_hand() {
+        let all = ranges();
+        for (word, operation, first, last) in [
+            (0x0000, "BL", 0x0000, 0x1FFF),
+            (0x23FF, "BEQ", 0x2000, 0x23FF),
+            // Byte and word form, register and constant are one operation.
+            (0x40C0, "ADD", 0x4000, 0x40FF),
+            (0x4C40, "MOV", 0x4C00, 0x4C7F),
+            (0x4CFF, "SWAP", 0x4C80, 0x4CFF),
+            // Other words lie between the two forms.
+            (0x4D03, "SRA", 0x4D00, 0x4D07),
+            (0x4D43, "SRA", 0x4D40, 0x4D47),
+            // Gaps are apart where an operation lies between them.
+            (0x4D3F, "", 0x4D28, 0x4D3F),
+            (0x4D7F, "", 0x4D68, 0x4D7F),
+            (0x4D9F, "", 0x4D88, 0x4D9F),
+            (0x4DB0, "", 0x4DB0, 0x4DBF),
+            (0x4FFF, "", 0x4E00, 0x4FFF),
+            (0xFFFF, "STR", 0xC000, 0xFFFF),
+        ] {
+            assert_eq!(all[word], (number(operation), first, last), "{word:04X}");
+        }
+    }
+}

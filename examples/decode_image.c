@@ -3,7 +3,7 @@
  *
  *   decode_image FILE [ORIGIN]      ORIGIN is the address of the first byte, in hexadecimal (0 if left out)
  *
- * Instructions are written as 003 writes them: # hexadecimal, $ decimal.
+ * Instructions are written as 003 writes them: # hexadecimal, $ decimal. A comment says where the ignored bit is set.
  */
 
 #include <stdio.h>
@@ -79,6 +79,13 @@ static void memory(uint64_t i)
     }
 }
 
+/* Says of SWAP, SWPB and SXT that their ignored bit is set, for which 003 has no notation. */
+static void ignored(unsigned bit)
+{
+    if (bit)
+        printf(" ; bit 6 set");
+}
+
 /* Prints the formats that work on registers. */
 static void arithmetic(uint64_t i)
 {
@@ -94,6 +101,7 @@ static void arithmetic(uint64_t i)
     case XM23_FORMAT_SWAP:
         mnemonic("SWAP", 0);
         printf("%s,%s", registers[XM23_FIELD(i, 1)], registers[XM23_FIELD(i, 2)]);
+        ignored(XM23_FIELD(i, 3));
         break;
     case XM23_FORMAT_UNARY:
         mnemonic(unaries[XM23_FIELD(i, 1)], XM23_FIELD(i, 2));
@@ -106,6 +114,7 @@ static void arithmetic(uint64_t i)
     default:
         mnemonic(XM23_FORMAT(i) == XM23_FORMAT_SWPB ? "SWPB" : "SXT", 0);
         printf("%s", registers[XM23_FIELD(i, 1)]);
+        ignored(XM23_FIELD(i, 2));
     }
 }
 

@@ -23,7 +23,7 @@ extern "C" {
 /* ---- version: of this header, as one number; xm23_version gives that of the library */
 
 #define XM23_VERSION_MAJOR 0
-#define XM23_VERSION_MINOR 4
+#define XM23_VERSION_MINOR 5
 #define XM23_VERSION_PATCH 0
 #define XM23_VERSION (XM23_VERSION_MAJOR * 65536 + XM23_VERSION_MINOR * 256 + XM23_VERSION_PATCH)
 
@@ -100,6 +100,10 @@ static inline const char *xm23_refusal_text(unsigned refusal)
  *
  * Byte 0 is the format. The one-byte fields of the format follow from byte 1 on, in the order given below. An offset
  * is a 16-bit two's complement number in bytes 6 and 7. Every other byte is 0.
+ *
+ * The ignored bit, 0 or 1, is bit 6 of the word. It changes nothing of what the instruction does: two words that differ
+ * in it mean the same, and their numbers differ, so that two legal words have equal numbers exactly if they are the
+ * same word. An assembler writes it 0.
  */
 
 #define XM23_FORMAT_ILLEGAL 0 /* no field */
@@ -107,10 +111,10 @@ static inline const char *xm23_refusal_text(unsigned refusal)
 #define XM23_FORMAT_BRANCH 2  /* condition; offset in words, -512 to 511 */
 #define XM23_FORMAT_ALU 3     /* operation, R/C, W/B, source or constant, destination */
 #define XM23_FORMAT_MOV 4     /* W/B, source, destination */
-#define XM23_FORMAT_SWAP 5    /* source, destination */
+#define XM23_FORMAT_SWAP 5    /* source, destination, ignored bit */
 #define XM23_FORMAT_UNARY 6   /* operation, W/B, destination */
-#define XM23_FORMAT_SWPB 7    /* destination */
-#define XM23_FORMAT_SXT 8     /* destination */
+#define XM23_FORMAT_SWPB 7    /* destination, ignored bit */
+#define XM23_FORMAT_SXT 8     /* destination, ignored bit */
 #define XM23_FORMAT_SETPRI 9  /* priority */
 #define XM23_FORMAT_SVC 10    /* vector */
 #define XM23_FORMAT_SETCC 11  /* flags */
@@ -260,7 +264,7 @@ uint32_t xm23_version(void);
  *
  * word     in: any word.
  * result   the instruction's number. A word that section 14 of 003 does not list gives XM23_FORMAT_ILLEGAL, and the
- *          whole number is then 0.
+ *          whole number is then 0. Encoding the number of any other word gives back that word.
  * refusals none.
  * defined  crates/isa/specs/Decode.antt, decodeOf; crates/isa_number/specs/Number.antt, numberOf.
  */
@@ -271,7 +275,7 @@ uint64_t xm23_decode(uint16_t word);
  *
  * instruction in: any number.
  * result      one reply: XM23_REFUSAL in bits 7-0, 0 in bits 15-8, XM23_ENCODED in bits 31-16. An accepted
- *             instruction's word has its ignored bits 0, and decodes to that instruction.
+ *             instruction's word has the ignored bit that its number has, and decodes to that number.
  * refusals    XM23_REFUSED_INSTRUCTION: the format is "illegal" or none that there is, a field or offset is out of
  *             its range, or an unused byte is not 0. The reply is then 8 and nothing else.
  * defined     crates/isa/specs/Encode.antt, encodeOf; crates/isa_number/specs/Reply.antt, encodeNumber.

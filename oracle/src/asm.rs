@@ -174,12 +174,12 @@ impl Assembler {
             "MOV" | "SWAP" => {
                 let [src, dst] = operands(args)?;
                 let (src, dst) = (needed(src)?, needed(dst)?);
-                Ok(if base == "MOV" { Instr::Mov { wb, src, dst } } else { Instr::Swap { src, dst } })
+                Ok(if base == "MOV" { Instr::Mov { wb, src, dst } } else { Instr::Swap { src, dst, ignored: 0 } })
             }
             "SWPB" | "SXT" => {
                 let [dst] = operands(args)?;
                 let dst = needed(dst)?;
-                Ok(if base == "SWPB" { Instr::Swpb { dst } } else { Instr::Sxt { dst } })
+                Ok(if base == "SWPB" { Instr::Swpb { dst, ignored: 0 } } else { Instr::Sxt { dst, ignored: 0 } })
             }
             "SETPRI" | "SVC" => {
                 let [value] = operands(args)?;

@@ -246,7 +246,7 @@ const INSTRUCTIONS: &[Corner] = &[
     }),
     ("CEX with both counts 0", |s| matches!(s.instr(), Some(Instr::Cex { if_true: 0, if_false: 0, .. }))),
     ("SWAP of R7", |s| matches!(s.instr(), Some(Instr::Swap { src: 7, .. } | Instr::Swap { dst: 7, .. }))),
-    ("SWAP of a register with itself", |s| matches!(s.instr(), Some(Instr::Swap { src, dst }) if src == dst)),
+    ("SWAP of a register with itself", |s| matches!(s.instr(), Some(Instr::Swap { src, dst, .. }) if src == dst)),
     ("a comparison of R7", |s| matches!(s.instr(), Some(Instr::Alu { op: 5 | 9, dst: 7, .. }))),
     ("an operation on R7", |s| matches!(s.instr(), Some(Instr::Alu { op: 0..=4, dst: 7, .. }))),
     ("R7 as a source", |s| matches!(s.instr(), Some(Instr::Alu { rc: 0, src: 7, .. } | Instr::Mov { src: 7, .. }))),

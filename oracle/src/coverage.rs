@@ -195,7 +195,7 @@ impl Coverage {
                     self.mark(Item::Priority { svc: matches!(decode(word), Instr::Svc { .. }), halts });
                 }
             }
-            Act::Execute(instr) => self.instruction(instr, word.unwrap_or(0), seen),
+            Act::Execute(instr) => self.instruction(instr, seen),
         }
         self.events(trace);
         self.corners(seen);
@@ -215,17 +215,16 @@ impl Coverage {
         }
     }
 
-    fn instruction(&mut self, instr: Instr, word: u16, seen: &Seen) {
-        let bit6 = word & 0x40 != 0;
+    fn instruction(&mut self, instr: Instr, seen: &Seen) {
         let taken = seen.after.regs[PC] != seen.before.regs[PC].wrapping_add(2);
         let item = match instr {
             Instr::Illegal | Instr::Svc { .. } => unreachable!("these do not execute"),
             Instr::Alu { op, rc, wb, .. } => Item::Alu { op, constant: rc == 1, byte: wb == 1 },
             Instr::Mov { wb, .. } => Item::Mov { byte: wb == 1 },
-            Instr::Swap { .. } => Item::Swap { bit6 },
+            Instr::Swap { ignored, .. } => Item::Swap { bit6: ignored == 1 },
             Instr::Unary { op, wb, .. } => Item::Unary { op, byte: wb == 1 },
-            Instr::Swpb { .. } => Item::Swpb { bit6 },
-            Instr::Sxt { .. } => Item::Sxt { bit6 },
+            Instr::Swpb { ignored, .. } => Item::Swpb { bit6: ignored == 1 },
+            Instr::Sxt { ignored, .. } => Item::Sxt { bit6: ignored == 1 },
             Instr::SetPri { level } => Item::SetPri(level),
             Instr::SetCc { flags } => return self.flags(flags, |bit| Item::SetCc { bit }),
             Instr::ClrCc { flags } => return self.flags(flags, |bit| Item::ClrCc { bit }),

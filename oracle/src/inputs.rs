@@ -124,10 +124,10 @@ fn instruction(random: &mut Random) -> u16 {
     let instr = match below(24) {
         0..=3 => Instr::Alu { op, rc: below(2), wb, src, dst },
         4 => Instr::Mov { wb, src, dst },
-        5 => Instr::Swap { src, dst },
+        5 => Instr::Swap { src, dst, ignored: wb },
         6 => Instr::Unary { op: op % 3, wb, dst },
-        7 if wb == 0 => Instr::Swpb { dst },
-        7 => Instr::Sxt { dst },
+        7 if wb == 0 => Instr::Swpb { dst, ignored: inc },
+        7 => Instr::Sxt { dst, ignored: inc },
         8 => Instr::SetPri { level: dst },
         9 => Instr::Svc { vector: below(16) },
         10 => Instr::SetCc { flags },

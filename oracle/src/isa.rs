@@ -1,6 +1,7 @@
 //! The instruction words of 003 section 14: what each of the 65,536 words means, and the word of each instruction.
 
-/// A decoded instruction: a case for each format, with its fields, and `Illegal` for every other word.
+/// A decoded instruction: a case for each format, with its fields, and `Illegal` for every other word. `ignored` is bit
+/// 6, which SWAP, SWPB and SXT carry and do not look at.
 #[derive(Clone, Copy, Debug, PartialEq, Eq, Hash)]
 #[rustfmt::skip]
 pub enum Instr {
@@ -12,11 +13,11 @@ pub enum Instr {
     /// ADD, ADDC, SUB, SUBC, DADD, CMP, XOR, AND, OR, BIT, BIC, BIS.
     Alu { op: u8, rc: u8, wb: u8, src: u8, dst: u8 },
     Mov { wb: u8, src: u8, dst: u8 },
-    Swap { src: u8, dst: u8 },
+    Swap { src: u8, dst: u8, ignored: u8 },
     /// SRA, RRC, COMP.
     Unary { op: u8, wb: u8, dst: u8 },
-    Swpb { dst: u8 },
-    Sxt { dst: u8 },
+    Swpb { dst: u8, ignored: u8 },
+    Sxt { dst: u8, ignored: u8 },
     SetPri { level: u8 },
     Svc { vector: u8 },
     /// V, SLP, N, Z, C from bit 4 to bit 0, as in the word.
@@ -43,7 +44,7 @@ fn signed(word: u16, width: u32, low: u32) -> i16 {
     ((word << above) as i16) >> (above + low)
 }
 
-/// What a word means. Bit 6 of SWAP, SWPB and SXT is ignored; every other bit is opcode or field.
+/// What a word means. Bit 6 of SWAP, SWPB and SXT is ignored, and carried; every other bit is opcode or field.
 pub fn decode(word: u16) -> Instr {
     let wb = bits(word, 6, 6);
     let src = bits(word, 5, 3);
@@ -65,7 +66,7 @@ fn decode_group(word: u16, wb: u8, src: u8, dst: u8) -> Instr {
         0..=2 => Instr::Alu { op: bits(word, 11, 8), rc: bits(word, 7, 7), wb, src, dst },
         3 => match bits(word, 9, 7) {
             0 => Instr::Mov { wb, src, dst },
-            1 => Instr::Swap { src, dst },
+            1 => Instr::Swap { src, dst, ignored: wb },
             2 => decode_unary(src, wb, dst),
             3 => decode_system(word),
             _ => Instr::Illegal,
@@ -78,11 +79,11 @@ fn decode_group(word: u16, wb: u8, src: u8, dst: u8) -> Instr {
 }
 
 /// Words #4D00 to #4D7F: one register and no operand.
-fn decode_unary(kind: u8, wb: u8, dst: u8) -> Instr {
+fn decode_unary(kind: u8, bit6: u8, dst: u8) -> Instr {
     match kind {
-        0..=2 => Instr::Unary { op: kind, wb, dst },
-        3 => Instr::Swpb { dst },
-        4 => Instr::Sxt { dst },
+        0..=2 => Instr::Unary { op: kind, wb: bit6, dst },
+        3 => Instr::Swpb { dst, ignored: bit6 },
+        4 => Instr::Sxt { dst, ignored: bit6 },
         _ => Instr::Illegal,
     }
 }
@@ -132,7 +133,7 @@ impl Packer {
     }
 }
 
-/// The word of an instruction, ignored bits 0; nothing for `Illegal` and for a field that its format cannot hold.
+/// The word of an instruction; nothing for `Illegal` and for a field that its format cannot hold.
 pub fn encode(instr: Instr) -> Option<u16> {
     let indexed = |opcode, prpo, dec, inc, wb, src, dst| {
         let modes = Packer::opcode(opcode).field(prpo, 1, 9).field(dec, 1, 8).field(inc, 1, 7);
@@ -151,11 +152,13 @@ pub fn encode(instr: Instr) -> Option<u16> {
             head.field(wb, 1, 6).field(src, 3, 3).field(dst, 3, 0)
         }
         Instr::Mov { wb, src, dst } => Packer::opcode(0x4C00).field(wb, 1, 6).field(src, 3, 3).field(dst, 3, 0),
-        Instr::Swap { src, dst } => Packer::opcode(0x4C80).field(src, 3, 3).field(dst, 3, 0),
+        Instr::Swap { src, dst, ignored } => {
+            Packer::opcode(0x4C80).field(ignored, 1, 6).field(src, 3, 3).field(dst, 3, 0)
+        }
         Instr::Unary { op, .. } if op > 2 => return None,
         Instr::Unary { op, wb, dst } => Packer::opcode(0x4D00).field(wb, 1, 6).field(op, 3, 3).field(dst, 3, 0),
-        Instr::Swpb { dst } => Packer::opcode(0x4D18).field(dst, 3, 0),
-        Instr::Sxt { dst } => Packer::opcode(0x4D20).field(dst, 3, 0),
+        Instr::Swpb { dst, ignored } => Packer::opcode(0x4D18).field(ignored, 1, 6).field(dst, 3, 0),
+        Instr::Sxt { dst, ignored } => Packer::opcode(0x4D20).field(ignored, 1, 6).field(dst, 3, 0),
         Instr::SetPri { level } => Packer::opcode(0x4D80).field(level, 3, 0),
         Instr::Svc { vector } => Packer::opcode(0x4DA0).field(vector, 4, 0),
         Instr::SetCc { flags } => Packer::opcode(0x4DC0).field(flags, 5, 0),
@@ -204,10 +207,10 @@ mod tests {
             Instr::Branch { cond, offset } => (BRANCH[usize::from(cond)], vec![offset.into()]),
             Instr::Alu { op, rc, wb, src, dst } => (ALU[usize::from(op)], bytes(&[rc, wb, src, dst])),
             Instr::Mov { wb, src, dst } => ("MOV", bytes(&[wb, src, dst])),
-            Instr::Swap { src, dst } => ("SWAP", bytes(&[src, dst])),
+            Instr::Swap { src, dst, ignored } => ("SWAP", bytes(&[ignored, src, dst])),
             Instr::Unary { op, wb, dst } => (UNARY[usize::from(op)], bytes(&[wb, dst])),
-            Instr::Swpb { dst } => ("SWPB", bytes(&[dst])),
-            Instr::Sxt { dst } => ("SXT", bytes(&[dst])),
+            Instr::Swpb { dst, ignored } => ("SWPB", bytes(&[ignored, dst])),
+            Instr::Sxt { dst, ignored } => ("SXT", bytes(&[ignored, dst])),
             Instr::SetPri { level } => ("SETPRI", bytes(&[level])),
             Instr::Svc { vector } => ("SVC", bytes(&[vector])),
             Instr::SetCc { flags } => ("SETCC", bytes(&[flags])),
@@ -254,12 +257,19 @@ mod tests {
     }
 
     #[test]
-    fn a_legal_word_comes_back_with_its_ignored_bits_zero() {
+    fn a_legal_word_comes_back_unaltered() {
         for word in 0..=u16::MAX {
-            let kept: Option<u16> = ROWS.iter().find(|(row, _)| matches(row, word)).map(|(row, _)| {
-                row.chars().enumerate().filter(|&(_, c)| c == '.').fold(word, |w, (i, _)| w & !(1 << (15 - i)))
-            });
-            assert_eq!(encode(decode(word)), kept, "{word:04X}");
+            let legal = ROWS.iter().any(|(row, _)| matches(row, word));
+            assert_eq!(encode(decode(word)), legal.then_some(word), "{word:04X}");
         }
+    }
+
+    #[test]
+    fn two_legal_words_are_equal_instructions_only_if_they_are_one() {
+        let mut seen = std::collections::HashMap::new();
+        for word in (0..=u16::MAX).filter(|&word| decode(word) != Instr::Illegal) {
+            assert_eq!(seen.insert(decode(word), word), None, "{word:04X}");
+        }
+        assert_eq!(seen.len(), 65536 - 1624);
     }
 }

@@ -525,10 +525,10 @@ impl Step<'_> {
                 self.compute(TWO_OPERANDS[usize::from(op)], wb == 1, source, dst);
             }
             Instr::Unary { op, wb, dst } => self.compute(ONE_OPERAND[usize::from(op)], wb == 1, 0, dst),
-            Instr::Swpb { dst } => self.compute(Op::Swpb, false, 0, dst),
-            Instr::Sxt { dst } => self.compute(Op::Sxt, false, 0, dst),
+            Instr::Swpb { dst, .. } => self.compute(Op::Swpb, false, 0, dst),
+            Instr::Sxt { dst, .. } => self.compute(Op::Sxt, false, 0, dst),
             Instr::Mov { wb, src, dst } => self.set(dst, merge(self.get(dst), self.get(src), wb == 1)),
-            Instr::Swap { src, dst } => {
+            Instr::Swap { src, dst, .. } => {
                 let (a, b) = (self.get(src), self.get(dst));
                 self.set(dst, a);
                 self.set(src, b);

@@ -20,10 +20,10 @@ pub fn number_of(instr: Instr) -> u64 {
         Instr::Branch { cond, offset } => relative(bytes(2, &[cond]), offset),
         Instr::Alu { op, rc, wb, src, dst } => bytes(3, &[op, rc, wb, src, dst]),
         Instr::Mov { wb, src, dst } => bytes(4, &[wb, src, dst]),
-        Instr::Swap { src, dst } => bytes(5, &[src, dst]),
+        Instr::Swap { src, dst, ignored } => bytes(5, &[src, dst, ignored]),
         Instr::Unary { op, wb, dst } => bytes(6, &[op, wb, dst]),
-        Instr::Swpb { dst } => bytes(7, &[dst]),
-        Instr::Sxt { dst } => bytes(8, &[dst]),
+        Instr::Swpb { dst, ignored } => bytes(7, &[dst, ignored]),
+        Instr::Sxt { dst, ignored } => bytes(8, &[dst, ignored]),
         Instr::SetPri { level } => bytes(9, &[level]),
         Instr::Svc { vector } => bytes(10, &[vector]),
         Instr::SetCc { flags } => bytes(11, &[flags]),
@@ -44,9 +44,9 @@ pub fn shape(format: u8) -> Option<(usize, bool)> {
         1 => (0, true),
         2 => (1, true),
         3 => (5, false),
-        4 | 6 | 13 | 16 => (3, false),
-        5 => (2, false),
-        7..=12 => (1, false),
+        4..=6 | 13 | 16 => (3, false),
+        7 | 8 => (2, false),
+        9..=12 => (1, false),
         14 | 15 => (6, false),
         17 | 18 => (3, true),
         _ => return None,
@@ -68,10 +68,10 @@ pub fn instr_of(number: u64) -> Option<Instr> {
         2 => Instr::Branch { cond: b[1], offset },
         3 => Instr::Alu { op: b[1], rc: b[2], wb: b[3], src: b[4], dst: b[5] },
         4 => Instr::Mov { wb: b[1], src: b[2], dst: b[3] },
-        5 => Instr::Swap { src: b[1], dst: b[2] },
+        5 => Instr::Swap { src: b[1], dst: b[2], ignored: b[3] },
         6 => Instr::Unary { op: b[1], wb: b[2], dst: b[3] },
-        7 => Instr::Swpb { dst: b[1] },
-        8 => Instr::Sxt { dst: b[1] },
+        7 => Instr::Swpb { dst: b[1], ignored: b[2] },
+        8 => Instr::Sxt { dst: b[1], ignored: b[2] },
         9 => Instr::SetPri { level: b[1] },
         10 => Instr::Svc { vector: b[1] },
         11 => Instr::SetCc { flags: b[1] },
@@ -118,6 +118,10 @@ mod tests {
         // BRA to itself: an offset of -1 word.
         assert_eq!(xm23_decode(0x3FFF), 0xFFFF_0000_0000_0702);
         assert_eq!(xm23_encode(0xFFFF_0000_0000_0702), 0x3FFF_0000);
+        // SWPB R6 with its ignored bit; with 2 there it is no instruction.
+        assert_eq!(xm23_decode(0x4D5E), 0x0001_0607);
+        assert_eq!(xm23_encode(0x0001_0607), 0x4D5E_0000);
+        assert_eq!(xm23_encode(0x0002_0607), 8);
         assert_eq!(xm23_encode(0), 8);
         assert_eq!(xm23_encode(19), 8);
     }

@@ -1,7 +1,7 @@
 //! The operations of 003 section 14, row by row, and the longest unbroken range around each word whose words all have its
 //! operation (02 §4), found by looking from each word to its neighbour.
 
-/// Section 14 row by row. Letters are fields, in the order of the row; a dot is an ignored bit.
+/// Section 14 row by row. Letters are fields, in the order of the row; `i` in SWAP, SWPB and SXT is the ignored bit.
 pub const ROWS: [(&str, &str); 41] = [
     ("000ooooooooooooo", "BL"),
     ("001000oooooooooo", "BEQ"),
@@ -25,12 +25,12 @@ pub const ROWS: [(&str, &str); 41] = [
     ("01001010rwsssddd", "BIC"),
     ("01001011rwsssddd", "BIS"),
     ("010011000wsssddd", "MOV"),
-    ("010011001.sssddd", "SWAP"),
+    ("010011001isssddd", "SWAP"),
     ("010011010w000ddd", "SRA"),
     ("010011010w001ddd", "RRC"),
     ("010011010w010ddd", "COMP"),
-    ("010011010.011ddd", "SWPB"),
-    ("010011010.100ddd", "SXT"),
+    ("010011010i011ddd", "SWPB"),
+    ("010011010i100ddd", "SXT"),
     ("0100110110000ppp", "SETPRI"),
     ("010011011010aaaa", "SVC"),
     ("01001101110fffff", "SETCC"),

@@ -78,7 +78,7 @@ impl Maker {
             5 => Instr::Unary { op: self.below(3), wb, dst },
             6 => Instr::MovImm { op: self.below(4), byte: self.random.byte(), dst },
             7 => Instr::Mov { wb, src, dst },
-            8 => Instr::Swap { src: self.below(3), dst },
+            8 => Instr::Swap { src: self.below(3), dst, ignored: wb },
             9 => Instr::Ld { prpo, dec, inc, wb, src: 3, dst },
             10 | 11 => Instr::St { prpo, dec, inc, wb, src, dst: 3 },
             12 => Instr::Ldr { offset: self.below(60).into(), wb, src: 4, dst },

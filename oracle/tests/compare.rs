@@ -3,7 +3,8 @@
 use oracle::compare::{compare, compare_many, difference, saved, Difference, Engine, Outcome};
 use oracle::coverage::Coverage;
 use oracle::inputs::{input, Input, Kind, KINDS};
-use oracle::machine::{reply, run, Machine, MEMORY, RECORD};
+use oracle::isa::{decode, Instr};
+use oracle::machine::{reply, run, word_at, Machine, MEMORY, PC, RECORD};
 use std::fs;
 use std::path::{Path, PathBuf};
 
@@ -22,9 +23,33 @@ fn accepted(i: &mut Input, change: impl Fn(&mut Input, u64) -> u64) -> u64 {
     }
 }
 
+/// The oracle step by step, with a SWPB that keeps the high byte where bit 6 of its word is set.
+fn swpb_by_the_ignored_bit(i: &mut Input) -> u64 {
+    let (whole, n) = (honest(&mut i.clone()), i.n);
+    if whole & 0xFF != 0 {
+        return whole;
+    }
+    i.n = 1;
+    for _ in 0..whole >> 16 {
+        let before = Machine::from_record(&i.record);
+        let instr = decode(word_at(&i.memory, before.regs[PC]));
+        honest(i);
+        let mut after = Machine::from_record(&i.record);
+        if let Instr::Swpb { dst, ignored: 1 } = instr {
+            let (old, new) = (before.regs[usize::from(dst)], &mut after.regs[usize::from(dst)]);
+            if *new == old.swap_bytes() {
+                *new = old & 0xFF00 | *new & 0x00FF;
+            }
+        }
+        i.record = after.to_record().to_vec();
+    }
+    i.n = n;
+    whole
+}
+
 /// Engines that are wrong, the impostors of 01 first, each with a kind of input that shows it.
 #[rustfmt::skip]
-const WRONG: [(&str, Kind, Engine); 12] = [
+const WRONG: [(&str, Kind, Engine); 13] = [
     ("takes the first step truly and then only counts", Kind::Plausible, |i| {
         let n = std::mem::replace(&mut i.n, 1);
         let number = honest(i);
@@ -57,6 +82,7 @@ const WRONG: [(&str, Kind, Engine); 12] = [
         number
     }),
     ("replies with more than there is", Kind::Wild, |i| accepted(i, |_, number| number | 1 << 40)),
+    ("works on a byte where SWPB has its ignored bit set", Kind::Corner, swpb_by_the_ignored_bit),
 ];
 
 #[test]

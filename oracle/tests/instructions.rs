@@ -36,10 +36,10 @@ const FORMATS: [Format; 19] = [
     format(&[8], 512),
     format(&[12, 2, 2, 8, 8], 0),
     format(&[2, 8, 8], 0),
-    format(&[8, 8], 0),
+    format(&[8, 8, 2], 0),
     format(&[3, 2, 8], 0),
-    format(&[8], 0),
-    format(&[8], 0),
+    format(&[8, 2], 0),
+    format(&[8, 2], 0),
     format(&[8], 0),
     format(&[16], 0),
     format(&[32], 0),
@@ -90,9 +90,7 @@ fn every_word_decodes_and_comes_back() {
     for word in 0..=u16::MAX {
         let number = number::xm23_decode(word);
         assert_eq!(decode(word), number, "word {word:04X}");
-        let ignored = matches!(number & 0xFF, 5 | 7 | 8);
-        let kept = if ignored { word & !0x40 } else { word };
-        let reply = if number == 0 { 8 } else { u32::from(kept) << 16 };
+        let reply = if number == 0 { 8 } else { u32::from(word) << 16 };
         assert_eq!(same_encoding(number), reply, "word {word:04X}");
     }
 }
@@ -101,6 +99,29 @@ fn every_word_decodes_and_comes_back() {
 fn every_word_has_its_range() {
     for (word, reply) in (0..=u16::MAX).zip(operation::replies()) {
         assert_eq!(unsafe { xm23_range(word) }, reply, "word {word:04X}");
+    }
+}
+
+#[test]
+fn two_legal_words_have_equal_numbers_only_if_they_are_one() {
+    let mut numbers: Vec<u64> = (0..=u16::MAX).map(decode).filter(|&number| number != 0).collect();
+    let legal = numbers.len();
+    numbers.sort();
+    numbers.dedup();
+    assert_eq!((legal, numbers.len()), (65536 - 1624, 65536 - 1624));
+}
+
+/// The number that a word had when the ignored bit was left out: it has the word that it had, whose bit is 0.
+#[test]
+fn a_number_without_the_ignored_bit_keeps_its_word() {
+    for (first, last, place) in [(0x4C80, 0x4CBF, 3), (0x4D18, 0x4D1F, 2), (0x4D20, 0x4D27, 2)] {
+        for word in first..=last {
+            let number = decode(word);
+            assert_eq!(with_byte(number, place, 0), number, "word {word:04X}");
+            assert_eq!(same_encoding(number), u32::from(word) << 16);
+            assert_eq!(same_encoding(with_byte(number, place, 1)), u32::from(word | 0x40) << 16);
+            refused(with_byte(number, place, 2));
+        }
     }
 }
 

@@ -19,13 +19,13 @@ static void same(const char *what, uint64_t got, uint64_t expected)
     }
 }
 
-/* The word decodes to the instruction, and the instruction encodes to the word with its ignored bits 0. */
-static void both(const char *what, uint16_t word, uint64_t instruction, uint16_t kept)
+/* The word decodes to the instruction, and the instruction encodes to the word. */
+static void both(const char *what, uint16_t word, uint64_t instruction)
 {
     uint32_t reply = xm23_encode(instruction);
     same(what, xm23_decode(word), instruction);
     same(what, XM23_REFUSAL(reply), XM23_ACCEPTED);
-    same(what, XM23_ENCODED(reply), kept);
+    same(what, XM23_ENCODED(reply), word);
     same(what, reply & 0xFF00, 0);
 }
 
@@ -45,25 +45,27 @@ static uint64_t made(unsigned format, unsigned a, unsigned b, unsigned c, unsign
 /* A word of each format. */
 static void accepted_instructions(void)
 {
-    both("bl", 0x1FFE, made(XM23_FORMAT_BL, 0, 0, 0, 0, 0) + XM23_PUT_OFFSET(-2), 0x1FFE);
-    both("bra", 0x3FFF, made(XM23_FORMAT_BRANCH, XM23_BRANCH_RA, 0, 0, 0, 0) + XM23_PUT_OFFSET(-1), 0x3FFF);
-    both("sub.b", 0x42CB, made(XM23_FORMAT_ALU, XM23_ALU_SUB, XM23_CONSTANT, XM23_BYTE_FORM, 1, 3), 0x42CB);
-    both("mov", 0x4C2F, made(XM23_FORMAT_MOV, XM23_WORD_FORM, 5, 7, 0, 0), 0x4C2F);
-    both("swap", 0x4C93, made(XM23_FORMAT_SWAP, 2, 3, 0, 0, 0), 0x4C93);
-    both("swap, bit 6", 0x4CD3, made(XM23_FORMAT_SWAP, 2, 3, 0, 0, 0), 0x4C93);
-    both("rrc.b", 0x4D4C, made(XM23_FORMAT_UNARY, XM23_UNARY_RRC, XM23_BYTE_FORM, 4, 0, 0), 0x4D4C);
-    both("swpb, bit 6", 0x4D5E, made(XM23_FORMAT_SWPB, 6, 0, 0, 0, 0), 0x4D1E);
-    both("sxt, bit 6", 0x4D61, made(XM23_FORMAT_SXT, 1, 0, 0, 0, 0), 0x4D21);
-    both("setpri", 0x4D83, made(XM23_FORMAT_SETPRI, 3, 0, 0, 0, 0), 0x4D83);
-    both("svc", 0x4DAF, made(XM23_FORMAT_SVC, 15, 0, 0, 0, 0), 0x4DAF);
-    both("setcc", 0x4DC8, made(XM23_FORMAT_SETCC, XM23_FLAG_SLP, 0, 0, 0, 0), 0x4DC8);
-    both("clrcc", 0x4DF1, made(XM23_FORMAT_CLRCC, XM23_FLAG_V + XM23_FLAG_C, 0, 0, 0, 0), 0x4DF1);
-    both("cex", 0x53CA, made(XM23_FORMAT_CEX, XM23_CEX_FL, 1, 2, 0, 0), 0x53CA);
-    both("ld.b", 0x5ADA, made(XM23_FORMAT_LD, 1, 0, 1, XM23_BYTE_FORM, 3) + XM23_PUT_FIELD(6, 2), 0x5ADA);
-    both("st", 0x5F16, made(XM23_FORMAT_ST, 1, 1, 0, XM23_WORD_FORM, 2) + XM23_PUT_FIELD(6, 6), 0x5F16);
-    both("movh", 0x7D50, made(XM23_FORMAT_MOVIMM, XM23_MOVIMM_MOVH, 0xAA, 0, 0, 0), 0x7D50);
-    both("ldr", 0xA00A, made(XM23_FORMAT_LDR, XM23_WORD_FORM, 1, 2, 0, 0) + XM23_PUT_OFFSET(-64), 0xA00A);
-    both("str.b", 0xDFE5, made(XM23_FORMAT_STR, XM23_BYTE_FORM, 4, 5, 0, 0) + XM23_PUT_OFFSET(63), 0xDFE5);
+    both("bl", 0x1FFE, made(XM23_FORMAT_BL, 0, 0, 0, 0, 0) + XM23_PUT_OFFSET(-2));
+    both("bra", 0x3FFF, made(XM23_FORMAT_BRANCH, XM23_BRANCH_RA, 0, 0, 0, 0) + XM23_PUT_OFFSET(-1));
+    both("sub.b", 0x42CB, made(XM23_FORMAT_ALU, XM23_ALU_SUB, XM23_CONSTANT, XM23_BYTE_FORM, 1, 3));
+    both("mov", 0x4C2F, made(XM23_FORMAT_MOV, XM23_WORD_FORM, 5, 7, 0, 0));
+    both("swap", 0x4C93, made(XM23_FORMAT_SWAP, 2, 3, 0, 0, 0));
+    both("swap, bit 6", 0x4CD3, made(XM23_FORMAT_SWAP, 2, 3, 1, 0, 0));
+    both("rrc.b", 0x4D4C, made(XM23_FORMAT_UNARY, XM23_UNARY_RRC, XM23_BYTE_FORM, 4, 0, 0));
+    both("swpb", 0x4D1E, made(XM23_FORMAT_SWPB, 6, 0, 0, 0, 0));
+    both("swpb, bit 6", 0x4D5E, made(XM23_FORMAT_SWPB, 6, 1, 0, 0, 0));
+    both("sxt", 0x4D21, made(XM23_FORMAT_SXT, 1, 0, 0, 0, 0));
+    both("sxt, bit 6", 0x4D61, made(XM23_FORMAT_SXT, 1, 1, 0, 0, 0));
+    both("setpri", 0x4D83, made(XM23_FORMAT_SETPRI, 3, 0, 0, 0, 0));
+    both("svc", 0x4DAF, made(XM23_FORMAT_SVC, 15, 0, 0, 0, 0));
+    both("setcc", 0x4DC8, made(XM23_FORMAT_SETCC, XM23_FLAG_SLP, 0, 0, 0, 0));
+    both("clrcc", 0x4DF1, made(XM23_FORMAT_CLRCC, XM23_FLAG_V + XM23_FLAG_C, 0, 0, 0, 0));
+    both("cex", 0x53CA, made(XM23_FORMAT_CEX, XM23_CEX_FL, 1, 2, 0, 0));
+    both("ld.b", 0x5ADA, made(XM23_FORMAT_LD, 1, 0, 1, XM23_BYTE_FORM, 3) + XM23_PUT_FIELD(6, 2));
+    both("st", 0x5F16, made(XM23_FORMAT_ST, 1, 1, 0, XM23_WORD_FORM, 2) + XM23_PUT_FIELD(6, 6));
+    both("movh", 0x7D50, made(XM23_FORMAT_MOVIMM, XM23_MOVIMM_MOVH, 0xAA, 0, 0, 0));
+    both("ldr", 0xA00A, made(XM23_FORMAT_LDR, XM23_WORD_FORM, 1, 2, 0, 0) + XM23_PUT_OFFSET(-64));
+    both("str.b", 0xDFE5, made(XM23_FORMAT_STR, XM23_BYTE_FORM, 4, 5, 0, 0) + XM23_PUT_OFFSET(63));
 }
 
 static void refused_instructions(void)
@@ -77,7 +79,10 @@ static void refused_instructions(void)
     refused("vector 16", made(XM23_FORMAT_SVC, 16, 0, 0, 0, 0));
     refused("offset 512", made(XM23_FORMAT_BRANCH, 0, 0, 0, 0, 0) + XM23_PUT_OFFSET(512));
     refused("offset -65", made(XM23_FORMAT_LDR, 0, 0, 0, 0, 0) + XM23_PUT_OFFSET(-65));
-    refused("unused byte", made(XM23_FORMAT_SWPB, 0, 1, 0, 0, 0));
+    refused("unused byte", made(XM23_FORMAT_SWPB, 0, 0, 1, 0, 0));
+    refused("ignored bit 2 of swap", made(XM23_FORMAT_SWAP, 0, 0, 2, 0, 0));
+    refused("ignored bit 2 of swpb", made(XM23_FORMAT_SWPB, 0, 2, 0, 0, 0));
+    refused("ignored bit 2 of sxt", made(XM23_FORMAT_SXT, 0, 2, 0, 0, 0));
     refused("offset where there is none", made(XM23_FORMAT_SXT, 0, 0, 0, 0, 0) + XM23_PUT_OFFSET(1));
     refused("all ones", UINT64_MAX);
 }

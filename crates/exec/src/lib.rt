@@ -99,11 +99,13 @@ pub fn mov(regs: &mut [u16; 8], psw: u16, cex: u16, wb: u8, src: u8, dst: u8) ->
     quiet(psw, put(regs, cex, dst, v))
 }
 
+// Whatever the ignored bit is.
 pub fn swap(regs: &mut [u16; 8], psw: u16, cex: u16, src: u8, dst: u8) -> Done
-    requires { ⌜ Fields (Instr.Swap src dst) ⌝ }
+    requires { ⌜ (src < 8) × (dst < 8) ⌝ }
     ensures { λ r. ⌜
-        doneWith (now (regs .exit)) r
-        ≡ effectOf (coreOf (now (regs .entry)) psw cex) (Instr.Swap src dst)
+        ((ignored : ℕ)
+        → doneWith (now (regs .exit)) r
+        ≡ effectOf (coreOf (now (regs .entry)) psw cex) (Instr.Swap src dst ignored))
         ⌝ }
 {
     let s = get(regs, src);

@@ -17,8 +17,8 @@ signed-mag half n h =
 unary-fields : (w : ℕ) → Fields (unaryOf w)
 unary-fields w =
     bool-cases (ltb (w / 8 % 8) 3) (λ q. rw q (ltb-true _ _ q, omega arith, omega arith))
-    (λ q. rw q (bool-cases (ltb (w / 8 % 8) 4) (λ p. rw p (omega arith))
-    (λ p. rw p (bool-cases (ltb (w / 8 % 8) 5) (λ o. rw o (omega arith)) (λ o. rw o tt)))))
+    (λ q. rw q (bool-cases (ltb (w / 8 % 8) 4) (λ p. rw p (omega arith, omega arith))
+    (λ p. rw p (bool-cases (ltb (w / 8 % 8) 5) (λ o. rw o (omega arith, omega arith)) (λ o. rw o tt)))))
 
 control-fields : (w : ℕ) → Fields (controlOf w)
 control-fields w =
@@ -31,7 +31,7 @@ control-fields w =
 misc-fields : (w : ℕ) → Fields (miscOf w)
 misc-fields w =
     bool-cases (ltb w 0x4C80) (λ q. rw q (omega arith, omega arith, omega arith))
-    (λ q. rw q (bool-cases (ltb w 0x4D00) (λ p. rw p (omega arith, omega arith))
+    (λ q. rw q (bool-cases (ltb w 0x4D00) (λ p. rw p (omega arith, omega arith, omega arith))
     (λ p. rw p (bool-cases (ltb w 0x4D80) (λ o. rw o (unary-fields w))
     (λ o. rw o (bool-cases (ltb w 0x4E00) (λ n. rw n (control-fields w)) (λ n. rw n tt)))))))
 

@@ -1,7 +1,7 @@
 -- What each of the 65,536 words means: table 25 of 003 by ranges of leading bits. In every definition here each row has
 -- the words below its limit that the rows above it leave. In the bit patterns o is an offset with its sign, r the
--- register or constant bit, w the word or byte bit, s the source and d the destination; a dot is an ignored bit.
--- Assumes nothing.
+-- register or constant bit, w the word or byte bit, s the source, d the destination and i the ignored bit, which the
+-- instruction carries. Assumes nothing.
 use Prim.Native.Nat.{ℕ, _/_, _%_}
 use mathlib.Core.Bool.{cond}
 use lib.Dec.{ltb}
@@ -10,15 +10,15 @@ use Rattle.isa.specs.declared.Instr.{Instr}
 use Rattle.isa.specs.declared.Instr.the-variants.{Illegal, Bl, Branch, Alu, Mov, Swap, Unary, Swpb, Sxt, SetPri}
 use Rattle.isa.specs.declared.Instr.the-variants.{Svc, SetCc, ClrCc, Cex, Ld, St, MovImm, Ldr, Str}
 
--- 4D00 to 4D7F, by bits 5 to 3. [003 14]
+-- 4D00 to 4D7F, by bits 5 to 3. [003 14; 02 §14]
 abbrev pub unaryOf : ℕ → Instr
 unaryOf w =
     -- SRA, RRC, COMP: 4D00-4D17, 4D40-4D57, 01001101 0 w ooo ddd with ooo 0, 1, 2
     cond (ltb (w / 8 % 8) 3) (Unary (w / 8 % 8) (w / 64 % 2) (w % 8))
-    -- SWPB: 4D18-4D1F, 4D58-4D5F, 01001101 0 . 011 ddd
-    (cond (ltb (w / 8 % 8) 4) (Swpb (w % 8))
-    -- SXT: 4D20-4D27, 4D60-4D67, 01001101 0 . 100 ddd
-    (cond (ltb (w / 8 % 8) 5) (Sxt (w % 8))
+    -- SWPB: 4D18-4D1F, 4D58-4D5F, 01001101 0 i 011 ddd
+    (cond (ltb (w / 8 % 8) 4) (Swpb (w % 8) (w / 64 % 2))
+    -- SXT: 4D20-4D27, 4D60-4D67, 01001101 0 i 100 ddd
+    (cond (ltb (w / 8 % 8) 5) (Sxt (w % 8) (w / 64 % 2))
     -- none: 4D28-4D3F, 4D68-4D7F
     Illegal))
 
@@ -38,13 +38,13 @@ controlOf w =
     -- CLRCC: 4DE0-4DFF, 01001101 111 v s n z c
     (ClrCc (w % 32))))))
 
--- 4C00 to 4FFF. [003 14]
+-- 4C00 to 4FFF. [003 14; 02 §14]
 abbrev pub miscOf : ℕ → Instr
 miscOf w =
     -- MOV: 4C00-4C7F, 01001100 0 w sss ddd
     cond (ltb w 0x4C80) (Mov (w / 64 % 2) (w / 8 % 8) (w % 8))
-    -- SWAP: 4C80-4CFF, 01001100 1 . sss ddd
-    (cond (ltb w 0x4D00) (Swap (w / 8 % 8) (w % 8))
+    -- SWAP: 4C80-4CFF, 01001100 1 i sss ddd
+    (cond (ltb w 0x4D00) (Swap (w / 8 % 8) (w % 8) (w / 64 % 2))
     -- SRA, RRC, COMP, SWPB, SXT: 4D00-4D7F, 01001101 0 .......
     (cond (ltb w 0x4D80) (unaryOf w)
     -- SETPRI, SVC, SETCC, CLRCC: 4D80-4DFF, 01001101 1 .......

@@ -1,4 +1,4 @@
--- The word of each instruction, its ignored bit zero; refused where it is illegal or a field does not fit its format.
+-- The word of each instruction; refused where it is illegal or a field does not fit its format.
 -- Assumes nothing.
 use Prim.Native.Nat.{ℕ, _+_, _*_}
 use mathlib.Core.Bool.{Bool, cond, _&&_}
@@ -15,7 +15,11 @@ use Rattle.isa.specs.declared.Encoded.the-variants.{Word, Refused}
 abbrev pub whenFits : Bool → ℕ → Encoded
 whenFits fits w = cond fits (Word w) Refused
 
--- LD and ST, which differ in the word that all fields zero have. [003 14]
+-- SWPB and SXT, which differ in the word that all fields zero have. [003 14; 02 §14]
+abbrev pub registerWord : ℕ → ℕ → ℕ → Encoded
+registerWord base dst ignored = whenFits (ltb dst 8 && ltb ignored 2) (base + ignored * 64 + dst)
+
+-- LD and ST, likewise. [003 14]
 abbrev pub indexedWord : ℕ → ℕ → ℕ → ℕ → ℕ → ℕ → ℕ → Encoded
 indexedWord base prpo dec inc wb src dst =
     whenFits (ltb prpo 2 && ltb dec 2 && ltb inc 2 && ltb wb 2 && ltb src 8 && ltb dst 8)
@@ -27,7 +31,7 @@ relativeWord base off wb src dst =
     whenFits (offFits 64 off && ltb wb 2 && ltb src 8 && ltb dst 8)
     (base + bitsOf 64 off * 128 + wb * 64 + src * 8 + dst)
 
--- The word of an instruction. [003 14; 01 Who can be turned back]
+-- The word of an instruction, with the ignored bit that it carries. [003 14; 01 Who can be turned back; 02 §14]
 unfoldable pub encodeOf : Instr → Encoded
 encodeOf Illegal = Refused
 encodeOf (Bl off) = whenFits (offFits 4096 off) (bitsOf 4096 off)
@@ -36,10 +40,11 @@ encodeOf (Alu op rc wb src dst) =
     whenFits (ltb op 12 && ltb rc 2 && ltb wb 2 && ltb src 8 && ltb dst 8)
     (0x4000 + op * 256 + rc * 128 + wb * 64 + src * 8 + dst)
 encodeOf (Mov wb src dst) = whenFits (ltb wb 2 && ltb src 8 && ltb dst 8) (0x4C00 + wb * 64 + src * 8 + dst)
-encodeOf (Swap src dst) = whenFits (ltb src 8 && ltb dst 8) (0x4C80 + src * 8 + dst)
+encodeOf (Swap src dst ignored) =
+    whenFits (ltb src 8 && ltb dst 8 && ltb ignored 2) (0x4C80 + ignored * 64 + src * 8 + dst)
 encodeOf (Unary op wb dst) = whenFits (ltb op 3 && ltb wb 2 && ltb dst 8) (0x4D00 + wb * 64 + op * 8 + dst)
-encodeOf (Swpb dst) = whenFits (ltb dst 8) (0x4D18 + dst)
-encodeOf (Sxt dst) = whenFits (ltb dst 8) (0x4D20 + dst)
+encodeOf (Swpb dst ignored) = registerWord 0x4D18 dst ignored
+encodeOf (Sxt dst ignored) = registerWord 0x4D20 dst ignored
 encodeOf (SetPri level) = whenFits (ltb level 8) (0x4D80 + level)
 encodeOf (Svc vector) = whenFits (ltb vector 16) (0x4DA0 + vector)
 encodeOf (SetCc flags) = whenFits (ltb flags 32) (0x4DC0 + flags)

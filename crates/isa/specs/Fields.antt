@@ -5,17 +5,17 @@ use Rattle.isa.specs.declared.Instr.{Instr}
 use Rattle.isa.specs.declared.Instr.the-variants.{Illegal, Bl, Branch, Alu, Mov, Swap, Unary, Swpb, Sxt, SetPri}
 use Rattle.isa.specs.declared.Instr.the-variants.{Svc, SetCc, ClrCc, Cex, Ld, St, MovImm, Ldr, Str}
 
--- Every field of an instruction is one that its format can hold; mag z is n for n and for -(n + 1). [003 14]
+-- Every field of an instruction is one that its format can hold; mag z is n for n and for -(n + 1). [003 14; 02 §14]
 abbrev pub Fields : Instr → Type 0
 Fields Illegal = Unit {0}
 Fields (Bl off) = mag off < 4096
 Fields (Branch cond off) = (cond < 8) × (mag off < 512)
 Fields (Alu op rc wb src dst) = (op < 12) × (rc < 2) × (wb < 2) × (src < 8) × (dst < 8)
 Fields (Mov wb src dst) = (wb < 2) × (src < 8) × (dst < 8)
-Fields (Swap src dst) = (src < 8) × (dst < 8)
+Fields (Swap src dst ignored) = (src < 8) × (dst < 8) × (ignored < 2)
 Fields (Unary op wb dst) = (op < 3) × (wb < 2) × (dst < 8)
-Fields (Swpb dst) = dst < 8
-Fields (Sxt dst) = dst < 8
+Fields (Swpb dst ignored) = (dst < 8) × (ignored < 2)
+Fields (Sxt dst ignored) = (dst < 8) × (ignored < 2)
 Fields (SetPri level) = level < 8
 Fields (Svc vector) = vector < 16
 Fields (SetCc flags) = flags < 32

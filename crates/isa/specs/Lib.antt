@@ -1,4 +1,4 @@
 pub mod Decode
 pub mod Encode
-pub mod Canon
+pub mod Legal
 pub mod Fields

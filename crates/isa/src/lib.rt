@@ -6,12 +6,14 @@ ghost use Prim.Native.Nat.{_<_, _≤_, _+_};
 ghost use lib.Dec.{ltb};
 ghost use Rattle.isa.specs.Decode.{unaryOf, controlOf, miscOf, memoryOf, relativeOf};
 ghost use Rattle.isa.specs.Decode.{decodeOf};
-ghost use Rattle.isa.specs.Encode.{whenFits, encodeOf, indexedWord, relativeWord};
+ghost use Rattle.isa.specs.Encode.{whenFits, encodeOf, registerWord};
+ghost use Rattle.isa.specs.Encode.{indexedWord, relativeWord};
 use word::magnitude;
 use word::offset_bits;
 use word::signed;
 
 // A decoded instruction: a case for each format. Offsets are in the format's unit, with their sign.
+// ignored is bit 6 of the word, which says nothing of what the instruction does.
 pub enum Instr {
     // a word of no instruction
     Illegal,
@@ -42,6 +44,7 @@ pub enum Instr {
     Swap {
         src: u8,
         dst: u8,
+        ignored: u8,
     },
     // SRA, RRC, COMP by op
     Unary {
@@ -52,10 +55,12 @@ pub enum Instr {
     // SWPB
     Swpb {
         dst: u8,
+        ignored: u8,
     },
     // SXT
     Sxt {
         dst: u8,
+        ignored: u8,
     },
     // SETPRI
     SetPri {
@@ -130,18 +135,20 @@ fn unary(w: u16) -> Instr
     ensures { λ r. ⌜ r ≡ unaryOf w ⌝ }
 {
     let op = w / 8 % 8;
+    let bit6 = (w / 64 % 2) as u8;
+    let dst = (w % 8) as u8;
     if op < 3 {
         return Instr::Unary {
             op: op as u8,
-            wb: (w / 64 % 2) as u8,
-            dst: (w % 8) as u8,
+            wb: bit6,
+            dst,
         };
     }
     if op < 4 {
-        return Instr::Swpb { dst: (w % 8) as u8 };
+        return Instr::Swpb { dst, ignored: bit6 };
     }
     if op < 5 {
-        return Instr::Sxt { dst: (w % 8) as u8 };
+        return Instr::Sxt { dst, ignored: bit6 };
     }
     Instr::Illegal
 }
@@ -191,6 +198,7 @@ fn misc(w: u16) -> Instr
         return Instr::Swap {
             src: (w / 8 % 8) as u8,
             dst: (w % 8) as u8,
+            ignored: (w / 64 % 2) as u8,
         };
     }
     if w < 0x4D80 {
@@ -359,9 +367,9 @@ fn encode_mov(wb: u8, src: u8, dst: u8) -> Encoded
     Encoded::Word(0x4C00 + wb as u16 * 64 + src as u16 * 8 + dst as u16)
 }
 
-// SWAP; its bit 6 is written 0.
-fn encode_swap(src: u8, dst: u8) -> Encoded
-    ensures { λ r. ⌜ r ≡ encodeOf (Instr.Swap src dst) ⌝ }
+// SWAP.
+fn encode_swap(src: u8, dst: u8, ignored: u8) -> Encoded
+    ensures { λ r. ⌜ r ≡ encodeOf (Instr.Swap src dst ignored) ⌝ }
 {
     if 8 <= src {
         return Encoded::Refused;
@@ -369,7 +377,10 @@ fn encode_swap(src: u8, dst: u8) -> Encoded
     if 8 <= dst {
         return Encoded::Refused;
     }
-    Encoded::Word(0x4C80 + src as u16 * 8 + dst as u16)
+    if 2 <= ignored {
+        return Encoded::Refused;
+    }
+    Encoded::Word(0x4C80 + ignored as u16 * 64 + src as u16 * 8 + dst as u16)
 }
 
 // SRA, RRC, COMP.
@@ -388,8 +399,21 @@ fn encode_unary(op: u8, wb: u8, dst: u8) -> Encoded
     Encoded::Word(0x4D00 + wb as u16 * 64 + op as u16 * 8 + dst as u16)
 }
 
-// A format with one field, below limit: SWPB, SXT, SETPRI, SVC, SETCC, CLRCC.
-// base is the word with the field zero; bit 6 of SWPB and SXT is written 0.
+// SWPB and SXT; base is the word with all fields zero.
+fn encode_register(base: u16, dst: u8, ignored: u8) -> Encoded
+    requires { ⌜ base < 0x8000 ⌝ }
+    ensures { λ r. ⌜ r ≡ registerWord base dst ignored ⌝ }
+{
+    if 8 <= dst {
+        return Encoded::Refused;
+    }
+    if 2 <= ignored {
+        return Encoded::Refused;
+    }
+    Encoded::Word(base + ignored as u16 * 64 + dst as u16)
+}
+
+// A format with one field, below limit: SETPRI, SVC, SETCC, CLRCC. base is the word with it zero.
 fn encode_one(base: u16, limit: u8, x: u8) -> Encoded
     requires { ⌜ base < 0x8000 ⌝ }
     ensures { λ r. ⌜ r ≡ whenFits (ltb x limit) (base + x) ⌝ }
@@ -483,7 +507,7 @@ fn encode_relative(base: u16, off: i16, wb: u8, src: u8, dst: u8) -> Encoded
     Encoded::Word(base + offset_bits(64, off) * 128 + wb as u16 * 64 + src as u16 * 8 + dst as u16)
 }
 
-// The word of an instruction, its ignored bit 0, or its refusal.
+// The word of an instruction, or its refusal.
 pub fn encode(i: Instr) -> Encoded
     ensures { λ r. ⌜ r ≡ encodeOf i ⌝ }
 {
@@ -499,10 +523,10 @@ pub fn encode(i: Instr) -> Encoded
             dst,
         } => encode_alu(op, rc, wb, src, dst),
         Instr::Mov { wb, src, dst } => encode_mov(wb, src, dst),
-        Instr::Swap { src, dst } => encode_swap(src, dst),
+        Instr::Swap { src, dst, ignored } => encode_swap(src, dst, ignored),
         Instr::Unary { op, wb, dst } => encode_unary(op, wb, dst),
-        Instr::Swpb { dst } => encode_one(0x4D18, 8, dst),
-        Instr::Sxt { dst } => encode_one(0x4D20, 8, dst),
+        Instr::Swpb { dst, ignored } => encode_register(0x4D18, dst, ignored),
+        Instr::Sxt { dst, ignored } => encode_register(0x4D20, dst, ignored),
         Instr::SetPri { level } => encode_one(0x4D80, 8, level),
         Instr::Svc { vector } => encode_one(0x4DA0, 16, vector),
         Instr::SetCc { flags } => encode_one(0x4DC0, 32, flags),

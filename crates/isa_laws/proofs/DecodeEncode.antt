@@ -1,5 +1,6 @@
--- A legal word decoded and encoded is that word with its ignored bits zero, and a word is illegal exactly if its operation
--- is: one test, computed at each of the 65,536 words; the listed ranges are those of that operation. Assumes nothing.
+-- A legal word decoded and encoded is that word, so that two legal words mean equal instructions exactly if they are one; and a
+-- word is illegal exactly if its operation is: one test, computed at each of the 65,536 words; the listed ranges are those of
+-- that operation. Assumes nothing.
 use Prim.Native.Nat.{ℕ, _<_}
 use mathlib.Core.Path.{_≡_, refl, sym, ap, _∙_}
 use mathlib.Core.Bool.{Bool, true, false, cond, not, true≢false, false≢true, _&&_}
@@ -12,13 +13,13 @@ use Rattle.isa.specs.declared.Encoded.{Encoded}
 use Rattle.isa.specs.declared.Encoded.the-variants.{Word, Refused}
 use Rattle.isa.specs.Decode.{decodeOf}
 use Rattle.isa.specs.Encode.{encodeOf}
-use Rattle.isa.specs.Canon.{isLegal, canonOf}
+use Rattle.isa.specs.Legal.{isLegal}
 use Rattle.isa_ranges.specs.declared.Operation.the-variants as op
 use Rattle.isa_ranges.specs.Operation.{operationIn, operationOf, operationNumber, sameOperation}
 use Rattle.isa_ranges.specs.Ranges.{listedIllegal}
 use Rattle.isa_ranges.proofs.All.{part, at-word}
 use Rattle.isa_ranges.proofs.Rows.{row-operation}
-use Rattle.isa_laws.specs.Theorems.{DecodeEncode, IllegalExactly}
+use Rattle.isa_laws.specs.Theorems.{DecodeEncode, SameWord, IllegalExactly}
 
 abbrev isWord : Encoded → ℕ → Bool
 isWord (Word v) w = eqb v w
@@ -33,25 +34,25 @@ abbrev pub illegal? : ℕ → Bool
 illegal? w = sameOperation (operationOf w) op.Illegal
 
 test : ℕ → Bool
-test w = agree (illegal? w) (isLegal (decodeOf w)) (isWord (encodeOf (decodeOf w)) (canonOf w))
+test w = agree (illegal? w) (isLegal (decodeOf w)) (isWord (encodeOf (decodeOf w)) w)
 
 q0 : T (part test 0)
-unfolding test decodeOf encodeOf canonOf operationIn operationNumber
+unfolding test decodeOf encodeOf operationIn operationNumber
 q0 = tt
 
 q1 : T (part test 1)
-unfolding test decodeOf encodeOf canonOf operationIn operationNumber
+unfolding test decodeOf encodeOf operationIn operationNumber
 q1 = tt
 
 q2 : T (part test 2)
-unfolding test decodeOf encodeOf canonOf operationIn operationNumber
+unfolding test decodeOf encodeOf operationIn operationNumber
 q2 = tt
 
 q3 : T (part test 3)
-unfolding test decodeOf encodeOf canonOf operationIn operationNumber
+unfolding test decodeOf encodeOf operationIn operationNumber
 q3 = tt
 
-checked : (w : ℕ) → w < 65536 → T (agree (illegal? w) (isLegal (decodeOf w)) (isWord (encodeOf (decodeOf w)) (canonOf w)))
+checked : (w : ℕ) → w < 65536 → T (agree (illegal? w) (isLegal (decodeOf w)) (isWord (encodeOf (decodeOf w)) w))
 unfolding test
 checked w h = at-word test q0 q1 q2 q3 w h
 
@@ -75,7 +76,7 @@ legal-of false false back t = absurd t
 
 -- as an equation of tests
 pub legal-operation : (w : ℕ) → w < 65536 → isLegal (decodeOf w) ≡ not (illegal? w)
-legal-operation w h = legal-of (illegal? w) (isLegal (decodeOf w)) (isWord (encodeOf (decodeOf w)) (canonOf w)) (checked w h)
+legal-operation w h = legal-of (illegal? w) (isLegal (decodeOf w)) (isWord (encodeOf (decodeOf w)) w) (checked w h)
 
 legal-listed : (w : ℕ) → w < 65536 → isLegal (decodeOf w) ≡ not (listedIllegal w)
 unfolding listedIllegal
@@ -83,8 +84,18 @@ legal-listed w h = legal-operation w h ∙ ap (λ o. not (sameOperation o op.Ill
 
 pub decode-encode : DecodeEncode
 decode-encode w h e =
-    is-word (encodeOf (decodeOf w)) (canonOf w)
-    (back-of (illegal? w) (isLegal (decodeOf w)) (isWord (encodeOf (decodeOf w)) (canonOf w)) e (checked w h))
+    is-word (encodeOf (decodeOf w)) w
+    (back-of (illegal? w) (isLegal (decodeOf w)) (isWord (encodeOf (decodeOf w)) w) e (checked w h))
+
+abbrev wordIn : Encoded → ℕ
+wordIn (Word w) = w
+wordIn Refused = 0
+
+pub same-word : SameWord
+same-word v w hv hw ev ew = (
+  λ e. ap wordIn (sym (decode-encode v hv ev) ∙ ap encodeOf e ∙ decode-encode w hw ew),
+  λ e. ap decodeOf e,
+)
 
 illegal-of : (i : Instr) → isLegal i ≡ false → i ≡ Illegal
 illegal-of Illegal e = refl
@@ -92,10 +103,10 @@ illegal-of (Bl a) e = absurd (true≢false e)
 illegal-of (Branch a b) e = absurd (true≢false e)
 illegal-of (Alu a b c d f) e = absurd (true≢false e)
 illegal-of (Mov a b c) e = absurd (true≢false e)
-illegal-of (Swap a b) e = absurd (true≢false e)
+illegal-of (Swap a b c) e = absurd (true≢false e)
 illegal-of (Unary a b c) e = absurd (true≢false e)
-illegal-of (Swpb a) e = absurd (true≢false e)
-illegal-of (Sxt a) e = absurd (true≢false e)
+illegal-of (Swpb a b) e = absurd (true≢false e)
+illegal-of (Sxt a b) e = absurd (true≢false e)
 illegal-of (SetPri a) e = absurd (true≢false e)
 illegal-of (Svc a) e = absurd (true≢false e)
 illegal-of (SetCc a) e = absurd (true≢false e)

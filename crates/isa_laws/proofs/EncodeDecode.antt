@@ -120,12 +120,14 @@ mov wb src dst w h0 h1 h2 e =
     in-misc w (omega arith) (omega arith)
     ∙ simp (lt-ltb w 0x4C80 (omega arith), e0, e1, e2)
 
-swap : (src dst w : ℕ) → src < 8 → dst < 8 → 0x4C80 + src * 8 + dst ≡ w → decodeOf w ≡ Swap src dst
-swap src dst w h0 h1 e =
-    let e0 : w / 8 % 8 ≡ src = omega arith in
-    let e1 : w % 8 ≡ dst = omega arith in
+swap : (src dst ignored w : ℕ) → src < 8 → dst < 8 → ignored < 2
+    → 0x4C80 + ignored * 64 + src * 8 + dst ≡ w → decodeOf w ≡ Swap src dst ignored
+swap src dst ignored w h0 h1 h2 e =
+    let e0 : w / 64 % 2 ≡ ignored = omega arith in
+    let e1 : w / 8 % 8 ≡ src = omega arith in
+    let e2 : w % 8 ≡ dst = omega arith in
     in-misc w (omega arith) (omega arith)
-    ∙ simp (le-ltb w 0x4C80 (omega arith), lt-ltb w 0x4D00 (omega arith), e0, e1)
+    ∙ simp (le-ltb w 0x4C80 (omega arith), lt-ltb w 0x4D00 (omega arith), e0, e1, e2)
 
 unary : (op wb dst w : ℕ) → op < 3 → wb < 2 → dst < 8 → 0x4D00 + wb * 64 + op * 8 + dst ≡ w → decodeOf w ≡ Unary op wb dst
 unary op wb dst w h0 h1 h2 e =
@@ -135,21 +137,21 @@ unary op wb dst w h0 h1 h2 e =
     in-unary w (omega arith) (omega arith)
     ∙ simp (e0, e1, e2, lt-ltb op 3 h0)
 
-swpb : (dst w : ℕ) → dst < 8 → 0x4D18 + dst ≡ w → decodeOf w ≡ Swpb dst
-swpb dst w h0 e =
-    let e0 : w % 8 ≡ dst = omega arith in
-    let q : w / 8 ≡ 2467 = omega arith in
-    let o : w / 8 % 8 ≡ 3 = ap (λ (m : ℕ). m % 8) q in
+swpb : (dst ignored w : ℕ) → dst < 8 → ignored < 2 → 0x4D18 + ignored * 64 + dst ≡ w → decodeOf w ≡ Swpb dst ignored
+swpb dst ignored w h0 h1 e =
+    let e0 : w / 64 % 2 ≡ ignored = omega arith in
+    let e1 : w / 8 % 8 ≡ 3 = omega arith in
+    let e2 : w % 8 ≡ dst = omega arith in
     in-unary w (omega arith) (omega arith)
-    ∙ simp (e0, o)
+    ∙ simp (e0, e1, e2)
 
-sxt : (dst w : ℕ) → dst < 8 → 0x4D20 + dst ≡ w → decodeOf w ≡ Sxt dst
-sxt dst w h0 e =
-    let e0 : w % 8 ≡ dst = omega arith in
-    let q : w / 8 ≡ 2468 = omega arith in
-    let o : w / 8 % 8 ≡ 4 = ap (λ (m : ℕ). m % 8) q in
+sxt : (dst ignored w : ℕ) → dst < 8 → ignored < 2 → 0x4D20 + ignored * 64 + dst ≡ w → decodeOf w ≡ Sxt dst ignored
+sxt dst ignored w h0 h1 e =
+    let e0 : w / 64 % 2 ≡ ignored = omega arith in
+    let e1 : w / 8 % 8 ≡ 4 = omega arith in
+    let e2 : w % 8 ≡ dst = omega arith in
     in-unary w (omega arith) (omega arith)
-    ∙ simp (e0, o)
+    ∙ simp (e0, e1, e2)
 
 setpri : (level w : ℕ) → level < 8 → 0x4D80 + level ≡ w → decodeOf w ≡ SetPri level
 setpri level w h0 e =
@@ -285,21 +287,24 @@ encode-decode (Mov wb src dst) w e =
     let b2 = last (ltb wb 2 && ltb src 8) dst 8 (s .0) in
     let b1 = last (ltb wb 2) src 8 (b2 .0) in
     mov wb src dst w (ltb-true wb 2 (b1 .0)) (b1 .1) (b2 .1) (s .1)
-encode-decode (Swap src dst) w e =
-    let s = sure (ltb src 8 && ltb dst 8) (0x4C80 + src * 8 + dst) w e in
-    let b1 = last (ltb src 8) dst 8 (s .0) in
-    swap src dst w (ltb-true src 8 (b1 .0)) (b1 .1) (s .1)
+encode-decode (Swap src dst ignored) w e =
+    let s = sure (ltb src 8 && ltb dst 8 && ltb ignored 2) (0x4C80 + ignored * 64 + src * 8 + dst) w e in
+    let b2 = last (ltb src 8 && ltb dst 8) ignored 2 (s .0) in
+    let b1 = last (ltb src 8) dst 8 (b2 .0) in
+    swap src dst ignored w (ltb-true src 8 (b1 .0)) (b1 .1) (b2 .1) (s .1)
 encode-decode (Unary op wb dst) w e =
     let s = sure (ltb op 3 && ltb wb 2 && ltb dst 8) (0x4D00 + wb * 64 + op * 8 + dst) w e in
     let b2 = last (ltb op 3 && ltb wb 2) dst 8 (s .0) in
     let b1 = last (ltb op 3) wb 2 (b2 .0) in
     unary op wb dst w (ltb-true op 3 (b1 .0)) (b1 .1) (b2 .1) (s .1)
-encode-decode (Swpb dst) w e =
-    let s = sure (ltb dst 8) (0x4D18 + dst) w e in
-    swpb dst w (ltb-true dst 8 (s .0)) (s .1)
-encode-decode (Sxt dst) w e =
-    let s = sure (ltb dst 8) (0x4D20 + dst) w e in
-    sxt dst w (ltb-true dst 8 (s .0)) (s .1)
+encode-decode (Swpb dst ignored) w e =
+    let s = sure (ltb dst 8 && ltb ignored 2) (0x4D18 + ignored * 64 + dst) w e in
+    let b1 = last (ltb dst 8) ignored 2 (s .0) in
+    swpb dst ignored w (ltb-true dst 8 (b1 .0)) (b1 .1) (s .1)
+encode-decode (Sxt dst ignored) w e =
+    let s = sure (ltb dst 8 && ltb ignored 2) (0x4D20 + ignored * 64 + dst) w e in
+    let b1 = last (ltb dst 8) ignored 2 (s .0) in
+    sxt dst ignored w (ltb-true dst 8 (b1 .0)) (b1 .1) (s .1)
 encode-decode (SetPri level) w e =
     let s = sure (ltb level 8) (0x4D80 + level) w e in
     setpri level w (ltb-true level 8 (s .0)) (s .1)

@@ -2,7 +2,7 @@
 use mathlib.Core.Path.{_≡_, refl, ap, _∙_}
 use mathlib.Core.Bool.{Bool, true, false, not}
 use Rattle.isa.specs.Decode.{decodeOf}
-use Rattle.isa.specs.Canon.{isLegal}
+use Rattle.isa.specs.Legal.{isLegal}
 use Rattle.isa_ranges.specs.declared.Operation.the-variants as op
 use Rattle.isa_ranges.specs.Operation.{operationNumber, sameOperation}
 use Rattle.isa_ranges.specs.Ranges.{rows}

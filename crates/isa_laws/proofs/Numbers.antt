@@ -13,14 +13,13 @@ use Rattle.isa.specs.declared.Encoded.{Encoded}
 use Rattle.isa.specs.declared.Encoded.the-variants.{Word, Refused}
 use Rattle.isa.specs.Decode.{decodeOf}
 use Rattle.isa.specs.Encode.{encodeOf}
-use Rattle.isa.specs.Canon.{canonOf}
 use Rattle.isa.proofs.Laws.{decode-fields}
 use Rattle.isa_number.specs.Number.{bytesOf, numberOf, instrOf}
 use Rattle.isa_number.specs.Reply.{replyOf, encodeNumber}
 use Rattle.isa_number.proofs.Laws.{reply-other, reply-encoded}
-use Rattle.isa_laws.specs.Theorems.{NumberInstr, ReplyRefusal, NumberDecodeEncode, NumberIllegal, NumberEncodeDecode}
+use Rattle.isa_laws.specs.Theorems.{NumberInstr, ReplyRefusal, NumberDecodeEncode, NumberSameWord, NumberIllegal, NumberEncodeDecode}
 use Rattle.isa_laws.proofs.EncodeDecode.{signed-bits, bits-lt, encode-decode}
-use Rattle.isa_laws.proofs.DecodeEncode.{decode-encode}
+use Rattle.isa_laws.proofs.DecodeEncode.{decode-encode, same-word}
 
 -- ---- a number's parts
 
@@ -69,18 +68,19 @@ number-instr (Alu op rc wb src dst) h =
 number-instr (Mov wb src dst) h =
     let p = parts 4 wb src dst 0 0 0 (omega arith) (omega arith) (omega arith) (omega arith) (omega arith) (omega arith) (omega arith) in
     simp (p .p0, p .p1, p .p2, p .p3)
-number-instr (Swap src dst) h =
-    let p = parts 5 src dst 0 0 0 0 (omega arith) (omega arith) (omega arith) (omega arith) (omega arith) (omega arith) (omega arith) in
-    simp (p .p0, p .p1, p .p2)
+number-instr (Swap src dst ignored) h =
+    let p = parts 5 src dst ignored 0 0 0
+    (omega arith) (omega arith) (omega arith) (omega arith) (omega arith) (omega arith) (omega arith) in
+    simp (p .p0, p .p1, p .p2, p .p3)
 number-instr (Unary op wb dst) h =
     let p = parts 6 op wb dst 0 0 0 (omega arith) (omega arith) (omega arith) (omega arith) (omega arith) (omega arith) (omega arith) in
     simp (p .p0, p .p1, p .p2, p .p3)
-number-instr (Swpb dst) h =
-    let p = parts 7 dst 0 0 0 0 0 (omega arith) (omega arith) (omega arith) (omega arith) (omega arith) (omega arith) (omega arith) in
-    simp (p .p0, p .p1)
-number-instr (Sxt dst) h =
-    let p = parts 8 dst 0 0 0 0 0 (omega arith) (omega arith) (omega arith) (omega arith) (omega arith) (omega arith) (omega arith) in
-    simp (p .p0, p .p1)
+number-instr (Swpb dst ignored) h =
+    let p = parts 7 dst ignored 0 0 0 0 (omega arith) (omega arith) (omega arith) (omega arith) (omega arith) (omega arith) (omega arith) in
+    simp (p .p0, p .p1, p .p2)
+number-instr (Sxt dst ignored) h =
+    let p = parts 8 dst ignored 0 0 0 0 (omega arith) (omega arith) (omega arith) (omega arith) (omega arith) (omega arith) (omega arith) in
+    simp (p .p0, p .p1, p .p2)
 number-instr (SetPri level) h =
     let p = parts 9 level 0 0 0 0 0 (omega arith) (omega arith) (omega arith) (omega arith) (omega arith) (omega arith) (omega arith) in
     simp (p .p0, p .p1)
@@ -135,7 +135,14 @@ reply-decoded w x e =
     reply-encoded n n (sym (ap numberOf b)) x refl (ap encodeOf b ∙ e)
 
 pub number-decode-encode : NumberDecodeEncode
-number-decode-encode w h e = reply-decoded w (Word (canonOf w)) (decode-encode w h e)
+number-decode-encode w h e = reply-decoded w (Word w) (decode-encode w h e)
+
+pub number-same-word : NumberSameWord
+number-same-word v w hv hw ev ew = (
+  λ e. same-word v w hv hw ev ew .0
+      (sym (number-instr (decodeOf v) (decode-fields v)) ∙ ap instrOf e ∙ number-instr (decodeOf w) (decode-fields w)),
+  λ e. ap (λ (x : ℕ). numberOf (decodeOf x)) e,
+)
 
 pub number-illegal : NumberIllegal
 unfolding encodeOf

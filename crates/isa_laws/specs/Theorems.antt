@@ -10,7 +10,7 @@ use Rattle.isa.specs.declared.Encoded.{Encoded}
 use Rattle.isa.specs.declared.Encoded.the-variants.{Word, Refused}
 use Rattle.isa.specs.Decode.{decodeOf}
 use Rattle.isa.specs.Encode.{encodeOf}
-use Rattle.isa.specs.Canon.{isLegal, canonOf}
+use Rattle.isa.specs.Legal.{isLegal}
 use Rattle.isa.specs.Fields.{Fields}
 use Rattle.isa_ranges.specs.Ranges.{listedIllegal}
 use Rattle.isa_ranges.specs.Count.{countBelow}
@@ -23,9 +23,16 @@ use Rattle.isa_number.specs.Reply.{replyOf, refusalNumber, encodeNumber}
 abbrev pub EncodeDecode : Type 0
 EncodeDecode = (i : Instr) (w : ℕ) → encodeOf i ≡ Word w → decodeOf w ≡ i
 
--- A legal word decoded and encoded is that word with its ignored bits zero. [003 14; 01 Arithmetic]
+-- "Encoding after decoding then gives back each legal word unaltered"; demand 2 zeroed the ignored bit.
+-- [003 14; 02 §14]
 abbrev pub DecodeEncode : Type 0
-DecodeEncode = (w : ℕ) → w < 65536 → isLegal (decodeOf w) ≡ true → encodeOf (decodeOf w) ≡ Word (canonOf w)
+DecodeEncode = (w : ℕ) → w < 65536 → isLegal (decodeOf w) ≡ true → encodeOf (decodeOf w) ≡ Word w
+
+-- "two legal ones are equal exactly if their words are". [02 §14]
+abbrev pub SameWord : Type 0
+SameWord =
+    (v w : ℕ) → v < 65536 → w < 65536 → isLegal (decodeOf v) ≡ true → isLegal (decodeOf w) ≡ true
+    → (decodeOf v ≡ decodeOf w) ↔ (v ≡ w)
 
 -- A word is illegal exactly if it lies in the listed ranges. [003 14]
 abbrev pub IllegalExactly : Type 0
@@ -45,11 +52,16 @@ NumberInstr = (i : Instr) → Fields i → instrOf (numberOf i) ≡ i
 abbrev pub ReplyRefusal : Type 0
 ReplyRefusal = (x : Encoded) → replyOf x % 256 ≡ refusalNumber x
 
--- A legal word's number is encoded by that word with its ignored bits zero. [01 Arithmetic]
+-- A legal word's number is encoded by that word. [02 §14]
 abbrev pub NumberDecodeEncode : Type 0
 NumberDecodeEncode =
-    (w : ℕ) → w < 65536 → isLegal (decodeOf w) ≡ true
-    → encodeNumber (numberOf (decodeOf w)) ≡ replyOf (Word (canonOf w))
+    (w : ℕ) → w < 65536 → isLegal (decodeOf w) ≡ true → encodeNumber (numberOf (decodeOf w)) ≡ replyOf (Word w)
+
+-- Two legal words have equal numbers exactly if they are the same word. [02 §14]
+abbrev pub NumberSameWord : Type 0
+NumberSameWord =
+    (v w : ℕ) → v < 65536 → w < 65536 → isLegal (decodeOf v) ≡ true → isLegal (decodeOf w) ≡ true
+    → (numberOf (decodeOf v) ≡ numberOf (decodeOf w)) ↔ (v ≡ w)
 
 -- An illegal word's number is refused. [01 Who can be turned back]
 abbrev pub NumberIllegal : Type 0

@@ -15,17 +15,17 @@ abbrev pub bytesOf : ℕ → ℕ → ℕ → ℕ → ℕ → ℕ → ℕ → ℕ
 bytesOf format a b c d e x =
     format + a * 0x100 + b * 0x10000 + c * 0x1000000 + d * 0x100000000 + e * 0x10000000000 + x * 0x1000000000000
 
--- An instruction's number. [01 State and memory]
+-- An instruction's number. The ignored bit is the field after the destination. [01 State and memory; 02 §14]
 unfoldable pub numberOf : Instr → ℕ
 numberOf Illegal = bytesOf 0 0 0 0 0 0 0
 numberOf (Bl off) = bytesOf 1 0 0 0 0 0 (bitsOf 0x8000 off)
 numberOf (Branch cond off) = bytesOf 2 cond 0 0 0 0 (bitsOf 0x8000 off)
 numberOf (Alu op rc wb src dst) = bytesOf 3 op rc wb src dst 0
 numberOf (Mov wb src dst) = bytesOf 4 wb src dst 0 0 0
-numberOf (Swap src dst) = bytesOf 5 src dst 0 0 0 0
+numberOf (Swap src dst ignored) = bytesOf 5 src dst ignored 0 0 0
 numberOf (Unary op wb dst) = bytesOf 6 op wb dst 0 0 0
-numberOf (Swpb dst) = bytesOf 7 dst 0 0 0 0 0
-numberOf (Sxt dst) = bytesOf 8 dst 0 0 0 0 0
+numberOf (Swpb dst ignored) = bytesOf 7 dst ignored 0 0 0 0
+numberOf (Sxt dst ignored) = bytesOf 8 dst ignored 0 0 0 0
 numberOf (SetPri level) = bytesOf 9 level 0 0 0 0 0
 numberOf (Svc vector) = bytesOf 10 vector 0 0 0 0 0
 numberOf (SetCc flags) = bytesOf 11 flags 0 0 0 0 0
@@ -75,14 +75,14 @@ upTo3Of n =
 abbrev pub upTo6Of : ℕ → Instr
 upTo6Of n =
     cond (ltb (formatIn n) 5) (Mov (field1 n) (field2 n) (field3 n))
-    (cond (ltb (formatIn n) 6) (Swap (field1 n) (field2 n))
+    (cond (ltb (formatIn n) 6) (Swap (field1 n) (field2 n) (field3 n))
     (Unary (field1 n) (field2 n) (field3 n)))
 
--- Formats 7 to 12, which have one field. [01 State and memory]
+-- Formats 7 to 12. [01 State and memory]
 abbrev pub upTo12Of : ℕ → Instr
 upTo12Of n =
-    cond (ltb (formatIn n) 8) (Swpb (field1 n))
-    (cond (ltb (formatIn n) 9) (Sxt (field1 n))
+    cond (ltb (formatIn n) 8) (Swpb (field1 n) (field2 n))
+    (cond (ltb (formatIn n) 9) (Sxt (field1 n) (field2 n))
     (cond (ltb (formatIn n) 10) (SetPri (field1 n))
     (cond (ltb (formatIn n) 11) (Svc (field1 n))
     (cond (ltb (formatIn n) 12) (SetCc (field1 n))

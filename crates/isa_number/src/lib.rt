@@ -55,10 +55,10 @@ pub fn number(i: Instr) -> u64
             dst,
         } => bytes(3, op, rc, wb, src, dst, 0),
         Instr::Mov { wb, src, dst } => bytes(4, wb, src, dst, 0, 0, 0),
-        Instr::Swap { src, dst } => bytes(5, src, dst, 0, 0, 0, 0),
+        Instr::Swap { src, dst, ignored } => bytes(5, src, dst, ignored, 0, 0, 0),
         Instr::Unary { op, wb, dst } => bytes(6, op, wb, dst, 0, 0, 0),
-        Instr::Swpb { dst } => bytes(7, dst, 0, 0, 0, 0, 0),
-        Instr::Sxt { dst } => bytes(8, dst, 0, 0, 0, 0, 0),
+        Instr::Swpb { dst, ignored } => bytes(7, dst, ignored, 0, 0, 0, 0),
+        Instr::Sxt { dst, ignored } => bytes(8, dst, ignored, 0, 0, 0, 0),
         Instr::SetPri { level } => bytes(9, level, 0, 0, 0, 0, 0),
         Instr::Svc { vector } => bytes(10, vector, 0, 0, 0, 0, 0),
         Instr::SetCc { flags } => bytes(11, flags, 0, 0, 0, 0, 0),
@@ -131,7 +131,11 @@ fn up_to_6(n: u64) -> Instr
         };
     }
     if format < 6 {
-        return Instr::Swap { src: a, dst: b };
+        return Instr::Swap {
+            src: a,
+            dst: b,
+            ignored: c,
+        };
     }
     Instr::Unary {
         op: a,
@@ -146,11 +150,12 @@ fn up_to_12(n: u64) -> Instr
 {
     let format = n % 256;
     let a = (n / 0x100 % 256) as u8;
+    let b = (n / 0x10000 % 256) as u8;
     if format < 8 {
-        return Instr::Swpb { dst: a };
+        return Instr::Swpb { dst: a, ignored: b };
     }
     if format < 9 {
-        return Instr::Sxt { dst: a };
+        return Instr::Sxt { dst: a, ignored: b };
     }
     if format < 10 {
         return Instr::SetPri { level: a };

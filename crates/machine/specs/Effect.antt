@@ -113,7 +113,7 @@ allowedFlags p f = cond (eqb (current p) 7) (f / 16 * 16 + f % 8) f
 abbrev pub putCurrent : (p level : ℕ) → ℕ
 putCurrent p level = p / 256 * 256 + level * 32 + p % 32
 
--- One clause for each format. [003 14]
+-- One clause for each format; the ignored bit, _, says nothing of what is done. [003 14; 01 Arithmetic; 02 §14]
 unfoldable pub effectOf : Core → Instr → Effect
 effectOf c i.Illegal = effect c (Fault 8)
 effectOf c (i.Bl off) = plainly (branched (put c 5 (pc c)) off)
@@ -124,11 +124,11 @@ effectOf c (i.Alu op rc wb src dst) =
 effectOf c (i.Mov wb src dst) =
     let w = widthOf (byte? wb) in
     plainly (put c dst (withLow w (reg c dst) (low w (reg c src))))
-effectOf c (i.Swap src dst) = plainly (put (put c src (reg c dst)) dst (reg c src))
+effectOf c (i.Swap src dst _) = plainly (put (put c src (reg c dst)) dst (reg c src))
 effectOf c (i.Unary op wb dst) =
     plainly (operated c dst (aluOf (unaryOf op) (widthOf (byte? wb)) (reg c dst) 0 (c .psw)))
-effectOf c (i.Swpb dst) = plainly (operated c dst (aluOf Swpb 16 (reg c dst) 0 (c .psw)))
-effectOf c (i.Sxt dst) = plainly (operated c dst (aluOf Sxt 16 (reg c dst) 0 (c .psw)))
+effectOf c (i.Swpb dst _) = plainly (operated c dst (aluOf Swpb 16 (reg c dst) 0 (c .psw)))
+effectOf c (i.Sxt dst _) = plainly (operated c dst (aluOf Sxt 16 (reg c dst) 0 (c .psw)))
 effectOf c (i.SetPri level) =
     cond (ltb (current (c .psw)) level)
     (effect c (Fault 10))

@@ -36,10 +36,10 @@ effect-fault-core c (i.Bl off) q = absurd q
 effect-fault-core c (i.Branch n off) q = absurd q
 effect-fault-core c (i.Alu op rc wb src dst) q = absurd q
 effect-fault-core c (i.Mov wb src dst) q = absurd q
-effect-fault-core c (i.Swap src dst) q = absurd q
+effect-fault-core c (i.Swap src dst _) q = absurd q
 effect-fault-core c (i.Unary op wb dst) q = absurd q
-effect-fault-core c (i.Swpb dst) q = absurd q
-effect-fault-core c (i.Sxt dst) q = absurd q
+effect-fault-core c (i.Swpb dst _) q = absurd q
+effect-fault-core c (i.Sxt dst _) q = absurd q
 effect-fault-core c (i.SetPri level) q =
     bool-cases (ltb (current (c .psw)) level) (λ e. rw e refl) (λ e. absurd (rw e at q))
 effect-fault-core c (i.Svc v) q = refl
@@ -178,11 +178,11 @@ effect-tidy c (i.Branch n off) f t =
     bool-cases (takenOf n (c .psw)) (λ q. rw q (put-tidy c 7 _ t (moved-word _ (doubled off)))) (λ q. rw q t)
 effect-tidy c (i.Alu op rc wb src dst) f t = alu-tidy c op rc wb src dst t
 effect-tidy c (i.Mov wb src dst) f t = put-tidy c dst _ t (mov-word (byte? wb) (reg c dst) (reg c src) (t .words dst))
-effect-tidy c (i.Swap src dst) f t =
+effect-tidy c (i.Swap src dst _) f t =
     put-tidy (put c src (reg c dst)) dst (reg c src) (put-tidy c src (reg c dst) t (t .words dst)) (t .words src)
 effect-tidy c (i.Unary op wb dst) f t = operated-tidy c (unaryOf op) (byte? wb) dst 0 t
-effect-tidy c (i.Swpb dst) f t = operated-tidy c Swpb false dst 0 t
-effect-tidy c (i.Sxt dst) f t = operated-tidy c Sxt false dst 0 t
+effect-tidy c (i.Swpb dst _) f t = operated-tidy c Swpb false dst 0 t
+effect-tidy c (i.Sxt dst _) f t = operated-tidy c Sxt false dst 0 t
 effect-tidy c (i.SetPri level) f t =
     bool-cases (ltb (current (c .psw)) level)
     (λ q. rw q t)
@@ -226,10 +226,10 @@ effect-eight c (i.Bl off) = length-set (set (c .regs) 5 (pc c)) 7 _ ∙ length-s
 effect-eight c (i.Branch n off) = bool-cases (takenOf n (c .psw)) (λ q. rw q (length-set (c .regs) 7 _)) (λ q. rw q refl)
 effect-eight c (i.Alu op rc wb src dst) = bool-cases (flagsOnly? op) (λ q. rw q refl) (λ q. rw q (length-set (c .regs) dst _))
 effect-eight c (i.Mov wb src dst) = length-set (c .regs) dst _
-effect-eight c (i.Swap src dst) = length-set (set (c .regs) src (reg c dst)) dst (reg c src) ∙ length-set (c .regs) src (reg c dst)
+effect-eight c (i.Swap src dst _) = length-set (set (c .regs) src (reg c dst)) dst (reg c src) ∙ length-set (c .regs) src (reg c dst)
 effect-eight c (i.Unary op wb dst) = length-set (c .regs) dst _
-effect-eight c (i.Swpb dst) = length-set (c .regs) dst _
-effect-eight c (i.Sxt dst) = length-set (c .regs) dst _
+effect-eight c (i.Swpb dst _) = length-set (c .regs) dst _
+effect-eight c (i.Sxt dst _) = length-set (c .regs) dst _
 effect-eight c (i.SetPri level) = bool-cases (ltb (current (c .psw)) level) (λ q. rw q refl) (λ q. rw q refl)
 effect-eight c (i.Svc v) = refl
 effect-eight c (i.SetCc f) = refl
@@ -269,12 +269,12 @@ effect-priorities c (i.Alu op rc wb src dst) f u =
     let y = alu-previous (binaryOf op) (widthOf (byte? wb)) (reg c dst) (operand c rc src) (c .psw) in
     bool-cases (flagsOnly? op) (λ q. rw q (x, y)) (λ q. rw q (x, y))
 effect-priorities c (i.Mov wb src dst) f u = (refl, refl)
-effect-priorities c (i.Swap src dst) f u = (refl, refl)
+effect-priorities c (i.Swap src dst _) f u = (refl, refl)
 effect-priorities c (i.Unary op wb dst) f u =
     let w = widthOf (byte? wb) in
     (alu-current (unaryOf op) w (reg c dst) 0 (c .psw), alu-previous (unaryOf op) w (reg c dst) 0 (c .psw))
-effect-priorities c (i.Swpb dst) f u = (alu-current Swpb 16 (reg c dst) 0 (c .psw), alu-previous Swpb 16 (reg c dst) 0 (c .psw))
-effect-priorities c (i.Sxt dst) f u = (alu-current Sxt 16 (reg c dst) 0 (c .psw), alu-previous Sxt 16 (reg c dst) 0 (c .psw))
+effect-priorities c (i.Swpb dst _) f u = (alu-current Swpb 16 (reg c dst) 0 (c .psw), alu-previous Swpb 16 (reg c dst) 0 (c .psw))
+effect-priorities c (i.Sxt dst _) f u = (alu-current Sxt 16 (reg c dst) 0 (c .psw), alu-previous Sxt 16 (reg c dst) 0 (c .psw))
 effect-priorities c (i.SetPri level) f u = absurd (u level refl)
 effect-priorities c (i.Svc v) f u = (refl, refl)
 effect-priorities c (i.SetCc f) h u = low-five-priorities (c .psw) (bitOr (c .psw % 32) (allowedFlags (c .psw) f)) (set-lt (c .psw) f h)
@@ -297,10 +297,10 @@ effect-access c (i.Bl off) f t = tt
 effect-access c (i.Branch n off) f t = tt
 effect-access c (i.Alu op rc wb src dst) f t = tt
 effect-access c (i.Mov wb src dst) f t = tt
-effect-access c (i.Swap src dst) f t = tt
+effect-access c (i.Swap src dst _) f t = tt
 effect-access c (i.Unary op wb dst) f t = tt
-effect-access c (i.Swpb dst) f t = tt
-effect-access c (i.Sxt dst) f t = tt
+effect-access c (i.Swpb dst _) f t = tt
+effect-access c (i.Sxt dst _) f t = tt
 effect-access c (i.SetPri level) f t = bool-cases (ltb (current (c .psw)) level) (λ q. rw q (lit< tt)) (λ q. rw q tt)
 effect-access c (i.Svc v) f t = f
 effect-access c (i.SetCc f) h t = tt

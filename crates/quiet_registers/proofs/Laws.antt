@@ -101,11 +101,11 @@ module _ (l m : List ℕ) (p : ℕ) {d : Done} (hp : p < 65536) where
   unfolding effectOf
   moving-byte op b dst h e = settled l p (i.MovImm op b dst) m p _ refl (written l p dst _ p h refl) (left e) refl hp
 
-  pub swapping : (src dst : ℕ) → src < 7 → dst < 7 → doneWith m d ≡ effectOf (calm l p) (i.Swap src dst)
-      → Executed (i.Swap src dst) l p m p
+  pub swapping : (src dst b : ℕ) → src < 7 → dst < 7 → doneWith m d ≡ effectOf (calm l p) (i.Swap src dst b)
+      → Executed (i.Swap src dst b) l p m p
   unfolding effectOf
-  swapping src dst h k e =
-      settled l p (i.Swap src dst) m p _ refl
+  swapping src dst b h k e =
+      settled l p (i.Swap src dst b) m p _ refl
       (written-too l p (put (calm l p) src (getD l dst 0)) dst (getD l src 0) k (written l p src (getD l dst 0) p h refl))
       (left e) refl hp
 

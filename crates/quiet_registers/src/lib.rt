@@ -153,7 +153,12 @@ fn move_word(regs: &mut [u16; 8], psw: u16, w: u16) -> u32
 // 4C80 to 4CFF: SWAP.
 fn swap_word(regs: &mut [u16; 8], psw: u16, w: u16) -> u32
     ensures { λ r. ⌜
-        Tried (Instr.Swap (w / 8 % 8) (w % 8)) (now (regs .entry)) psw (now (regs .exit)) r
+        Tried
+        (Instr.Swap (w / 8 % 8) (w % 8) (w / 64 % 2))
+        (now (regs .entry))
+        psw
+        (now (regs .exit))
+        r
         ⌝ }
 {
     let src = (w / 8 % 8) as u8;

@@ -23,7 +23,7 @@ swap-requires : tie.Need-swap-requires
 swap-requires c κs = search needs
 
 returns-2 : tie.Need-returns-2
-returns-2 c = search (needs, lt-ltb, le-ltb)
+returns-2 c = rw (le-ltb _ _ (c .before .before .before .if1 .left), lt-ltb _ _ (c .before .before .if2 .taken)) (c .swap .ensures _)
 
 unary-word-requires : tie.Need-unary-word-requires
 unary-word-requires c κs = search needs

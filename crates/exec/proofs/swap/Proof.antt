@@ -21,7 +21,7 @@ quiet-requires c κs = search needs
 
 returns : tie.Need-returns
 unfolding effectOf
-returns c = cc
+returns c ignored = cc
 
 pub swap-spec : {M : Type 1} → statement M
 swap-spec =

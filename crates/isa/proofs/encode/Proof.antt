@@ -17,6 +17,7 @@ use Rattle.isa.proofs.encode_indexed.Reads as encode-indexed-reads
 use Rattle.isa.proofs.encode_mov.Reads as encode-mov-reads
 use Rattle.isa.proofs.encode_mov_imm.Reads as encode-mov-imm-reads
 use Rattle.isa.proofs.encode_one.Reads as encode-one-reads
+use Rattle.isa.proofs.encode_register.Reads as encode-register-reads
 use Rattle.isa.proofs.encode_relative.Reads as encode-relative-reads
 use Rattle.isa.proofs.encode_swap.Reads as encode-swap-reads
 use Rattle.isa.proofs.encode_unary.Reads as encode-unary-reads
@@ -63,38 +64,38 @@ encode-unary-requires c κs = search needs
 enum-known-i-7 : tie.Need-enum-known-i-7
 enum-known-i-7 c = search needs
 
-encode-one-requires : tie.Need-encode-one-requires
-encode-one-requires c κs = search needs
+encode-register-requires : tie.Need-encode-register-requires
+encode-register-requires c κs = search needs
 
 enum-known-i-8 : tie.Need-enum-known-i-8
 enum-known-i-8 c = search needs
 
-encode-one-requires-2 : tie.Need-encode-one-requires-2
-encode-one-requires-2 c κs = search needs
+encode-register-requires-2 : tie.Need-encode-register-requires-2
+encode-register-requires-2 c κs = search needs
 
 enum-known-i-9 : tie.Need-enum-known-i-9
 enum-known-i-9 c = search needs
 
-encode-one-requires-3 : tie.Need-encode-one-requires-3
-encode-one-requires-3 c κs = search needs
+encode-one-requires : tie.Need-encode-one-requires
+encode-one-requires c κs = search needs
 
 enum-known-i-10 : tie.Need-enum-known-i-10
 enum-known-i-10 c = search needs
 
-encode-one-requires-4 : tie.Need-encode-one-requires-4
-encode-one-requires-4 c κs = search needs
+encode-one-requires-2 : tie.Need-encode-one-requires-2
+encode-one-requires-2 c κs = search needs
 
 enum-known-i-11 : tie.Need-enum-known-i-11
 enum-known-i-11 c = search needs
 
-encode-one-requires-5 : tie.Need-encode-one-requires-5
-encode-one-requires-5 c κs = search needs
+encode-one-requires-3 : tie.Need-encode-one-requires-3
+encode-one-requires-3 c κs = search needs
 
 enum-known-i-12 : tie.Need-enum-known-i-12
 enum-known-i-12 c = search needs
 
-encode-one-requires-6 : tie.Need-encode-one-requires-6
-encode-one-requires-6 c κs = search needs
+encode-one-requires-4 : tie.Need-encode-one-requires-4
+encode-one-requires-4 c κs = search needs
 
 enum-known-i-13 : tie.Need-enum-known-i-13
 enum-known-i-13 c = search needs
@@ -168,27 +169,27 @@ returns-7 c = c .encode-unary .ensures ∙ sym (ap encodeOf (c .before .before .
 
 returns-8 : tie.Need-returns-8
 unfolding encodeOf
-returns-8 c = c .encode-one .ensures ∙ sym (ap encodeOf (c .before .before .i7 .given .1))
+returns-8 c = c .encode-register .ensures ∙ sym (ap encodeOf (c .before .before .i7 .given .1))
 
 returns-9 : tie.Need-returns-9
 unfolding encodeOf
-returns-9 c = c .encode-one2 .ensures ∙ sym (ap encodeOf (c .before .before .i8 .given .1))
+returns-9 c = c .encode-register2 .ensures ∙ sym (ap encodeOf (c .before .before .i8 .given .1))
 
 returns-10 : tie.Need-returns-10
 unfolding encodeOf
-returns-10 c = c .encode-one3 .ensures ∙ sym (ap encodeOf (c .before .before .i9 .given .1))
+returns-10 c = c .encode-one .ensures ∙ sym (ap encodeOf (c .before .before .i9 .given .1))
 
 returns-11 : tie.Need-returns-11
 unfolding encodeOf
-returns-11 c = c .encode-one4 .ensures ∙ sym (ap encodeOf (c .before .before .i10 .given .1))
+returns-11 c = c .encode-one2 .ensures ∙ sym (ap encodeOf (c .before .before .i10 .given .1))
 
 returns-12 : tie.Need-returns-12
 unfolding encodeOf
-returns-12 c = c .encode-one5 .ensures ∙ sym (ap encodeOf (c .before .before .i11 .given .1))
+returns-12 c = c .encode-one3 .ensures ∙ sym (ap encodeOf (c .before .before .i11 .given .1))
 
 returns-13 : tie.Need-returns-13
 unfolding encodeOf
-returns-13 c = c .encode-one6 .ensures ∙ sym (ap encodeOf (c .before .before .i12 .given .1))
+returns-13 c = c .encode-one4 .ensures ∙ sym (ap encodeOf (c .before .before .i12 .given .1))
 
 returns-14 : tie.Need-returns-14
 unfolding encodeOf
@@ -240,17 +241,17 @@ encode-spec =
     enum-known-i-6
     encode-unary-requires
     enum-known-i-7
-    encode-one-requires
+    encode-register-requires
     enum-known-i-8
-    encode-one-requires-2
+    encode-register-requires-2
     enum-known-i-9
-    encode-one-requires-3
+    encode-one-requires
     enum-known-i-10
-    encode-one-requires-4
+    encode-one-requires-2
     enum-known-i-11
-    encode-one-requires-5
+    encode-one-requires-3
     enum-known-i-12
-    encode-one-requires-6
+    encode-one-requires-4
     enum-known-i-13
     encode-cex-requires
     enum-known-i-14

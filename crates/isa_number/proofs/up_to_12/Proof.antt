@@ -8,6 +8,9 @@ use Rattle.isa_number.proofs.up_to_12.Lts as lts
 cast-a : tie.Need-cast-a
 cast-a c = search needs
 
+cast-b : tie.Need-cast-b
+cast-b c = search needs
+
 returns : tie.Need-returns
 returns c = search (needs, lt-ltb, le-ltb)
 
@@ -28,4 +31,4 @@ returns-6 c = search (needs, lt-ltb, le-ltb)
 
 pub up-to-12-spec : {M : Type 1} → statement M
 up-to-12-spec =
-    tie.close (tie.spec cast-a returns returns-2 returns-3 returns-4 returns-5 returns-6)
+    tie.close (tie.spec cast-a cast-b returns returns-2 returns-3 returns-4 returns-5 returns-6)

@@ -55,7 +55,7 @@ returns-3 c =
     let start = d .before .before .before in
     let w = start .args .w in
     rw (le-ltb _ _ (d .before .if2 .left), lt-ltb _ _ (d .if3 .taken))
-    (inr (operating-on-one (now (start .args .regs)) (start .args .psw) (i.Swpb (w % 8)) op.Swpb 16 (w % 8) _ refl
+    (inr (operating-on-one (now (start .args .regs)) (start .args .psw) (i.Swpb (w % 8) (w / 64 % 2)) op.Swpb 16 (w % 8) _ refl
     (omega arith) (omega arith) (c .before .one-operand2 .ensures)))
 
 one-operand-requires-3 : tie.Need-one-operand-requires-3
@@ -71,7 +71,7 @@ returns-4 c =
     let start = d .before .before .before .before in
     let w = start .args .w in
     rw (le-ltb _ _ (d .before .before .if2 .left), le-ltb _ _ (d .before .if3 .left), lt-ltb _ _ (d .if4 .taken))
-    (inr (operating-on-one (now (start .args .regs)) (start .args .psw) (i.Sxt (w % 8)) op.Sxt 16 (w % 8) _ refl
+    (inr (operating-on-one (now (start .args .regs)) (start .args .psw) (i.Sxt (w % 8) (w / 64 % 2)) op.Sxt 16 (w % 8) _ refl
     (omega arith) (omega arith) (c .before .one-operand3 .ensures)))
 
 returns-5 : tie.Need-returns-5

@@ -26,7 +26,7 @@ swap-requires c κs = search needs
 returns-3 : tie.Need-returns-3
 returns-3 c =
     let start = c .before .before .before .before in
-    inr (swapping (now (start .args .regs)) _ _ (omega arith) _ _ (omega arith) (omega arith) (c .swap .ensures))
+    inr (swapping (now (start .args .regs)) _ _ (omega arith) _ _ _ (omega arith) (omega arith) (c .swap .ensures _))
 
 pub swap-word-spec : {M : Type 1} → statement M
 swap-word-spec = tie.close (tie.spec cast-src cast-dst returns returns-2 swap-requires returns-3)

@@ -253,8 +253,10 @@ static const uint16_t constants[8] = {0, 1, 2, 4, 8, 16, 32, 0xFFFF};
 #define DO_AND(up, put) a &= b; ZN(a, up); put(d, a);
 #define DO_OR(up, put) a |= b; ZN(a, up); put(d, a);
 #define DO_BIT(up, put) (void)d; a &= b; ZN(a, up); NEXT;
-#define DO_BIC(up, put) a &= ~b; fz = a; put(d, a);
-#define DO_BIS(up, put) a |= b; fz = 1; put(d, a);
+/* The bit that the operand names; none above the width. */
+#define NAMED(b, up) ((b) < 16u - (up) ? 1u << (b) : 0u)
+#define DO_BIC(up, put) a &= ~NAMED(b, up); fz = a; put(d, a);
+#define DO_BIS(up, put) a |= NAMED(b, up); fz = 1; put(d, a);
 
 /* LD and ST with an adjustment `by`, before the access or after it. */
 #define LOAD(name, by, before, byte)                                                                                   \

@@ -74,6 +74,15 @@ impl Width {
     fn negative(self, value: u32) -> bool {
         value >> (self.0 - 1) & 1 == 1
     }
+
+    /// The bit that BIC or BIS acts on: the operand, cut to the width, names it; a number above names none. [02 §5]
+    fn named(self, number: u32) -> u32 {
+        if number < self.0 {
+            1 << number
+        } else {
+            0
+        }
+    }
 }
 
 /// The PSW with the flags of `which` set or cleared as `on` says, all else kept.
@@ -146,8 +155,8 @@ pub fn operate(op: Op, byte: bool, dst: u16, src: u16, psw: u16) -> (u16, u16) {
         Op::Or => logic(a | b),
         Op::Xor => logic(a ^ b),
         Op::Comp => logic(w.not(a)),
-        Op::Bic => (a & w.not(b), put_zero(psw, a & w.not(b))),
-        Op::Bis => (a | b, put(psw, Z, false)),
+        Op::Bic => (a & !w.named(b), put_zero(psw, a & !w.named(b))),
+        Op::Bis => (a | w.named(b), put(psw, Z, false)),
         Op::Sra => shift(psw, w, a, w.negative(a)),
         Op::Rrc => shift(psw, w, a, carry == 1),
         Op::Swpb | Op::Sxt => unreachable!(),
@@ -264,9 +273,33 @@ mod tests {
 
     #[test]
     fn bis_clears_zero_and_bic_keeps_negative() {
-        gives(Op::Bis, WORD, 0, 0, Z | N, 0, N);
-        gives(Op::Bic, WORD, 0x8001, 1, N | C | V, 0x8000, N | C | V);
-        gives(Op::Bic, WORD, 0x0001, 1, N | C | V, 0, N | C | V | Z);
+        gives(Op::Bis, WORD, 0, 16, Z | N, 0, N);
+        gives(Op::Bic, WORD, 0x8001, 0, N | C | V, 0x8000, N | C | V);
+        gives(Op::Bic, WORD, 0x0001, 0, N | C | V, 0, N | C | V | Z);
+    }
+
+    #[test]
+    fn bic_and_bis_take_the_number_of_a_bit() {
+        for number in 0..16 {
+            gives(Op::Bis, WORD, 0, number, 0, 1 << number, 0);
+            gives(Op::Bic, WORD, 0xFFFF, number, Z, !(1 << number), 0);
+        }
+        // Above 15 no bit changes; BIC sets Z from the unchanged result, and BIS clears Z.
+        for number in [16, 17, 0x20, 0x100, 0x7FFF, 0x8000, 0xFFFF] {
+            gives(Op::Bis, WORD, 0, number, Z, 0, 0);
+            gives(Op::Bic, WORD, 0, number, 0, 0, Z);
+            gives(Op::Bic, WORD, 0x1234, number, Z, 0x1234, 0);
+        }
+        // A byte form takes the operand's low byte, 0 to 7: #0103 names bit 3 there, and none of a word.
+        gives(Op::Bis, BYTE, 0xAB00, 0x0103, Z, 0xAB08, 0);
+        gives(Op::Bic, BYTE, 0xABFF, 0xFF07, Z, 0xAB7F, 0);
+        gives(Op::Bis, WORD, 0xAB00, 0x0103, Z, 0xAB00, 0);
+        for number in [8, 9, 15, 16, 0x88, 0xFF, 0x0108] {
+            gives(Op::Bis, BYTE, 0xAB00, number, Z, 0xAB00, 0);
+            gives(Op::Bic, BYTE, 0xAB00, number, 0, 0xAB00, Z);
+        }
+        // BIT keeps its mask.
+        gives(Op::Bit, WORD, 0x0008, 3, 0, 0x0008, Z);
     }
 
     #[test]

@@ -1,7 +1,7 @@
 //! Corners of 01's rules that a step can meet, each with what it looks like from outside. A vector or a frame is read
 //! after the step, so a few steps that overwrite their own vector are judged by what they wrote.
 
-use crate::alu::{FLT, SLP};
+use crate::alu::{FLT, SLP, Z};
 use crate::isa::Instr;
 use crate::machine::{current, vector_priority, word_at, Act, Machine, Trace, DEVICES, INPUT, LR, PC, SP, VECTORS};
 
@@ -106,6 +106,26 @@ impl Seen<'_> {
     fn device_stores(&self, byte: bool) -> Vec<u16> {
         let which = if self.stores() == Some(byte) { &self.trace.written[..] } else { &[] };
         which.iter().copied().filter(|&a| a < DEVICES).collect()
+    }
+
+    /// The operand of BIC or BIS: cut to the width, and whole; then the number of bits of the width.
+    fn bit_number(&self) -> Option<(u16, u16, u16)> {
+        let Instr::Alu { op: 10 | 11, rc, wb, src, .. } = self.instr()? else { return None };
+        let next = if src == 7 { 2 } else { 0 };
+        let whole = match rc {
+            0 => self.before.regs[usize::from(src)].wrapping_add(next),
+            _ => [0, 1, 2, 4, 8, 16, 32, 0xFFFF][usize::from(src)],
+        };
+        Some(if wb == 1 { (whole & 0xFF, whole, 8) } else { (whole, whole, 16) })
+    }
+
+    /// BIC or BIS of no bit, into the register `dst`.
+    fn names_no_bit(&self) -> Option<(u8, u8)> {
+        let (number, _, width) = self.bit_number()?;
+        match self.instr()? {
+            Instr::Alu { op, dst, .. } if number >= width => Some((op, dst)),
+            _ => None,
+        }
     }
 
     /// The address of a word access before bit 0 is dropped, but for adjustments, which keep it.
@@ -249,6 +269,21 @@ const INSTRUCTIONS: &[Corner] = &[
     ("SWAP of a register with itself", |s| matches!(s.instr(), Some(Instr::Swap { src, dst, .. }) if src == dst)),
     ("a comparison of R7", |s| matches!(s.instr(), Some(Instr::Alu { op: 5 | 9, dst: 7, .. }))),
     ("an operation on R7", |s| matches!(s.instr(), Some(Instr::Alu { op: 0..=4, dst: 7, .. }))),
+    ("BIC or BIS of the bit that a register names", |s| {
+        let register = matches!(s.instr(), Some(Instr::Alu { rc: 0, .. }));
+        register && s.bit_number().is_some_and(|(number, _, width)| number < width)
+    }),
+    ("a byte form of BIC or BIS whose low byte alone names a bit", |s| {
+        s.bit_number().is_some_and(|(number, whole, width)| number < width && whole >= width)
+    }),
+    ("a byte form of BIC or BIS of a bit that only a word has", |s| {
+        s.bit_number().is_some_and(|(number, _, width)| width == 8 && (8..16).contains(&number))
+    }),
+    ("BIC of no bit that leaves 0", |s| {
+        let zero = |dst: u8| s.after.regs[usize::from(dst)] == 0 && s.before.psw & Z == 0;
+        s.names_no_bit().is_some_and(|(op, dst)| op == 10 && zero(dst))
+    }),
+    ("BIS of no bit into R7 in a block", |s| s.names_no_bit() == Some((11, 7)) && s.covered() > 0),
     ("R7 as a source", |s| matches!(s.instr(), Some(Instr::Alu { rc: 0, src: 7, .. } | Instr::Mov { src: 7, .. }))),
     ("a byte form on R7", |s| {
         matches!(s.instr(), Some(Instr::Alu { wb: 1, dst: 7, .. } | Instr::Mov { wb: 1, dst: 7, .. }))

@@ -305,6 +305,7 @@ fn a_write_to_r7_clears_cex_whatever_the_value() {
         " ADD $0,PC",
         " ADD.B $0,PC",
         " BIS $0,PC",
+        " BIS $-1,PC",
         " SXT PC",
         " SWPB PC",
         " SRA PC",

@@ -478,7 +478,7 @@ CLKCSR  equ #0
 CLKDATA equ #1
 SCRCSR  equ #4
 SCRDATA equ #5
-INTRENA equ $1
+INTRENA equ $0
 ASCA    equ 'A'
 VECTORS equ #FFC0
 CLKINT  equ $16

@@ -47,6 +47,23 @@ fn random_words() {
     }
 }
 
+/// BIC and BIS by the number of a bit: every operand there is, and a million random ones. [02 §5]
+#[test]
+fn every_number_of_a_bit() {
+    let mut random = Random::new(9);
+    for op in [10, 11] {
+        for byte in 0..2 {
+            for number in 0..=u16::MAX {
+                same(op, byte, random.word(), number, random.word());
+                same(op, byte, 0, number, 0x0002);
+            }
+            for _ in 0..250_000 {
+                same(op, byte, random.word(), random.word() % 32, random.word());
+            }
+        }
+    }
+}
+
 #[test]
 fn words_at_the_corners() {
     let corners = [

@@ -89,6 +89,33 @@ fn limits() {
     }
 }
 
+/// BIC and BIS through a step: both widths, each register and each constant as operand, each destination. [02 §5]
+#[test]
+fn bits_by_their_number() {
+    let mut seen = Coverage::default();
+    let mut random = Random::new(13);
+    for form in 0..2 * 2 * 2 * 64 {
+        let (op, rc, wb, registers) = (10 + form / 256, form / 128 % 2, form / 64 % 2, form % 64);
+        let word = 0x4000 | op << 8 | rc << 7 | wb << 6 | registers;
+        for _ in 0..40 {
+            let mut m = Machine::default();
+            // Numbers of bits, numbers just above them, and any number.
+            let kinds = [16, 20, 512, 65_536];
+            m.regs = std::array::from_fn(|_| {
+                let kind = random.below(4) as usize;
+                random.below(kinds[kind]) as u16
+            });
+            m.regs[PC] = 0x1000;
+            m.psw = random.word() & !0x1E08;
+            m.cex = random.word() & 0x40;
+            let mut memory = vec![0; MEMORY];
+            memory[0x1000..0x1002].copy_from_slice(&(word as u16).to_le_bytes());
+            let given = Input { memory, record: m.to_record().to_vec(), events: Vec::new(), n: 1 };
+            same(&format!("word {word:04X}"), &given, &mut seen);
+        }
+    }
+}
+
 /// Buffers of no bytes may be NULL.
 #[test]
 fn null_where_there_is_nothing() {

@@ -21,6 +21,7 @@ use Rattle.alu.specs.declared.Op.the-variants.{Bit, Bic, Bis, Sra, Rrc, 
 use Rattle.alu.specs.Sums.{addWithCarry, negative, overflowOf}
 use Rattle.alu.specs.Decimal.{decimalSum, digitOf, digitCarry, decimalValue, DecimalDigits}
 use Rattle.alu.specs.Alu.{aluOf, signFlags, summed, halved, maskOf}
+use Rattle.alu.proofs.Bits.{mask-lt}
 use Rattle.alu.proofs.Digits.{digit-bounds, digit-exact, lowest, carried}
 use Rattle.alu.proofs.Signed.{overflow-by-sign, turned-reading}
 
@@ -192,11 +193,6 @@ module _ (op : Op) (w d s p : ℕ) where
   alu-psw-word h = let e = alu-kept op w d s p .above in omega arith
 
 -- ---- what an instruction writes
-
--- the bits that BIC clears and BIS sets are bits of the width
-pub mask-lt : (w s : ℕ) → maskOf w s < 2 ^ w
-unfolding maskOf
-mask-lt w s = low-lt w s
 
 sum-lt : (w a b c : ℕ) → addWithCarry w a b c .value < 2 ^ w
 unfolding addWithCarry

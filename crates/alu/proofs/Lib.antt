@@ -1,3 +1,4 @@
 pub mod Digits
 pub mod Signed
+pub mod Bits
 pub mod Laws

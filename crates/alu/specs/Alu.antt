@@ -2,7 +2,7 @@
 -- d is the destination, s the source, p the PSW. Assumes nothing.
 use mathlib.Core.Bool.{Bool, false, cond}
 use Prim.Native.Nat.{ℕ, _+_, _-_, _*_, _/_, _%_, _^_}
-use lib.Dec.{leb, eqb}
+use lib.Dec.{leb, ltb, eqb}
 use lib.Bits.{bitAnd, bitOr, bitXor}
 use Rattle.word.specs.Width.{bit, low, withLow, turned}
 use Rattle.word.specs.Psw.{putBit, carryOf}
@@ -61,11 +61,12 @@ tested d o = record { value = d; psw = o .psw }
 
 -- ---- bits cleared and set
 
--- the bits that BIC clears and BIS sets: the operand taken as a mask. [01 Arithmetic]
+-- "the operand names the bit, 0 to 15": the mask of that one bit; byte forms take the operand's low byte. A number that is
+-- no bit of the width names none, and "no bit changes". [02 §5, for 01 Arithmetic]
 unfoldable pub maskOf : (w s : ℕ) → ℕ
-maskOf w s = low w s
+maskOf w s = cond (ltb (low w s) w) (2 ^ low w s) 0
 
--- the bits of the mask m cleared, with Z: BIC. [01 Arithmetic]
+-- the bits of the mask m cleared, with Z of the result, changed or not: BIC. [01 Arithmetic; 02 §5]
 abbrev pub cleared : (w d m p : ℕ) → Outcome
 cleared w d m p =
     record {
@@ -73,7 +74,7 @@ cleared w d m p =
       psw = zeroFlag p (bitAnd (low w d) (turned w m));
     }
 
--- the bits of the mask m set; Z is cleared: BIS. [01 Arithmetic]
+-- the bits of the mask m set; Z is cleared: BIS. [01 Arithmetic; 02 §5]
 abbrev pub raised : (w d m p : ℕ) → Outcome
 raised w d m p = record { value = withLow w d (bitOr (low w d) m); psw = putBit 1 p false }
 

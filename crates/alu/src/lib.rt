@@ -199,11 +199,19 @@ fn tested_only(dst: u16, o: Outcome) -> Outcome
     }
 }
 
-// The bits that BIC clears and BIS sets.
+// The number of bits of the width.
+fn width(byte: bool) -> u16
+    ensures { λ r. ⌜ (r ≡ widthOf byte) × (r ≤ 16) ⌝ }
+{
+    if byte { 8 } else { 16 }
+}
+
+// The one bit that BIC clears or BIS sets, as a mask; 0 where the operand names no bit of the width.
 fn mask_of(byte: bool, src: u16) -> u16
     ensures { λ r. ⌜ (r ≡ maskOf (widthOf byte) src) × (r < 2 ^ widthOf byte) ⌝ }
 {
-    word::low_bits(byte, src)
+    let n = word::low_bits(byte, src);
+    if n < width(byte) { 1 << n } else { 0 }
 }
 
 // The bits of the mask cleared in the destination, with Z.

@@ -597,6 +597,7 @@ static unsigned refusal(size_t memory_len, const uint8_t *record, size_t record_
                         size_t events_len, uint64_t n)
 {
     size_t i;
+    unsigned devices = 0;
     if (memory_len != 65536)
         return 1;
     if (n > 1000000)
@@ -618,6 +619,13 @@ static unsigned refusal(size_t memory_len, const uint8_t *record, size_t record_
     for (i = 8; i < events_len; i += 8)
         if (four(events + i) < four(events + i - 8))
             return 7;
+    for (i = 0; i < events_len; i += 8) { /* a bit for each device that the step has had */
+        if (i && four(events + i) != four(events + i - 8))
+            devices = 0;
+        if (devices >> events[i + 4] & 1)
+            return 13;
+        devices |= 1u << events[i + 4];
+    }
     return 0;
 }
 

@@ -8,7 +8,7 @@
  * buffers of one call must not overlap: what a call with overlapping buffers does is not promised. Calls keep no
  * pointer and no state between calls, so any number of machines may run side by side, on any number of threads.
  *
- * "01" is the paper of house rules, "003" the ISA paper. docs/FORMATS.md has the layout of each number and record.
+ * "01" is the paper of house rules, "02" the paper of change requests, "003" the ISA paper. docs/FORMATS.md has the layout of each number and record.
  */
 #ifndef XM23_H
 #define XM23_H
@@ -23,7 +23,7 @@ extern "C" {
 /* ---- version: of this header, as one number; xm23_version gives that of the library */
 
 #define XM23_VERSION_MAJOR 0
-#define XM23_VERSION_MINOR 6
+#define XM23_VERSION_MINOR 7
 #define XM23_VERSION_PATCH 0
 #define XM23_VERSION (XM23_VERSION_MAJOR * 65536 + XM23_VERSION_MINOR * 256 + XM23_VERSION_PATCH)
 
@@ -62,7 +62,7 @@ extern "C" {
 #define XM23_EVENT_DATA 5   /* one byte */
 #define XM23_EVENT_ZERO 6   /* two bytes, both 0 */
 
-/* ---- refusals: 01's numbers; xm23_refusal_text has the sentence of each */
+/* ---- refusals: the papers' numbers; xm23_refusal_text has the sentence of each */
 
 #define XM23_ACCEPTED 0
 #define XM23_REFUSED_MEMORY 1
@@ -73,6 +73,7 @@ extern "C" {
 #define XM23_REFUSED_EVENT_FIELDS 6
 #define XM23_REFUSED_EVENT_ORDER 7
 #define XM23_REFUSED_INSTRUCTION 8
+#define XM23_REFUSED_EVENT_TWINS 13
 
 /* What a refusal says, in the papers' words. Every number gives a text, which is there for good and never NULL. */
 static inline const char *xm23_refusal_text(unsigned refusal)
@@ -87,6 +88,7 @@ static inline const char *xm23_refusal_text(unsigned refusal)
     case XM23_REFUSED_EVENT_FIELDS: return "an event's device is above 7, or its bytes 6-7 are not zero";
     case XM23_REFUSED_EVENT_ORDER: return "an event's step is below the one before it";
     case XM23_REFUSED_INSTRUCTION: return "an instruction to encode is illegal, or has a field its format cannot hold";
+    case XM23_REFUSED_EVENT_TWINS: return "two events share step and device";
     default: return "no refusal has this number";
     }
 }
@@ -309,14 +311,15 @@ uint64_t xm23_range(uint16_t word);
  *
  * memory, memory_len in-out: the machine's memory, XM23_MEMORY_SIZE bytes.
  * record, record_len in-out: its state record, XM23_RECORD_SIZE bytes.
- * events, events_len in: event records, in the order of their steps; equal steps are applied in list order. No bytes
- *                    are an empty list.
+ * events, events_len in: event records, in the order of their steps, at most one of a device on a step; those of one
+ *                    step are applied in list order. No bytes are an empty list.
  * n                  in: how many steps.
  * result             one reply: XM23_RUN_REFUSAL in bits 7-0, XM23_RUN_REASON in 15-8, XM23_RUN_STEPS in 39-16, 0 in
  *                    63-40. Accepted: memory and record hold the closing state.
  * refusals           in the order tested: XM23_REFUSED_MEMORY; XM23_REFUSED_STEPS for n alone; XM23_REFUSED_RECORD;
  *                    XM23_REFUSED_STEPS for the sum, of a halted machine too; XM23_REFUSED_RECORD_BITS;
- *                    XM23_REFUSED_EVENTS; XM23_REFUSED_EVENT_FIELDS over the whole list; XM23_REFUSED_EVENT_ORDER.
+ *                    XM23_REFUSED_EVENTS; XM23_REFUSED_EVENT_FIELDS over the whole list; XM23_REFUSED_EVENT_ORDER;
+ *                    XM23_REFUSED_EVENT_TWINS, of events that this run would not apply too.
  *                    Refused: reason and steps are 0, and memory, record and events are as they were.
  * defined            crates/machine/specs/Call.antt, runCallOf, for every length, content and number.
  */

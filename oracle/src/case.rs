@@ -3,9 +3,9 @@
 //!
 //! A file is a list of `key: value`; lines that start with a blank belong to the key above them. Keys: `title`, `from`,
 //! `start` (`R0=00FF PSW=60E0 CEX=.. LINES=.. HALTED=1 COUNT=..`, hexadecimal; PC #1000 and SP #0800 if not named),
-//! `source`, `events` (`step device data` on each line, step in base ten; `x9` behind it is nine of them), `n`, `line`,
-//! `bytes` (`0100=34`, afterwards), `printed`, `decides`. Every key but `start`, `events`, `bytes` and `printed` must
-//! be there in a case of the repository; an input is made of `source` and `n` alone.
+//! `source`, `events` (`step device data` on each line, step in base ten; `x9` behind it is nine of them, each a step
+//! later), `n`, `line`, `bytes` (`0100=34`, afterwards), `printed`, `decides`. Every key but `start`, `events`, `bytes`
+//! and `printed` must be there in a case of the repository; an input is made of `source` and `n` alone.
 
 use crate::asm::{try_assemble, Mistake};
 use crate::inputs::Input;
@@ -75,7 +75,7 @@ fn start(text: &str) -> Outcome<Machine> {
     Ok(m)
 }
 
-/// A line of events: one, or as many equal ones as it says.
+/// A line of events: one, or as many as it says, each a step after the one before it.
 fn events(line: &str) -> Outcome<Vec<Event>> {
     let wrong = || format!("'{}' is no event: step device data [xTIMES]", line.trim());
     let parts: Vec<&str> = line.split_whitespace().collect();
@@ -85,9 +85,11 @@ fn events(line: &str) -> Outcome<Vec<Event>> {
         [step, device, data, times] => (step, device, data, times),
         _ => return Err(wrong()),
     };
-    let times: usize = times.strip_prefix('x').and_then(|times| times.parse().ok()).ok_or_else(wrong)?;
-    let (step, device) = (step.parse().map_err(|_| wrong())?, device.parse().map_err(|_| wrong())?);
-    Ok(vec![Event { step, device, data: fitting("data", hex(data)?)? }; times])
+    let times: u32 = times.strip_prefix('x').and_then(|times| times.parse().ok()).ok_or_else(wrong)?;
+    let (first, device): (u32, u8) = (step.parse().map_err(|_| wrong())?, device.parse().map_err(|_| wrong())?);
+    let data = fitting("data", hex(data)?)?;
+    first.checked_add(times.saturating_sub(1)).ok_or_else(wrong)?;
+    Ok((0..times).map(|i| Event { step: first + i, device, data }).collect())
 }
 
 /// The keys of a file with their values, the lines of a value joined by line feeds.
@@ -175,6 +177,16 @@ pub const OF_01: [&str; 25] = [
     "01-overflow-of-subc",
     "01-awake-at-ffff",
     "01-asleep-at-ffff",
+];
+
+/// The cases of the change requests of 02.
+pub const OF_02: [&str; 6] = [
+    "02-3-one-device-twice-on-a-step",
+    "02-3-one-step-of-all-devices",
+    "02-3-the-step-after",
+    "02-3-other-data",
+    "02-3-before-the-sitting",
+    "02-3-order-first",
 ];
 
 /// Every case of the repository, by name. A mistake in one is a panic.

@@ -62,7 +62,7 @@ pub fn difference(given: &Input, library: &Outcome, oracle: &Outcome) -> Option<
         return Some("the events changed".into());
     }
     let refused = library.reply & 0xFF != 0;
-    if refused && (got != given || library.reply > 7) {
+    if refused && (got != given || !matches!(library.reply, 1..=7 | 13)) {
         return Some("refused with a change".into());
     }
     (library.reply >> 40 != 0 || library.reply >> 9 & 0x7F != 0).then(|| format!("reply {:016X}", library.reply))

@@ -166,9 +166,11 @@ pub const GROUPS: [Group; 5] = [
 ];
 
 const STEPS: &[Corner] = &[
-    ("two events on one device in one step", |s| {
-        let due = &s.trace.due;
-        (1..due.len()).any(|i| due[..i].iter().any(|e| e.0 == due[i].0))
+    ("events of a lower device and then of a higher one in one step", |s| {
+        s.trace.due.windows(2).any(|pair| pair[0].0 < pair[1].0)
+    }),
+    ("events of a higher device and then of a lower one in one step", |s| {
+        s.trace.due.windows(2).any(|pair| pair[1].0 < pair[0].0)
     }),
     ("a line raised and accepted in one step", |s| {
         s.accepts() && s.line().is_some_and(|d| s.before.lines >> d & 1 == 0)

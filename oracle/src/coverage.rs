@@ -5,7 +5,7 @@ use crate::case;
 use crate::corners::{Seen, GROUPS};
 use crate::inputs::Input;
 use crate::isa::{decode, Instr};
-use crate::machine::{event_of, Ran, ENA};
+use crate::machine::{event_of, events_of, twins, Ran, ENA, MEMORY};
 use crate::machine::{
     reply, run_watched, word_at, Act, Machine, Trace, DBA, EVENT, IE, INPUT, MAX_EVENTS, MAX_STEPS, PC,
 };
@@ -61,7 +61,16 @@ pub enum Item {
     /// An event of a step before the first, and one of a step after the last.
     PassedOver,
     NeverDue,
-    /// A readable case of 01's list, or of a misreading.
+    /// Refused with 13: by neighbours or by records apart, with the same data or not.
+    Twins { apart: bool, same_data: bool },
+    /// Refused with 13 by records that no run would apply: of a step before the first or after the last, of a device
+    /// that is not enabled.
+    TwinsPassedOver,
+    TwinsNeverDue,
+    TwinsOnDisabled,
+    /// Refused with 6 or 7 though two records are twins.
+    TwinsNotReached(u8),
+    /// A readable case of 01's list, of a misreading, or of a request of 02.
     Case(&'static str),
 }
 
@@ -70,7 +79,9 @@ pub fn owed() -> Vec<Item> {
     let both = [false, true];
     let mut all = vec![Item::Bl, Item::Sleep, Item::Pull, Item::RefusedSum, Item::GreatestSum, Item::GreatestN];
     all.extend([Item::HaltedAtTheStart, Item::NoStep, Item::NoEvent, Item::FullList, Item::EventOnDisabled]);
-    all.extend([Item::PassedOver, Item::NeverDue]);
+    all.extend([Item::PassedOver, Item::NeverDue, Item::TwinsPassedOver, Item::TwinsNeverDue, Item::TwinsOnDisabled]);
+    all.extend([6, 7].map(Item::TwinsNotReached));
+    all.extend((0..4).map(|i| Item::Twins { apart: i & 1 == 1, same_data: i & 2 != 0 }));
     for byte in both {
         all.extend((0..24).map(|i| Item::Alu { op: i / 2, constant: i % 2 == 1, byte }));
         all.extend((0..3).map(|op| Item::Unary { op, byte }));
@@ -91,9 +102,9 @@ pub fn owed() -> Vec<Item> {
     all.extend((8..11).flat_map(|v| [Item::Fault(v), Item::Halt(v)]));
     all.extend((0..8).map(|i| Item::Event { input: i & 1 == 1, dba: i & 2 != 0, ie: i & 4 != 0 }));
     all.extend((0..16).map(Item::Trap));
-    all.extend((1..8).map(Item::Refused));
+    all.extend((1..8).chain([13]).map(Item::Refused));
     all.extend(GROUPS.iter().flat_map(|group| group.rows).map(|row| Item::Corner(row.0)));
-    all.extend(case::OF_01.map(Item::Case));
+    all.extend(case::OF_01.into_iter().chain(case::OF_02).map(Item::Case));
     all
 }
 
@@ -127,7 +138,7 @@ impl Coverage {
 
     /// A readable case has been run.
     pub fn case(&mut self, name: &str) {
-        let known = case::OF_01.into_iter().find(|&known| known == name);
+        let known = case::OF_01.into_iter().chain(case::OF_02).find(|&known| known == name);
         known.into_iter().for_each(|known| self.mark(Item::Case(known)));
     }
 
@@ -159,9 +170,27 @@ impl Coverage {
                 let number = result.expect_err("a whole record in an accepted run");
                 self.mark(Item::Refused(number));
                 self.mark_if(number == 2 && *n <= MAX_STEPS, Item::RefusedSum);
+                self.twins(number, input);
             }
         }
         reply(result)
+    }
+
+    /// Counts what a refused list's twins are like.
+    fn twins(&mut self, number: u8, input: &Input) {
+        if ![6, 7, 13].contains(&number) || input.memory.len() != MEMORY {
+            return;
+        }
+        let events = events_of(&input.events);
+        let (Some((i, j)), start) = (twins(&events), Machine::from_record(&input.record)) else { return };
+        if number != 13 {
+            return self.mark(Item::TwinsNotReached(number));
+        }
+        let (one, other) = (events[i], events[j]);
+        self.mark(Item::Twins { apart: j > i + 1, same_data: one.data == other.data });
+        self.mark_if(one.step < start.count, Item::TwinsPassedOver);
+        self.mark_if(u64::from(one.step) >= u64::from(start.count) + input.n, Item::TwinsNeverDue);
+        self.mark_if(input.memory[2 * usize::from(one.device)] & ENA == 0, Item::TwinsOnDisabled);
     }
 
     fn accepted(&mut self, start: &Machine, ran: Ran, events: &[u8], n: u64) {

@@ -2,7 +2,8 @@
 //! same input.
 
 use crate::isa::{encode, Instr};
-use crate::machine::{event_record, Event, Machine, Setup, EVENT, MAX_EVENTS, MAX_STEPS, MEMORY, PC, RECORD, SP};
+use crate::machine::{event_record, events_of, without_twins};
+use crate::machine::{Event, Machine, Setup, EVENT, MAX_EVENTS, MAX_STEPS, MEMORY, PC, RECORD, SP};
 use crate::programs::setup;
 use crate::random::Random;
 
@@ -73,14 +74,15 @@ fn machine(random: &mut Random) -> Machine {
     m
 }
 
-/// Up to `most` events on any device, in order, from a little before the count to a little after the run's end.
+/// Up to `most` events on any device, in order and without twins, from a little before the count to a little after the
+/// run's end.
 fn events(random: &mut Random, count: u32, n: u64, most: u64) -> Vec<u8> {
     let mut steps: Vec<u32> = (0..random.below(most + 1))
         .map(|_| (u64::from(count) + random.below(n + 4)).saturating_sub(2).min(u32::MAX.into()) as u32)
         .collect();
     steps.sort();
     let all = steps.into_iter().map(|step| Event { step, device: random.below(8) as u8, data: random.byte() });
-    all.flat_map(event_record).collect()
+    without_twins(all.collect()).into_iter().flat_map(event_record).collect()
 }
 
 fn wild(random: &mut Random) -> Input {
@@ -212,7 +214,7 @@ fn plant(input: &mut Input, random: &mut Random, pc: u16, sp: u16) {
 }
 
 /// How many ways of breaking a rule there are, and of nearly breaking one.
-const BREAKS: u64 = 12;
+const BREAKS: u64 = 14;
 const NEARLY: u64 = 8;
 
 /// One to three rules broken, with near misses beside them, or near misses alone.
@@ -260,6 +262,23 @@ fn break_rule(input: &mut Input, random: &mut Random, rule: u64) {
         }
         10 if event > 0 => input.events[place + [4, 6, 7][usize::from(any) % 3]] = any.max(8),
         11 if event > 1 => input.events[place + 3] ^= 0x80,
+        12 if input.events.len() % EVENT == 0 && event > 0 && event + 2 <= MAX_EVENTS => {
+            // The record at the place, perhaps one of another device, and its twin, where the step's records end.
+            let mut list = events_of(&input.events);
+            let first = list[place / EVENT];
+            let end = list.iter().rposition(|e| e.step == first.step).unwrap_or(0) + 1;
+            let data = if any & 1 == 0 { first.data } else { random.byte() };
+            list.insert(end, Event { data, ..first });
+            if any & 2 == 0 {
+                list.insert(end, Event { device: (first.device + 1 + any % 7) % 8, ..first });
+            }
+            input.events = list.into_iter().flat_map(event_record).collect();
+        }
+        13 => {
+            // Twins, and a rule that comes before theirs.
+            break_rule(input, random, 12);
+            break_rule(input, random, 10 + u64::from(any & 1));
+        }
         _ => {}
     }
 }
@@ -277,15 +296,20 @@ fn nearly(input: &mut Input, random: &mut Random) {
         2 => input.record[21] = 1,
         3 => (input.record[17], input.record[18]) = (input.record[17] | 0xE1, 0x7F),
         4 => {
-            let record = event_record(Event { step: u32::MAX, device: 7, data: random.byte() });
-            (input.events.len() / EVENT..MAX_EVENTS).for_each(|_| input.events.extend(record));
+            // A full list: its end is the last steps that there are, each with an event on every device.
+            let from = u32::MAX - (MAX_EVENTS / 8) as u32 + 1;
+            let mut list: Vec<Event> = events_of(&input.events).into_iter().filter(|e| e.step < from).collect();
+            let missing = MAX_EVENTS.saturating_sub(list.len()) as u32;
+            list.extend((0..missing).map(|i| Event { step: from + i / 8, device: i as u8 % 8, data: random.byte() }));
+            input.events = list.into_iter().flat_map(event_record).collect();
         }
         5 => input.events.clear(),
         6 => input.n = 0,
         _ => {
-            // Every event on one step.
-            let step: [u8; 4] = std::array::from_fn(|i| input.record[22 + i]);
-            input.events.chunks_mut(EVENT).for_each(|e| e[..4].copy_from_slice(&step));
+            // Every event on one step, one of each device.
+            let step = u32::from_le_bytes(std::array::from_fn(|i| input.record[22 + i]));
+            let list = events_of(&input.events).into_iter().map(|e| Event { step, ..e }).collect();
+            input.events = without_twins(list).into_iter().flat_map(event_record).collect();
         }
     }
 }

@@ -3,6 +3,7 @@
 
 use crate::alu::{operate, Op, C, FLT, N, SLP, V, Z};
 use crate::isa::{decode, Instr};
+use std::collections::HashSet;
 use std::fmt;
 
 pub const MEMORY: usize = 65_536;
@@ -613,7 +614,20 @@ pub fn event_record(event: Event) -> [u8; EVENT] {
     [a, b, c, d, event.device, event.data, 0, 0]
 }
 
-/// The refusal of a run, 1 to 7, or nothing.
+/// The records without those that share step and device with one before them.
+pub fn without_twins(mut events: Vec<Event>) -> Vec<Event> {
+    let mut seen = HashSet::new();
+    events.retain(|e| seen.insert((e.step, e.device)));
+    events
+}
+
+/// Places of two records that share step and device: the first that has such a one before it, and the latter.
+pub fn twins(events: &[Event]) -> Option<(usize, usize)> {
+    let same = |i: usize, j: usize| (events[i].step, events[i].device) == (events[j].step, events[j].device);
+    (0..events.len()).find_map(|j| (0..j).find(|&i| same(i, j)).map(|i| (i, j)))
+}
+
+/// The refusal of a run, 1 to 7 or 13, or nothing.
 pub fn refusal(memory: &[u8], n: u64, record: &[u8], events: &[u8]) -> Option<u8> {
     if memory.len() != MEMORY {
         return Some(1);
@@ -640,6 +654,10 @@ pub fn refusal(memory: &[u8], n: u64, record: &[u8], events: &[u8]) -> Option<u8
     }
     if events_of(events).windows(2).any(|pair| pair[1].step < pair[0].step) {
         return Some(7);
+    }
+    let listed = events_of(events);
+    if without_twins(listed.clone()).len() != listed.len() {
+        return Some(13);
     }
     None
 }

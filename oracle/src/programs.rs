@@ -2,7 +2,7 @@
 //! enabled devices, and events that nest and chain. Now and then each of them does something unwise.
 
 use crate::isa::{encode, Instr};
-use crate::machine::{Event, Machine, Setup, LR, MEMORY, PC, SP};
+use crate::machine::{without_twins, Event, Machine, Setup, LR, MEMORY, PC, SP};
 use crate::random::Random;
 
 const CODE: u16 = 0x1000;
@@ -233,7 +233,7 @@ impl Maker {
         m
     }
 
-    /// Events alone, in bursts, or one on each device after the other so that the stairs are climbed.
+    /// Events alone, in bursts, or one on each device after the other so that the stairs are climbed; no twins.
     fn events(&mut self, n: u32, stairs: bool) -> Vec<Event> {
         let mut events = Vec::new();
         let mut step = self.random.below(16) as u32;
@@ -244,6 +244,6 @@ impl Maker {
             let far = if stairs || self.random.one_in(2) { 3 } else { 24 };
             step += self.random.below(far) as u32;
         }
-        events
+        without_twins(events)
     }
 }

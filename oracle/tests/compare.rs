@@ -4,7 +4,9 @@ use oracle::compare::{compare, compare_many, difference, saved, Difference, Engi
 use oracle::coverage::Coverage;
 use oracle::inputs::{input, Input, Kind, KINDS};
 use oracle::isa::{decode, Instr};
-use oracle::machine::{reply, run, word_at, Machine, MEMORY, PC, RECORD};
+use oracle::machine::{
+    event_record, events_of, reply, run, without_twins, word_at, Event, Machine, EVENT, MEMORY, PC, RECORD,
+};
 use std::fs;
 use std::path::{Path, PathBuf};
 
@@ -47,9 +49,28 @@ fn swpb_by_the_ignored_bit(i: &mut Input) -> u64 {
     whole
 }
 
+/// The oracle, but for lists that it refuses with 13 unless `so` says that they are to be: those run without a twin.
+fn unless(i: &mut Input, so: fn(&[Event]) -> bool) -> u64 {
+    let number = honest(i);
+    let list = events_of(&i.events);
+    if number != 13 || so(&list) {
+        return number;
+    }
+    let events = std::mem::take(&mut i.events);
+    i.events = without_twins(list).into_iter().flat_map(event_record).collect();
+    let number = honest(i);
+    i.events = events;
+    number
+}
+
+/// Two records that are to be compared, neighbours or not, are alike.
+fn any_two(list: &[Event], alike: fn(&Event, &Event) -> bool) -> bool {
+    (1..list.len()).any(|j| list[..j].iter().any(|e| alike(e, &list[j])))
+}
+
 /// Engines that are wrong, the impostors of 01 first, each with a kind of input that shows it.
 #[rustfmt::skip]
-const WRONG: [(&str, Kind, Engine); 13] = [
+const WRONG: [(&str, Kind, Engine); 18] = [
     ("takes the first step truly and then only counts", Kind::Plausible, |i| {
         let n = std::mem::replace(&mut i.n, 1);
         let number = honest(i);
@@ -70,7 +91,22 @@ const WRONG: [(&str, Kind, Engine); 13] = [
     ("refuses all", Kind::Wild, |_| 1),
     ("leaves a fixed state", Kind::Wild, |i| accepted(i, |i, number| { i.record.fill(0); number })),
     ("leaves all alone", Kind::Plausible, |i| i.n << 16),
-    ("accepts all", Kind::Broken, |i| { let number = honest(i); if number < 8 { 0 } else { number } }),
+    ("accepts all", Kind::Broken, |i| { let number = honest(i); if number <= 13 { 0 } else { number } }),
+    ("accepts two events of one device on one step", Kind::Broken, |i| unless(i, |_| false)),
+    ("looks at neighbours for twins", Kind::Broken, |i| unless(i, |list| {
+        list.windows(2).any(|e| (e[0].step, e[0].device) == (e[1].step, e[1].device))
+    })),
+    ("takes records for twins only if their data is equal", Kind::Broken, |i| unless(i, |list| {
+        any_two(list, |a, b| a == b)
+    })),
+    ("refuses equal steps on different devices", Kind::Plausible, |i| {
+        let list = events_of(&i.events);
+        accepted(i, |_, number| if any_two(&list, |a, b| a.step == b.step) { 13 } else { number })
+    }),
+    ("tells of twins before it tells of order", Kind::Broken, |i| {
+        let number = honest(i);
+        if number == 7 && without_twins(events_of(&i.events)).len() < i.events.len() / EVENT { 13 } else { number }
+    }),
     ("changes a byte far away", Kind::Wild, |i| accepted(i, |i, number| { i.memory[0x8765] ^= 1; number })),
     ("changes an event", Kind::Plausible, |i| accepted(i, |i, number| {
         i.events.last_mut().into_iter().for_each(|byte| *byte = 1);

@@ -106,7 +106,7 @@ fn limits_of_a_run() {
     assert_eq!(record, m.to_record());
     assert_eq!(run(&mut memory, 1_000_000, &mut record, &[]), Ok(Ran { reason: 0, steps: 1_000_000 }));
     assert_eq!(Machine::from_record(&record), Machine { count: 1_000_000, ..m });
-    let events = |n: usize| (0..n).flat_map(|_| event_record(event(0, 0, 0))).collect::<Vec<u8>>();
+    let events = |n: u32| (0..n).flat_map(|i| event_record(event(i, 0, 0))).collect::<Vec<u8>>();
     assert_eq!(run(&mut memory, 1, &mut record, &events(4096)), Ok(Ran { reason: 0, steps: 1 }));
     assert_eq!(run(&mut memory, 1, &mut record, &events(4097)), Err(5));
 }
@@ -173,11 +173,12 @@ fn events_of_the_count_are_applied_and_earlier_ones_passed_over() {
     let (mut m, mut memory) = start("Here BRA Here", 7);
     m.count = 5;
     memory[2] = 0x12;
-    let events = [event(4, 1, 0x44), event(5, 1, 0x55), event(5, 1, 0x56), event(6, 1, 0x66)];
+    memory[4] = 0x16;
+    let events = [event(4, 1, 0x44), event(5, 2, 0x55), event(5, 1, 0x56), event(6, 1, 0x66)];
     act(&mut m, &mut memory, &events);
-    assert_eq!((memory[2], memory[3], m.lines), (0x1E, 0x56, 0));
+    assert_eq!((&memory[2..6], m.lines), (&[0x16, 0x56, 0x1E, 0x55][..], 0));
     act(&mut m, &mut memory, &events);
-    assert_eq!((memory[3], m.count), (0x66, 7));
+    assert_eq!((memory[2], memory[3], m.count), (0x1E, 0x66, 7));
 }
 
 #[test]
@@ -703,8 +704,9 @@ fn each_refusal_and_its_near_miss() {
     }
     assert_eq!(refused(|i| i.events.push(0)), Some(5));
     assert_eq!(refused(|i| i.events.clear()), None);
-    assert_eq!(refused(|i| i.events = vec![0; 8 * 4096]), None);
-    assert_eq!(refused(|i| i.events = vec![0; 8 * 4097]), Some(5));
+    let list = |n: u32| (0..n).flat_map(|k| event_record(event(k / 8, k as u8 % 8, 0))).collect();
+    assert_eq!(refused(|i| i.events = list(4096)), None);
+    assert_eq!(refused(|i| i.events = list(4097)), Some(5));
     assert_eq!(refused(|i| i.events[12] = 8), Some(6));
     assert_eq!(refused(|i| i.events[22] = 1), Some(6));
     assert_eq!(refused(|i| i.events[23] = 1), Some(6));
@@ -712,11 +714,40 @@ fn each_refusal_and_its_near_miss() {
     assert_eq!(refused(|i| i.events[3] = 1), Some(7));
 }
 
+/// 02 §3: two records that share step and device, wherever they stand.
+#[test]
+fn twins_are_refused_wherever_they_stand() {
+    let list = |events: &[(u32, u8, u8)]| {
+        let list: Vec<u8> =
+            events.iter().flat_map(|&(step, device, data)| event_record(event(step, device, data))).collect();
+        refused(|i| i.events.clone_from(&list))
+    };
+    assert_eq!(list(&[(5, 0, 1), (5, 1, 1), (5, 0, 1)]), Some(13));
+    assert_eq!(list(&[(5, 0, 1), (5, 0, 2)]), Some(13));
+    assert_eq!(list(&[(5, 0, 1), (6, 0, 1)]), None);
+    // "Equal steps on different devices stay lawful, whichever order they are listed in."
+    let all = |devices: [u8; 8]| list(&devices.map(|device| (5, device, 1)));
+    assert_eq!(
+        (all([0, 1, 2, 3, 4, 5, 6, 7]), all([7, 6, 5, 4, 3, 2, 1, 0]), all([3, 0, 7, 1, 6, 2, 5, 4])),
+        (None, None, None)
+    );
+    // The marks of one step are none of the next.
+    assert_eq!(list(&[(5, 0, 1), (5, 1, 1), (6, 1, 1), (6, 0, 1)]), None);
+    assert_eq!(list(&[(5, 0, 1), (6, 1, 1), (6, 0, 1), (6, 2, 1), (6, 1, 1)]), Some(13));
+    // Beyond n, on the last step that there is, and the first with the last of a full step.
+    assert_eq!(list(&[(u32::MAX, 7, 1), (u32::MAX, 7, 1)]), Some(13));
+    assert_eq!(list(&[0, 1, 2, 3, 4, 5, 6, 7, 0].map(|device| (9, device, 1))), Some(13));
+    // An unsorted list is 7, and a device that there is not is 6, though two records are twins.
+    assert_eq!(list(&[(5, 0, 1), (5, 0, 1), (4, 0, 1)]), Some(7));
+    assert_eq!(list(&[(5, 0, 1), (5, 0, 1), (5, 8, 1)]), Some(6));
+    assert_eq!(list(&[(5, 0, 1), (4, 0, 1), (5, 0, 1)]), Some(7));
+}
+
 #[test]
 fn refusals_in_their_order() {
     // All at once, then mended one by one.
     type Break = fn(&mut Input);
-    let all: [(Break, u8); 7] = [
+    let all: [(Break, u8); 8] = [
         (|i| i.memory.push(0), 1),
         (|i| i.n = 1_000_001, 2),
         (|i| i.record[22..26].copy_from_slice(&u32::MAX.to_le_bytes()), 2),
@@ -724,6 +755,7 @@ fn refusals_in_their_order() {
         (|i| i.events.push(0), 5),
         (|i| i.events[23] = 1, 6),
         (|i| i.events[0] = 200, 7),
+        (|i| i.events[12] = i.events[4], 13),
     ];
     for from in 0..all.len() {
         let broken = |i: &mut Input| all[from..].iter().for_each(|(break_it, _)| break_it(i));

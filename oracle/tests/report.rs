@@ -271,6 +271,7 @@ fn each_refusal_has_a_page() {
         (5, accepted[..list + 3].to_vec(), "after the memory stand 0 whole event records, and 3 bytes more"),
         (6, with(list + 8 + 4, 8), "event 2 of the list has device 8 and bytes 6-7 #00 #00"),
         (7, with(list + 8, 2), "event 2 of the list has step 2, and the event before it step 3"),
+        (13, with(list + 8 + 4, 0), "events 1 and 2 of the list are both on step 3, device 0"),
     ] {
         let page = page_of(&input);
         assert!(page.contains(&format!("<pre id=\"line\">R{number}</pre>")), "{number}");

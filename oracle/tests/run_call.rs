@@ -85,7 +85,11 @@ fn limits() {
         assert_eq!(reply("memory", &Input { memory: vec![0; length], ..counting(1) }), expected(MEMORY, 1));
         assert_eq!(reply("record", &Input { record: vec![0; length], ..counting(1) }), expected(RECORD, 3));
         let number = if length % 8 != 0 || length > 32_768 { 5 } else { 1 << 16 };
-        assert_eq!(reply("events", &Input { events: vec![0; length], ..counting(1) }), number);
+        let mut events: Vec<u8> = list(length.div_ceil(8) as u32);
+        events.truncate(length);
+        assert_eq!(reply("events", &Input { events, ..counting(1) }), number);
+        let number = if number != 5 && length > 8 { 13 } else { number };
+        assert_eq!(reply("twins", &Input { events: vec![0; length], ..counting(1) }), number);
     }
 }
 

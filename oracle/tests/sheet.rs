@@ -93,6 +93,9 @@ fn each_refusal() {
         ("R6\n", with(LEAST, &[0, 0, 0, 0, 0, 0, 1, 0])),
         ("R6\n", with(LEAST, &[0, 0, 0, 0, 0, 0, 0, 1])),
         ("R7\n", events(&[on(1, 0), on(0, 0)])),
+        ("R7\n", events(&[on(1, 0), on(1, 0), on(0, 0)])),
+        ("R13\n", events(&[on(5, 0), on(5, 1), on(5, 0)])),
+        ("R13\n", with(LEAST, &[0; EVENT * MAX_EVENTS])),
     ] {
         assert_eq!(same(line, &input), line);
     }
@@ -102,8 +105,9 @@ fn each_refusal() {
     assert_eq!(same("sum", &input), "R2\n");
     input[0] = 0;
     assert!(same("sum, nearly", &input).starts_with("0 0 "));
-    assert!(same("equal steps", &events(&[on(5, 7), on(5, 0), on(5, 7)])).starts_with("0 0 "));
-    assert!(same("full list", &with(LEAST, &[0; EVENT * MAX_EVENTS])).starts_with("0 0 "));
+    assert!(same("equal steps", &events(&[on(5, 7), on(5, 0), on(5, 6)])).starts_with("0 0 "));
+    let list: Vec<Event> = (0..MAX_EVENTS).map(|i| on(i as u32 / 8, i as u8 % 8)).collect();
+    assert!(same("full list", &events(&list)).starts_with("0 0 "));
 }
 
 #[test]
@@ -120,7 +124,7 @@ fn short_input() {
 #[test]
 fn long_input() {
     for length in [98_339, 98_340, 98_341, 98_347, 98_348, 98_349, 131_072, 200_000, 1_000_000] {
-        let expected = if length == 98_340 { "0 0 " } else { "R5\n" };
+        let expected = if length == 98_340 { "R13\n" } else { "R5\n" };
         assert!(same("zeros", &vec![0; length]).starts_with(expected), "{length} bytes");
     }
     // What is wrong before the events comes first, however long they are.
@@ -163,7 +167,7 @@ fn readable_cases() {
         let line = same(&case.name, &case.input.to_bytes());
         assert_eq!(line, case.line, "{}: {}", case.name, case.title);
     }
-    for name in case::OF_01 {
+    for name in case::OF_01.into_iter().chain(case::OF_02) {
         assert!(cases.iter().any(|case| case.name == name), "no case {name}");
     }
 }

@@ -103,6 +103,7 @@ static void sentences(void)
         XM23_ACCEPTED,           XM23_REFUSED_MEMORY,      XM23_REFUSED_STEPS,
         XM23_REFUSED_RECORD,     XM23_REFUSED_RECORD_BITS, XM23_REFUSED_EVENTS,
         XM23_REFUSED_EVENT_FIELDS, XM23_REFUSED_EVENT_ORDER, XM23_REFUSED_INSTRUCTION,
+        XM23_REFUSED_EVENT_TWINS,
     };
     const char *const none = xm23_refusal_text(0xFF);
     size_t i, j;
@@ -287,7 +288,7 @@ static void near_misses(void)
     put_two(memory + 0x1000, 0x3FFF);
     ran("n 1,000,000", XM23_MAX_STEPS, XM23_REASON_DONE, XM23_MAX_STEPS);
     for (i = 0; i < XM23_MAX_EVENTS; i++)
-        put_event(i, (uint32_t)(i / 3), 7, 0);
+        put_event(i, (uint32_t)(i / 8), (unsigned)(7 - i % 8), 0);
     events_len = XM23_EVENT_SIZE * XM23_MAX_EVENTS;
     ran("4,096 events", 1, XM23_REASON_DONE, 1);
     put_two(record + XM23_RECORD_PSW, 0xE1FF);
@@ -341,8 +342,17 @@ static void refused_runs(void)
     turned_back("byte 7 and the order", 1, XM23_REFUSED_EVENT_FIELDS);
     put_event(1, 4, 0, 0);
     turned_back("order", 1, XM23_REFUSED_EVENT_ORDER);
-    put_event(1, 5, 0, 0);
+    put_event(1, 5, 1, 0);
     ran("equal steps", 1, XM23_REASON_DONE, 1);
+    events_len = 3 * XM23_EVENT_SIZE;
+    put_event(2, 5, 0, 1);
+    turned_back("one device twice on a step", 1, XM23_REFUSED_EVENT_TWINS);
+    turned_back("the same, no step asked for", 0, XM23_REFUSED_EVENT_TWINS);
+    put_event(1, 4, 1, 0);
+    turned_back("twins and the order", 1, XM23_REFUSED_EVENT_ORDER);
+    put_event(1, 5, 1, 0);
+    put_event(2, 6, 0, 0);
+    ran("the step after", 1, XM23_REASON_DONE, 1);
 }
 
 /* No bytes: no list of events, and a memory and a record that are not there. */

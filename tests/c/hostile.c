@@ -94,7 +94,8 @@ static uint64_t call(uint64_t n)
     check("guard bytes", guarded(&memory) && guarded(&record) && guarded(&events));
     check("events", memcmp(events.at, events_before, events.length) == 0);
     if (XM23_RUN_REFUSAL(reply)) {
-        check("refusal", reply >= XM23_REFUSED_MEMORY && reply <= XM23_REFUSED_EVENT_ORDER);
+        check("refusal", (reply >= XM23_REFUSED_MEMORY && reply <= XM23_REFUSED_EVENT_ORDER) ||
+                             reply == XM23_REFUSED_EVENT_TWINS);
         check("memory as it was", memcmp(memory.at, memory_before, memory.length) == 0);
         check("record as it was", memcmp(record.at, record_before, record.length) == 0);
     } else {
@@ -116,7 +117,22 @@ static unsigned expected(size_t memory_len, size_t record_len, size_t events_len
     return XM23_ACCEPTED;
 }
 
-/* Every combination of lengths and numbers, all bytes 0: the refusal goes by lengths and n alone. */
+/* Whole records of a list that is accepted: every device on each step, one step after the other. */
+static void list_events(void)
+{
+    size_t i;
+    memset(events.at, 0, events.length);
+    for (i = 0; i + XM23_EVENT_SIZE <= events.length; i += XM23_EVENT_SIZE) {
+        events.at[i + XM23_EVENT_STEP] = (uint8_t)(i / 64);
+        events.at[i + XM23_EVENT_STEP + 1] = (uint8_t)(i / 64 >> 8);
+        events.at[i + XM23_EVENT_DEVICE] = i / 8 % 8;
+    }
+}
+
+/*
+ * Every combination of lengths and numbers, all other bytes 0: the refusal goes by lengths and n alone. Where nothing is
+ * refused, a list of equal records is.
+ */
 static void lengths(int at_end, int brief)
 {
     static const size_t memories[] = {0, 1, 35, 65535, 65536, 65537, 131072};
@@ -136,8 +152,12 @@ static void lengths(int at_end, int brief)
                     lend(&events, lists[e], at_end);
                     memset(memory.at, 0, memory.length);
                     memset(record.at, 0, record.length);
-                    memset(events.at, 0, events.length);
+                    list_events();
                     check("refusal by lengths", XM23_RUN_REFUSAL(call(numbers[n])) == refusal);
+                    if (refusal == XM23_ACCEPTED && events.length > XM23_EVENT_SIZE) {
+                        memset(events.at, 0, events.length);
+                        check("twins", call(numbers[n]) == XM23_REFUSED_EVENT_TWINS);
+                    }
                 }
 }
 

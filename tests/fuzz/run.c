@@ -154,7 +154,8 @@ static void check_reply(void)
     check("the reply has more than its parts", library.reply >> 40 == 0);
     check("the events are changed", holds(&library.events, setup.events));
     if (refusal) {
-        check("a refusal has a reason or steps", library.reply == refusal && refusal < 8);
+        check("a refusal has a reason or steps", library.reply == refusal);
+        check("a refusal that the call does not have", refusal < 8 || refusal == XM23_REFUSED_EVENT_TWINS);
         check("a refused call changes a byte", as_handed_over(&library));
         return;
     }

@@ -59,11 +59,22 @@ static void fill(struct setup *s, uint64_t seed)
     }
 }
 
-/* One event record more, where there is room. */
+/* Whether a record of this step and this device stands at the list's end, among those of the same step. */
+static int has_event(const struct setup *s, uint32_t step, unsigned device)
+{
+    uint8_t bytes[4];
+    put_four(bytes, step);
+    for (size_t i = s->events_len; i >= 8 && !memcmp(s->events + i - 8, bytes, 4); i -= 8)
+        if (s->events[i - 4] == device)
+            return 1;
+    return 0;
+}
+
+/* One event record more, where there is room and the list has no such one: twins are made by BREAK alone. */
 static void add_event(struct setup *s, uint32_t step, unsigned device, unsigned data)
 {
     uint8_t *e = s->events + s->events_len;
-    if (s->events_len + 8 > LONGEST_EVENTS)
+    if (s->events_len + 8 > LONGEST_EVENTS || has_event(s, step, device))
         return;
     put_four(e, step);
     e[4] = (uint8_t)device;
@@ -86,14 +97,23 @@ static void break_n(struct setup *s, unsigned a, unsigned b)
         s->record[21] = 1;
 }
 
-/* The last record again and again, up to 4,096 records, or 4,097 where `over` is set. */
-static void fill_list(struct setup *s, int over)
+/*
+ * Events on every device on each step after the last record's, up to 4,096 records, or 4,097 where `over` is set; or the
+ * last record again and again where `twins` is.
+ */
+static void fill_list(struct setup *s, int over, int twins)
 {
     uint8_t last[8] = {0};
+    uint32_t step;
     if (s->events_len >= 8)
         memcpy(last, s->events + s->events_len / 8 * 8 - 8, 8);
+    step = last[0] | (uint32_t)last[1] << 8 | (uint32_t)last[2] << 16 | (uint32_t)last[3] << 24;
     s->events_len = s->events_len / 8 * 8;
-    while (s->events_len < 8 * (4096u + !!over)) {
+    for (unsigned i = 0; s->events_len < 8 * (4096u + !!over); i++) {
+        if (!twins) {
+            put_four(last, step + 1 + i / 8);
+            last[4] = i % 8;
+        }
         memcpy(s->events + s->events_len, last, 8);
         s->events_len += 8;
     }
@@ -119,8 +139,8 @@ static void break_rule(struct setup *s, unsigned what, unsigned a, unsigned b)
         if (s->events_len >= 8 * (size_t)(1 + a / 8))
             s->events[s->events_len / 8 * 8 - 8 * (1 + a / 8) + a % 8] = (uint8_t)b;
         break;
-    case 5: /* a full list, or one too many */
-        fill_list(s, a & 1);
+    case 5: /* a full list, or one too many, with twins or without */
+        fill_list(s, a & 1, a & 2);
         break;
     case 6: /* the count so that with n it is at the limit, or some above or below */
         put_four(s->record + 22, (uint32_t)(0xFFFFFFFF - s->n + (a & 1 ? b % 4 : -(b % 4))));

@@ -2,14 +2,13 @@
 -- content and number (document 01, "Who can be turned back", "One step, in order").
 -- Assumes nothing.
 use Prim.Native.Nat.{ℕ, _+_, _*_}
+use mathlib.Core.Bool.{cond}
 use mathlib.Core.List.{List}
 use Rattle.machine.specs.declared.Verdict.{Verdict}
-use Rattle.machine.specs.declared.Verdict.the-variants.{Accepted, MemoryLength, StepCount, RecordLength, RecordBits}
-use Rattle.machine.specs.declared.Verdict.the-variants.{EventsLength, EventFields, EventOrder}
 use Rattle.machine.specs.Events.{eventsOf}
 use Rattle.machine.specs.Record.{stateIn, recordOf}
 use Rattle.machine.specs.Run.{Run, runOf, reasonOf, reasonNumber}
-use Rattle.machine.specs.Refusal.{verdictOf, refusalNumber}
+use Rattle.machine.specs.Refusal.{verdictOf, refusalNumber, accepted?}
 
 pub record Closing : Type 0 where
   pub reply : ℕ
@@ -37,14 +36,7 @@ closing x =
 
 -- the closing that a verdict gives
 abbrev pub closingOf : Verdict → (memory r : List ℕ) → Run → Closing
-closingOf Accepted memory r x = closing x
-closingOf MemoryLength memory r x = turnedBack MemoryLength memory r
-closingOf StepCount memory r x = turnedBack StepCount memory r
-closingOf RecordLength memory r x = turnedBack RecordLength memory r
-closingOf RecordBits memory r x = turnedBack RecordBits memory r
-closingOf EventsLength memory r x = turnedBack EventsLength memory r
-closingOf EventFields memory r x = turnedBack EventFields memory r
-closingOf EventOrder memory r x = turnedBack EventOrder memory r
+closingOf v memory r x = cond (accepted? v) (closing x) (turnedBack v memory r)
 
 -- the run call on its raw buffers and numbers
 unfoldable pub runCallOf : (memory r events : List ℕ) (n : ℕ) → Closing

@@ -1,13 +1,14 @@
--- Which runs are turned back (document 01, "Who can be turned back"): a definition over the raw buffers and numbers.
+-- Which runs are turned back (document 01, "Who can be turned back"; document 02, §3): a definition over the raw buffers
+-- and numbers.
 -- Assumes nothing.
 use Prim.Native.Nat.{ℕ, zero, suc, _+_, _*_, _/_, _%_}
-use mathlib.Core.Bool.{Bool, true, false, cond, not, _&&_}
+use mathlib.Core.Bool.{Bool, true, false, cond, not, _&&_, _||_}
 use mathlib.Core.List.{List, [], _∷_}
 use lib.Dec.{eqb, ltb, leb}
 use lib.ListN.{length}
 use Rattle.machine.specs.declared.Verdict.{Verdict}
 use Rattle.machine.specs.declared.Verdict.the-variants.{Accepted, MemoryLength, StepCount, RecordLength, RecordBits}
-use Rattle.machine.specs.declared.Verdict.the-variants.{EventsLength, EventFields, EventOrder}
+use Rattle.machine.specs.declared.Verdict.the-variants.{EventsLength, EventFields, EventOrder, EventTwins}
 use Rattle.machine.specs.Memory.{byteAt}
 use Rattle.machine.specs.Record.{twoAt, fourAt}
 use Rattle.machine.specs.Events.{eventAt, eventCount}
@@ -45,21 +46,49 @@ inOrderBelow b zero = true
 inOrderBelow b (suc zero) = true
 inOrderBelow b (suc (suc n)) = inOrderBelow b (suc n) && inOrder b n
 
--- The first rule that is broken, in the order in which they are tested. The sum of 2 is compared once 3 has passed.
--- [01 Who can be turned back]
-unfoldable pub verdictOf : (memory r events : List ℕ) (n : ℕ) → Verdict
-verdictOf memory r events n =
-    cond (not (eqb (length memory) 65536)) MemoryLength
-    (cond (ltb 1000000 n) StepCount
-    (cond (not (eqb (length r) 32)) RecordLength
-    (cond (ltb 4294967295 (fourAt r 22 + n)) StepCount
-    (cond (not (recordFits r)) RecordBits
-    (cond (not (eventsFit (length events))) EventsLength
-    (cond (not (eventsFitBelow events (eventCount events))) EventFields
-    (cond (not (inOrderBelow events (eventCount events))) EventOrder
-    Accepted)))))))
+-- One of the first n records is of this step and this device. [02 §3]
+unfoldable pub eventBelow : List ℕ → (step device n : ℕ) → Bool
+eventBelow b s d zero = false
+eventBelow b s d (suc n) = eventBelow b s d n || eqb (eventAt b n .step) s && eqb (eventAt b n .device) d
 
--- The paper's number of each case; 0 stands for none. [01 Who can be turned back]
+-- Of the first n records "two records share step and device": one has the step and the device of another before it,
+-- wherever the two stand and whatever their data. [02 §3]
+unfoldable pub twinsBelow : List ℕ → ℕ → Bool
+twinsBelow b zero = false
+twinsBelow b (suc n) = twinsBelow b n || eventBelow b (eventAt b n .step) (eventAt b n .device) n
+
+-- A rule: whether it is broken, and the verdict then. [01 Who can be turned back]
+pub record Rule : Type 0 where
+  pub broken : Bool
+  pub verdict : Verdict
+
+abbrev pub rule : Bool → Verdict → Rule
+rule t v = record { broken = t; verdict = v }
+
+-- The rules in the order in which they are tested. The sum of 2 is compared once 3 has passed; 13 comes "after 7".
+-- [01 Who can be turned back; 02 §3]
+abbrev pub rulesOf : (memory r events : List ℕ) (n : ℕ) → List Rule
+rulesOf memory r events n =
+    rule (not (eqb (length memory) 65536)) MemoryLength
+    ∷ rule (ltb 1000000 n) StepCount
+    ∷ rule (not (eqb (length r) 32)) RecordLength
+    ∷ rule (ltb 4294967295 (fourAt r 22 + n)) StepCount
+    ∷ rule (not (recordFits r)) RecordBits
+    ∷ rule (not (eventsFit (length events))) EventsLength
+    ∷ rule (not (eventsFitBelow events (eventCount events))) EventFields
+    ∷ rule (not (inOrderBelow events (eventCount events))) EventOrder
+    ∷ rule (twinsBelow events (eventCount events)) EventTwins
+    ∷ []
+
+abbrev pub firstBroken : List Rule → Verdict
+firstBroken [] = Accepted
+firstBroken (x ∷ xs) = cond (x .broken) (x .verdict) (firstBroken xs)
+
+-- The first rule that is broken. [01 Who can be turned back]
+unfoldable pub verdictOf : (memory r events : List ℕ) (n : ℕ) → Verdict
+verdictOf memory r events n = firstBroken (rulesOf memory r events n)
+
+-- The papers' number of each case; 0 stands for none. [01 Who can be turned back; 02 §3]
 abbrev pub refusalNumber : Verdict → ℕ
 refusalNumber Accepted = 0
 refusalNumber MemoryLength = 1
@@ -69,3 +98,7 @@ refusalNumber RecordBits = 4
 refusalNumber EventsLength = 5
 refusalNumber EventFields = 6
 refusalNumber EventOrder = 7
+refusalNumber EventTwins = 13
+
+abbrev pub accepted? : Verdict → Bool
+accepted? v = eqb (refusalNumber v) 0

@@ -44,4 +44,5 @@ pub enum Verdict {
     EventsLength,
     EventFields,
     EventOrder,
+    EventTwins,
 }

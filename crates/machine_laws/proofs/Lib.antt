@@ -6,5 +6,6 @@ pub mod Plans
 pub mod Runs
 pub mod Steps
 pub mod Writes
+pub mod Twins
 pub mod Records
 pub mod Calls

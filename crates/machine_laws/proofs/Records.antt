@@ -2,7 +2,7 @@
 use Prim.Native.Nat.{ℕ, zero, suc, _+_, _*_, _/_, _%_, _-_, _<_, _≤_}
 use native.Mathlib.Nat.{add-zero, add-suc}
 use native.Mathlib.Omega.{arith}
-use mathlib.Core.Bool.{Bool, true, false, cond, not, _&&_}
+use mathlib.Core.Bool.{Bool, true, false, cond, not, _&&_, false≢true}
 use mathlib.Core.List.{List, [], _∷_}
 use mathlib.Core.Logic.{_≢_}
 use mathlib.Core.Path.{_≡_, refl, sym, ap, subst, _∙_}
@@ -13,18 +13,21 @@ use borrow.Author.Tests.{not-false}
 use Rattle.word.proofs.Laws.{bit-read, bit-back}
 use Rattle.machine.specs.declared.Verdict.{Verdict}
 use Rattle.machine.specs.declared.Verdict.the-variants.{Accepted, MemoryLength, StepCount, RecordLength, RecordBits, EventsLength}
-use Rattle.machine.specs.declared.Verdict.the-variants.{EventFields, EventOrder}
+use Rattle.machine.specs.declared.Verdict.the-variants.{EventFields, EventOrder, EventTwins}
 use Rattle.machine.specs.State.{State, reg}
 use Rattle.machine.specs.Memory.{byteAt, lowByte, highByte}
 use Rattle.machine.specs.Record.{twoAt, fourAt, stateIn, recordOf, countByte}
 use Rattle.machine.specs.Events.{eventAt, eventsFrom, eventsOf, eventCount}
 use Rattle.machine.specs.Run.{runOf}
-use Rattle.machine.specs.Refusal.{recordFits, eventsFit, eventFits, eventsFitBelow, inOrder, inOrderBelow, verdictOf, refusalNumber}
+use Rattle.machine.specs.Refusal.{recordFits, eventsFit, eventFits, eventsFitBelow, inOrder, inOrderBelow, twinsBelow}
+use Rattle.machine.specs.Refusal.{verdictOf, refusalNumber}
 use Rattle.machine_laws.specs.Bounds.{Each, Bytes, Tidy, EventFits}
 use Rattle.machine_laws.specs.Passed.{Passed}
+use Rattle.machine_laws.specs.Twins.{Twins}
 use Rattle.machine_laws.proofs.Cases.{bool-cases, eq-of, lt-of, ge-of, le-of, and-left, and-right}
 use Rattle.machine_laws.proofs.Memory.{word-back}
 use Rattle.machine_laws.proofs.Runs.{steps-le}
+use Rattle.machine_laws.proofs.Twins.{twins-met}
 use Rattle.machine_laws.proofs.Steps.{run-tidy, run-count}
 
 -- ---- lists of a known length, cell by cell
@@ -149,6 +152,18 @@ pub not-met : (t : Bool) (x y : Verdict) → refusalNumber x ≢ 0 → cond t x 
 not-met true x y h e = absurd (h (ap refusalNumber e))
 not-met false x y h e = (refl, e)
 
+-- only an acceptance has the number 0
+pub is-accepted : (v : Verdict) → refusalNumber v ≡ 0 → v ≡ Accepted
+is-accepted Accepted e = refl
+is-accepted MemoryLength e = absurd (omega arith)
+is-accepted StepCount e = absurd (omega arith)
+is-accepted RecordLength e = absurd (omega arith)
+is-accepted RecordBits e = absurd (omega arith)
+is-accepted EventsLength e = absurd (omega arith)
+is-accepted EventFields e = absurd (omega arith)
+is-accepted EventOrder e = absurd (omega arith)
+is-accepted EventTwins e = absurd (omega arith)
+
 fit-below : (b : List ℕ) (n : ℕ) → eventsFitBelow b n ≡ true → (k : ℕ) → k < n → eventFits b k ≡ true
 unfolding eventsFitBelow
 fit-below b zero e k h = absurd (omega arith)
@@ -232,6 +247,7 @@ passed memory r events n e =
     let p6 = not-met (not (eventsFit (length events))) EventsLength _ (omega arith) (p5 .1) in
     let p7 = not-met (not (eventsFitBelow events (eventCount events))) EventFields _ (omega arith) (p6 .1) in
     let p8 = not-met (not (inOrderBelow events (eventCount events))) EventOrder _ (omega arith) (p7 .1) in
+    let p9 = not-met (twinsBelow events (eventCount events)) EventTwins _ (omega arith) (p8 .1) in
     let facts = record-facts r (not-false (recordFits r) (p5 .0)) in
     let lengths = not-false (eventsFit (length events)) (p6 .0) in
     let fits = not-false (eventsFitBelow events (eventCount events)) (p7 .0) in
@@ -255,6 +271,9 @@ passed memory r events n e =
           let w : j + (k - j) ≡ k = omega arith in
           subst (λ x. eventAt events j .step ≤ eventAt events x .step) w
           (sorted events (eventCount events) order j (k - j) (omega arith));
+      no-twins = λ j k h l s d.
+          let t : Twins events (eventCount events) = record { one = j; other = k; before = h; within = l; step = s; device = d } in
+          false≢true (sym (p9 .0) ∙ twins-met events (eventCount events) t);
     }
 
 -- ---- an accepted start is tidy

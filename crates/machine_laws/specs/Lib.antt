@@ -1,3 +1,4 @@
 pub mod Bounds
 pub mod Loads
 pub mod Passed
+pub mod Twins

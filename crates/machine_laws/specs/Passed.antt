@@ -1,15 +1,16 @@
--- What the run call has settled once it refuses nothing (document 01, "Who can be turned back"): each rule as a fact
--- about the buffers and the step count.
+-- What the run call has settled once it refuses nothing (document 01, "Who can be turned back"; document 02, §3): each
+-- rule as a fact about the buffers and the step count.
 -- Assumes nothing.
 use Prim.Native.Nat.{ℕ, _+_, _*_, _/_, _%_, _<_, _≤_}
 use mathlib.Core.List.{List}
+use mathlib.Core.Logic.{_≢_}
 use mathlib.Core.Path.{_≡_}
 use lib.ListN.{length}
 use Rattle.machine.specs.Memory.{byteAt}
 use Rattle.machine.specs.Record.{twoAt, fourAt}
 use Rattle.machine.specs.Events.{eventAt, eventCount}
 
--- Each rule by its number. [01 Who can be turned back]
+-- Each rule by its number. [01 Who can be turned back; 02 §3]
 pub record Passed (memory r events : List ℕ) (n : ℕ) : Type 0 where
   -- 1
   pub memory-size : length memory ≡ 65536
@@ -33,3 +34,6 @@ pub record Passed (memory r events : List ℕ) (n : ℕ) : Type 0 where
   pub event-zeros : (k : ℕ) → k < eventCount events → twoAt events (8 * k + 6) ≡ 0
   -- 7
   pub in-order : (j k : ℕ) → j ≤ k → k < eventCount events → eventAt events j .step ≤ eventAt events k .step
+  -- 13
+  pub no-twins : (j k : ℕ) → j < k → k < eventCount events → eventAt events j .step ≡ eventAt events k .step
+      → eventAt events j .device ≢ eventAt events k .device

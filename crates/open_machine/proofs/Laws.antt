@@ -8,19 +8,18 @@ use native.Mathlib.Omega.{arith}
 use mir.Val.{boolByte}
 use Rattle.machine.specs.declared.Reason.the-variants.{Done, Halted}
 use Rattle.machine.specs.declared.Verdict.{Verdict}
-use Rattle.machine.specs.declared.Verdict.the-variants.{Accepted, MemoryLength, StepCount, RecordLength, RecordBits, EventsLength}
-use Rattle.machine.specs.declared.Verdict.the-variants.{EventFields, EventOrder}
 use Rattle.machine.specs.State.{State}
 use Rattle.machine.specs.Record.{fourAt, recordOf}
 use Rattle.machine.specs.Events.{eventsOf}
 use Rattle.machine.specs.Step.{stepOf}
 use Rattle.machine.specs.Refusal.{verdictOf, refusalNumber}
 use Rattle.machine.specs.Run.{Run, ran, runOf, reasonOf, reasonNumber}
+use Rattle.machine.specs.Call.{replyNumber}
 use Rattle.machine_laws.specs.Passed.{Passed}
-use Rattle.machine_laws.proofs.Cases.{bool-cases}
+use Rattle.machine_laws.proofs.Cases.{bool-cases, is-eq, not-eq}
 use Rattle.machine_laws.proofs.Records.{four-back}
 use Rattle.machine_laws.proofs.Runs.{step-halted, run-zero, run-next, run-halted}
-use Rattle.open_machine.specs.Advance.{Advance, advancedBy, advanceFor, advanceOf}
+use Rattle.open_machine.specs.Advance.{Advance, leftAlone, advancedBy, advanceFor, advanceOf}
 
 -- ---- the step count
 
@@ -41,24 +40,12 @@ abbrev reached : ℕ → State → Advance
 reached k s = record { reply = k; state = s }
 
 refused : (v : Verdict) (s : State) (x : Run) → refusalNumber v ≢ 0 → advanceFor v s x ≡ reached (refusalNumber v) s
-refused Accepted s x h = absurd (h refl)
-refused MemoryLength s x h = refl
-refused StepCount s x h = refl
-refused RecordLength s x h = refl
-refused RecordBits s x h = refl
-refused EventsLength s x h = refl
-refused EventFields s x h = refl
-refused EventOrder s x h = refl
+refused v s x h =
+    let reply : replyNumber (refusalNumber v) 0 0 ≡ refusalNumber v = omega arith in
+    ap (λ t. cond t (advancedBy x) (leftAlone v s)) (not-eq h) ∙ ap (λ k. reached k s) reply
 
 accepted : (v : Verdict) (s : State) (x : Run) → refusalNumber v ≡ 0 → advanceFor v s x ≡ advancedBy x
-accepted Accepted s x e = refl
-accepted MemoryLength s x e = absurd (omega arith)
-accepted StepCount s x e = absurd (omega arith)
-accepted RecordLength s x e = absurd (omega arith)
-accepted RecordBits s x e = absurd (omega arith)
-accepted EventsLength s x e = absurd (omega arith)
-accepted EventFields s x e = absurd (omega arith)
-accepted EventOrder s x e = absurd (omega arith)
+accepted v s x e = ap (λ t. cond t (advancedBy x) (leftAlone v s)) (is-eq e)
 
 -- the reason's number is the halted mark
 mark : (h : Bool) → boolByte h ≡ reasonNumber (cond h Halted Done)

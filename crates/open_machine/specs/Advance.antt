@@ -2,14 +2,13 @@
 -- memory that it leaves. It is turned back as the run call is on the machine's own record.
 -- Assumes nothing.
 use Prim.Native.Nat.{ℕ}
+use mathlib.Core.Bool.{cond}
 use mathlib.Core.List.{List}
 use Rattle.machine.specs.declared.Verdict.{Verdict}
-use Rattle.machine.specs.declared.Verdict.the-variants.{Accepted, MemoryLength, StepCount, RecordLength, RecordBits}
-use Rattle.machine.specs.declared.Verdict.the-variants.{EventsLength, EventFields, EventOrder}
 use Rattle.machine.specs.State.{State}
 use Rattle.machine.specs.Record.{recordOf}
 use Rattle.machine.specs.Events.{eventsOf}
-use Rattle.machine.specs.Refusal.{verdictOf, refusalNumber}
+use Rattle.machine.specs.Refusal.{verdictOf, refusalNumber, accepted?}
 use Rattle.machine.specs.Run.{Run, runOf, reasonOf, reasonNumber}
 use Rattle.machine.specs.Call.{replyNumber}
 
@@ -28,14 +27,7 @@ advancedBy x = record { reply = replyNumber 0 (reasonNumber (reasonOf x)) (x .st
 
 -- the advance that a verdict gives. [01 Who can be turned back]
 abbrev pub advanceFor : Verdict → State → Run → Advance
-advanceFor Accepted s x = advancedBy x
-advanceFor MemoryLength s x = leftAlone MemoryLength s
-advanceFor StepCount s x = leftAlone StepCount s
-advanceFor RecordLength s x = leftAlone RecordLength s
-advanceFor RecordBits s x = leftAlone RecordBits s
-advanceFor EventsLength s x = leftAlone EventsLength s
-advanceFor EventFields s x = leftAlone EventFields s
-advanceFor EventOrder s x = leftAlone EventOrder s
+advanceFor v s x = cond (accepted? v) (advancedBy x) (leftAlone v s)
 
 -- an open machine advanced by n steps; its verdict is the run call's on the machine's own record.
 -- [01 State and memory; 01 Who can be turned back]

@@ -1,16 +1,45 @@
--- Rules 6 and 7 over the whole list: one record that breaks the rule breaks it for the list; and the step count of a record
--- that has its length. Assumes nothing.
+-- The first broken rule, test by test; rules 6 and 7 over the whole list: one record that breaks the rule breaks it for the
+-- list; and the step count of a record that has its length. Assumes nothing.
 use Prim.Native.Nat.{ℕ, zero, suc, _<_, _≤_}
-use mathlib.Core.Bool.{true, false, cond, _&&_, and-false}
-use mathlib.Core.List.{List}
+use mathlib.Core.Bool.{Bool, true, false, cond, _&&_, and-false, false≢true}
+use mathlib.Core.List.{List, [], _∷_}
 use mathlib.Core.Path.{_≡_, refl, sym, ap, subst, _∙_}
 use native.Mathlib.Omega.{arith}
 use lib.Dec.{eqb, ltb}
-use lib.ListN.{length}
+use lib.ListN.{length, drop}
+use lib.Seq.{drop-nil}
 use borrow.Author.Tests.{eqb-true, eqb-false, le-ltb}
+use Rattle.machine.specs.declared.Verdict.{Verdict}
+use Rattle.machine.specs.declared.Verdict.the-variants.{Accepted}
 use Rattle.machine.specs.Record.{fourAt}
-use Rattle.machine.specs.Refusal.{eventFits, eventsFitBelow, inOrder, inOrderBelow}
+use Rattle.machine.specs.Refusal.{eventFits, eventsFitBelow, inOrder, inOrderBelow, Rule, firstBroken}
 use Rattle.machine_laws.proofs.Cases.{bool-cases, and-left, and-both}
+
+-- ---- the first broken rule
+
+-- whether rule k is broken, and its verdict
+abbrev pub broken? : ℕ → List Rule → Bool
+broken? k [] = false
+broken? zero (x ∷ xs) = x .broken
+broken? (suc k) (x ∷ xs) = broken? k xs
+
+abbrev pub verdict? : ℕ → List Rule → Verdict
+verdict? k [] = Accepted
+verdict? zero (x ∷ xs) = x .verdict
+verdict? (suc k) (x ∷ xs) = verdict? k xs
+
+-- rule k holds, so the first that is broken comes after it; rule k is broken, and none before it
+pub holds : (k : ℕ) (xs : List Rule) {v : Verdict} → v ≡ firstBroken (drop k xs) → broken? k xs ≡ false → v ≡ firstBroken (drop (suc k) xs)
+holds k [] e h = e ∙ ap firstBroken (drop-nil k)
+holds zero (x ∷ xs) e h = e ∙ ap (λ t. cond t (x .verdict) (firstBroken xs)) h
+holds (suc k) (x ∷ xs) e h = holds k xs e h
+
+pub breaks : (k : ℕ) (xs : List Rule) {v : Verdict} → v ≡ firstBroken (drop k xs) → broken? k xs ≡ true → verdict? k xs ≡ v
+breaks k [] e h = absurd (false≢true h)
+breaks zero (x ∷ xs) e h = sym (e ∙ ap (λ t. cond t (x .verdict) (firstBroken xs)) h)
+breaks (suc k) (x ∷ xs) e h = breaks k xs e h
+
+-- ---- rules 6 and 7
 
 module _ (b : List ℕ) where
   pub fits-none : eventsFitBelow b 0 ≡ true

@@ -4,10 +4,14 @@ ghost use mathlib.Core.Bool.{true, false, cond};
 ghost use Prim.Native.Nat.{suc, _+_, _*_, _<_, _≤_};
 ghost use lib.Dec.{ltb};
 ghost use lib.ListN.{length};
+ghost use Rattle.word.specs.Psw.{bitOf, putBit};
 ghost use Rattle.machine.specs.Record.{fourAt};
 ghost use Rattle.machine.specs.Events.{eventAt, eventCount};
 ghost use Rattle.machine.specs.Refusal.{recordFits, eventsFit, verdictOf, refusalNumber};
 ghost use Rattle.machine.specs.Refusal.{eventFits, eventsFitBelow, inOrder, inOrderBelow};
+ghost use Rattle.machine.specs.Refusal.{twinsBelow};
+ghost use Rattle.devices.specs.Cursor.{Ordered};
+use devices::step_at;
 use machine::Verdict;
 use state_record::four_at;
 use state_record::two_at;
@@ -97,6 +101,58 @@ fn records_in_order(events: &[u8]) -> usize
     n
 }
 
+// The marks of a record's step, from those of the step before it in the list: none is set yet where
+// the step has risen.
+fn marks_on(step: u32, before: u32, marks: u8) -> u8
+    ensures { λ x. ⌜ x ≡ cond (ltb before step) 0 marks ⌝ }
+{
+    if before < step {
+        return 0;
+    }
+    marks
+}
+
+// Is the mark of device d set?
+fn marked(marks: u8, d: u8) -> bool
+    requires { ⌜ d < 8 ⌝ }
+    ensures { λ x. ⌜ x ≡ bitOf d marks ⌝ }
+{
+    (marks >> d) % 2 == 1
+}
+
+// The marks with that of device d set.
+fn mark(marks: u8, d: u8) -> u8
+    requires { ⌜ d < 8 ⌝ }
+    ensures { λ x. ⌜ x ≡ putBit d marks true ⌝ }
+{
+    marks | 1 << d
+}
+
+// Rule 13: do two records share step and device? One pass that marks the devices of the current
+// step, which finds them in every list in order, since the records of a step stand together there.
+fn has_twins(events: &[u8]) -> bool
+    requires { ⌜ eventsFitBelow (now events) (eventCount (now events)) ≡ true ⌝ }
+    ensures { λ x. ⌜ (Ordered (now (events .entry))
+        → x ≡ twinsBelow (now (events .entry)) (eventCount (now (events .entry)))) ⌝ }
+{
+    let n = events.len() / 8;
+    let mut k: usize = 0;
+    let mut before: u32 = 0;
+    let mut marks: u8 = 0;
+    while k < n {
+        let step = step_at(events, k);
+        let device = events[8 * k + 4];
+        marks = marks_on(step, before, marks);
+        if marked(marks, device) {
+            return true;
+        }
+        marks = mark(marks, device);
+        before = step;
+        k += 1;
+    }
+    false
+}
+
 // The step count of a record, 0 where the record ends before it does.
 fn count_of(r: &[u8]) -> u32
     ensures { λ x. ⌜ x ≡ cond (ltb (length (now (r .entry))) 26) 0 (fourAt (now (r .entry)) 22) ⌝ }
@@ -137,15 +193,19 @@ pub fn verdict(memory: &[u8], state: &[u8], events: &[u8], n: u64) -> Verdict
     if !fit {
         return Verdict::EventFields;
     }
+    let twins = has_twins(events);
     if ordered < count {
         return Verdict::EventOrder;
+    }
+    if twins {
+        return Verdict::EventTwins;
     }
     Verdict::Accepted
 }
 
-// The paper's number of a verdict; 0 stands for none.
+// The papers' number of a verdict; 0 stands for none.
 pub fn refusal_number(v: Verdict) -> u64
-    ensures { λ r. ⌜ (r ≡ refusalNumber v) × (r ≤ 7) ⌝ }
+    ensures { λ r. ⌜ (r ≡ refusalNumber v) × (r ≤ 255) ⌝ }
 {
     match v {
         Verdict::Accepted => 0,
@@ -156,5 +216,6 @@ pub fn refusal_number(v: Verdict) -> u64
         Verdict::EventsLength => 5,
         Verdict::EventFields => 6,
         Verdict::EventOrder => 7,
+        Verdict::EventTwins => 13,
     }
 }

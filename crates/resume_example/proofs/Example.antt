@@ -19,7 +19,7 @@ use Rattle.machine.specs.Effect.{effectOf, loaded}
 use Rattle.machine.specs.Step.{Act, stopped, pull, chain, accept, sleep, fault, halt, skip, trap, plain, loads, stores}
 use Rattle.machine.specs.Step.{outcome, advanced, granted, interruptOf, perform}
 use Rattle.machine.specs.Run.{runOf}
-use Rattle.machine.specs.Refusal.{verdictOf, recordFits, eventFits, eventsFitBelow, inOrder, inOrderBelow}
+use Rattle.machine.specs.Refusal.{verdictOf, recordFits, eventFits, eventsFitBelow, inOrder, inOrderBelow, eventBelow, twinsBelow}
 use Rattle.machine_laws.specs.Bounds.{Each, Bytes}
 use Rattle.machine_laws.proofs.Cases.{bool-cases, eq-of, neq-of, lt-of, and-left, and-right}
 use Rattle.machine_laws.proofs.Memory.{over, commit-length, commit-bytes}
@@ -89,7 +89,7 @@ small [] e = tt
 small (x ∷ l) e = (lt-of (and-left (ltb x 256) (small? l) e), small l (and-right (ltb x 256) (small? l) e))
 
 start : Start memory r events 11
-unfolding verdictOf recordFits eventFits eventsFitBelow inOrder inOrderBelow eventAt
+unfolding verdictOf recordFits eventFits eventsFitBelow inOrder inOrderBelow eventBelow twinsBelow eventAt
 start =
     record {
       memory-bytes = commit-bytes program zeros (small-writes program refl) zeros-bytes;

@@ -1,6 +1,6 @@
 -- The run call from its parts: refused, or run. Assumes nothing.
 use Prim.Native.Nat.{ℕ, zero, suc, _+_, _*_, _<_, _≤_}
-use mathlib.Core.Bool.{true}
+use mathlib.Core.Bool.{true, cond}
 use mathlib.Core.List.{List}
 use mathlib.Core.Logic.{_≢_}
 use mathlib.Core.Path.{_≡_, refl, sym, ap, _∙_}
@@ -8,17 +8,15 @@ use native.Mathlib.Omega.{arith}
 use Rattle.machine.specs.declared.Machine.{Machine}
 use Rattle.machine.specs.declared.Reason.{Reason}
 use Rattle.machine.specs.declared.Verdict.{Verdict}
-use Rattle.machine.specs.declared.Verdict.the-variants.{Accepted, MemoryLength, StepCount, RecordLength, RecordBits, EventsLength}
-use Rattle.machine.specs.declared.Verdict.the-variants.{EventFields, EventOrder}
 use Rattle.machine.specs.State.{State, stateOf}
 use Rattle.machine.specs.Record.{fourAt, stateIn, recordOf}
 use Rattle.machine.specs.Events.{eventAt, eventCount, eventsOf}
 use Rattle.machine.specs.Refusal.{eventFits, eventsFitBelow, inOrder, inOrderBelow, verdictOf, refusalNumber}
 use Rattle.machine.specs.Run.{Run, ran, runOf, reasonOf, reasonNumber}
-use Rattle.machine.specs.Call.{Closing, closing, closingOf, runCallOf}
+use Rattle.machine.specs.Call.{Closing, replyNumber, turnedBack, closing, closingOf, runCallOf}
 use Rattle.machine_laws.specs.Passed.{Passed}
-use Rattle.machine_laws.proofs.Cases.{and-both, is-lt, is-eq, is-le}
-use Rattle.machine_laws.proofs.Records.{passed}
+use Rattle.machine_laws.proofs.Cases.{and-both, is-lt, is-eq, is-le, not-eq}
+use Rattle.machine_laws.proofs.Records.{passed, is-accepted}
 use Rattle.devices.specs.Cursor.{Ordered}
 
 -- ---- what an accepted run asks of its events
@@ -52,28 +50,13 @@ module _ (memory r events : List ℕ) (n : ℕ) (p : Passed memory r events n) w
 
 -- ---- a verdict by its number
 
-is-accepted : (v : Verdict) → refusalNumber v ≡ 0 → v ≡ Accepted
-is-accepted Accepted e = refl
-is-accepted MemoryLength e = absurd (omega arith)
-is-accepted StepCount e = absurd (omega arith)
-is-accepted RecordLength e = absurd (omega arith)
-is-accepted RecordBits e = absurd (omega arith)
-is-accepted EventsLength e = absurd (omega arith)
-is-accepted EventFields e = absurd (omega arith)
-is-accepted EventOrder e = absurd (omega arith)
-
 abbrev closed : ℕ → (memory r : List ℕ) → Closing
 closed k memory r = record { reply = k; memory = memory; state = r }
 
 refused : (v : Verdict) (memory r : List ℕ) (x : Run) → refusalNumber v ≢ 0 → closingOf v memory r x ≡ closed (refusalNumber v) memory r
-refused Accepted memory r x h = absurd (h refl)
-refused MemoryLength memory r x h = refl
-refused StepCount memory r x h = refl
-refused RecordLength memory r x h = refl
-refused RecordBits memory r x h = refl
-refused EventsLength memory r x h = refl
-refused EventFields memory r x h = refl
-refused EventOrder memory r x h = refl
+refused v memory r x h =
+    let reply : replyNumber (refusalNumber v) 0 0 ≡ refusalNumber v = omega arith in
+    ap (λ t. cond t (closing x) (turnedBack v memory r)) (not-eq h) ∙ ap (λ k. closed k memory r) reply
 
 module _ (memory r events : List ℕ) (n k : ℕ) (v : Verdict) (e : v ≡ verdictOf memory r events n) (f : k ≡ refusalNumber v) where
   pub call-passed : k ≡ 0 → Passed memory r events n

@@ -1,26 +1,24 @@
 -- An input from its parts, and what an accepted one has settled. Assumes nothing.
 use Prim.Native.Nat.{ℕ, _+_, _-_, _≤_}
-use mathlib.Core.Path.{_≡_, refl, sym, ap, _∙_}
+use mathlib.Core.Path.{_≡_, sym, ap, _∙_}
 use mathlib.Core.Bool.{true, cond}
-use mathlib.Core.List.{List, [], _∷_}
-use mathlib.Core.Logic.{⊎-elim}
+use mathlib.Core.List.{List}
+use mathlib.Core.Logic.{_≢_}
 use native.Mathlib.Omega.{arith}
 use lib.Dec.{ltb}
 use lib.ListN.{length, take, drop, length-take, length-drop}
 use lib.Seq.{take-all}
-use types.Run.{OneOf}
 use Rattle.machine.specs.declared.Machine.{Machine}
 use Rattle.machine.specs.declared.Verdict.{Verdict}
-use Rattle.machine.specs.declared.Verdict.the-variants.{Accepted, MemoryLength, StepCount, RecordLength}
-use Rattle.machine.specs.declared.Verdict.the-variants.{RecordBits, EventsLength, EventFields, EventOrder}
+use Rattle.machine.specs.declared.Verdict.the-variants.{Accepted, MemoryLength, RecordLength}
 use Rattle.machine.specs.State.{stateOf}
 use Rattle.machine.specs.Record.{stateIn}
 use Rattle.machine.specs.Events.{eventCount, eventsOf}
-use Rattle.machine.specs.Run.{Run, ran, runOf}
-use Rattle.machine.specs.Refusal.{eventsFitBelow, inOrderBelow, verdictOf}
+use Rattle.machine.specs.Run.{ran, runOf}
+use Rattle.machine.specs.Refusal.{eventsFitBelow, inOrderBelow, verdictOf, refusalNumber}
 use Rattle.machine_laws.specs.Passed.{Passed}
-use Rattle.machine_laws.proofs.Cases.{not-lt, ge-of}
-use Rattle.machine_laws.proofs.Records.{passed, not-met}
+use Rattle.machine_laws.proofs.Cases.{not-eq, not-lt, ge-of}
+use Rattle.machine_laws.proofs.Records.{passed, not-met, is-accepted}
 use Rattle.run.proofs.Calls.{events-fit, events-ordered, count-fits}
 use Rattle.sheet.specs.Sheet.{stepsIn, recordIn, memoryIn, eventsIn, inputVerdict, lineOf, refusedLine, answered, sheetOf}
 use Rattle.sheet.specs.Parts.{runIn}
@@ -90,28 +88,18 @@ run-ready b m rb en er es ee =
 
 -- ---- the line of an input
 
+-- an input whose verdict has the number 0 is accepted
+pub accepted-of : (b : List ℕ) {v : Verdict} {k : ℕ} → v ≡ inputVerdict b → k ≡ refusalNumber v → k ≡ 0 → inputVerdict b ≡ Accepted
+accepted-of b {v} ev ek h = sym ev ∙ is-accepted v (sym ek ∙ h)
+
 pub sheet-accepted : (b : List ℕ) → inputVerdict b ≡ Accepted → sheetOf b ≡ lineOf (runIn b)
 unfolding sheetOf
 sheet-accepted b e = ap (λ (v : Verdict). answered v (runIn b)) e
 
-refused : (v : Verdict) (x : Run) → (v ≡ Accepted → ⊥) → answered v x ≡ refusedLine v
-refused Accepted x h = absurd (h refl)
-refused MemoryLength x h = refl
-refused StepCount x h = refl
-refused RecordLength x h = refl
-refused RecordBits x h = refl
-refused EventsLength x h = refl
-refused EventFields x h = refl
-refused EventOrder x h = refl
-
--- an acceptance has no tag of a refusal
-pub untagged : OneOf (1 ∷ 2 ∷ 3 ∷ 4 ∷ 5 ∷ 6 ∷ 7 ∷ []) 0 → ⊥
-untagged =
-    ⊎-elim (λ w. omega arith)
-    (⊎-elim (λ w. omega arith)
-    (⊎-elim (λ w. omega arith)
-    (⊎-elim (λ w. omega arith) (⊎-elim (λ w. omega arith) (⊎-elim (λ w. omega arith) (λ w. omega arith))))))
-
-pub sheet-refused : (b : List ℕ) (v : Verdict) → v ≡ inputVerdict b → (v ≡ Accepted → ⊥) → refusedLine v ≡ sheetOf b
+pub sheet-refused : (b : List ℕ) {v : Verdict} {k : ℕ} → v ≡ inputVerdict b → k ≡ refusalNumber v → k ≢ 0 → refusedLine k ≡ sheetOf b
 unfolding sheetOf
-sheet-refused b v e h = sym (refused v (runIn b) h) ∙ ap (λ (w : Verdict). answered w (runIn b)) e
+sheet-refused b {v} {k} ev ek h =
+    let x = runIn b in
+    ap refusedLine ek
+    ∙ sym (ap (λ t. cond t (lineOf x) (refusedLine (refusalNumber v))) (not-eq (λ (q : refusalNumber v ≡ 0). h (ek ∙ q))))
+    ∙ ap (λ (w : Verdict). answered w x) ev

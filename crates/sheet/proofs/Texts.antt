@@ -13,11 +13,9 @@ use mir.Val.{Fits, boolByte}
 use mir.Facts.{fits-lit}
 use borrow.Author.Tests.{lt-ltb, le-ltb}
 use Rattle.machine.specs.declared.Machine.{Machine}
-use Rattle.machine.specs.declared.Verdict.{Verdict}
 use Rattle.machine.specs.declared.Reason.the-variants.{Done, Halted}
 use Rattle.machine.specs.State.{stateOf}
 use Rattle.machine.specs.Run.{ran, reasonNumber}
-use Rattle.machine.specs.Refusal.{refusalNumber}
 use Rattle.sheet.specs.Text.{glyph, hexOf, decimalOf}
 use Rattle.sheet.specs.Sheet.{spaced, lineOf, refusedLine}
 use Rattle.sheet.specs.Parts.{wordsText, machineText}
@@ -114,13 +112,12 @@ line-text m steps ea eb ec ed mem =
     (field m 0) (field m 1) (field m 2) (field m 3) (field m 4) (field m 5) (field m 6) (field m 7)
     (spaced (hexOf 4 (m .psw))) (spaced (hexOf 2 (m .cex))) (spaced (hexOf 2 (m .lines))) (10 ∷ []))
 
-pub refusal-text : (v : Verdict) (n : ℕ) {x y z : List ℕ}
-    → n ≡ refusalNumber v
+pub refusal-text : (n : ℕ) {x y z : List ℕ}
     → x ≡ 82 ∷ []
-    → y ≡ x ++ ((48 + n) ∷ [])
+    → y ≡ x ++ decimalOf 6 n
     → z ≡ y ++ (10 ∷ [])
-    → z ≡ refusedLine v
-refusal-text v n en ea eb ec = rw (ec, eb, ea, en)
+    → z ≡ refusedLine n
+refusal-text n ea eb ec = rw (ec, eb, ea)
 
 -- ---- a list copied element by element
 

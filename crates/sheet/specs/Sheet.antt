@@ -1,18 +1,17 @@
 -- The program's input and its printed line (document 01, "Sheet for the markers").
 -- Assumes nothing.
-use Prim.Native.Nat.{ℕ, _+_}
+use Prim.Native.Nat.{ℕ}
 use mathlib.Core.Bool.{cond}
 use mathlib.Core.List.{List, [], _∷_, _++_}
 use lib.Dec.{ltb}
 use lib.ListN.{length, take, drop}
 use Rattle.machine.specs.declared.Verdict.{Verdict}
-use Rattle.machine.specs.declared.Verdict.the-variants.{Accepted, MemoryLength, StepCount, RecordLength, RecordBits}
-use Rattle.machine.specs.declared.Verdict.the-variants.{EventsLength, EventFields, EventOrder}
+use Rattle.machine.specs.declared.Verdict.the-variants.{MemoryLength, RecordLength}
 use Rattle.machine.specs.State.{reg}
 use Rattle.machine.specs.Record.{fourAt, stateIn}
 use Rattle.machine.specs.Events.{eventsOf}
 use Rattle.machine.specs.Run.{Run, runOf, reasonOf, reasonNumber}
-use Rattle.machine.specs.Refusal.{verdictOf, refusalNumber}
+use Rattle.machine.specs.Refusal.{verdictOf, refusalNumber, accepted?}
 use Rattle.sheet.specs.Text.{hexOf, decimalOf}
 
 -- Standard input: n (4 bytes, little-endian), state record, memory, events. [01 Sheet for the markers]
@@ -60,18 +59,11 @@ lineOf x =
     ++ (10 ∷ [])
 
 -- "`R3` for refusal 3 and so on", ended by LF. [01 Sheet for the markers]
-abbrev pub refusedLine : Verdict → List ℕ
-refusedLine v = 82 ∷ (48 + refusalNumber v) ∷ 10 ∷ []
+abbrev pub refusedLine : ℕ → List ℕ
+refusedLine k = 82 ∷ decimalOf 6 k ++ (10 ∷ [])
 
 abbrev pub answered : Verdict → Run → List ℕ
-answered Accepted x = lineOf x
-answered MemoryLength x = refusedLine MemoryLength
-answered StepCount x = refusedLine StepCount
-answered RecordLength x = refusedLine RecordLength
-answered RecordBits x = refusedLine RecordBits
-answered EventsLength x = refusedLine EventsLength
-answered EventFields x = refusedLine EventFields
-answered EventOrder x = refusedLine EventOrder
+answered v x = cond (accepted? v) (lineOf x) (refusedLine (refusalNumber v))
 
 -- the line printed for an input. [01 Sheet for the markers]
 unfoldable pub sheetOf : List ℕ → List ℕ

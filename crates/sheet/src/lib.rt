@@ -9,7 +9,6 @@ ghost use lib.ListN.{length, take};
 ghost use Rattle.machine.specs.declared.Verdict.the-variants.{Accepted};
 ghost use Rattle.sheet.specs.Sheet.{inputVerdict, lineOf, sheetOf};
 ghost use Rattle.sheet.specs.Parts.{runIn};
-use machine::Verdict;
 
 // The line of an accepted input, whose memory is copied out and run on.
 fn put_run(input: &[u8], memory: &mut [u8], out: &mut [u8]) -> usize
@@ -32,9 +31,9 @@ pub fn sheet(input: &[u8], memory: &mut [u8; 65536], out: &mut [u8; 64]) -> usiz
     ensures line { λ r. ⌜ take r (now (out .exit)) ≡ sheetOf (now (input .entry)) ⌝ }
     ensures fits { λ r. ⌜ (r ≤ 64) × (length (now (out .exit)) ≡ 64) ⌝ }
 {
-    let v = cut::verdict(input);
-    match v {
-        Verdict::Accepted => put_run(input, memory, out),
-        _ => line::put_refusal(out, v),
+    let refused = refusal::refusal_number(cut::verdict(input));
+    if refused != 0 {
+        return line::put_refusal(out, refused);
     }
+    put_run(input, memory, out)
 }

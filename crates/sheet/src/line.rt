@@ -5,7 +5,6 @@ ghost use Prim.Native.Nat.{ℕ, _+_, _≤_};
 ghost use lib.ListN.{length, take};
 ghost use Rattle.machine.specs.State.{stateOf};
 ghost use Rattle.machine.specs.Run.{ran};
-ghost use Rattle.machine.specs.Refusal.{refusalNumber};
 ghost use Rattle.sheet.specs.Sheet.{lineOf, refusedLine};
 ghost use Rattle.sheet.specs.Parts.{machineText};
 use crate::text::put;
@@ -13,7 +12,6 @@ use crate::text::put_decimal;
 use crate::text::put_field;
 use crate::text::put_words;
 use machine::Machine;
-use machine::Verdict;
 
 // From R0 to the end of the line.
 fn put_machine(out: &mut [u8], at: usize, m: Machine) -> usize
@@ -44,20 +42,13 @@ pub fn put_line(out: &mut [u8], m: Machine, steps: u32) -> usize
     put_machine(out, second, m)
 }
 
-// The number of a refusal; 0 stands for none.
-fn number(v: Verdict) -> u8
-    ensures { λ r. ⌜ (r ≡ refusalNumber v) × (r ≤ 7) ⌝ }
-{
-    refusal::refusal_number(v) as u8
-}
-
-// The line of a refusal.
-pub fn put_refusal(out: &mut [u8], v: Verdict) -> usize
-    requires { ⌜ length (now out) ≡ 64 ⌝ }
-    ensures line { λ r. ⌜ take r (now (out .exit)) ≡ refusedLine v ⌝ }
+// The line of a refusal with this number.
+pub fn put_refusal(out: &mut [u8], refused: u64) -> usize
+    requires { ⌜ (length (now out) ≡ 64) × (refused ≤ 255) ⌝ }
+    ensures line { λ r. ⌜ take r (now (out .exit)) ≡ refusedLine refused ⌝ }
     ensures fits { λ r. ⌜ r ≤ 64 ⌝ }
 {
-    let digit = put(out, 0, b'R');
-    let end = put(out, digit, 48 + number(v));
+    let digits = put(out, 0, b'R');
+    let end = put_decimal(out, digits, 6, refused as u32);
     put(out, end, b'\n')
 }

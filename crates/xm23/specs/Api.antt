@@ -17,4 +17,4 @@ pub use Rattle.resume_call.specs.Resumption.{Resumption}
 
 -- xm23_version replies versionNumber: major, minor and patch, which are those of the header.
 abbrev pub versionNumber : ℕ
-versionNumber = 0 * 65536 + 6 * 256 + 0
+versionNumber = 0 * 65536 + 7 * 256 + 0

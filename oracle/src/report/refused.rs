@@ -1,25 +1,41 @@
-//! The page of a refused input: which refusal it is, what 01 asks, and what this input has instead.
+//! The page of a refused input: which refusal it is, what the papers ask, and what this input has instead.
 
 use super::{grouped, hex, hex_byte, row};
-use crate::machine::{cut, events_of, Machine, Parts, CEX_USED, EVENT, MAX_EVENTS, PSW_ZERO};
+use crate::machine::{cut, events_of, twins, Machine, Parts, CEX_USED, EVENT, MAX_EVENTS, PSW_ZERO};
 use crate::page::{table, text, Section};
 
 /// The header of the library, which has the sentence of each refusal.
 const HEADER: &str = include_str!("../../../include/xm23.h");
 
-/// What 01 asks, under each number from 1.
-const RULES: [&str; 7] = [
-    "The memory has 65,536 bytes. In an input it follows 36 bytes, so 36 to 65,571 bytes are refused with 1.",
-    "n is at most 1,000,000, and step count and n together are at most 4,294,967,295.",
-    "The state record has 32 bytes. In an input it follows the four bytes of n, so under 36 bytes are refused with 3.",
-    "Zero bits and bytes of the state record are zero: PSW bits 12-9, CEX bits 15-7, bytes 26-31. Halted is 0 or 1.",
-    "The events are a multiple of 8 bytes, and at most 4,096 records. No events are an empty list.",
-    "Every event's device is 0 to 7 and its bytes 6-7 are zero. The whole list is tried for this before 7.",
-    "No event's step is below that of the event before it. Equal steps pass.",
+/// Each number with the part of an input that it is about, and what the papers ask.
+const RULES: [(u8, &str, &str); 8] = [
+    (
+        1,
+        "memory",
+        "The memory has 65,536 bytes. In an input it follows 36 bytes, so 36 to 65,571 bytes are refused with 1.",
+    ),
+    (2, "n", "n is at most 1,000,000, and step count and n together are at most 4,294,967,295."),
+    (
+        3,
+        "state record",
+        "The state record has 32 bytes. In an input it follows the four bytes of n, so under 36 bytes are refused with \
+         3.",
+    ),
+    (
+        4,
+        "state record",
+        "Zero bits and bytes of the state record are zero: PSW bits 12-9, CEX bits 15-7, bytes 26-31. Halted is 0 or \
+         1.",
+    ),
+    (5, "events", "The events are a multiple of 8 bytes, and at most 4,096 records. No events are an empty list."),
+    (
+        6,
+        "events",
+        "Every event's device is 0 to 7 and its bytes 6-7 are zero. The whole list is tried for this before 7.",
+    ),
+    (7, "events", "No event's step is below that of the event before it. Equal steps pass."),
+    (13, "events", "No two events share step and device, whatever their data. Equal steps on different devices pass."),
 ];
-
-/// The part of an input that each number is about.
-const PARTS: [&str; 7] = ["memory", "n", "state record", "state record", "events", "events", "events"];
 
 /// The sentence of a refusal, as `xm23_refusal_text` has it.
 pub fn sentence(number: u8) -> &'static str {
@@ -36,18 +52,18 @@ pub fn verdict(number: u8) -> String {
 }
 
 pub fn section(number: u8, input: &[u8]) -> Section {
-    let of = |list: &[&'static str; 7]| list[usize::from(number) - 1];
+    let (_, part, rule) = RULES.into_iter().find(|row| row.0 == number).expect("a refusal of the run call");
     let what = vec![
         row(["Refusal", &number.to_string()]),
-        row(["It is about", of(&PARTS)]),
-        row(["What 01 asks", of(&RULES)]),
+        row(["It is about", part]),
+        row(["What the papers ask", rule]),
         row(["What this input has", &found(number, input)]),
     ];
     let kept = "No step was taken: a refused run leaves memory, state record and events as they were handed over, so \
                 there is no closing state to show.";
-    let order = "01 is the paper of house rules. An input under 36 bytes is 3 and short memory is 1, whatever else is \
-                 wrong. Then the rules are tried in this order, and the first that is broken is named: 2 for n alone; \
-                 2 for the sum of step count and n; 4; 5; 6; 7.";
+    let order = "The papers are 01, the house rules, and 02, the change requests, which adds 13. An input under 36 bytes \
+                 is 3 and short memory is 1, whatever else is wrong. Then the rules are tried in this order, and the first \
+                 that is broken is named: 2 for n alone; 2 for the sum of step count and n; 4; 5; 6; 7; 13.";
     Section::new(
         "refusal",
         format!("Refusal {number}"),
@@ -65,7 +81,8 @@ fn found(number: u8, input: &[u8]) -> String {
         4 => zero_bits(record),
         5 => lengths(events),
         6 => fields(events),
-        _ => order(events),
+        7 => order(events),
+        _ => pair(events),
     }
 }
 
@@ -114,4 +131,12 @@ fn order(events: &[u8]) -> String {
     let place = steps.windows(2).position(|pair| pair[1] < pair[0]).unwrap_or_default();
     let [before, step] = [place, place + 1].map(|i| grouped(steps[i].into()));
     format!("event {} of the list has step {step}, and the event before it step {before}", place + 2)
+}
+
+/// The first event that shares step and device with one before it.
+fn pair(events: &[u8]) -> String {
+    let list = events_of(events);
+    let (one, other) = twins(&list).unwrap_or_default();
+    let (step, device) = (grouped(list[other].step.into()), list[other].device);
+    format!("events {} and {} of the list are both on step {step}, device {device}", one + 1, other + 1)
 }

@@ -67,10 +67,11 @@ replay: $(if $(FOUND),$(ARCHIVE))
 	@[ -n $(call quoted,$(FOUND)) ] || { echo 'make replay: FOUND=build/fuzz/.. is missing: a saved difference' >&2; exit 2; }
 	@scripts/oracle.sh fuzz replay $(call quoted,$(FOUND))
 
-bench: $(ARCHIVE) target/staticlib/libprobe.a build/libxm23_fast.a
+bench: $(ARCHIVE) target/staticlib/libprobe.a build/libxm23_fast.a build/srec
 	@cargo bench $(ORACLE) --bench decode
 	@cargo bench $(ORACLE) --bench operations
 	@cargo bench $(ORACLE) --bench run
+	@cargo bench $(ORACLE) --bench srec
 
 clean:
 	rm -rf target build oracle/target

@@ -8,7 +8,8 @@
  * buffers of one call must not overlap: what a call with overlapping buffers does is not promised. Calls keep no
  * pointer and no state between calls, so any number of machines may run side by side, on any number of threads.
  *
- * "01" is the paper of house rules, "02" the paper of change requests, "003" the ISA paper. docs/FORMATS.md has the layout of each number and record.
+ * "01" is the paper of house rules, "02" that of change requests, "003" the ISA paper. docs/FORMATS.md has the layout of
+ * each number and record.
  */
 #ifndef XM23_H
 #define XM23_H
@@ -23,7 +24,7 @@ extern "C" {
 /* ---- version: of this header, as one number; xm23_version gives that of the library */
 
 #define XM23_VERSION_MAJOR 0
-#define XM23_VERSION_MINOR 7
+#define XM23_VERSION_MINOR 8
 #define XM23_VERSION_PATCH 0
 #define XM23_VERSION (XM23_VERSION_MAJOR * 65536 + XM23_VERSION_MINOR * 256 + XM23_VERSION_PATCH)
 
@@ -34,6 +35,9 @@ extern "C" {
 #define XM23_EVENT_SIZE 8      /* bytes of an event record */
 #define XM23_MAX_EVENTS 4096   /* event records of one run */
 #define XM23_MAX_STEPS 1000000 /* steps of one run */
+
+/* Bytes of text that xm23_write_srec makes of a span of n bytes: 11 of n 0, at most 176,139. */
+#define XM23_SREC_LENGTH(n) ((size_t)11 * (((size_t)(n) + 15) / 16) + 2 * (size_t)(n) + 11)
 
 /* ---- a state record: 32 bytes, little-endian; where each part begins */
 
@@ -73,6 +77,9 @@ extern "C" {
 #define XM23_REFUSED_EVENT_FIELDS 6
 #define XM23_REFUSED_EVENT_ORDER 7
 #define XM23_REFUSED_INSTRUCTION 8
+#define XM23_REFUSED_SREC_FORM 10
+#define XM23_REFUSED_SREC_CHECKSUM 11
+#define XM23_REFUSED_SREC_ROOM 12
 #define XM23_REFUSED_EVENT_TWINS 13
 
 /* What a refusal says, in the papers' words. Every number gives a text, which is there for good and never NULL. */
@@ -88,6 +95,9 @@ static inline const char *xm23_refusal_text(unsigned refusal)
     case XM23_REFUSED_EVENT_FIELDS: return "an event's device is above 7, or its bytes 6-7 are not zero";
     case XM23_REFUSED_EVENT_ORDER: return "an event's step is below the one before it";
     case XM23_REFUSED_INSTRUCTION: return "an instruction to encode is illegal, or has a field its format cannot hold";
+    case XM23_REFUSED_SREC_FORM: return "a line is no S0, S1 or S9, has a wrong count, or S9 is not last or missing";
+    case XM23_REFUSED_SREC_CHECKSUM: return "a line's checksum differs";
+    case XM23_REFUSED_SREC_ROOM: return "data or span passes #FFFF, or the text does not fit its buffer";
     case XM23_REFUSED_EVENT_TWINS: return "two events share step and device";
     default: return "no refusal has this number";
     }
@@ -334,6 +344,49 @@ uint64_t xm23_run(uint8_t *memory, size_t memory_len, uint8_t *record, size_t re
 /* Why a run ended: all its steps are done, or the machine is halted (which it may have been before). */
 #define XM23_REASON_DONE 0
 #define XM23_REASON_HALTED 1
+
+/*
+ * Loads a text of Motorola S-records: S0 is passed over, S1 is stored at its address, S9 is the last line and gives the
+ * PC. Lines end in LF or CR LF, the last one's ending may be absent, and digits are of either case. A later line wins
+ * over an earlier one on the same byte. The whole text is judged before a byte of memory changes.
+ *
+ * memory, memory_len in-out: the machine's memory, XM23_MEMORY_SIZE bytes.
+ * text, text_len     in: the text, of any length.
+ * pc                 in: the PC that the reply has where the text is refused.
+ * result             one reply: XM23_REFUSAL in bits 7-0, 0 in 15-8, XM23_LOAD_PC in 31-16, XM23_LOAD_LINE in 63-32.
+ *                    Accepted: the PC of S9, and line 0. The state record is the caller's to change.
+ * refusals           XM23_REFUSED_MEMORY, with line 0; then line by line, the first line first, in the order
+ *                    XM23_REFUSED_SREC_FORM, XM23_REFUSED_SREC_CHECKSUM, XM23_REFUSED_SREC_ROOM, with the number of the
+ *                    line at fault; then XM23_REFUSED_SREC_FORM where no line is S9, with the number of lines plus 1.
+ *                    Refused: the PC is the one handed in, and memory is as it was.
+ * defined            crates/srec_call/specs/Call.antt, loadCallOf, for every length and content.
+ */
+uint64_t xm23_load_srec(uint8_t *memory, size_t memory_len, const uint8_t *text, size_t text_len, uint16_t pc);
+
+/* The PC and the line at fault, from 1, in a reply of xm23_load_srec; 4,294,967,295 stands for a line beyond it. */
+#define XM23_LOAD_PC(reply) ((uint16_t)((reply) >> 16))
+#define XM23_LOAD_LINE(reply) ((uint32_t)((reply) >> 32))
+
+/*
+ * Writes a span of memory as S-records: S1 lines of 16 bytes, the last perhaps shorter, then S9 with the PC, in upper
+ * case, each line ended by LF. Loaded into any memory, the text restores the span and touches no other byte.
+ *
+ * memory, memory_len in: the machine's memory, XM23_MEMORY_SIZE bytes.
+ * start, length      in: the span; it may be empty, and may end at #FFFF.
+ * pc                 in: the PC that S9 gives.
+ * text, text_len     in-out: where the text goes, at the buffer's start; XM23_SREC_LENGTH(length) bytes are enough.
+ * result             one reply: XM23_REFUSAL in bits 7-0, XM23_WRITTEN in bits 63-8. Bytes past the text stay.
+ * refusals           in the order tested: XM23_REFUSED_MEMORY; XM23_REFUSED_SREC_ROOM where start + length is above
+ *                    65,536; XM23_REFUSED_SREC_ROOM where the text is longer than its buffer.
+ *                    Refused: the reply is the refusal alone, and the text buffer is as it was.
+ * defined            crates/srec_call/specs/Call.antt, writeCallOf, for every length, content and number; Trip.antt,
+ *                    Restores.
+ */
+uint64_t xm23_write_srec(const uint8_t *memory, size_t memory_len, uint16_t start, uint32_t length, uint16_t pc,
+                         uint8_t *text, size_t text_len);
+
+/* The bytes of text in a reply of xm23_write_srec that refuses nothing. */
+#define XM23_WRITTEN(reply) ((size_t)((reply) >> 8))
 
 #ifdef __cplusplus
 }

@@ -1,7 +1,8 @@
 #!/usr/bin/env bash
 # Coverage-guided fuzzing of the calls of libxm23.a by libFuzzer, for so many seconds: fuzz.sh [SECONDS [SEED]]. What is
 # new is told by a C judge compiled with the fuzzer's counters (tests/fuzz). The corpus starts from the example and the
-# readable cases and is kept in build/fuzz. A difference is saved there too, and the exit status is then 1.
+# readable cases, that of S-records from tests/srec; both are kept in build/fuzz. A difference is saved there too, and the
+# exit status is then 1.
 set -eu -o pipefail
 cd "$(dirname "$0")/.."
 
@@ -15,7 +16,7 @@ clang=${CLANG:-clang}
 out=build/fuzz
 oracle='--release --offline --locked --manifest-path oracle/Cargo.toml --target-dir oracle/target'
 warn='-std=gnu11 -g -O2 -Wall -Wextra -Werror -Iinclude'
-mkdir -p "$out/seeds" "$out/corpus" "$out/corpus_words"
+mkdir -p "$out/seeds" "$out/corpus" "$out/corpus_words" "$out/corpus_srec"
 
 # The compiler and its runtime may not be here: the rest of 'make fuzz' does without.
 if ! command -v "$clang" > /dev/null; then
@@ -95,4 +96,7 @@ search run "$seconds" "$out/corpus" "$out/seeds"
 options=(-max_len=8)
 "$clang" $warn -fsanitize=fuzzer -o "$out/words" tests/fuzz/words.c target/staticlib/libxm23.a
 search words $((seconds / 6 + 1)) "$out/corpus_words"
+options=(-max_len=400)
+"$clang" $warn -fsanitize=fuzzer -o "$out/srec" tests/fuzz/srec.c target/staticlib/libxm23.a
+search srec $((seconds / 6 + 1)) "$out/corpus_srec" tests/srec
 echo "coverage-guided fuzzing: no difference"

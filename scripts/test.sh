@@ -129,3 +129,4 @@ part 'the program' count_line tests/shell/program.sh
 part 'installing' count_line tests/shell/install.sh
 part 'the report' count_line tests/shell/report.sh
 part 'mistakes and the legend' count_line tests/shell/tools.sh
+part 'S-records beside srec_cat and objcopy' count_line scripts/peers.sh

@@ -1,15 +1,19 @@
 //! Compares the library with the oracle on more inputs than the gate does. `fuzz INPUTS [SEED]` runs so many of each
-//! kind, from a seed of the clock if none is given, and saves the first difference under build/fuzz. `fuzz replay
-//! FOLDER` runs a saved input again. The exit status is 1 where there is a difference, and 2, with one line, where the
-//! command cannot be carried out.
+//! kind, and a quarter as many of each kind of S-record file, from a seed of the clock if none is given, and saves the
+//! first difference under build/fuzz. `fuzz replay FOLDER` runs a saved input again. The exit status is 1 where there is
+//! a difference, and 2, with one line, where the command cannot be carried out.
 
 #[path = "../tests/library/mod.rs"]
 mod library;
+#[path = "../tests/library/srec.rs"]
+mod library_srec;
 
 use library::library;
 use oracle::compare::{compare, compare_many, folder, saved, Found};
 use oracle::coverage::Coverage;
 use oracle::inputs::KINDS;
+use oracle::srec_compare::{self, Reached};
+use oracle::srec_inputs;
 use std::path::Path;
 use std::process::ExitCode;
 use std::sync::Mutex;
@@ -66,7 +70,27 @@ fn fuzz(inputs: u64, seed: u64) -> bool {
         }
         println!("{kind:?}: {inputs} of {inputs}, no difference, {:.1} s", start.elapsed().as_secs_f64());
     }
-    true
+    srec(inputs / 4, seed)
+}
+
+/// Compares loads and writes of S-records: files of every kind, real ones mutated among them.
+fn srec(inputs: u64, seed: u64) -> bool {
+    let (start, mut reached) = (Instant::now(), Reached::default());
+    let mut load = |kind| srec_compare::loads(library_srec::load, kind, seed, inputs, &mut reached);
+    let found = srec_inputs::KINDS.into_iter().find_map(|kind| load(kind).err());
+    let write =
+        || srec_compare::writes((library_srec::write, library_srec::load), seed, inputs, &mut Reached::default());
+    let Some(found) = found.or_else(|| write().err()) else {
+        let (kinds, time) = (srec_inputs::KINDS.len(), start.elapsed().as_secs_f64());
+        println!("S-records: {inputs} loads of each of {kinds} kinds and {inputs} writes, no difference, {time:.1} s");
+        return true;
+    };
+    println!("{}: {}", found.name, found.difference.what);
+    match found.difference.save(&folder(), &found.name) {
+        Ok(place) => println!("saved in {}", place.display()),
+        Err(e) => println!("not saved: {e}"),
+    }
+    false
 }
 
 fn report(found: Found, first: u64) -> bool {

@@ -19,3 +19,6 @@ pub mod programs;
 pub mod random;
 pub mod report;
 pub mod resume;
+pub mod srec;
+pub mod srec_compare;
+pub mod srec_inputs;

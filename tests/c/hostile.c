@@ -1,5 +1,5 @@
 /*
- * Lends xm23_run buffers of hostile lengths and contents, and looks at what lies around them. Every buffer stands once
+ * Lends the calls buffers of hostile lengths and contents, and looks at what lies around them. Every buffer stands once
  * with its end at a page that must not be touched and guard bytes before it, and once with its beginning at such a
  * page and guard bytes behind it. A test is all calls of one kind in one place; prints how many passed.
  * 'hostile short' makes fewer calls and leaves out the long runs.
@@ -15,7 +15,9 @@
 #include "xm23.h"
 
 #define GUARD 0xA5
-#define ROOM ((size_t)1 << 17) /* more than any buffer lent here; a multiple of the page's size */
+/* More than any buffer lent here, and more than any text; multiples of the page's size. */
+#define ROOM ((size_t)1 << 17)
+#define TEXT_ROOM ((size_t)1 << 18)
 
 static unsigned calls, wrong;
 
@@ -28,26 +30,36 @@ static void check(const char *what, int holds)
 /* Room between two pages that must not be touched, and the part of it that is lent. */
 struct lent {
     uint8_t *room, *at;
-    size_t length;
+    size_t size, length;
 };
 
-static void make(struct lent *b)
+static void make(struct lent *b, size_t size)
 {
     size_t page = (size_t)sysconf(_SC_PAGESIZE);
-    void *all = mmap(NULL, ROOM + 2 * page, PROT_NONE, MAP_PRIVATE | MAP_ANONYMOUS, -1, 0);
+    void *all = mmap(NULL, size + 2 * page, PROT_NONE, MAP_PRIVATE | MAP_ANONYMOUS, -1, 0);
     check("room", all != MAP_FAILED);
     b->room = (uint8_t *)all + page;
-    check("room", mprotect(b->room, ROOM, PROT_READ | PROT_WRITE) == 0);
+    check("room", mprotect(b->room, size, PROT_READ | PROT_WRITE) == 0);
     b->at = b->room;
+    b->size = size;
     b->length = 0;
-    memset(b->room, GUARD, ROOM);
+    memset(b->room, GUARD, size);
 }
 
 /* Lends `length` bytes at the end of the room or at its beginning; the bytes lent before are guards again. */
 static void lend(struct lent *b, size_t length, int at_end)
 {
     memset(b->at, GUARD, b->length);
-    b->at = at_end ? b->room + ROOM - length : b->room;
+    b->at = at_end ? b->room + b->size - length : b->room;
+    b->length = length;
+}
+
+/* Keeps the first or the last bytes of what is lent; the others are guards again. */
+static void shorten(struct lent *b, size_t length, int at_end)
+{
+    size_t gone = b->length - length;
+    memset(at_end ? b->at : b->at + length, GUARD, gone);
+    b->at += at_end ? gone : 0;
     b->length = length;
 }
 
@@ -58,11 +70,11 @@ static int all_guards(const uint8_t *from, const uint8_t *to)
 
 static int guarded(const struct lent *b)
 {
-    return all_guards(b->room, b->at) && all_guards(b->at + b->length, b->room + ROOM);
+    return all_guards(b->room, b->at) && all_guards(b->at + b->length, b->room + b->size);
 }
 
-static struct lent memory, record, events;
-static uint8_t memory_before[ROOM], record_before[ROOM], events_before[ROOM];
+static struct lent memory, record, events, text;
+static uint8_t memory_before[ROOM], record_before[ROOM], events_before[ROOM], text_before[TEXT_ROOM];
 
 static uint64_t next_random = 1;
 
@@ -186,19 +198,121 @@ static void junk(int at_end, int rounds)
     }
 }
 
+/* ---- S-records */
+
+/* Loads, and checks that what is not lent stands, that the reply is well formed and that a refusal changes nothing. */
+static uint64_t load(uint16_t pc)
+{
+    uint64_t reply;
+    unsigned refusal;
+    calls++;
+    memcpy(memory_before, memory.at, memory.length);
+    memcpy(text_before, text.at, text.length);
+    reply = xm23_load_srec(memory.at, memory.length, text.at, text.length, pc);
+    refusal = XM23_REFUSAL(reply);
+    check("guard bytes", guarded(&memory) && guarded(&text));
+    check("text", memcmp(text.at, text_before, text.length) == 0);
+    check("reply", (reply & 0xFF00) == 0 && XM23_LOAD_LINE(reply) <= text.length + 1);
+    check("line at fault", (refusal < XM23_REFUSED_SREC_FORM) == (XM23_LOAD_LINE(reply) == 0));
+    if (refusal) {
+        check("refusal", refusal == XM23_REFUSED_MEMORY ||
+                             (refusal >= XM23_REFUSED_SREC_FORM && refusal <= XM23_REFUSED_SREC_ROOM));
+        check("PC as it was", XM23_LOAD_PC(reply) == pc);
+        check("memory as it was", memcmp(memory.at, memory_before, memory.length) == 0);
+    }
+    return reply;
+}
+
+/* Writes, with the same checks. */
+static uint64_t write_text(uint16_t start, uint32_t length, uint16_t pc)
+{
+    uint64_t reply;
+    size_t made;
+    calls++;
+    memcpy(memory_before, memory.at, memory.length);
+    memcpy(text_before, text.at, text.length);
+    reply = xm23_write_srec(memory.at, memory.length, start, length, pc, text.at, text.length);
+    made = XM23_REFUSAL(reply) ? 0 : XM23_WRITTEN(reply);
+    check("guard bytes", guarded(&memory) && guarded(&text));
+    check("memory", memcmp(memory.at, memory_before, memory.length) == 0);
+    check("text's length", made <= text.length && (made == 0 || made == XM23_SREC_LENGTH(length)));
+    check("past the text", memcmp(text.at + made, text_before + made, text.length - made) == 0);
+    check("reply", made || reply == XM23_REFUSED_MEMORY || reply == XM23_REFUSED_SREC_ROOM);
+    return reply;
+}
+
+/* Every combination of lengths and spans: the refusal goes by these alone. What was written is loaded again. */
+static void spans(int at_end, int brief)
+{
+    static const size_t memories[] = {0, 1, 65535, 65536, 65537, 131072};
+    static const size_t rooms[] = {0, 1, 10, 11, 12, 23, 24, 53, 54, 55, 66, 67, 176138, 176139, 176140, TEXT_ROOM};
+    static const uint32_t lengths[] = {0, 1, 15, 16, 17, 65535, 65536, 65537, 0x80000000, UINT32_MAX};
+    static const uint16_t starts[] = {0, 1, 0xFFEF, 0xFFF0, 0xFFFF};
+    size_t m, t, n, s;
+    for (m = 0; m < sizeof memories / sizeof *memories; m++)
+        for (t = 0; t < sizeof rooms / sizeof *rooms; t++)
+            for (n = 0; n < sizeof lengths / sizeof *lengths; n++)
+                for (s = 0; s < sizeof starts / sizeof *starts; s++) {
+                    int fits = (uint64_t)starts[s] + lengths[n] <= 65536 && XM23_SREC_LENGTH(lengths[n]) <= rooms[t];
+                    unsigned refusal = fits ? XM23_ACCEPTED : XM23_REFUSED_SREC_ROOM;
+                    uint64_t reply;
+                    if (brief && (m + t + n + s) % 41)
+                        continue;
+                    lend(&memory, memories[m], at_end);
+                    lend(&text, rooms[t], at_end);
+                    memset(memory.at, 0xC3, memory.length);
+                    memset(text.at, 0x5A, text.length);
+                    reply = write_text(starts[s], lengths[n], 0x1234);
+                    check("refusal by lengths",
+                          XM23_REFUSAL(reply) == (memories[m] == 65536 ? refusal : XM23_REFUSED_MEMORY));
+                    if (XM23_REFUSAL(reply))
+                        continue;
+                    if (at_end)
+                        memmove(text.room + text.size - XM23_WRITTEN(reply), text.at, XM23_WRITTEN(reply));
+                    shorten(&text, XM23_WRITTEN(reply), at_end);
+                    check("loads again", load(7) == (uint64_t)0x1234 << 16);
+                }
+}
+
+/* Texts of junk, of characters that S-records have, and of count bytes that promise more than the line has. */
+static void texts(int at_end, int rounds)
+{
+    static const char near[] = "0123456789ABCDEFabcdefS109\r\n S1FF";
+    int i;
+    for (i = 0; i < rounds; i++) {
+        uint64_t pick = draw();
+        size_t k;
+        lend(&memory, pick % 8 ? 65536 : 65535 + pick / 8 % 3, at_end);
+        lend(&text, pick / 64 % 600, at_end);
+        scatter(&text);
+        for (k = 0; pick >> 40 & 3 && k < text.length; k++)
+            text.at[k] = (uint8_t)near[text.at[k] % (sizeof near - 1)];
+        for (k = 0; pick >> 42 & 1 && k + 8 <= text.length; k += 8 + pick / 256 % 40)
+            memcpy(text.at + k, "\nS1FFFFF" + (k == 0), k == 0 ? 7 : 8);
+        load((uint16_t)(pick >> 48));
+    }
+}
+
 int main(int argc, char **argv)
 {
     int brief = argc > 1 && strcmp(argv[1], "short") == 0, at_end;
     unsigned passed = 0, failed = 0;
-    make(&memory);
-    make(&record);
-    make(&events);
+    make(&memory, ROOM);
+    make(&record, ROOM);
+    make(&events, ROOM);
+    make(&text, TEXT_ROOM);
     for (at_end = 0; at_end < 2; at_end++) {
         unsigned before = wrong;
         lengths(at_end, brief);
         wrong == before ? passed++ : failed++;
         before = wrong;
         junk(at_end, brief ? 20 : 1000);
+        wrong == before ? passed++ : failed++;
+        before = wrong;
+        spans(at_end, brief);
+        wrong == before ? passed++ : failed++;
+        before = wrong;
+        texts(at_end, brief ? 40 : 20000);
         wrong == before ? passed++ : failed++;
     }
     printf("%u calls\n%u passed, %u failed\n", calls, passed, failed);

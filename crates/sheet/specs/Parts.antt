@@ -8,7 +8,7 @@ use Rattle.machine.specs.declared.Machine.{Machine}
 use Rattle.machine.specs.Record.{stateIn}
 use Rattle.machine.specs.Events.{eventsOf}
 use Rattle.machine.specs.Run.{Run, runOf}
-use Rattle.sheet.specs.Text.{hexOf}
+use Rattle.text.specs.Text.{hexOf}
 use Rattle.sheet.specs.Sheet.{stepsIn, recordIn, memoryIn, eventsIn, spaced}
 
 -- the run that an accepted input asks for. [01 Sheet for the markers]

@@ -12,7 +12,7 @@ use Rattle.machine.specs.Record.{fourAt, stateIn}
 use Rattle.machine.specs.Events.{eventsOf}
 use Rattle.machine.specs.Run.{Run, runOf, reasonOf, reasonNumber}
 use Rattle.machine.specs.Refusal.{verdictOf, refusalNumber, accepted?}
-use Rattle.sheet.specs.Text.{hexOf, decimalOf}
+use Rattle.text.specs.Text.{hexOf, decimalOf}
 
 -- Standard input: n (4 bytes, little-endian), state record, memory, events. [01 Sheet for the markers]
 abbrev pub stepsIn : List ℕ → ℕ

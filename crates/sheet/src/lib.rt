@@ -1,7 +1,7 @@
 // The printed line: cutting the input into its parts, running, forming the text.
 mod cut;
+mod fields;
 mod line;
-mod text;
 
 ghost use mathlib.Core.Path.{_≡_};
 ghost use Prim.Native.Nat.{_≤_};

@@ -7,11 +7,11 @@ ghost use Rattle.machine.specs.State.{stateOf};
 ghost use Rattle.machine.specs.Run.{ran};
 ghost use Rattle.sheet.specs.Sheet.{lineOf, refusedLine};
 ghost use Rattle.sheet.specs.Parts.{machineText};
-use crate::text::put;
-use crate::text::put_decimal;
-use crate::text::put_field;
-use crate::text::put_words;
+use crate::fields::put_field;
+use crate::fields::put_words;
 use machine::Machine;
+use text::put;
+use text::put_decimal;
 
 // From R0 to the end of the line.
 fn put_machine(out: &mut [u8], at: usize, m: Machine) -> usize

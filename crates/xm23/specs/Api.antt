@@ -14,7 +14,11 @@ pub use Rattle.isa_ranges.specs.Ranges.{firstOf, lastOf, rangeReply}
 -- [01 Who can be turned back; 01 Resumption]
 pub use Rattle.machine.specs.Call.{Closing, runCallOf}
 pub use Rattle.resume_call.specs.Resumption.{Resumption}
+-- xm23_load_srec and xm23_write_srec reply and leave what loadCallOf and writeCallOf give; Restores is what 02 promises
+-- of the text written. [02 §2]
+pub use Rattle.srec_call.specs.Call.{Loaded, loadCallOf, Written, writeCallOf}
+pub use Rattle.srec_call.specs.Trip.{Restores}
 
 -- xm23_version replies versionNumber: major, minor and patch, which are those of the header.
 abbrev pub versionNumber : ℕ
-versionNumber = 0 * 65536 + 7 * 256 + 0
+versionNumber = 0 * 65536 + 8 * 256 + 0

@@ -4,6 +4,7 @@
 ghost use mathlib.Core.Path.{_≡_};
 ghost use Rattle.xm23.specs.Api.{versionNumber, decodeOf, numberOf, encodeNumber};
 ghost use Rattle.xm23.specs.Api.{rangeReply, runCallOf, Resumption};
+ghost use Rattle.xm23.specs.Api.{loadCallOf, writeCallOf, Restores};
 use isa::Encoded;
 use isa::decode;
 use isa::encode;
@@ -18,7 +19,7 @@ use isa_ranges::operation_of;
 pub extern "C" fn xm23_version() -> u32
     ensures reply { λ r. ⌜ r ≡ versionNumber ⌝ }
 {
-    0x000700
+    0x000800
 }
 
 // The number of the instruction that a word means; that of the illegal one is 0.
@@ -69,4 +70,35 @@ pub extern "C" fn xm23_run(memory: &mut [u8], state: &mut [u8], events: &[u8], n
         (now (events .entry)) n (now (memory .exit)) (now (state .exit)) ⌝ }
 {
     run::run_call(memory, state, events, n)
+}
+
+// The text of S-records loaded into memory: refusal in bits 7-0, PC in bits 31-16, the line at
+// fault in bits 63-32. Refused, memory stays as it was and the PC is the one handed in.
+#[no_mangle]
+pub extern "C" fn xm23_load_srec(memory: &mut [u8], text: &[u8], pc: u16) -> u64
+    ensures reply { λ r. ⌜ r ≡ loadCallOf (now (memory .entry)) (now (text .entry)) pc .reply ⌝ }
+    ensures memory { λ r. ⌜ now (memory .exit)
+        ≡ loadCallOf (now (memory .entry)) (now (text .entry)) pc .memory ⌝ }
+{
+    srec_call::load_call(memory, text, pc)
+}
+
+// A span of memory written as S-records at the start of the text: refusal in bits 7-0, bytes
+// written in bits 63-8. Bytes past the text, and all of them where refused, stay as they were.
+#[no_mangle]
+pub extern "C" fn xm23_write_srec(
+    memory: &[u8],
+    start: u16,
+    size: u32,
+    pc: u16,
+    text: &mut [u8],
+) -> u64
+    ensures reply { λ r. ⌜ r
+        ≡ writeCallOf (now (memory .entry)) start size pc (now (text .entry)) .reply ⌝ }
+    ensures text { λ r. ⌜ now (text .exit)
+        ≡ writeCallOf (now (memory .entry)) start size pc (now (text .entry)) .text ⌝ }
+    ensures restores { λ r. ⌜ Restores (now (memory .entry)) start size pc (now (text .entry)) r
+        (now (text .exit)) ⌝ }
+{
+    srec_call::write_call(memory, start, size, pc, text)
 }

@@ -1,0 +1,23 @@
+use mathlib.Core.List.{append-assoc}
+use native.Mathlib.Omega.{arith}
+use borrow.Author.Needs.{needs}
+use Rattle.sheet.proofs.fields.put_field.Statement.{statement}
+use Rattle.sheet.proofs.fields.put_field.Tie as tie
+
+put-requires : tie.Need-put-requires
+put-requires c κs = search needs
+
+put-hex-requires : tie.Need-put-hex-requires
+put-hex-requires c κs = search needs
+
+same-length : tie.Need-same-length
+same-length c = search needs
+
+returns : tie.Need-returns
+returns c =
+    let at-put-hex = c .before .before in
+    let at-put = at-put-hex .before .before .before .before in
+    (rw (at-put-hex .put-hex .ensures .0, at-put .put .ensures .0, append-assoc), omega arith)
+
+pub put-field-spec : {M : Type 1} → statement M
+put-field-spec = tie.close (tie.spec put-requires put-hex-requires same-length returns)

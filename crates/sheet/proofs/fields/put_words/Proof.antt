@@ -1,0 +1,47 @@
+use native.Mathlib.Omega.{arith}
+use lib.ListN.{take}
+use borrow.Author.Needs.{needs}
+use Rattle.sheet.proofs.Texts.{words-text}
+use Rattle.sheet.proofs.fields.put_words.Statement.{statement}
+use Rattle.sheet.proofs.fields.put_words.Tie as tie
+
+put-field-requires : tie.Need-put-field-requires
+put-field-requires c κs = search needs
+
+put-field-requires-2 : tie.Need-put-field-requires-2
+put-field-requires-2 c κs = search needs
+
+put-field-requires-3 : tie.Need-put-field-requires-3
+put-field-requires-3 c κs = search needs
+
+put-field-requires-4 : tie.Need-put-field-requires-4
+put-field-requires-4 c κs = search needs
+
+same-length : tie.Need-same-length
+same-length c = search needs
+
+returns : tie.Need-returns
+returns c =
+    let at-put-field4 = c .before .before in
+    let at-put-field3 = at-put-field4 .before .before .before .before in
+    let at-put-field2 = at-put-field3 .before .before .before .before in
+    let at-put-field = at-put-field2 .before .before .before .before in
+    let entry = at-put-field .before .before .before in
+    let line =
+    words-text (take (entry .args .at) (entry .args .out .now)) (entry .args .a) (entry .args .b) (entry .args .c) (entry .args .d)
+    (at-put-field .put-field .ensures .0)
+    (at-put-field2 .put-field2 .ensures .0)
+    (at-put-field3 .put-field3 .ensures .0)
+    (at-put-field4 .put-field4 .ensures .0) in
+    (line, omega arith)
+
+pub put-words-spec : {M : Type 1} → statement M
+put-words-spec =
+    tie.close
+    (tie.spec
+    put-field-requires
+    put-field-requires-2
+    put-field-requires-3
+    put-field-requires-4
+    same-length
+    returns)

@@ -1,0 +1,35 @@
+// Fields of the line, appended to a buffer: each function writes from `at` on, leaves what stands
+// before, and returns the place after the last byte written.
+ghost use mathlib.Core.Path.{_≡_};
+ghost use mathlib.Core.List.{_++_};
+ghost use Prim.Native.Nat.{_+_, _≤_, _<_};
+ghost use lib.ListN.{length, take};
+ghost use Rattle.text.specs.Text.{hexOf};
+ghost use Rattle.sheet.specs.Sheet.{spaced};
+ghost use Rattle.sheet.specs.Parts.{wordsText};
+use text::put;
+use text::put_hex;
+
+// A field of k digits in base sixteen after a space.
+pub fn put_field(out: &mut [u8], at: usize, k: usize, n: u32) -> usize
+    requires { ⌜ at + k < length (now out) ⌝ }
+    ensures { λ r.
+        ⌜ (take r (now (out .exit)) ≡ take at (now (out .entry)) ++ spaced (hexOf k n))
+        × (r ≡ at + k + 1) ⌝ }
+{
+    let next = put(out, at, b' ');
+    put_hex(out, next, k, n)
+}
+
+// Four words, each after a space.
+pub fn put_words(out: &mut [u8], at: usize, a: u16, b: u16, c: u16, d: u16) -> usize
+    requires { ⌜ at + 20 ≤ length (now out) ⌝ }
+    ensures { λ r.
+        ⌜ (take r (now (out .exit)) ≡ take at (now (out .entry)) ++ wordsText a b c d)
+        × (r ≡ at + 20) ⌝ }
+{
+    let second = put_field(out, at, 4, a as u32);
+    let third = put_field(out, second, 4, b as u32);
+    let fourth = put_field(out, third, 4, c as u32);
+    put_field(out, fourth, 4, d as u32)
+}

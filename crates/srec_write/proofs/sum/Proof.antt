@@ -1,0 +1,60 @@
+use Prim.Native.Nat.{_≤_, _-_, _+_, _*_}
+use mathlib.Core.Path.{_≡_}
+use native.Mathlib.Omega.{arith}
+use lib.ListN.{length, drop}
+use borrow.Author.Needs.{needs}
+use Rattle.srec.specs.Digits.{sumOf}
+use Rattle.srec.proofs.Laws.{sum-here, sum-end}
+use Rattle.srec_write.proofs.sum.Statement.{statement}
+use Rattle.srec_write.proofs.sum.Tie as tie
+
+abbrev Inv-loop : tie.InvT-loop
+Inv-loop bytes s₀ i₀ s i = (i ≤ length bytes) × (s ≤ 255 * i) × (s + sumOf (drop i bytes) ≡ sumOf bytes)
+
+abbrev μ-loop : tie.MeasureT-loop
+μ-loop bytes s₀ i₀ s i = length bytes - i
+
+loop-holds : tie.Need-loop-holds Inv-loop μ-loop
+loop-holds c = (omega arith, omega arith, omega arith)
+
+shared-slice-read-s : tie.Need-shared-slice-read-s Inv-loop μ-loop
+shared-slice-read-s c = omega arith
+
+cast-s : tie.Need-cast-s Inv-loop μ-loop
+cast-s c = omega (arith, c .shared-slice-known .given (c .before .before .loop .i))
+
+add-s : tie.Need-add-s Inv-loop μ-loop
+add-s c = omega (arith, c .shared-slice-known .given (c .before .before .loop .i))
+
+add-i : tie.Need-add-i Inv-loop μ-loop
+add-i c = search needs
+
+loop-less : tie.Need-loop-less Inv-loop μ-loop
+loop-less c = omega arith
+
+loop-again : tie.Need-loop-again Inv-loop μ-loop
+loop-again c =
+    let c2 = c .before .before in
+    let c3 = c2 .before in
+    let h = sum-here (c3 .args .bytes .now) (c2 .loop .i) (omega arith) in
+    let b = c .shared-slice-known .given (c2 .loop .i) in
+    (omega arith, omega arith, omega arith)
+
+returns : tie.Need-returns Inv-loop μ-loop
+returns c = let h = sum-end (c .before .before .args .bytes .now) (c .before .loop .i) (omega arith) in
+    (omega arith, omega arith)
+
+pub sum-spec : {M : Type 1} → statement M
+sum-spec =
+    tie.close
+    (tie.spec
+    Inv-loop
+    μ-loop
+    loop-holds
+    shared-slice-read-s
+    cast-s
+    add-s
+    add-i
+    loop-less
+    loop-again
+    returns)

@@ -1,0 +1,171 @@
+use Prim.Native.Nat.{ℕ, _<_}
+use mathlib.Core.List.{append-assoc}
+use mathlib.Core.Logic.{⊎-elim}
+use native.Mathlib.Omega.{arith}
+use borrow.Author.Needs.{needs}
+use borrow.Author.Tests.{ltb-true, ltb-false}
+use borrow.Fn.Kinds.{In}
+use borrow.Fn.PlainCycle.{Measures, is, falls, and}
+use Rattle.text.proofs.Laws.{decimal-last, decimal-low, decimal-more}
+use Rattle.text.proofs.put_decimal.Reads as put-decimal
+use Rattle.text.proofs.put_decimal.Kinds as put-decimal-kinds
+use Rattle.text.proofs.+put_decimal.Lts-put_decimal as put-decimal-lts
+use Rattle.text.proofs.digit.Reads as digit-reads
+use Rattle.text.proofs.put.Reads as put-reads
+use Rattle.text.proofs.+put_decimal.{statement}
+use Rattle.text.proofs.+put_decimal.Tie.{close}
+
+abbrev μ-put-decimal : Measures 1 put-decimal-kinds.ps ℕ
+μ-put-decimal κs a = a .1 .1 .0
+
+abbrev put-decimal-at : ℕ → In 1 put-decimal-kinds.ps
+put-decimal-at t =
+    and 1 put-decimal-kinds.ps (is 1 put-decimal-kinds.ps μ-put-decimal t) put-decimal.Pre
+
+abbrev put-decimal-below : ℕ → In 1 put-decimal-kinds.ps
+put-decimal-below t =
+    and 1 put-decimal-kinds.ps (falls 1 put-decimal-kinds.ps _<_ μ-put-decimal t) put-decimal.Pre
+
+put-decimal-digit-requires : (t : ℕ) → put-decimal-lts.Need-digit-requires (
+  digit-reads.Asked,
+  digit-reads.Learnt,
+  put-reads.Asked,
+  put-reads.Learnt,
+  put-decimal-below t,
+  put-decimal.Post,
+) (put-decimal-at t) put-decimal.Post
+put-decimal-digit-requires t c κs = search needs
+
+put-decimal-put-requires : (t : ℕ) → put-decimal-lts.Need-put-requires (
+  digit-reads.Asked,
+  digit-reads.Learnt,
+  put-reads.Asked,
+  put-reads.Learnt,
+  put-decimal-below t,
+  put-decimal.Post,
+) (put-decimal-at t) put-decimal.Post
+put-decimal-put-requires t c κs = search needs
+
+put-decimal-same-length : (t : ℕ) → put-decimal-lts.Need-same-length (
+  digit-reads.Asked,
+  digit-reads.Learnt,
+  put-reads.Asked,
+  put-reads.Learnt,
+  put-decimal-below t,
+  put-decimal.Post,
+) (put-decimal-at t) put-decimal.Post
+put-decimal-same-length t c = search needs
+
+put-decimal-returns : (t : ℕ) → put-decimal-lts.Need-returns (
+  digit-reads.Asked,
+  digit-reads.Learnt,
+  put-reads.Asked,
+  put-reads.Learnt,
+  put-decimal-below t,
+  put-decimal.Post,
+) (put-decimal-at t) put-decimal.Post
+put-decimal-returns t c =
+    let at-put = c .before .before in
+    let at-digit = at-put .before in
+    let at-if1 = at-digit .before .before in
+    let entry = at-if1 .before .before in
+    let one =
+    ⊎-elim (λ w. decimal-last _ _ (omega arith)) (λ w. decimal-low (entry .args .k) (entry .args .n) (omega (arith, ltb-true)))
+    (at-if1 .if1 .came) in
+    (rw (at-put .put .ensures .0, at-digit .digit .ensures, one), omega arith)
+
+put-decimal-sub-put-decimal : (t : ℕ) → put-decimal-lts.Need-sub-put-decimal (
+  digit-reads.Asked,
+  digit-reads.Learnt,
+  put-reads.Asked,
+  put-reads.Learnt,
+  put-decimal-below t,
+  put-decimal.Post,
+) (put-decimal-at t) put-decimal.Post
+put-decimal-sub-put-decimal t c = search needs
+
+put-decimal-put-decimal-requires : (t : ℕ) → put-decimal-lts.Need-put-decimal-requires (
+  digit-reads.Asked,
+  digit-reads.Learnt,
+  put-reads.Asked,
+  put-reads.Learnt,
+  put-decimal-below t,
+  put-decimal.Post,
+) (put-decimal-at t) put-decimal.Post
+put-decimal-put-decimal-requires t c κs = search needs
+
+put-decimal-digit-requires-2 : (t : ℕ) → put-decimal-lts.Need-digit-requires-2 (
+  digit-reads.Asked,
+  digit-reads.Learnt,
+  put-reads.Asked,
+  put-reads.Learnt,
+  put-decimal-below t,
+  put-decimal.Post,
+) (put-decimal-at t) put-decimal.Post
+put-decimal-digit-requires-2 t c κs = search needs
+
+put-decimal-put-requires-2 : (t : ℕ) → put-decimal-lts.Need-put-requires-2 (
+  digit-reads.Asked,
+  digit-reads.Learnt,
+  put-reads.Asked,
+  put-reads.Learnt,
+  put-decimal-below t,
+  put-decimal.Post,
+) (put-decimal-at t) put-decimal.Post
+put-decimal-put-requires-2 t c κs = search needs
+
+put-decimal-same-length-2 : (t : ℕ) → put-decimal-lts.Need-same-length-2 (
+  digit-reads.Asked,
+  digit-reads.Learnt,
+  put-reads.Asked,
+  put-reads.Learnt,
+  put-decimal-below t,
+  put-decimal.Post,
+) (put-decimal-at t) put-decimal.Post
+put-decimal-same-length-2 t c = search needs
+
+put-decimal-returns-2 : (t : ℕ) → put-decimal-lts.Need-returns-2 (
+  digit-reads.Asked,
+  digit-reads.Learnt,
+  put-reads.Asked,
+  put-reads.Learnt,
+  put-decimal-below t,
+  put-decimal.Post,
+) (put-decimal-at t) put-decimal.Post
+put-decimal-returns-2 t c =
+    let at-put2 = c .before .before in
+    let at-digit2 = at-put2 .before in
+    let at-put-decimal = at-digit2 .before .before .before .before in
+    let at-if2 = at-put-decimal .before .before in
+    let at-if1 = at-if2 .before in (
+      rw (
+        at-put2 .put2 .ensures .0,
+        at-put-decimal .put-decimal .ensures .0,
+        append-assoc,
+        decimal-more _ _ (at-if1 .if1 .left) (ltb-false _ _ (at-if2 .if2 .left)),
+        at-digit2 .digit2 .ensures,
+      ),
+      omega arith,
+    )
+
+pub +put-decimal-spec : {M : Type 1} → statement M
++put-decimal-spec = close μ-put-decimal λ t. put-decimal-lts.spec (
+  digit-reads.Asked,
+  digit-reads.Learnt,
+  put-reads.Asked,
+  put-reads.Learnt,
+  put-decimal-below t,
+  put-decimal.Post,
+)
+    (put-decimal-at t)
+    put-decimal.Post
+    (put-decimal-digit-requires t)
+    (put-decimal-put-requires t)
+    (put-decimal-same-length t)
+    (put-decimal-returns t)
+    (put-decimal-sub-put-decimal t)
+    (put-decimal-put-decimal-requires t)
+    (put-decimal-digit-requires-2 t)
+    (put-decimal-put-requires-2 t)
+    (put-decimal-same-length-2 t)
+    (put-decimal-returns-2 t)

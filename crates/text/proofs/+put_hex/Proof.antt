@@ -1,0 +1,119 @@
+use Prim.Native.Nat.{ℕ, _<_}
+use mathlib.Core.List.{append-assoc}
+use native.Mathlib.Omega.{arith}
+use borrow.Author.Needs.{needs}
+use borrow.Fn.Kinds.{In}
+use borrow.Fn.PlainCycle.{Measures, is, falls, and}
+use Rattle.text.proofs.Laws.{hex-none, hex-more}
+use Rattle.text.proofs.put_hex.Reads as put-hex
+use Rattle.text.proofs.put_hex.Kinds as put-hex-kinds
+use Rattle.text.proofs.+put_hex.Lts-put_hex as put-hex-lts
+use Rattle.text.proofs.digit.Reads as digit-reads
+use Rattle.text.proofs.put.Reads as put-reads
+use Rattle.text.proofs.+put_hex.{statement}
+use Rattle.text.proofs.+put_hex.Tie.{close}
+
+abbrev μ-put-hex : Measures 1 put-hex-kinds.ps ℕ
+μ-put-hex κs a = a .1 .1 .0
+
+abbrev put-hex-at : ℕ → In 1 put-hex-kinds.ps
+put-hex-at t = and 1 put-hex-kinds.ps (is 1 put-hex-kinds.ps μ-put-hex t) put-hex.Pre
+
+abbrev put-hex-below : ℕ → In 1 put-hex-kinds.ps
+put-hex-below t = and 1 put-hex-kinds.ps (falls 1 put-hex-kinds.ps _<_ μ-put-hex t) put-hex.Pre
+
+put-hex-returns : (t : ℕ) → put-hex-lts.Need-returns (
+  put-hex-below t,
+  put-hex.Post,
+  digit-reads.Asked,
+  digit-reads.Learnt,
+  put-reads.Asked,
+  put-reads.Learnt,
+) (put-hex-at t) put-hex.Post
+put-hex-returns t c = (hex-none _ _ _ (c .if1 .taken), omega arith)
+
+put-hex-sub-put-hex : (t : ℕ) → put-hex-lts.Need-sub-put-hex (
+  put-hex-below t,
+  put-hex.Post,
+  digit-reads.Asked,
+  digit-reads.Learnt,
+  put-reads.Asked,
+  put-reads.Learnt,
+) (put-hex-at t) put-hex.Post
+put-hex-sub-put-hex t c = search needs
+
+put-hex-put-hex-requires : (t : ℕ) → put-hex-lts.Need-put-hex-requires (
+  put-hex-below t,
+  put-hex.Post,
+  digit-reads.Asked,
+  digit-reads.Learnt,
+  put-reads.Asked,
+  put-reads.Learnt,
+) (put-hex-at t) put-hex.Post
+put-hex-put-hex-requires t c κs = search needs
+
+put-hex-digit-requires : (t : ℕ) → put-hex-lts.Need-digit-requires (
+  put-hex-below t,
+  put-hex.Post,
+  digit-reads.Asked,
+  digit-reads.Learnt,
+  put-reads.Asked,
+  put-reads.Learnt,
+) (put-hex-at t) put-hex.Post
+put-hex-digit-requires t c κs = search needs
+
+put-hex-put-requires : (t : ℕ) → put-hex-lts.Need-put-requires (
+  put-hex-below t,
+  put-hex.Post,
+  digit-reads.Asked,
+  digit-reads.Learnt,
+  put-reads.Asked,
+  put-reads.Learnt,
+) (put-hex-at t) put-hex.Post
+put-hex-put-requires t c κs = search needs
+
+put-hex-same-length : (t : ℕ) → put-hex-lts.Need-same-length (
+  put-hex-below t,
+  put-hex.Post,
+  digit-reads.Asked,
+  digit-reads.Learnt,
+  put-reads.Asked,
+  put-reads.Learnt,
+) (put-hex-at t) put-hex.Post
+put-hex-same-length t c = search needs
+
+put-hex-returns-2 : (t : ℕ) → put-hex-lts.Need-returns-2 (
+  put-hex-below t,
+  put-hex.Post,
+  digit-reads.Asked,
+  digit-reads.Learnt,
+  put-reads.Asked,
+  put-reads.Learnt,
+) (put-hex-at t) put-hex.Post
+put-hex-returns-2 t c =
+    let at-put = c .before .before in
+    let at-digit = at-put .before in
+    let at-put-hex = at-digit .before .before .before .before in
+    let at-if1 = at-put-hex .before .before in
+    let entry = at-if1 .before .before in
+    let more = hex-more (entry .args .k) (entry .args .n) (at-if1 .if1 .left) in
+    (rw (at-put .put .ensures .0, at-put-hex .put-hex .ensures .0, append-assoc, more, at-digit .digit .ensures), omega arith)
+
+pub +put-hex-spec : {M : Type 1} → statement M
++put-hex-spec = close μ-put-hex λ t. put-hex-lts.spec (
+  put-hex-below t,
+  put-hex.Post,
+  digit-reads.Asked,
+  digit-reads.Learnt,
+  put-reads.Asked,
+  put-reads.Learnt,
+)
+    (put-hex-at t)
+    put-hex.Post
+    (put-hex-returns t)
+    (put-hex-sub-put-hex t)
+    (put-hex-put-hex-requires t)
+    (put-hex-digit-requires t)
+    (put-hex-put-requires t)
+    (put-hex-same-length t)
+    (put-hex-returns-2 t)

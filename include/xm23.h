@@ -24,7 +24,7 @@ extern "C" {
 /* ---- version: of this header, as one number; xm23_version gives that of the library */
 
 #define XM23_VERSION_MAJOR 0
-#define XM23_VERSION_MINOR 8
+#define XM23_VERSION_MINOR 9
 #define XM23_VERSION_PATCH 0
 #define XM23_VERSION (XM23_VERSION_MAJOR * 65536 + XM23_VERSION_MINOR * 256 + XM23_VERSION_PATCH)
 
@@ -331,6 +331,11 @@ uint64_t xm23_range(uint16_t word);
  *                    XM23_REFUSED_EVENTS; XM23_REFUSED_EVENT_FIELDS over the whole list; XM23_REFUSED_EVENT_ORDER;
  *                    XM23_REFUSED_EVENT_TWINS, of events that this run would not apply too.
  *                    Refused: reason and steps are 0, and memory, record and events are as they were.
+ * interrupts         where the premises of crates/resume/specs/Resume.antt hold of a call, its application does not
+ *                    notice the devices' handlers: before and after each of its steps, those of its own SVC handlers
+ *                    among them, and at the close, its registers, PSW, CEX state and bytes are those of the run with no
+ *                    events, which takes the same traps. docs/RESUMPTION.md says it in words. The call does not check
+ *                    the premises.
  * defined            crates/machine/specs/Call.antt, runCallOf, for every length, content and number.
  */
 uint64_t xm23_run(uint8_t *memory, size_t memory_len, uint8_t *record, size_t record_len, const uint8_t *events,

@@ -1,5 +1,6 @@
 //! Random setups that look like examination papers: an application, eight handlers that mostly restore what they use,
-//! enabled devices, and events that nest and chain. Now and then each of them does something unwise.
+//! enabled devices, and events that nest and chain. In every other one the application calls SVC, whose handlers restore
+//! nothing. Now and then each of them does something unwise.
 
 use crate::isa::{encode, Instr};
 use crate::machine::{without_twins, Event, Machine, Setup, LR, MEMORY, PC, SP};
@@ -7,6 +8,8 @@ use crate::random::Random;
 
 const CODE: u16 = 0x1000;
 const HANDLERS: u16 = 0x2000;
+/// The vectors of SVC, each with a handler of a higher priority than the one before.
+const TRAPS: std::ops::Range<u8> = 11..14;
 const DATA: u16 = 0x3000;
 /// Where handlers keep what is theirs.
 const HANDLER_DATA: u8 = 0x38;
@@ -17,12 +20,14 @@ pub fn setup(seed: u64) -> Setup {
     let sp = maker.stack();
     let roomy = sp >> 8 == 0x08 || sp >> 8 == DATA >> 8;
     let stairs = maker.random.one_in(16);
-    maker.application();
+    let traps = !stairs && maker.random.one_in(2);
+    maker.application(traps);
+    TRAPS.for_each(|vector| maker.trap_handler(vector));
     for device in 0..8 {
-        maker.handler(device, roomy, stairs);
+        maker.handler(device, roomy, stairs, traps);
         maker.memory[2 * usize::from(device)] = maker.random.byte() | if maker.random.one_in(8) { 0 } else { 0x11 };
     }
-    let machine = maker.start(sp, stairs);
+    let machine = maker.start(sp, stairs, traps);
     let n = 40 + maker.random.below(120) as u32;
     let events = maker.events(n, stairs);
     Setup { machine, memory: maker.memory, events, n }
@@ -87,8 +92,8 @@ impl Maker {
         self.put(instr);
     }
 
-    /// The application: mostly work and CEX, with jumps inside it, calls and SETPRI.
-    fn application(&mut self) {
+    /// The application: mostly work and CEX, with jumps inside it, calls, SETPRI and, in every other setup, SVC.
+    fn application(&mut self, traps: bool) {
         self.at = CODE;
         let length = 8 + self.below(24);
         for i in 0..length {
@@ -113,10 +118,44 @@ impl Maker {
                 10 => self.pull(1),
                 11 => self.unwise(),
                 12 => self.put(Instr::MovImm { op: 3, byte: (DATA >> 8) as u8, dst: 3 }),
+                13..=15 if traps => self.svc(TRAPS.start),
                 _ => self.work(),
             }
         }
         self.put(Instr::Branch { cond: 7, offset: -i16::from(length) - 1 });
+    }
+
+    /// SVC to one of the vectors from this one on.
+    fn svc(&mut self, first: u8) {
+        let vector = first + self.below(TRAPS.end - first);
+        self.put(Instr::Svc { vector });
+    }
+
+    /// A handler of SVC and its vector. It works on the application's registers and data and restores nothing, may call
+    /// SVC to a higher vector, and may return from a copy of its frame, with SP elsewhere than entry left it.
+    fn trap_handler(&mut self, vector: u8) {
+        self.at = HANDLERS + 0x100 * u16::from(vector);
+        let entry = if self.random.one_in(6) { 0xFFFF } else { self.at };
+        for _ in 0..self.below(6) {
+            match self.random.below(8) {
+                0 | 1 if vector + 1 < TRAPS.end => self.svc(vector + 1),
+                2 => self.put(Instr::Cex { cond: 14, if_true: 1, if_false: 1 }),
+                3 if self.random.one_in(8) => self.unwise(),
+                _ => self.work(),
+            }
+        }
+        if self.random.one_in(4) {
+            for _ in 0..4 {
+                self.put(Instr::Ldr { offset: 6, wb: 0, src: SP as u8, dst: 0 });
+                self.push(0);
+            }
+        }
+        self.put(Instr::MovImm { op: 2, byte: 0xFF, dst: PC as u8 });
+        let priority = u16::from(vector - TRAPS.start + 2);
+        self.at = 0xFFC0 + 4 * u16::from(vector);
+        let psw = self.random.word() & 0xFF1F | priority << 5;
+        self.word(psw);
+        self.word(entry);
     }
 
     /// Flags, and seldom a sleep, an SVC, a return with nothing to return to, or any word at all.
@@ -139,13 +178,16 @@ impl Maker {
     }
 
     /// A handler and its vector. Where the stack has no room for registers it saves none and changes none.
-    fn handler(&mut self, device: u8, roomy: bool, stairs: bool) {
+    fn handler(&mut self, device: u8, roomy: bool, stairs: bool, traps: bool) {
         self.at = HANDLERS + 0x100 * u16::from(device);
         let entry = if self.random.one_in(6) { 0xFFFF } else { self.at };
         if roomy && !self.random.one_in(4) {
             self.saving_handler();
         } else {
             self.light_handler();
+        }
+        if traps && self.random.one_in(24) {
+            self.svc(TRAPS.start);
         }
         self.put(Instr::Mov { wb: 0, src: LR as u8, dst: PC as u8 });
         let priority = if stairs { device.min(7) } else { self.below(8) };
@@ -155,10 +197,11 @@ impl Maker {
         self.word(entry);
     }
 
-    /// Saves R0 to R4, works on data of its own, may touch a device, and restores. One in ten is careless: it works on
-    /// the application's code, does something unwise, forgets a register, or works on after restoring.
+    /// Saves R0 to R4, works on data of its own, may touch a device, and restores. One in eight is careless: it works on
+    /// the application's code, does something unwise, forgets a register, works on after restoring, or stores into what
+    /// lies above its frame.
     fn saving_handler(&mut self) {
-        let careless = if self.random.one_in(10) { self.below(4) } else { 4 };
+        let careless = if self.random.one_in(8) { self.below(5) } else { 5 };
         (0..5).for_each(|r| self.push(r));
         if !self.random.one_in(4) {
             let byte = if careless == 0 { (CODE >> 8) as u8 } else { HANDLER_DATA };
@@ -177,6 +220,10 @@ impl Maker {
         (u8::from(careless == 2)..5).rev().for_each(|r| self.pull(r));
         if careless == 3 {
             self.work();
+        }
+        if careless == 4 {
+            let (offset, src) = (8 + 2 * i16::from(self.below(4)), self.below(3));
+            self.put(Instr::Str { offset, wb: 0, src, dst: SP as u8 });
         }
     }
 
@@ -210,8 +257,9 @@ impl Maker {
         }
     }
 
-    fn start(&mut self, sp: u16, stairs: bool) -> Machine {
-        let priority = if stairs { 0 } else { u16::from(self.below(7).min(self.below(7))) };
+    fn start(&mut self, sp: u16, stairs: bool, traps: bool) -> Machine {
+        let highest = if traps { 2 } else { 7 };
+        let priority = if stairs { 0 } else { u16::from(self.below(highest).min(self.below(highest))) };
         let mut m = Machine { psw: self.random.word() & 0xE017 | priority << 5, ..Machine::default() };
         for i in 0..6 {
             m.regs[i] = self.random.word();

@@ -1,5 +1,6 @@
-//! Why 01 "Depth" and demand 3 say what they say: for each premise a run that breaks it alone and breaks the promise,
-//! and for each other reading of their words a run that meets the premises so read and breaks the promise.
+//! Why 01 "Depth", demand 3 and 02 §13 say what they say: for each premise a run that breaks it alone and breaks the
+//! promise, or breaks it alone and shows that it is idle, and for each other reading of their words a run that meets the
+//! premises so read and breaks the promise.
 
 use oracle::alu::SLP;
 use oracle::asm::assemble;
@@ -39,6 +40,13 @@ fn needed(premise: Premise, setup: &Setup) {
     assert!(!close.resumes, "{close:?}");
 }
 
+/// The run breaks this premise and no other, and the promise holds.
+#[track_caller]
+fn idle(premise: Premise, setup: &Setup) {
+    let close = judge(setup, Reading::Decided);
+    assert!(close.resumption.only(premise) && close.resumes, "{close:?}");
+}
+
 /// The same for Depth.
 #[track_caller]
 fn needed_for_depth(premise: Premise, setup: &Setup) {
@@ -53,6 +61,15 @@ fn false_reading(reading: Reading, setup: &Setup) {
     let close = judge(setup, reading);
     assert!(close.resumption.none() && !close.resumes, "{close:?}");
     assert!(!judge(setup, Reading::Decided).resumption.none());
+}
+
+/// The run meets the premises so read and as decided; the promise fails so read and holds as decided.
+#[track_caller]
+fn false_count(reading: Reading, setup: &Setup) {
+    let close = judge(setup, reading);
+    assert!(close.resumption.none() && !close.resumes, "{close:?}");
+    let close = judge(setup, Reading::Decided);
+    assert!(close.resumption.none() && close.resumes, "{close:?}");
 }
 
 const LOOP: &str = "Loop ADD $1,R0\n BRA Loop\n";
@@ -79,6 +96,21 @@ H5      CMP R0,R1
     assert!((close.met.closed, close.met.deepest, close.met.chained) == (3, 2, true), "{close:?}");
 }
 
+#[test]
+fn a_sound_run_across_svc() {
+    // SVC 1 calls SVC 2, whose handler device 5 interrupts and onto whose return device 6 is chained. Both handlers change
+    // registers; that of SVC 1 returns from a copy of its frame, with SP 8 lower.
+    let copy = " LDR SP,$6,R2\n ST R2,-SP\n".repeat(4);
+    let source = format!(
+        "Loop ADD $1,R0\n SVC $1\n BRA Loop\nH1 ADD $1,R1\n SVC $2\n{copy} MOV LR,PC\nH2 ADD $1,R1\n MOV LR,PC\n"
+    );
+    let close = judge(&setup(&source, 21, &[(4, 5), (8, 6)]), Reading::Decided);
+    assert!(close.resumption.none() && close.resumes, "{close:?}");
+    let met = close.met;
+    assert!((met.closed, met.own_closed, met.deepest) == (2, 1, 3), "{close:?}");
+    assert!(met.nested_svc && met.inside_svc && met.onto_svc && met.moved, "{close:?}");
+}
+
 // ---- Resumption: each premise
 
 #[test]
@@ -93,8 +125,7 @@ fn start_awake() {
 fn start_not_halted_is_idle() {
     let mut s = setup(LOOP, 5, &[(0, 7)]);
     s.machine.halted = true;
-    let close = judge(&s, Reading::Decided);
-    assert!(close.resumption.only(Premise::NotHalted) && close.resumes);
+    idle(Premise::NotHalted, &s);
 }
 
 #[test]
@@ -112,8 +143,9 @@ fn no_fault() {
 }
 
 #[test]
-fn no_svc() {
-    needed(Premise::NoSvc, &setup(" SVC $7\nLoop BRA Loop", 3, &[]));
+fn no_svc_in_a_device_handler_is_idle() {
+    // Its frame is then a device's, found as entry left it.
+    idle(Premise::DeviceSvc, &setup(&format!("{LOOP}H3 SVC $5\n MOV LR,PC"), 8, &[(0, 3)]));
 }
 
 #[test]
@@ -129,6 +161,13 @@ fn no_return_with_no_frame_open() {
 #[test]
 fn every_frame_closed() {
     needed(Premise::Closed, &setup(LOOP, 1, &[(0, 7)]));
+    // Chained onto an SVC frame.
+    needed(Premise::Closed, &setup(" SVC $1\n", 2, &[(1, 3)]));
+}
+
+#[test]
+fn every_frame_of_svc_closed_is_idle() {
+    idle(Premise::OwnClosed, &setup(" SVC $1\nH1 BRA H1\n", 5, &[(2, 7)]));
 }
 
 #[test]
@@ -197,6 +236,60 @@ fn no_fetch_from_a_byte_of_a_handler_or_an_entry() {
     needed(Premise::ForeignFetch, &s);
 }
 
+// ---- across SVC
+
+/// SVC 1, whose handler sets R0 to 7, and onto whose return, the fourth step, device 3 is chained.
+fn chained(handler: &str, n: u32, more: &[(u32, u8)]) -> Setup {
+    let source = format!(" SVC $1\n{LOOP}H1 MOVLZ $7,R0\n MOV LR,PC\nH3 {handler}\n MOV LR,PC\n");
+    setup(&source, n, &[&[(3, 3)], more].concat())
+}
+
+#[test]
+fn chained_handler_leaves_registers() {
+    needed(Premise::ChainedRegisters, &chained("MOVLZ $9,R4", 7, &[]));
+}
+
+#[test]
+fn chained_handler_leaves_the_stack_pointer() {
+    needed(Premise::ChainedStackPointer, &chained("ADD $2,SP", 7, &[]));
+}
+
+#[test]
+fn chained_handler_leaves_the_eight_bytes() {
+    // The PC that the return was about to pull is changed.
+    needed(Premise::ChainedBytes, &chained("STR SP,SP,$6", 7, &[]));
+}
+
+#[test]
+fn no_vector_of_a_handler() {
+    // Device 7's handler stores #FFFF as entry point of vector 2: SVC 2 then returns at once.
+    let mut s = setup(" SVC $2\n BRA H2\nH2 MOVLZ $9,R3\n MOV LR,PC\nH7 ST R0,R1\n MOV LR,PC\n", 6, &[(0, 7)]);
+    s.machine.regs[0] = 0xFFFF;
+    s.machine.regs[1] = 0xFFCA;
+    needed(Premise::ForeignVector, &s);
+}
+
+#[test]
+fn no_pull_of_bytes_of_a_handler() {
+    // Inside the handler of SVC 2, device 7's stores R1 as the PC that SVC pushed. The return is pulled, or chained.
+    let source = " SVC $2\n BRA H2\nH2 ADD $1,R0\n MOV LR,PC\nH7 STR R1,SP,$14\n MOV LR,PC\n";
+    for (n, events) in [(8, vec![(1, 7)]), (9, vec![(1, 7), (7, 5)])] {
+        let mut s = setup(source, n, &events);
+        s.machine.regs[1] = 0x1004;
+        needed(Premise::ForeignPull, &s);
+    }
+}
+
+#[test]
+fn no_pull_of_device_registers() {
+    // SVC's frame lies on the registers of devices 4 to 7. The pushed PSW, V and Z, makes device 5 an enabled input
+    // device without IE; the event of the next step, SVC's return, changes it.
+    let mut s = setup(" SVC $2\n", 2, &[(1, 5)]);
+    s.machine.regs[SP] = 16;
+    s.machine.psw = 0x12;
+    needed(Premise::DevicePull, &s);
+}
+
 // ---- Depth: each premise
 
 /// At priority 6, where one frame is the most.
@@ -232,13 +325,13 @@ fn spoiled(handler: &str) -> Setup {
 fn depth_pull_finds_sp() {
     // Handler 7 leaves SP below a made-up frame: PC handler 6, PSW 0.
     let handler = "ST R0,-SP\n ST R0,-SP\n ST R1,-SP\n ST R1,-SP";
-    needed_for_depth(Premise::StackPointer, &spoiled(handler));
+    needed_for_depth(Premise::AnyStackPointer, &spoiled(handler));
 }
 
 #[test]
 fn depth_pull_finds_its_frame() {
     // The pushed PSW becomes 0.
-    needed_for_depth(Premise::FrameBytes, &spoiled("STR R1,SP,$2"));
+    needed_for_depth(Premise::AnyFrameBytes, &spoiled("STR R1,SP,$2"));
 }
 
 #[test]
@@ -283,4 +376,34 @@ fn last_written_over_the_whole_run() {
     let mut s = setup(" LD R1,R0\n ST R2,R1\nH3 ST SP,R1\n MOV LR,PC", 6, &[(0, 3)]);
     s.machine.regs[1] = 0x3000;
     false_reading(Reading::WholeRun, &s);
+}
+
+#[test]
+fn chaining_step_not_counted() {
+    false_count(Reading::ChainingUncounted, &chained("", 7, &[]));
+}
+
+#[test]
+fn frame_stays_the_applications() {
+    // The steps of the chained handler would be the application's.
+    false_count(Reading::StaysOwn, &chained("", 7, &[]));
+}
+
+#[test]
+fn as_the_entry_of_svc_left_them() {
+    // SVC's handler sets R0 to 7; the chained one sets it back to the 0 that SVC's entry left.
+    false_reading(Reading::AsSvcLeft, &chained("MOVLZ $0,R0", 7, &[]));
+}
+
+#[test]
+fn as_the_last_of_two_chained_handlers_found_them() {
+    // Device 3's handler sets R0 to 9, which device 2's, chained onto it, finds and leaves.
+    false_reading(Reading::LastChaining, &chained("MOVLZ $9,R0", 9, &[(6, 2)]));
+}
+
+#[test]
+fn pushes_of_svc_as_an_entrys() {
+    // No run with a return of SVC would meet the premises.
+    let close = judge(&chained("", 7, &[]), Reading::PushesForeign);
+    assert!(close.resumption.only(Premise::ForeignPull) && close.resumes, "{close:?}");
 }

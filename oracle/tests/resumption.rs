@@ -1,12 +1,12 @@
-//! Random search for a run that meets the premises of 01 "Depth" or "Resumption" and breaks their promise. The seeds
-//! are fixed; XM23_SEARCH=N walks N setups from a seed of the clock.
+//! Random search for a run that meets the premises of 01 "Depth" or of "Resumption" as 02 §13 has it, and breaks their
+//! promise. The seeds are fixed; XM23_SEARCH=N walks N setups from a seed of the clock.
 
 use oracle::programs::setup;
 use oracle::resume::{Broken, Met, Premise, Reading, Walk, DEPTH, RESUMPTION};
 use std::thread;
 
-/// Premises that the promises do not need, though 01 words them.
-const IDLE_RESUMPTION: [Premise; 1] = [Premise::NotHalted];
+/// Premises that the promises do not need, though 01 and 02 word them.
+const IDLE_RESUMPTION: [Premise; 3] = [Premise::NotHalted, Premise::DeviceSvc, Premise::OwnClosed];
 const IDLE_DEPTH: [Premise; 2] = [Premise::NoSvc, Premise::NoStrayReturn];
 
 /// For each premise of a list: the setups with a close that breaks it alone, and those where the promise then fails.
@@ -46,7 +46,7 @@ impl Dropped {
 }
 
 /// The names of what runs met, in the order of `features`.
-const FEATURES: [&str; 9] = [
+const FEATURES: [&str; 14] = [
     "nested",
     "chained",
     "with an odd SP",
@@ -56,9 +56,14 @@ const FEATURES: [&str; 9] = [
     "interrupted in a CEX block",
     "with SETPRI downwards",
     "with SETPRI downwards in a handler",
+    "across a return of SVC",
+    "across SVC in a handler of SVC",
+    "interrupted in a handler of SVC",
+    "chained onto a return of SVC",
+    "with SP moved by a handler of SVC",
 ];
 
-fn features(met: &Met) -> [bool; 9] {
+fn features(met: &Met) -> [bool; 14] {
     [
         met.deepest > 1,
         met.chained,
@@ -69,6 +74,11 @@ fn features(met: &Met) -> [bool; 9] {
         met.in_block,
         met.lowered,
         met.handler_lowered,
+        met.own_closed > 0,
+        met.nested_svc,
+        met.inside_svc,
+        met.onto_svc,
+        met.moved,
     ]
 }
 
@@ -77,7 +87,7 @@ fn features(met: &Met) -> [bool; 9] {
 struct Tally {
     /// Setups with a run that meets the premises of Resumption after a frame was closed, and what those runs met.
     resumption: u64,
-    met: [u64; 9],
+    met: [u64; 14],
     /// Setups with a run that meets the premises of Depth with a frame open, and those that reach the bound.
     depth: u64,
     bound: u64,
@@ -90,7 +100,7 @@ impl Tally {
     fn new() -> Tally {
         Tally {
             resumption: 0,
-            met: [0; 9],
+            met: [0; 14],
             depth: 0,
             bound: 0,
             deepest: 0,
@@ -147,7 +157,7 @@ fn search(seed: u64) -> Tally {
         walk.step();
     }
     if tally.resumption == 0 {
-        tally.met = [0; 9];
+        tally.met = [0; 14];
     }
     tally
 }

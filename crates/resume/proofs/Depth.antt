@@ -24,8 +24,8 @@ use Rattle.machine.specs.Record.{stateIn}
 use Rattle.machine.specs.Events.{Event, eventsOf}
 use Rattle.machine.specs.Entry.{vectorPsw, priority, best, above, vectored, enteredPsw, pulled, pulledPsw}
 use Rattle.machine.specs.Effect.{effectOf}
-use Rattle.machine.specs.Step.{Act, Interrupt, pulls, chains, accepts, nothing, interruptOf, returns?, advanced, granted, instructionOf}
-use Rattle.machine.specs.Step.{planOf, perform, outcomeOf, finished}
+use Rattle.machine.specs.Step.{Act, Interrupt, pulls, chains, accepts, nothing, interruptOf, returns?, advanced, granted}
+use Rattle.machine.specs.Step.{instructionOf, planOf, perform, outcomeOf, finished}
 use Rattle.machine.specs.Step.{stopped, pull, chain, accept, sleep, fault, halt, skip, trap, plain, loads, stores}
 use Rattle.machine_laws.specs.Bounds.{Each, Tidy, EventFits}
 use Rattle.machine_laws.specs.Passed.{Passed}
@@ -34,12 +34,13 @@ use Rattle.machine_laws.proofs.Effects.{SamePriorities, effect-priorities}
 use Rattle.machine_laws.proofs.Plans.{instruction-cases, plan-cases, plan-halted}
 use Rattle.machine_laws.proofs.Runs.{step-halted, step-live, run-zero, run-step}
 use Rattle.machine_laws.proofs.Steps.{deliver-tidy, deliver-core, deliver-halted, run-tidy}
-use Rattle.resume.specs.Frames.{Frame, Calm, none?, framesAfter, after, due, act, frames}
 use Rattle.machine_laws.proofs.Records.{passed, start-tidy, events-fit}
+use Rattle.resume.specs.Frames.{Frame, frame, Calm, svc?, none?, framesAfter, after, due, act, frames}
 use Rattle.resume.specs.Depth.{setPri?, executes?, setsPriority?, lesser, lowest, Shallow, DepthPremises}
 use Rattle.resume.proofs.Frame.{Saved, saves, found-word}
-use Rattle.resume.proofs.Same.{Steady, instruction-steady, faulting-uncalm, fault-uncalm, trap-uncalm}
-use Rattle.resume.proofs.Step.{plan-core, plan-moves}
+use Rattle.resume.proofs.Steady.{Faultless, Steady, calm-faultless, faulting-faults, trap-granted, instruction-steady, plan-core}
+use Rattle.resume.proofs.Steady.{plan-moves}
+use Rattle.resume.proofs.Devices.{Devices, devices-chained, frames-devices}
 
 -- ---- priorities of the words that entries and returns make
 
@@ -127,34 +128,35 @@ steady-higher p q m plain s = tt
 steady-higher p q m (loads byte a d) s = tt
 steady-higher p q m (stores byte a v) s = tt
 
-plan-higher : (s : State) (fs : List Frame) → Calm (planOf s .act) fs
+plan-higher : (s : State) → Faultless (planOf s .act)
     → Higher (current (s .core .psw)) (previous (s .core .psw)) (s .mem) (planOf s .act)
 unfolding Above
-plan-higher s fs =
+plan-higher s =
     let p = current (s .core .psw) in
     let q = previous (s .core .psw) in
     let u = interrupt-above (s .core) (s .lines) (s .mem) in
-    plan-cases s (λ x. Calm (x .act) fs → Higher p q (s .mem) (x .act))
+    plan-cases s (λ x. Faultless (x .act) → Higher p q (s .mem) (x .act))
     (λ h c. tt)
     (λ h e c. tt)
     (λ d h e c. subst (Above p q (s .mem)) e u)
     (λ d h e c. subst (Above p q (s .mem)) e u)
-    (λ h e c. steady-higher p q (s .mem) (instructionOf (s .core) (s .mem) .act) (instruction-steady (s .core) (s .mem) fs c))
+    (λ h e c. steady-higher p q (s .mem) (instructionOf (s .core) (s .mem) .act) (instruction-steady (s .core) (s .mem) c))
 
 -- ---- an instruction that is no SETPRI keeps both priorities
 
 not-set : (n : Instr) → setPri? n ≡ false → (level : ℕ) → n ≡ i.SetPri level → ⊥
 not-set n h level e = true≢false (sym (ap setPri? e) ∙ h)
 
-module _ (c x : Core) (m : List ℕ) (fs : List Frame) (n : Instr) (e : setPri? n ≡ false → SamePriorities (x .psw) (c .psw)) where
-  granted-priorities : (a : Access) → Calm (granted c x a m .act) fs → executes? (granted c x a m .act) && setPri? n ≡ false
+module _ (c x : Core) (m : List ℕ) (n : Instr) (e : setPri? n ≡ false → SamePriorities (x .psw) (c .psw)) where
+  granted-priorities : (a : Access) → Faultless (granted c x a m .act) → svc? (granted c x a m .act) ≡ false
+      → executes? (granted c x a m .act) && setPri? n ≡ false
       → SamePriorities (granted c x a m .core .psw) (c .psw)
   unfolding granted
-  granted-priorities Nothing h q = e q
-  granted-priorities (Load byte a d) h q = e q
-  granted-priorities (Store byte a v) h q = e q
-  granted-priorities (Fault v) h q = absurd (fault-uncalm c x m fs v h)
-  granted-priorities (Trap v) h q = absurd (trap-uncalm c x m fs v h)
+  granted-priorities Nothing h u q = e q
+  granted-priorities (Load byte a d) h u q = e q
+  granted-priorities (Store byte a v) h u q = e q
+  granted-priorities (Fault v) h u q = absurd (faulting-faults c (advanced c) v h)
+  granted-priorities (Trap v) h u q = absurd (true≢false (sym (ap svc? (trap-granted c x m v h)) ∙ u))
 
 advanced-psw : (c : Core) → advanced c .psw ≡ c .psw
 unfolding advanced
@@ -164,44 +166,48 @@ executed-priorities : (c : Core) (n : Instr) → Fields n → setPri? n ≡ fals
 unfolding advanced
 executed-priorities c n f h = effect-priorities (advanced c) n f (not-set n h)
 
-instruction-priorities : (c : Core) (m : List ℕ) (fs : List Frame) → Calm (instructionOf c m .act) fs
+instruction-priorities : (c : Core) (m : List ℕ) → Faultless (instructionOf c m .act) → svc? (instructionOf c m .act) ≡ false
     → executes? (instructionOf c m .act) && setPri? (decodeOf (wordAt m (pc c))) ≡ false
     → SamePriorities (instructionOf c m .core .psw) (c .psw)
 unfolding advanced
-instruction-priorities c m fs =
+instruction-priorities c m =
     let n = decodeOf (wordAt m (pc c)) in
     let x = effectOf (advanced c) n in
-    instruction-cases c m (λ p. Calm (p .act) fs → executes? (p .act) && setPri? n ≡ false → SamePriorities (p .core .psw) (c .psw))
-    (λ q h e. (refl, refl))
-    (λ q r h e. absurd (faulting-uncalm c c 9 fs h))
-    (λ q r o h e. (refl, refl))
-    (λ q r o h e. granted-priorities c (x .core) m fs n (executed-priorities c n (decode-fields (wordAt m (pc c)))) (x .access) h e)
+    instruction-cases c m
+    (λ p. Faultless (p .act) → svc? (p .act) ≡ false → executes? (p .act) && setPri? n ≡ false → SamePriorities (p .core .psw) (c .psw))
+    (λ q h u e. (refl, refl))
+    (λ q r h u e. absurd (faulting-faults c c 9 h))
+    (λ q r o h u e. (refl, refl))
+    (λ q r o h u e. granted-priorities c (x .core) m n (executed-priorities c n (decode-fields (wordAt m (pc c)))) (x .access) h u e)
 
-plan-priorities : (s : State) (fs : List Frame) → Calm (planOf s .act) fs → setsPriority? s ≡ false → Steady (planOf s .act)
+plan-priorities : (s : State) → Faultless (planOf s .act) → svc? (planOf s .act) ≡ false → setsPriority? s ≡ false → Steady (planOf s .act)
     → SamePriorities (planOf s .core .psw) (s .core .psw)
-plan-priorities s fs =
+plan-priorities s =
     let b = setPri? (decodeOf (wordAt (s .mem) (pc (s .core)))) in
-    plan-cases s (λ p. Calm (p .act) fs → executes? (p .act) && b ≡ false → Steady (p .act) → SamePriorities (p .core .psw) (s .core .psw))
-    (λ h c e u. absurd u)
-    (λ h q c e u. absurd u)
-    (λ d h q c e u. absurd u)
-    (λ d h q c e u. absurd u)
-    (λ h q c e u. instruction-priorities (s .core) (s .mem) fs c e)
+    plan-cases s
+    (λ p. Faultless (p .act) → svc? (p .act) ≡ false → executes? (p .act) && b ≡ false → Steady (p .act)
+    → SamePriorities (p .core .psw) (s .core .psw))
+    (λ h c u e st. absurd st)
+    (λ h q c u e st. absurd st)
+    (λ d h q c u e st. absurd st)
+    (λ d h q c u e st. absurd st)
+    (λ h q c u e st. instruction-priorities (s .core) (s .mem) c u e)
 
-perform-steady : (a : Act) → Steady a → (c : Core) (l : ℕ) (m : List ℕ) → perform a c l m .core .psw ≡ c .psw
+perform-steady : (a : Act) → Steady a → svc? a ≡ false → (c : Core) (l : ℕ) (m : List ℕ)
+    → perform a c l m .core .psw ≡ c .psw
 unfolding perform
-perform-steady stopped s c l m = absurd s
-perform-steady pull s c l m = absurd s
-perform-steady (chain d) s c l m = absurd s
-perform-steady (accept d) s c l m = absurd s
-perform-steady sleep s c l m = refl
-perform-steady (fault v) s c l m = absurd s
-perform-steady halt s c l m = absurd s
-perform-steady skip s c l m = refl
-perform-steady (trap v) s c l m = absurd s
-perform-steady plain s c l m = refl
-perform-steady (loads byte a d) s c l m = refl
-perform-steady (stores byte a v) s c l m = refl
+perform-steady stopped s u c l m = absurd s
+perform-steady pull s u c l m = absurd s
+perform-steady (chain d) s u c l m = absurd s
+perform-steady (accept d) s u c l m = absurd s
+perform-steady sleep s u c l m = refl
+perform-steady (fault v) s u c l m = absurd s
+perform-steady halt s u c l m = absurd s
+perform-steady skip s u c l m = refl
+perform-steady (trap v) s u c l m = absurd (true≢false u)
+perform-steady plain s u c l m = refl
+perform-steady (loads byte a d) s u c l m = refl
+perform-steady (stores byte a v) s u c l m = refl
 
 -- ---- the invariant
 
@@ -316,20 +322,23 @@ module _ (memory r events : List ℕ) (n : ℕ) (P : DepthPremises memory r even
       onto : (fs : List Frame) → Deep p (finished (due ev s k) .core .psw) fs → Deep p (after ev s (suc k) .core .psw) fs
       onto fs h = subst (λ t. Deep p (t .core .psw) fs) (sym next-is) h
 
+      faultless : Faultless (act ev s k)
+      faultless = calm-faultless (act ev s k) (frames ev s k) (P .calm k below)
+
       outcome-is : (a : Act) → act ev s k ≡ a → (Steady a → ⊥)
           → outcomeOf (due ev s k) ≡ perform a (due ev s k .core) (due ev s k .lines) (due ev s k .mem)
       outcome-is a q u =
-          let c = plan-core (due ev s k) (frames ev s k) (P .calm k below) (λ h. u (subst Steady q h)) in
+          let c = plan-core (due ev s k) faultless (λ h. u (subst Steady q h)) in
           λ i. perform (q i) (c i) (due ev s k .lines) (due ev s k .mem)
 
       higher : (a : Act) → act ev s k ≡ a → Higher (current (due ev s k .core .psw)) (previous (due ev s k .core .psw)) (due ev s k .mem) a
       higher a q =
           subst (Higher (current (due ev s k .core .psw)) (previous (due ev s k .core .psw)) (due ev s k .mem)) q
-          (plan-higher (due ev s k) (frames ev s k) (P .calm k below))
+          (plan-higher (due ev s k) faultless)
 
       -- an entry
       accepted-deep : (d : ℕ) → act ev s k ≡ accept d
-          → Deep p (finished (due ev s k) .core .psw) (record { held = after ev s (suc k) } ∷ frames ev s k)
+          → Deep p (finished (due ev s k) .core .psw) (frame (after ev s (suc k)) false ∷ frames ev s k)
       unfolding perform vectored
       accepted-deep d q =
           let c = due ev s k .core in
@@ -386,9 +395,12 @@ module _ (memory r events : List ℕ) (n : ℕ) (P : DepthPremises memory r even
       steady-deep f fs st o =
           let no : setsPriority? (due ev s k) ≡ false = P .no-setpri k below (ap none? o) in
           let same : SamePriorities (finished (due ev s k) .core .psw) (due ev s k .core .psw) =
-          rw (perform-steady (act ev s k) st (planOf (due ev s k) .core) (due ev s k .lines) (due ev s k .mem))
-          (plan-priorities (due ev s k) (frames ev s k) (P .calm k below) no st) in
+          rw (perform-steady (act ev s k) st (P .no-svc k below) (planOf (due ev s k) .core) (due ev s k .lines) (due ev s k .mem))
+          (plan-priorities (due ev s k) faultless (P .no-svc k below) no st) in
           deep-same p _ (due ev s k .core .psw) (f ∷ fs) same (deep-at (f ∷ fs) o)
+
+      devices : (fs : List Frame) → frames ev s k ≡ fs → Devices fs
+      devices fs o = subst Devices o (frames-devices ev s n (P .no-svc) k (omega arith))
 
       -- with no frame open, p is at most the current priority
       outside : (a : Act) → act ev s k ≡ a → frames ev s k ≡ [] → framesAfter a (after ev s (suc k)) [] ≡ []
@@ -406,19 +418,21 @@ module _ (memory r events : List ℕ) (n : ℕ) (P : DepthPremises memory r even
 
       deep-after : (a : Act) → act ev s k ≡ a → (fs : List Frame) → frames ev s k ≡ fs → Calm a fs
           → Deep p (after ev s (suc k) .core .psw) (framesAfter a (after ev s (suc k)) fs)
-      deep-after stopped q fs o c = absurd (plan-moves (due ev s k) (frames ev s k) due-live (P .calm k below) q)
+      deep-after stopped q fs o c = absurd (plan-moves (due ev s k) due-live faultless q)
       deep-after pull q [] o c = absurd (true≢false c)
       deep-after pull q (f ∷ fs) o c = onto fs (pulled-deep f fs q o)
       deep-after (chain d) q [] o c = absurd (true≢false c)
-      deep-after (chain d) q (f ∷ fs) o c = onto (f ∷ fs) (chained-deep d f fs q o)
+      deep-after (chain d) q (f ∷ fs) o c =
+          subst (Deep p (after ev s (suc k) .core .psw)) (sym (devices-chained (after ev s (suc k)) (f ∷ fs) (devices (f ∷ fs) o)))
+          (onto (f ∷ fs) (chained-deep d f fs q o))
       deep-after (accept d) q fs o c =
-          subst (λ l. Deep p (after ev s (suc k) .core .psw) (record { held = after ev s (suc k) } ∷ l)) o
-          (onto (record { held = after ev s (suc k) } ∷ frames ev s k) (accepted-deep d q))
+          subst (λ l. Deep p (after ev s (suc k) .core .psw) (frame (after ev s (suc k)) false ∷ l)) o
+          (onto (frame (after ev s (suc k)) false ∷ frames ev s k) (accepted-deep d q))
       deep-after sleep q fs o c = steady-next sleep q fs o tt refl
       deep-after (fault v) q fs o c = absurd c
       deep-after halt q fs o c = absurd c
       deep-after skip q fs o c = steady-next skip q fs o tt refl
-      deep-after (trap v) q fs o c = absurd c
+      deep-after (trap v) q fs o c = absurd (true≢false (sym (ap svc? q) ∙ P .no-svc k below))
       deep-after plain q fs o c = steady-next plain q fs o tt refl
       deep-after (loads byte a d) q fs o c = steady-next (loads byte a d) q fs o tt refl
       deep-after (stores byte a v) q fs o c = steady-next (stores byte a v) q fs o tt refl

@@ -1,9 +1,10 @@
--- A frame that is found as entry left it gives back the core that was interrupted. Assumes nothing.
+-- A frame that is found as entry left it gives back the core that was interrupted, and a pull gives the same core from two
+-- states of which one has R0 to R4, SP and the frame's bytes as the other. Assumes nothing.
 use Prim.Native.Nat.{ℕ, zero, suc, _+_, _*_, _-_, _/_, _%_, _<_, _≤_}
 use mathlib.Core.Bool.{Bool, false}
 use mathlib.Core.List.{List, [], _∷_, _++_}
 use mathlib.Core.Logic.{_≢_}
-use mathlib.Core.Path.{_≡_, sym, ap, _∙_}
+use mathlib.Core.Path.{_≡_, refl, sym, ap, _∙_}
 use native.Mathlib.Omega.{arith}
 use lib.Dec.{lit<}
 use lib.ListN.{length, set, getD}
@@ -213,3 +214,56 @@ module _ (c : Core) (s t : State) (tidy : TidyCore c) (awake : asleep? (c .psw) 
       ∙ (λ i. e0 i ∷ e1 i ∷ e2 i ∷ e3 i ∷ e4 i ∷ lr-back i ∷ sp-is i ∷ pc-back i ∷ [])
       ∙ sym (eight-cells (c .regs) (tidy .eight)) in
       λ i. record { regs = regs i; psw = psw-is i; cex = cex-is i }
+
+-- ---- a pull from two states
+
+pub found-refl : (s : State) → Found s s
+found-refl s = record { registers = λ i h. refl; frame = record { stack = refl; bytes = λ i h. refl } }
+
+module _ (s t : State) (fd : Found s t) (tidy : TidyCore (s .core)) (h8 : length (t .core .regs) ≡ 8) where
+  held-word : sp (s .core) < 65536
+  held-word = tidy .words 6
+
+  same-word : (k : ℕ) → k % 2 ≡ 0 → k < 7 → wordAt (t .mem) (wrap (sp (t .core) + k)) ≡ wordAt (s .mem) (wrap (sp (s .core) + k))
+  same-word k e l = found-word s t (fd .frame) held-word k e l
+
+  same-cex : wordAt (t .mem) (sp (t .core)) ≡ wordAt (s .mem) (sp (s .core))
+  same-cex =
+      let a : sp (t .core) < 65536 = rw (fd .frame .stack) held-word in
+      ap (wordAt (t .mem)) (sym (no-step (sp (t .core)) a)) ∙ same-word 0 (omega arith) (lit< tt)
+      ∙ ap (wordAt (s .mem)) (no-step (sp (s .core)) held-word)
+
+  -- a pull from a frame as it was held gives what a pull from the held state gives
+  pub pulled-found : pulled (t .core) (t .mem) ≡ pulled (s .core) (s .mem)
+  unfolding pulled
+  pulled-found =
+      let e0 = fd .registers 0 (lit< tt) in
+      let e1 = fd .registers 1 (lit< tt) in
+      let e2 = fd .registers 2 (lit< tt) in
+      let e3 = fd .registers 3 (lit< tt) in
+      let e4 = fd .registers 4 (lit< tt) in
+      let lr-is = same-word 4 (omega arith) (lit< tt) in
+      let pc-is = same-word 6 (omega arith) (lit< tt) in
+      let sp-is = ap (λ x. wrap (x + 8)) (fd .frame .stack) in
+      let regs = three (t .core .regs) _ _ _ h8
+      ∙ (λ i. e0 i ∷ e1 i ∷ e2 i ∷ e3 i ∷ e4 i ∷ lr-is i ∷ sp-is i ∷ pc-is i ∷ [])
+      ∙ sym (three (s .core .regs) _ _ _ (tidy .eight)) in
+      let psw-is = ap pulledPsw (same-word 2 (omega arith) (lit< tt)) in
+      let cex-is = ap (λ x. x % 128) same-cex in
+      λ i. record { regs = regs i; psw = psw-is i; cex = cex-is i }
+
+-- a chained entry keeps R0 to R4, SP and memory
+pub chained-found : (s t : State) (v q : ℕ) (b : Bool) → length (s .core .regs) ≡ 8
+    → t .core ≡ vectored (s .core) (s .mem) v q b (sp (s .core))
+    → t .mem ≡ s .mem
+    → Found s t
+unfolding vectored
+chained-found s t v q b h ec em =
+    record {
+      registers = λ i k. ap (λ c. reg c i) ec ∙ kept (s .core .regs) _ _ _ h i k;
+      frame =
+          record {
+            stack = ap (λ c. reg c 6) ec ∙ ap (λ l. getD l 6 0) (three (s .core .regs) _ _ _ h);
+            bytes = λ i k. ap (λ m. frameByte m (sp (s .core)) i) em;
+          };
+    }

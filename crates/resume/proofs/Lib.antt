@@ -1,6 +1,16 @@
 pub mod Writes
 pub mod Frame
+pub mod Steady
+pub mod Devices
 pub mod Same
 pub mod Step
+pub mod Outer
 pub mod Resume
+pub mod Trace
+pub mod RowFacts
+pub mod TrapRows
+pub mod TrapExample
+pub mod Untrapped
 pub mod Depth
+pub mod Rows
+pub mod Example

@@ -1,10 +1,11 @@
 -- A step of the application does the same in two memories that agree on the bytes that it loads or fetches. The instructions
 -- stay shut: nothing here goes by cases on them. Assumes nothing.
 use Prim.Native.Nat.{ℕ, _+_, _*_, _%_}
-use mathlib.Core.Bool.{Bool, true, false}
+use mathlib.Core.Bool.{Bool, true, false, cond, _||_}
 use mathlib.Core.List.{List, []}
 use mathlib.Core.Path.{_≡_, refl, sym, ap, subst}
 use lib.Dec.{eqb, ltb}
+use lib.ListN.{set}
 use Rattle.word.specs.Psw.{asleep?, faulted?, current, previous}
 use Rattle.isa.specs.Decode.{decodeOf}
 use Rattle.machine.specs.declared.Access.{Access}
@@ -12,15 +13,15 @@ use Rattle.machine.specs.declared.Access.the-variants.{Nothing, Load, Store, Fa
 use Rattle.machine.specs.State.{Core, pc}
 use Rattle.machine.specs.Memory.{byteAt, wordAt, even, span, valueAt}
 use Rattle.machine.specs.Cex.{skips?}
-use Rattle.machine.specs.Entry.{priority, best, bestFrom, above}
+use Rattle.machine.specs.Entry.{best, bestFrom, above, vectorPsw, vectorPc, vectored, enteredPsw, pushed, pushes}
 use Rattle.machine.specs.Effect.{effectOf, loaded}
 use Rattle.machine.specs.Step.{Act, Interrupt, Outcome, pulls, chains, accepts, nothing, interruptOf, returns?, advanced, faulting, granted}
-use Rattle.machine.specs.Step.{instructionOf, perform}
+use Rattle.machine.specs.Step.{planned, instructionOf, perform}
 use Rattle.machine.specs.Step.{stopped, pull, chain, accept, sleep, fault, halt, skip, trap, plain, loads, stores}
 use Rattle.machine_laws.specs.Bounds.{Each}
 use Rattle.machine_laws.proofs.Cases.{bool-cases}
-use Rattle.machine_laws.proofs.Plans.{instruction-cases}
-use Rattle.resume.specs.Frames.{Frame, Calm, readsOf}
+use Rattle.resume.specs.Frames.{readsOf}
+use Rattle.resume.proofs.Steady.{Faultless, Steady, faulting-faults, trap-granted}
 use Rattle.resume.proofs.Writes.{SameWrites, same-refl, load-same, store-same}
 
 -- ---- interrupts
@@ -45,77 +46,54 @@ quiet c l m m′ e =
     (λ r. absurd (subst Nothing? (sym (rw (q, r) at e)) tt)))
     (λ q. rw (q, no-best m′) refl)
 
+-- where a return is pulled or chained with some lines waiting, it is pulled with none
+abbrev pub Returns? : Interrupt → Type 0
+Returns? pulls = Unit {0}
+Returns? (chains d) = Unit {0}
+Returns? (accepts d) = ⊥
+Returns? nothing = ⊥
+
+pub returning : (c : Core) (l : ℕ) (m m′ : List ℕ) → Returns? (interruptOf c l m) → interruptOf c 0 m′ ≡ pulls
+unfolding interruptOf
+returning c l m m′ h =
+    bool-cases (returns? c)
+    (λ q. rw (q, no-best m′) refl)
+    (λ q. bool-cases (above m (best l m) (current (c .psw)))
+    (λ r. absurd (rw (q, r) at h))
+    (λ r. absurd (rw (q, r) at h)))
+
 -- ---- instructions
 
--- The acts of an instruction that is no fault and no SVC.
-abbrev pub Steady : Act → Type 0
-Steady stopped = ⊥
-Steady pull = ⊥
-Steady (chain d) = ⊥
-Steady (accept d) = ⊥
-Steady sleep = Unit {0}
-Steady (fault v) = ⊥
-Steady halt = ⊥
-Steady skip = Unit {0}
-Steady (trap v) = ⊥
-Steady plain = Unit {0}
-Steady (loads byte a d) = Unit {0}
-Steady (stores byte a v) = Unit {0}
-
-pub faulting-uncalm : (c x : Core) (v : ℕ) (fs : List Frame) → Calm (faulting c x v .act) fs → ⊥
-faulting-uncalm c x v fs h = bool-cases (faulted? (c .psw)) (λ q. rw q at h) (λ q. rw q at h)
-
-module _ (c x : Core) (m : List ℕ) (fs : List Frame) where
-  pub trap-uncalm : (v : ℕ) → Calm (granted c x (Trap v) m .act) fs → ⊥
+module _ (c x : Core) (m : List ℕ) where
+  granted-same : (m′ : List ℕ) (a : Access) → Faultless (granted c x a m .act)
+      → Each (λ b. byteAt m b ≡ byteAt m′ b) (readsOf (granted c x a m .act) c)
+      → granted c x a m′ ≡ granted c x a m
   unfolding granted
-  trap-uncalm v h =
-      bool-cases (ltb (current (c .psw)) (priority m v))
-      (λ q. rw q at h)
-      (λ q. faulting-uncalm c (advanced c) 10 fs (rw q at h))
+  granted-same m′ Nothing h r = refl
+  granted-same m′ (Load byte a d) h r = refl
+  granted-same m′ (Store byte a v) h r = refl
+  granted-same m′ (Fault v) h r = refl
+  granted-same m′ (Trap v) h r =
+      let r₁ = subst (λ b. Each (λ b. byteAt m b ≡ byteAt m′ b) (readsOf b c)) (trap-granted c x m v h) r in
+      let w : vectorPsw m′ v ≡ vectorPsw m v = λ i. sym (r₁ .0) i + 256 * sym (r₁ .1 .0) i in
+      ap (λ p. cond (ltb (current (c .psw)) (current p)) (planned x (trap v)) (faulting c (advanced c) 10)) w
 
-  pub fault-uncalm : (v : ℕ) → Calm (granted c x (Fault v) m .act) fs → ⊥
-  unfolding granted
-  fault-uncalm v h = faulting-uncalm c (advanced c) v fs h
-
-  granted-steady : (a : Access) → Calm (granted c x a m .act) fs → Steady (granted c x a m .act)
-  unfolding granted
-  granted-steady Nothing h = tt
-  granted-steady (Load byte a d) h = tt
-  granted-steady (Store byte a v) h = tt
-  granted-steady (Fault v) h = absurd (fault-uncalm v h)
-  granted-steady (Trap v) h = absurd (trap-uncalm v h)
-
-  granted-same : (m′ : List ℕ) (a : Access) → Calm (granted c x a m .act) fs → granted c x a m′ ≡ granted c x a m
-  unfolding granted
-  granted-same m′ Nothing h = refl
-  granted-same m′ (Load byte a d) h = refl
-  granted-same m′ (Store byte a v) h = refl
-  granted-same m′ (Fault v) h = refl
-  granted-same m′ (Trap v) h = absurd (trap-uncalm v h)
-
-  -- a calm instruction fetches
-  granted-fetch : (P : ℕ → Type 0) (a : Access) → Calm (granted c x a m .act) fs → Each P (readsOf (granted c x a m .act) c)
+  -- an instruction without a fault fetches
+  granted-fetch : (P : ℕ → Type 0) (a : Access) → Faultless (granted c x a m .act) → Each P (readsOf (granted c x a m .act) c)
       → P (even (pc c)) × P (even (pc c) + 1)
   unfolding granted
   granted-fetch P Nothing h r = (r .0, r .1 .0)
   granted-fetch P (Load byte a d) h r = (r .0, r .1 .0)
   granted-fetch P (Store byte a v) h r = (r .0, r .1 .0)
-  granted-fetch P (Fault v) h r = absurd (fault-uncalm v h)
-  granted-fetch P (Trap v) h r = absurd (trap-uncalm v h)
+  granted-fetch P (Fault v) h r = absurd (faulting-faults c (advanced c) v h)
+  granted-fetch P (Trap v) h r =
+      let r₁ = subst (λ b. Each P (readsOf b c)) (trap-granted c x m v h) r in
+      (r₁ .1 .1 .1 .1 .0, r₁ .1 .1 .1 .1 .1 .0)
 
-pub instruction-steady : (c : Core) (m : List ℕ) (fs : List Frame) → Calm (instructionOf c m .act) fs → Steady (instructionOf c m .act)
-instruction-steady c m fs =
-    let e = effectOf (advanced c) (decodeOf (wordAt m (pc c))) in
-    instruction-cases c m (λ p. Calm (p .act) fs → Steady (p .act))
-    (λ q h. tt)
-    (λ q r h. absurd (faulting-uncalm c c 9 fs h))
-    (λ q r o h. tt)
-    (λ q r o h. granted-steady c (e .core) m fs (e .access) h)
-
-pub instruction-same : (c : Core) (m m′ : List ℕ) (fs : List Frame) → Calm (instructionOf c m .act) fs
+pub instruction-same : (c : Core) (m m′ : List ℕ) → Faultless (instructionOf c m .act)
     → Each (λ a. byteAt m a ≡ byteAt m′ a) (readsOf (instructionOf c m .act) c) → instructionOf c m′ ≡ instructionOf c m
 unfolding instructionOf
-instruction-same c m m′ fs h r =
+instruction-same c m m′ h r =
     bool-cases (asleep? (c .psw))
     (λ q. rw q refl)
     (λ q. bool-cases (eqb (pc c % 2) 1)
@@ -124,11 +102,11 @@ instruction-same c m m′ fs h r =
     (λ q₂. rw (q, q₁, q₂) refl)
     (λ q₂.
     let e = effectOf (advanced c) (decodeOf (wordAt m (pc c))) in
-    let h₁ : Calm (granted c (e .core) (e .access) m .act) fs = rw (q, q₁, q₂) at h in
+    let h₁ : Faultless (granted c (e .core) (e .access) m .act) = rw (q, q₁, q₂) at h in
     let r₁ : Each (λ a. byteAt m a ≡ byteAt m′ a) (readsOf (granted c (e .core) (e .access) m .act) c) = rw (q, q₁, q₂) at r in
-    let f = granted-fetch c (e .core) m fs (λ a. byteAt m a ≡ byteAt m′ a) (e .access) h₁ r₁ in
+    let f = granted-fetch c (e .core) m (λ a. byteAt m a ≡ byteAt m′ a) (e .access) h₁ r₁ in
     let w : wordAt m′ (pc c) ≡ wordAt m (pc c) = λ i. sym (f .0) i + 256 * sym (f .1) i in
-    rw (q, q₁, q₂, w) (granted-same c (e .core) m fs m′ (e .access) h₁))))
+    rw (q, q₁, q₂, w) (granted-same c (e .core) m m′ (e .access) h₁ r₁))))
 
 -- ---- what a step leaves
 
@@ -143,6 +121,13 @@ pub record Same (o o′ : Outcome) : Type 0 where
   pub no-lines : o′ .lines ≡ 0
   pub writes : SameWrites (o .writes) (o′ .writes)
 
+-- an entry by a vector whose bytes are the same
+vectored-same : (c : Core) (m m′ : List ℕ) (v q : ℕ) (b : Bool) (s : ℕ) → vectorPsw m v ≡ vectorPsw m′ v → vectorPc m v ≡ vectorPc m′ v
+    → vectored c m v q b s ≡ vectored c m′ v q b s
+unfolding vectored
+vectored-same c m m′ v q b s e f =
+    λ i. record { regs = set (set (set (c .regs) 5 0xFFFF) 6 s) 7 (f i); psw = enteredPsw (e i) q b; cex = 0 }
+
 pub perform-same : (a : Act) → Steady a → (c₀ c : Core) (l : ℕ) (m m′ : List ℕ) → Each (λ b. byteAt m b ≡ byteAt m′ b) (readsOf a c₀)
     → Same (perform a c l m) (perform a c 0 m′)
 unfolding perform
@@ -154,7 +139,15 @@ perform-same sleep s c₀ c l m m′ r = record { core = refl; alone-live = refl
 perform-same (fault v) s c₀ c l m m′ r = absurd s
 perform-same halt s c₀ c l m m′ r = absurd s
 perform-same skip s c₀ c l m m′ r = record { core = refl; alone-live = refl; no-lines = refl; writes = same-refl [] }
-perform-same (trap v) s c₀ c l m m′ r = absurd s
+perform-same (trap v) s c₀ c l m m′ r =
+    let e : vectorPsw m v ≡ vectorPsw m′ v = λ i. r .0 i + 256 * r .1 .0 i in
+    let f : vectorPc m v ≡ vectorPc m′ v = λ i. r .1 .1 .0 i + 256 * r .1 .1 .1 .0 i in
+    record {
+      core = vectored-same c m m′ v (current (c .psw)) (false || faulted? (c .psw)) (pushed c) e f;
+      alone-live = refl;
+      no-lines = refl;
+      writes = same-refl (pushes c);
+    }
 perform-same plain s c₀ c l m m′ r = record { core = refl; alone-live = refl; no-lines = refl; writes = same-refl [] }
 perform-same (loads byte a d) s c₀ c l m m′ r =
     record {

@@ -17,7 +17,7 @@ use Rattle.machine.specs.Record.{stateIn}
 use Rattle.machine.specs.Events.{Event, eventsOf}
 use Rattle.machine.specs.Step.{Act, stopped, pull, chain, accept, sleep, fault, halt, skip, trap, plain, loads, stores}
 use Rattle.machine.specs.Step.{planOf}
-use Rattle.resume.specs.Frames.{Start, Frame, FrameFound, Calm, none?, after, due, act, frames}
+use Rattle.resume.specs.Frames.{Start, Frame, FrameFound, Calm, svc?, none?, after, due, act, frames}
 
 -- The instruction is a SETPRI. [01 Depth]
 abbrev pub setPri? : Instr → Bool
@@ -86,6 +86,7 @@ module _ (memory r events : List ℕ) where
     pub accepted : Start memory r events n
     -- "With no fault, no SVC, .. no return with no frame open"
     pub calm : (k : ℕ) → k < n → Calm (act list start k) (frames list start k)
+    pub no-svc : (k : ℕ) → k < n → svc? (act list start k) ≡ false
     -- "no SETPRI in a handler"
     pub no-setpri : (k : ℕ) → k < n → none? (frames list start k) ≡ false → setsPriority? (due list start k) ≡ false
     -- "each pull finding SP and frame as entry left them"

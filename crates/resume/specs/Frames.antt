@@ -1,14 +1,15 @@
--- Frames, the application's steps and the bytes last written by a handler or an entry (document 01, "Depth" and
--- "Resumption"). Each is a recursion over the number of steps done that reads the run itself: nothing is carried beside
--- it. What a step does is the act that drives it; what it writes is the list of writes that its memory comes from.
+-- Frames and whose they are, the application's steps, what they read, and the bytes last written by a handler or an
+-- entry (document 01, "Depth" and "Resumption"; document 02, §13). Each is a recursion over the number of steps done
+-- that reads the run itself: nothing is carried beside it. What a step does is the act that drives it; what it writes
+-- is the list of writes that its memory comes from.
 -- Assumes nothing.
-use Prim.Native.Nat.{ℕ, zero, suc, _<_}
+use Prim.Native.Nat.{ℕ, zero, suc, _+_, _*_, _<_}
 use mathlib.Core.Bool.{Bool, true, false, cond, not, _&&_}
 use mathlib.Core.List.{List, [], _∷_, _++_}
 use mathlib.Core.Path.{_≡_}
 use Rattle.machine.specs.declared.Verdict.the-variants.{Accepted}
-use Rattle.machine.specs.State.{Core, State, sp, pc}
-use Rattle.machine.specs.Memory.{writes?, span}
+use Rattle.machine.specs.State.{Core, State, sp, pc, wrap}
+use Rattle.machine.specs.Memory.{writes?, even, span}
 use Rattle.machine.specs.Events.{Event}
 use Rattle.machine.specs.Devices.{deliver}
 use Rattle.machine.specs.Entry.{frameByte}
@@ -26,32 +27,51 @@ pub record Start (memory r events : List ℕ) (n : ℕ) : Type 0 where
   pub event-bytes : Bytes events
   pub accepted : verdictOf memory r events n ≡ Accepted
 
--- A frame holds the state that its entry left: "As entry left them: after that entry's step." [01 Depth; 01 Resumption]
+-- A frame holds the state that its entry left: "As entry left them: after that entry's step." It says whether it is the
+-- application's: "SVC frames opened while no device frame is open .. count as the application's"; any other is a
+-- device's. [01 Depth; 01 Resumption; 02 §13]
 pub record Frame : Type 0 where
   pub held : State
+  pub own : Bool
 
--- The newest frame closed. [01 Depth]
-abbrev pub older : List Frame → List Frame
-older [] = []
-older (f ∷ fs) = fs
+-- The frame that holds t. [01 Depth; 02 §13]
+abbrev pub frame : State → Bool → Frame
+frame t o = record { held = t; own = o }
 
 -- No frame is open. [01 Depth]
 abbrev pub none? : List Frame → Bool
 none? [] = true
 none? (f ∷ fs) = false
 
+-- No device frame is open: each open frame is the application's. [02 §13]
+abbrev pub own? : List Frame → Bool
+own? [] = true
+own? (f ∷ fs) = f .own && own? fs
+
+-- The newest frame closed. [01 Depth]
+abbrev pub older : List Frame → List Frame
+older [] = []
+older (f ∷ fs) = fs
+
+-- The newest frame after a chaining onto it that leaves the state t: "from the chaining to the pull the frame counts as
+-- a device's", to be found at the pull as the chained handler found it. (A chaining changes none of R0 to R4, SP and
+-- memory, so that the chaining step found the same.) A device's frame stays as it is. [01 Depth; 02 §13]
+abbrev pub chained : State → List Frame → List Frame
+chained t [] = []
+chained t (f ∷ fs) = cond (f .own) (frame t false) f ∷ fs
+
 -- "An entry that pushes opens a frame; a return that pulls closes the newest open one. A chained entry keeps its frame
--- open." The frames after a step that leaves the state t, newest first. [01 Depth]
+-- open." The frames after a step that leaves the state t, newest first. [01 Depth; 02 §13]
 abbrev pub framesAfter : Act → State → List Frame → List Frame
 framesAfter stopped t fs = fs
 framesAfter pull t fs = older fs
-framesAfter (chain d) t fs = fs
-framesAfter (accept d) t fs = record { held = t } ∷ fs
+framesAfter (chain d) t fs = chained t fs
+framesAfter (accept d) t fs = frame t false ∷ fs
 framesAfter sleep t fs = fs
-framesAfter (fault v) t fs = record { held = t } ∷ fs
+framesAfter (fault v) t fs = frame t false ∷ fs
 framesAfter halt t fs = fs
 framesAfter skip t fs = fs
-framesAfter (trap v) t fs = record { held = t } ∷ fs
+framesAfter (trap v) t fs = frame t (own? fs) ∷ fs
 framesAfter plain t fs = fs
 framesAfter (loads byte a d) t fs = fs
 framesAfter (stores byte a v) t fs = fs
@@ -71,7 +91,7 @@ acceptsNone? plain = true
 acceptsNone? (loads byte a d) = true
 acceptsNone? (stores byte a v) = true
 
--- "free of faults, SVC and returns with no frame open": of returns of either kind, pulling or chaining.
+-- "free of faults .. and returns with no frame open": of returns of either kind, pulling or chaining.
 -- [01 Depth; 01 Resumption]
 abbrev pub Calm : Act → List Frame → Type 0
 Calm stopped fs = Unit {0}
@@ -82,27 +102,88 @@ Calm sleep fs = Unit {0}
 Calm (fault v) fs = ⊥
 Calm halt fs = ⊥
 Calm skip fs = Unit {0}
-Calm (trap v) fs = ⊥
+Calm (trap v) fs = Unit {0}
 Calm plain fs = Unit {0}
 Calm (loads byte a d) fs = Unit {0}
 Calm (stores byte a v) fs = Unit {0}
 
--- The bytes that a step from the core c fetches and loads: point 7 fetches the word at PC, LD and LDR load each byte
--- that they touch; a skipped word is not fetched. Faults and SVC, of which the run is free, are left out.
--- [01 Resumption]
+-- The step is an SVC, granted. [01 Depth; 01 Resumption]
+abbrev pub svc? : Act → Bool
+svc? stopped = false
+svc? pull = false
+svc? (chain d) = false
+svc? (accept d) = false
+svc? sleep = false
+svc? (fault v) = false
+svc? halt = false
+svc? skip = false
+svc? (trap v) = true
+svc? plain = false
+svc? (loads byte a d) = false
+svc? (stores byte a v) = false
+
+-- The act chains no line. [01 Return]
+abbrev pub NoChain : Act → Type 0
+NoChain a = (d : ℕ) → a ≡ chain d → ⊥
+
+-- The bytes that an instruction from the core c fetches and loads: point 7 fetches the word at PC, LD and LDR load each
+-- byte that they touch; a skipped word is not fetched. Faults, of which the run is free, are left out. [01 Resumption]
+abbrev pub instructionReads : Act → Core → List ℕ
+instructionReads stopped c = []
+instructionReads pull c = []
+instructionReads (chain d) c = []
+instructionReads (accept d) c = []
+instructionReads sleep c = []
+instructionReads (fault v) c = []
+instructionReads halt c = []
+instructionReads skip c = []
+instructionReads (trap v) c = span false (pc c)
+instructionReads plain c = span false (pc c)
+instructionReads (loads byte a d) c = span false (pc c) ++ span byte a
+instructionReads (stores byte a v) c = span false (pc c)
+
+-- The four bytes of vector v. [01 Entry]
+abbrev pub vectorSpan : ℕ → List ℕ
+vectorSpan v = span false (0xFFC0 + 4 * v) ++ span false (0xFFC0 + 4 * v + 2)
+
+-- The eight bytes that a pull at SP s takes: a word access drops bit 0 of its address, and addresses wrap.
+-- [01 State and memory; 01 Return]
+abbrev pub frameSpan : ℕ → List ℕ
+frameSpan s =
+    wrap (even s + 0) ∷ wrap (even s + 1) ∷ wrap (even s + 2) ∷ wrap (even s + 3)
+    ∷ wrap (even s + 4) ∷ wrap (even s + 5) ∷ wrap (even s + 6) ∷ wrap (even s + 7) ∷ []
+
+-- "SVC counts as loading its vector, and its return as loading the eight bytes it pulls, wherever SP then stands", the
+-- return that is chained too: "the chaining step counts as the application's return". [02 §13]
+abbrev pub trapReads : Act → Core → List ℕ
+trapReads stopped c = []
+trapReads pull c = frameSpan (sp c)
+trapReads (chain d) c = frameSpan (sp c)
+trapReads (accept d) c = []
+trapReads sleep c = []
+trapReads (fault v) c = []
+trapReads halt c = []
+trapReads skip c = []
+trapReads (trap v) c = vectorSpan v
+trapReads plain c = []
+trapReads (loads byte a d) c = []
+trapReads (stores byte a v) c = []
+
+-- All bytes that a step of the application from the core c loads or fetches. [01 Resumption; 02 §13]
 abbrev pub readsOf : Act → Core → List ℕ
-readsOf stopped c = []
-readsOf pull c = []
-readsOf (chain d) c = []
-readsOf (accept d) c = []
-readsOf sleep c = []
-readsOf (fault v) c = []
-readsOf halt c = []
-readsOf skip c = []
-readsOf (trap v) c = []
-readsOf plain c = span false (pc c)
-readsOf (loads byte a d) c = span false (pc c) ++ span byte a
-readsOf (stores byte a v) c = span false (pc c)
+readsOf a c = trapReads a c ++ instructionReads a c
+
+-- A step that does a while the frames fs are open is the application's: "A step is the application's if no frame opened
+-- since the start is open before it and it accepts no line", where "SVC frames opened while no device frame is open,
+-- their pushes, and the steps of their handlers, count as the application's". A chaining onto such a frame is a step of
+-- the application, the pull that later closes it is none. [02 §13, for 01 Depth]
+abbrev pub ownStep? : Act → List Frame → Bool
+ownStep? a fs = own? fs && acceptsNone? a
+
+-- What such a step writes is the application's, SVC's pushes too; "Bytes written by any other step are a handler's or
+-- an entry's." [01 Depth; 02 §13]
+abbrev pub ownWrites? : Act → List Frame → Bool
+ownWrites? a fs = ownStep? a fs
 
 -- The state t has SP and the eight bytes of the frame at that SP as the state s has them. [01 Depth; 01 Resumption]
 pub record FrameFound (s t : State) : Type 0 where
@@ -127,10 +208,9 @@ module _ (ev : List Event) (s : State) where
   frames zero = []
   frames (suc k) = framesAfter (act k) (after (suc k)) (frames k)
 
-  -- "A step is the application's if no frame opened since the start is open before it and it accepts no line."
-  -- [01 Depth]
+  -- Step k is the application's. [01 Depth; 02 §13]
   abbrev pub application? : ℕ → Bool
-  application? k = none? (frames k) && acceptsNone? (act k)
+  application? k = ownStep? (act k) (frames k)
 
   -- The application's steps among the first k. [01 Resumption]
   unfoldable pub applicationSteps : ℕ → ℕ
@@ -138,8 +218,7 @@ module _ (ev : List Event) (s : State) where
   applicationSteps (suc k) = cond (application? k) (suc (applicationSteps k)) (applicationSteps k)
 
   -- "A byte is last written by the newest step of the run that wrote it, even with the value it had, and by none if
-  -- none did." Here: of the first k steps the newest that wrote byte a is a handler's or an entry's.
-  -- [01 Depth; 01 Resumption]
+  -- none did." Here: of the first k steps the newest that wrote byte a is a handler's or an entry's. [01 Resumption]
   unfoldable pub foreign? : ℕ → ℕ → Bool
   foreign? zero a = false
-  foreign? (suc k) a = cond (writes? (outcomeOf (due k) .writes) a) (not (application? k)) (foreign? k a)
+  foreign? (suc k) a = cond (writes? (outcomeOf (due k) .writes) a) (not (ownWrites? (act k) (frames k))) (foreign? k a)

@@ -25,9 +25,12 @@ call-resumes memory r events n memory′ r′ em er P =
     record {
       before-step = s .before-step;
       after-step = s .after-step;
+      after-chaining = s .after-chaining;
       at-close =
           record {
             core = ap (λ t. t .core) left ∙ s .at-close .core;
             bytes = λ b h d f. ap (λ m. byteAt m b) kept ∙ s .at-close .bytes b h d f;
           };
+      same-steps = s .same-steps;
+      same-return = s .same-return;
     }

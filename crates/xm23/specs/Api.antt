@@ -10,8 +10,8 @@ pub use Rattle.isa_number.specs.Reply.{encodeNumber, replyOf, refusalNumber}
 -- of its range. [02 §4]
 pub use Rattle.isa_ranges.specs.Operation.{operationOf, operationNumber}
 pub use Rattle.isa_ranges.specs.Ranges.{firstOf, lastOf, rangeReply}
--- xm23_run replies and leaves what runCallOf gives for its buffers and n; Resumption is demand 3 of that call.
--- [01 Who can be turned back; 01 Resumption]
+-- xm23_run replies and leaves what runCallOf gives for its buffers and n; Resumption is demand 3 of that call, across
+-- the application's own traps. [01 Who can be turned back; 01 Resumption; 02 §13]
 pub use Rattle.machine.specs.Call.{Closing, runCallOf}
 pub use Rattle.resume_call.specs.Resumption.{Resumption}
 -- xm23_load_srec and xm23_write_srec reply and leave what loadCallOf and writeCallOf give; Restores is what 02 promises
@@ -21,4 +21,4 @@ pub use Rattle.srec_call.specs.Trip.{Restores}
 
 -- xm23_version replies versionNumber: major, minor and patch, which are those of the header.
 abbrev pub versionNumber : ℕ
-versionNumber = 0 * 65536 + 8 * 256 + 0
+versionNumber = 0 * 65536 + 9 * 256 + 0

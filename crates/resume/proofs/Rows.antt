@@ -21,10 +21,10 @@ use Rattle.machine.specs.Step.{planned, planOf, outcome, interruptOf, pulls, ch
 use Rattle.machine.specs.Step.{pull, chain, accept, plain, loads, stores}
 use Rattle.machine_laws.proofs.Memory.{over}
 use Rattle.machine_laws.proofs.Runs.{run-zero}
-use Rattle.resume.specs.Frames.{Frame, after, frames, applicationSteps, foreign?}
-use Rattle.resume_example.specs.Example.{zeros, program, memory, r, events}
-use Rattle.resume_example.proofs.Trace.{word-is, fetch-plan, interrupt-is, interrupt-plan, vectored-is, pulled-is, known}
-use Rattle.resume_example.proofs.Trace.{event-known, Row, next-row}
+use Rattle.resume.specs.Frames.{Frame, frame, after, frames, applicationSteps, foreign?}
+use Rattle.resume.specs.Example.{zeros, program, memory, r, events}
+use Rattle.resume.proofs.Trace.{word-is, fetch-plan, interrupt-is, interrupt-plan, vectored-is, pulled-is, known}
+use Rattle.resume.proofs.Trace.{event-known, Row, next-row}
 
 abbrev pub ev : List Event
 ev = eventsOf events
@@ -96,10 +96,10 @@ cb = coreOf (7 ∷ 512 ∷ 7 ∷ 3 ∷ 4 ∷ 5 ∷ 1024 ∷ 260 ∷ []) 0 0
 
 -- the two frames: what the entry from the application left, and the nested one
 abbrev pub outerFrame : Frame
-outerFrame = record { held = known c2 0 3 entered }
+outerFrame = frame (known c2 0 3 entered) false
 
 abbrev pub innerFrame : Frame
-innerFrame = record { held = known c4 0 5 deeper }
+innerFrame = frame (known c4 0 5 deeper) false
 
 -- the bytes last written by a handler or an entry, after the entry and after the nested one
 abbrev pub own : ℕ → Bool

@@ -22,8 +22,9 @@ use Rattle.machine.specs.Step.{instructionOf, chosen, planOf, perform, outcomeO
 use Rattle.machine_laws.proofs.Memory.{over, commit-at, commit-append}
 use Rattle.machine_laws.proofs.Plans.{plan-live}
 use Rattle.machine_laws.proofs.Runs.{step-live, run-step}
-use Rattle.resume.specs.Frames.{Frame, framesAfter, after, due, act, frames, application?, none?, acceptsNone?, applicationSteps, foreign?}
-use Rattle.resume_example.specs.Example.{zeros}
+use Rattle.resume.specs.Frames.{Frame, framesAfter, ownStep?, ownWrites?, after, due, act, frames, application?, applicationSteps}
+use Rattle.resume.specs.Frames.{foreign?}
+use Rattle.resume.specs.Example.{zeros}
 
 -- ---- bytes of the memory
 
@@ -155,8 +156,8 @@ module _ (ev : List Event) (s : State) where
     pub act-is : act ev s k ≡ a
     act-is = ap (λ x. planOf x .act) (R .due-is) ∙ ap (λ p. p .act) (R .plan-is)
 
-    pub application-is : application? ev s k ≡ (none? fs && acceptsNone? a)
-    application-is = λ i. none? (R .frames-are i) && acceptsNone? (act-is i)
+    pub application-is : application? ev s k ≡ (ownStep? a fs)
+    application-is = λ i. ownStep? (act-is i) (R .frames-are i)
 
     outcome-is : outcomeOf (due ev s k) ≡ perform a c (d .lines) (d .mem)
     outcome-is = ap outcomeOf (R .due-is) ∙ ap (λ p. perform (p .act) (p .core) (d .lines) (d .mem)) (R .plan-is)
@@ -178,20 +179,21 @@ module _ (ev : List Event) (s : State) where
     unfolding frames
     next-frames = λ i. framesAfter (act-is R i) (next-state i) (R .frames-are i)
 
-    pub next-steps : applicationSteps ev s (suc k) ≡ cond (none? fs && acceptsNone? a) (suc n) n
+    pub next-steps : applicationSteps ev s (suc k) ≡ cond (ownStep? a fs) (suc n) n
     unfolding applicationSteps
     next-steps = λ i. cond (application-is R i) (suc (R .steps-are i)) (R .steps-are i)
 
-    pub next-foreign : (x : ℕ) → foreign? ev s (suc k) x ≡ cond (writes? (o .writes) x) (not (none? fs && acceptsNone? a)) (g x)
+    pub next-foreign : (x : ℕ) → foreign? ev s (suc k) x ≡ cond (writes? (o .writes) x) (not (ownWrites? a fs)) (g x)
     unfolding foreign?
-    next-foreign x = λ i. cond (writes? ((outcome-is R ∙ leaves) i .writes) x) (not (application-is R i)) (R .foreign-is x i)
+    next-foreign x =
+        λ i. cond (writes? ((outcome-is R ∙ leaves) i .writes) x) (not (ownWrites? (act-is R i) (R .frames-are i))) (R .foreign-is x i)
 
     pub next-row : (d′ : State) (c′ : Core) (a′ : Act) → deliver ev (known (o .core) (o .lines) (m + 1) (ws ++ o .writes)) ≡ d′
         → planOf d′ ≡ planned c′ a′
         → Row (suc k) (known (o .core) (o .lines) (m + 1) (ws ++ o .writes)) d′ c′ a′
         (framesAfter a (known (o .core) (o .lines) (m + 1) (ws ++ o .writes)) fs)
-        (cond (none? fs && acceptsNone? a) (suc n) n)
-        (λ x. cond (writes? (o .writes) x) (not (none? fs && acceptsNone? a)) (g x))
+        (cond (ownStep? a fs) (suc n) n)
+        (λ x. cond (writes? (o .writes) x) (not (ownWrites? a fs)) (g x))
     next-row d′ c′ a′ then does =
         record {
           state-is = next-state;

@@ -1,92 +1,43 @@
 -- The run meets the premises of resumption and of the bound on depth, and both runs end in the same core. Assumes nothing.
-use Prim.Native.Nat.{ℕ, zero, suc, _+_, _*_, _<_, _≤_}
-use mathlib.Core.Bool.{Bool, true, false, _&&_, true≢false}
+use Prim.Native.Nat.{ℕ, _+_, _*_, _<_}
+use mathlib.Core.Bool.{Bool, false, _&&_, true≢false}
 use mathlib.Core.List.{List, [], _∷_}
-use mathlib.Core.Logic.{_≢_}
-use mathlib.Core.Path.{_≡_, refl, sym, ap, subst, _∙_}
-use native.Mathlib.Omega.{arith}
-use lib.Dec.{eqb, ltb, lit<}
+use mathlib.Core.Path.{_≡_, refl, sym, ap, _∙_}
+use lib.Dec.{lit<}
 use lib.ListN.{length}
 use Rattle.word.specs.Psw.{asleep?}
 use Rattle.isa.specs.Decode.{decodeOf}
-use Rattle.machine.specs.State.{Core, State, reg, pc, wrap}
+use Rattle.machine.specs.State.{Core, State, reg, pc}
 use Rattle.machine.specs.Memory.{Write, write, commit, writes?, wordAt, even}
 use Rattle.machine.specs.Record.{stateIn}
 use Rattle.machine.specs.Events.{eventAt}
-use Rattle.machine.specs.Devices.{device?, deliver, deliverAt}
-use Rattle.machine.specs.Entry.{bestFrom, frameByte}
+use Rattle.machine.specs.Devices.{deliver, deliverAt}
+use Rattle.machine.specs.Entry.{bestFrom}
 use Rattle.machine.specs.Effect.{effectOf, loaded}
-use Rattle.machine.specs.Step.{Act, stopped, pull, chain, accept, sleep, fault, halt, skip, trap, plain, loads, stores}
+use Rattle.machine.specs.Step.{Act, pull, chain, accept, plain, loads, stores}
 use Rattle.machine.specs.Step.{outcome, advanced, granted, interruptOf, perform}
 use Rattle.machine.specs.Run.{runOf}
 use Rattle.machine.specs.Refusal.{verdictOf, recordFits, eventFits, eventsFitBelow, inOrder, inOrderBelow, eventBelow, twinsBelow}
-use Rattle.machine_laws.specs.Bounds.{Each, Bytes}
-use Rattle.machine_laws.proofs.Cases.{bool-cases, eq-of, neq-of, lt-of, and-left, and-right}
 use Rattle.machine_laws.proofs.Memory.{over, commit-length, commit-bytes}
 use Rattle.machine_laws.proofs.Runs.{run-zero}
-use Rattle.resume.specs.Frames.{Start, Frame, Calm, none?, acceptsNone?, readsOf, after, due, act, frames, application?, applicationSteps}
-use Rattle.resume.specs.Frames.{foreign?}
+use Rattle.resume.specs.Frames.{Start, Frame, Calm, svc?, none?, after, due, act, frames, applicationSteps, foreign?}
 use Rattle.resume.specs.Resume.{Found, Premises, Resumes}
+use Rattle.resume.specs.Untrapped.{UntrappedPremises, UntrappedResumes}
 use Rattle.resume.specs.Depth.{executes?, setPri?, setsPriority?, DepthPremises, Shallow}
-use Rattle.resume.proofs.Step.{each-map}
+use Rattle.resume.specs.Example.{zeros, program, memory, r, events}
 use Rattle.resume.proofs.Resume.{resumes}
+use Rattle.resume.proofs.Untrapped.{premises-untrapped, resumes-untrapped}
 use Rattle.resume.proofs.Depth.{depth}
-use Rattle.resume_example.specs.Example.{zeros, program, memory, r, events}
-use Rattle.resume_example.proofs.Trace.{zeros-length, zero-at, byte-is, word-is, fetch-plan, known, Row, next-row, next-state}
-use Rattle.resume_example.proofs.Trace.{next-frames, next-steps, act-is, application-is}
-use Rattle.resume_example.proofs.Rows.{ev, s, row0, row1, row2, row3, row4, row5, row6, row7, row8, row9, row10, c0, c1, c2, c4, c7}
-use Rattle.resume_example.proofs.Rows.{own, c9, ca, cb, stored, waiting, entered, deeper, outerFrame, innerFrame}
-
--- ---- a fact of each number below n, from a row of them
-
-abbrev From : (ℕ → Type 0) → (k n : ℕ) → Type 0
-From P k zero = Unit {0}
-From P k (suc n) = P k × From P (suc k) n
-
-infixr 5 _▸_
-abbrev _▸_ : {A B : Type 0} → A → B → A × B
-a ▸ b = (a, b)
-
-from : (P : ℕ → Type 0) (n k : ℕ) → From P k n → (j : ℕ) → k ≤ j → j < k + n → P j
-from P zero k u j h l = absurd (omega arith)
-from P (suc n) k u j h l =
-    bool-cases (eqb k j)
-    (λ q. subst P (eq-of q) (u .0))
-    (λ q. let d : k ≢ j = neq-of q in from P n (suc k) (u .1) j (omega arith) (omega arith))
-
-below : (P : ℕ → Type 0) (n : ℕ) → From P 0 n → (k : ℕ) → k < n → P k
-below P n u k h = from P n 0 u k (omega arith) (omega arith)
+use Rattle.resume.proofs.Trace.{zeros-length, word-is, fetch-plan, known, Row, next-row, next-state, next-frames, next-steps, act-is}
+use Rattle.resume.proofs.RowFacts.{_▸_, below, zeros-bytes, bytes-of, small, small-writes, frame-found, Restored, Awake}
+use Rattle.resume.proofs.RowFacts.{ReadsOwn, calm-at, no-svc, no-pull, others-read, reads-at, awake-before, found-at}
+use Rattle.resume.proofs.Rows.{ev, s, row0, row1, row2, row3, row4, row5, row6, row7, row8, row9, row10, c0, c1, c2, c4, c7}
+use Rattle.resume.proofs.Rows.{own, c9, ca, cb, stored, waiting, entered, deeper, outerFrame, innerFrame}
 
 -- ---- an accepted start
 
 memory-length : length memory ≡ 65536
 memory-length = commit-length program zeros ∙ zeros-length
-
-zeros-bytes : Bytes zeros
-unfolding zeros
-zeros-bytes i = rw (zero-at 65536 i) (lit< tt)
-
-bytes-of : (l : List ℕ) → Each (λ x. x < 256) l → Bytes l
-bytes-of [] h i = lit< tt
-bytes-of (x ∷ l) h zero = h .0
-bytes-of (x ∷ l) h (suc i) = bytes-of l (h .1) i
-
-abbrev small? : List ℕ → Bool
-small? [] = true
-small? (x ∷ l) = ltb x 256 && small? l
-
-abbrev values : List Write → List ℕ
-values [] = []
-values (w ∷ ws) = w .value ∷ values ws
-
-small-writes : (ws : List Write) → small? (values ws) ≡ true → Each (λ w. w .value < 256) ws
-small-writes [] e = tt
-small-writes (w ∷ ws) e =
-    (lt-of (and-left (ltb (w .value) 256) (small? (values ws)) e), small-writes ws (and-right (ltb (w .value) 256) (small? (values ws)) e))
-
-small : (l : List ℕ) → small? l ≡ true → Each (λ x. x < 256) l
-small [] e = tt
-small (x ∷ l) e = (lt-of (and-left (ltb x 256) (small? l) e), small l (and-right (ltb x 256) (small? l) e))
 
 start : Start memory r events 11
 unfolding verdictOf recordFits eventFits eventsFitBelow inOrder inOrderBelow eventBelow twinsBelow eventAt
@@ -110,68 +61,7 @@ start-lines : s .lines ≡ 0
 unfolding stateIn
 start-lines = refl
 
--- ---- what a row says of its step
-
-abbrev pull? : Act → Bool
-pull? stopped = false
-pull? pull = true
-pull? (chain d) = false
-pull? (accept d) = false
-pull? sleep = false
-pull? (fault v) = false
-pull? halt = false
-pull? skip = false
-pull? (trap v) = false
-pull? plain = false
-pull? (loads byte a d) = false
-pull? (stores byte a v) = false
-
-abbrev newest : Frame → List Frame → Frame
-newest f [] = f
-newest f (g ∷ fs) = g
-
-abbrev Restored : ℕ → Type 0
-Restored k = (f : Frame) (fs : List Frame) → act ev s k ≡ pull → frames ev s k ≡ f ∷ fs → Found (f .held) (due ev s k)
-
-abbrev Awake : ℕ → Type 0
-Awake k = application? ev s k ≡ true → asleep? (after ev s (suc k) .core .psw) ≡ false
-
-abbrev ReadsOwn : ℕ → Type 0
-ReadsOwn k =
-    application? ev s k ≡ true → Each (λ x. (device? x ≡ false) × (foreign? ev s k x ≡ false)) (readsOf (act ev s k) (due ev s k .core))
-
-module _ {k : ℕ} {t d : State} {c : Core} {a : Act} {fs : List Frame} {n : ℕ} {g : ℕ → Bool} (R : Row ev s k t d c a fs n g) where
-  calm-at : Calm a fs → Calm (act ev s k) (frames ev s k)
-  calm-at h = subst (λ x. Calm x (frames ev s k)) (sym (act-is ev s R)) (subst (Calm a) (sym (R .frames-are)) h)
-
-  no-pull : pull? a ≡ false → Restored k
-  no-pull h f gs e o = absurd (true≢false (sym (ap pull? (sym (act-is ev s R) ∙ e)) ∙ h))
-
-  others-read : (none? fs && acceptsNone? a) ≡ false → ReadsOwn k
-  others-read h mine = absurd (true≢false (sym mine ∙ application-is ev s R ∙ h))
-
-  reads-at : Each (λ x. (device? x ≡ false) × (g x ≡ false)) (readsOf a (d .core)) → ReadsOwn k
-  reads-at h mine =
-      subst (Each (λ x. (device? x ≡ false) × (foreign? ev s k x ≡ false))) (sym (λ i. readsOf (act-is ev s R i) (R .due-is i .core)))
-      (each-map _ _ (λ x p. (p .0, R .foreign-is x ∙ p .1)) (readsOf a (d .core)) h)
-
-awake-before : {k : ℕ} {t d : State} {c : Core} {a : Act} {fs : List Frame} {n : ℕ} {g : ℕ → Bool} → Row ev s (suc k) t d c a fs n g
-    → asleep? (t .core .psw) ≡ false → Awake k
-awake-before R h mine = ap (λ x. asleep? (x .core .psw)) (R .state-is) ∙ h
-
-found-at : {k : ℕ} {t d : State} {c : Core} {a : Act} {f : Frame} {fs : List Frame} {n : ℕ} {g : ℕ → Bool} → Row ev s k t d c a (f ∷ fs) n g
-    → Found (f .held) d → Restored k
-found-at {k = k} {f = f} R h f′ fs′ e o =
-    subst (λ x. Found (x .held) (due ev s k)) (ap (newest f) (sym (R .frames-are) ∙ o)) (subst (Found (f .held)) (sym (R .due-is)) h)
-
 -- ---- the frames are found as their entries left them
-
-frame-found : (ws vs : List Write) (x : ℕ) → x < 65536 → From (λ i. over vs (wrap (even x + i)) 0 ≡ over ws (wrap (even x + i)) 0) 0 8
-    → (i : ℕ) → i < 8 → frameByte (commit vs zeros) x i ≡ frameByte (commit ws zeros) x i
-frame-found ws vs x h u i k =
-    byte-is vs (wrap (even x + i)) (omega arith)
-    ∙ below (λ i. over vs (wrap (even x + i)) 0 ≡ over ws (wrap (even x + i)) 0) 8 u i k
-    ∙ sym (byte-is ws (wrap (even x + i)) (omega arith))
 
 inner-found : Found (innerFrame .held) (known c7 0 8 waiting)
 unfolding over
@@ -235,6 +125,12 @@ close-steps = next-steps ev s waiting row10 refl (outcome cb 0 []) (loaded-is wa
 
 -- ---- the premises
 
+untrapped : (k : ℕ) → k < 11 → svc? (act ev s k) ≡ false
+untrapped =
+    below (λ k. svc? (act ev s k) ≡ false) 11
+    (no-svc row0 refl ▸ no-svc row1 refl ▸ no-svc row2 refl ▸ no-svc row3 refl ▸ no-svc row4 refl ▸ no-svc row5 refl
+    ▸ no-svc row6 refl ▸ no-svc row7 refl ▸ no-svc row8 refl ▸ no-svc row9 refl ▸ no-svc row10 refl ▸ tt)
+
 pub premises : Premises memory r events 11
 unfolding writes?
 premises =
@@ -246,16 +142,17 @@ premises =
       calm = below (λ k. Calm (act ev s k) (frames ev s k)) 11
           (calm-at row0 tt ▸ calm-at row1 tt ▸ calm-at row2 tt ▸ calm-at row3 tt ▸ calm-at row4 tt ▸ calm-at row5 refl
           ▸ calm-at row6 tt ▸ calm-at row7 refl ▸ calm-at row8 tt ▸ calm-at row9 refl ▸ calm-at row10 tt ▸ tt);
+      own-traps = λ k h e. absurd (true≢false (sym e ∙ untrapped k h));
       closed = close-frames;
-      restored = λ k f fs h. below Restored 11
+      restored = λ k f fs h. below (Restored ev s) 11
           (no-pull row0 refl ▸ no-pull row1 refl ▸ no-pull row2 refl ▸ no-pull row3 refl ▸ no-pull row4 refl ▸ no-pull row5 refl
           ▸ no-pull row6 refl ▸ found-at row7 inner-found ▸ no-pull row8 refl ▸ found-at row9 outer-found ▸ no-pull row10 refl ▸ tt)
           k h f fs;
-      never-sleeps = below Awake 11
+      never-sleeps = below (Awake ev s) 11
           (awake-before row1 refl ▸ awake-before row2 refl ▸ awake-before row3 refl ▸ awake-before row4 refl ▸ awake-before row5 refl
           ▸ awake-before row6 refl ▸ awake-before row7 refl ▸ awake-before row8 refl ▸ awake-before row9 refl ▸ awake-before row10 refl
           ▸ (λ mine. ap (λ x. asleep? (x .core .psw)) close-is) ▸ tt);
-      reads-own = below ReadsOwn 11
+      reads-own = below (ReadsOwn ev s) 11
           (reads-at row0 ((refl, refl) ▸ (refl, refl) ▸ tt) ▸ others-read row1 refl ▸ others-read row2 refl ▸ others-read row3 refl
           ▸ others-read row4 refl ▸ others-read row5 refl ▸ others-read row6 refl ▸ others-read row7 refl ▸ others-read row8 refl
           ▸ others-read row9 refl ▸ reads-at row10 ((refl, refl) ▸ (refl, refl) ▸ (refl, refl) ▸ (refl, refl) ▸ tt) ▸ tt);
@@ -264,6 +161,13 @@ premises =
 -- so the run resumes
 pub resumed : Resumes memory r events 11
 resumed = resumes memory r events 11 premises
+
+-- and meets the demand as document 01 has it
+pub untrapped-premises : UntrappedPremises memory r events 11
+untrapped-premises = premises-untrapped memory r events 11 premises untrapped
+
+pub untrapped-resumed : UntrappedResumes memory r events 11
+untrapped-resumed = resumes-untrapped memory r events 11 untrapped-premises
 
 -- ---- the run with no events, computed too: it ends in the same core after the application's two steps
 
@@ -322,12 +226,13 @@ depth-premises =
     record {
       accepted = start;
       calm = premises .calm;
+      no-svc = untrapped;
       no-setpri = below SetsNone 11
           (sets-none row0 (fetched program 256 (lit< tt) refl) ▸ sets-none row1 refl ▸ sets-none row2 (fetched entered 320 (lit< tt) refl)
           ▸ sets-none row3 refl ▸ sets-none row4 (fetched deeper 352 (lit< tt) refl) ▸ sets-none row5 refl
           ▸ sets-none row6 (fetched waiting 384 (lit< tt) refl) ▸ sets-none row7 refl ▸ sets-none row8 (fetched waiting 322 (lit< tt) refl)
           ▸ sets-none row9 refl ▸ sets-none row10 (fetched waiting 258 (lit< tt) refl) ▸ tt);
-      found = λ k f fs h e o. premises .restored k f fs h e o .frame;
+      found = λ k f fs h e o. untrapped-premises .restored k f fs h e o .frame;
     }
 
 -- two frames are open together, and no more than seven could be

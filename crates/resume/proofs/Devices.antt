@@ -1,0 +1,50 @@
+-- A run with no SVC: every frame is a device's. Assumes nothing.
+use Prim.Native.Nat.{ℕ, zero, suc, _<_, _≤_}
+use mathlib.Core.Bool.{false, true≢false}
+use mathlib.Core.List.{List, [], _∷_}
+use mathlib.Core.Path.{_≡_, refl, sym, subst}
+use native.Mathlib.Omega.{arith}
+use Rattle.machine.specs.State.{State}
+use Rattle.machine.specs.Events.{Event}
+use Rattle.machine.specs.Step.{Act, stopped, pull, chain, accept, sleep, fault, halt, skip, trap, plain, loads, stores}
+use Rattle.machine_laws.specs.Bounds.{Each}
+use Rattle.resume.specs.Frames.{Frame, frame, none?, own?, older, chained, framesAfter, svc?, after, act, frames}
+
+-- each of the frames is a device's
+abbrev pub Devices : List Frame → Type 0
+Devices fs = Each (λ f. f .own ≡ false) fs
+
+pub devices-own : (fs : List Frame) → Devices fs → own? fs ≡ none? fs
+devices-own [] h = refl
+devices-own (f ∷ fs) h = rw (h .0) refl
+
+devices-older : (fs : List Frame) → Devices fs → Devices (older fs)
+devices-older [] h = tt
+devices-older (f ∷ fs) h = h .1
+
+-- a chaining leaves them as they are
+pub devices-chained : (t : State) (fs : List Frame) → Devices fs → chained t fs ≡ fs
+devices-chained t [] h = refl
+devices-chained t (f ∷ fs) h =
+    subst (λ g. chained t (g ∷ fs) ≡ g ∷ fs) (λ i. frame (f .held) (sym (h .0) i)) refl
+
+devices-after : (a : Act) (t : State) (fs : List Frame) → svc? a ≡ false → Devices fs → Devices (framesAfter a t fs)
+devices-after stopped t fs u h = h
+devices-after pull t fs u h = devices-older fs h
+devices-after (chain d) t fs u h = subst Devices (sym (devices-chained t fs h)) h
+devices-after (accept d) t fs u h = (refl, h)
+devices-after sleep t fs u h = h
+devices-after (fault v) t fs u h = (refl, h)
+devices-after halt t fs u h = h
+devices-after skip t fs u h = h
+devices-after (trap v) t fs u h = absurd (true≢false u)
+devices-after plain t fs u h = h
+devices-after (loads byte a d) t fs u h = h
+devices-after (stores byte a v) t fs u h = h
+
+pub frames-devices : (ev : List Event) (s : State) (n : ℕ) → ((k : ℕ) → k < n → svc? (act ev s k) ≡ false) → (k : ℕ) → k ≤ n
+    → Devices (frames ev s k)
+unfolding frames
+frames-devices ev s n u zero h = tt
+frames-devices ev s n u (suc k) h =
+    devices-after (act ev s k) (after ev s (suc k)) (frames ev s k) (u k h) (frames-devices ev s n u k (omega arith))

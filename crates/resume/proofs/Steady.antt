@@ -1,0 +1,150 @@
+-- A step without a fault: what it can be, and that it starts from the state's own core unless it is an instruction's. The
+-- instructions stay shut. Assumes nothing.
+use Prim.Native.Nat.{ℕ}
+use mathlib.Core.Bool.{false, true≢false}
+use mathlib.Core.List.{List}
+use mathlib.Core.Path.{_≡_, refl, sym, subst, _∙_}
+use lib.Dec.{ltb}
+use Rattle.word.specs.Psw.{faulted?, current}
+use Rattle.isa.specs.Decode.{decodeOf}
+use Rattle.machine.specs.declared.Access.{Access}
+use Rattle.machine.specs.declared.Access.the-variants.{Nothing, Load, Store, Fault, Trap}
+use Rattle.machine.specs.State.{Core, State, pc}
+use Rattle.machine.specs.Memory.{wordAt}
+use Rattle.machine.specs.Entry.{priority}
+use Rattle.machine.specs.Effect.{effectOf}
+use Rattle.machine.specs.Step.{Act, advanced, faulting, granted, instructionOf, planOf, perform, finished}
+use Rattle.machine.specs.Step.{stopped, pull, chain, accept, sleep, fault, halt, skip, trap, plain, loads, stores}
+use Rattle.machine_laws.proofs.Cases.{bool-cases}
+use Rattle.machine_laws.proofs.Plans.{instruction-cases, plan-cases}
+use Rattle.resume.specs.Frames.{Frame, Calm}
+
+-- The acts that are no fault.
+abbrev pub Faultless : Act → Type 0
+Faultless stopped = Unit {0}
+Faultless pull = Unit {0}
+Faultless (chain d) = Unit {0}
+Faultless (accept d) = Unit {0}
+Faultless sleep = Unit {0}
+Faultless (fault v) = ⊥
+Faultless halt = ⊥
+Faultless skip = Unit {0}
+Faultless (trap v) = Unit {0}
+Faultless plain = Unit {0}
+Faultless (loads byte a d) = Unit {0}
+Faultless (stores byte a v) = Unit {0}
+
+-- a step that the premises let in is no fault
+pub calm-faultless : (a : Act) (fs : List Frame) → Calm a fs → Faultless a
+calm-faultless stopped fs c = tt
+calm-faultless pull fs c = tt
+calm-faultless (chain d) fs c = tt
+calm-faultless (accept d) fs c = tt
+calm-faultless sleep fs c = tt
+calm-faultless (fault v) fs c = c
+calm-faultless halt fs c = c
+calm-faultless skip fs c = tt
+calm-faultless (trap v) fs c = tt
+calm-faultless plain fs c = tt
+calm-faultless (loads byte a d) fs c = tt
+calm-faultless (stores byte a v) fs c = tt
+
+-- The acts of an instruction that is no fault.
+abbrev pub Steady : Act → Type 0
+Steady stopped = ⊥
+Steady pull = ⊥
+Steady (chain d) = ⊥
+Steady (accept d) = ⊥
+Steady sleep = Unit {0}
+Steady (fault v) = ⊥
+Steady halt = ⊥
+Steady skip = Unit {0}
+Steady (trap v) = Unit {0}
+Steady plain = Unit {0}
+Steady (loads byte a d) = Unit {0}
+Steady (stores byte a v) = Unit {0}
+
+pub faulting-faults : (c x : Core) (v : ℕ) → Faultless (faulting c x v .act) → ⊥
+faulting-faults c x v h = bool-cases (faulted? (c .psw)) (λ q. rw q at h) (λ q. rw q at h)
+
+module _ (c x : Core) (m : List ℕ) where
+  -- SVC without a fault is a trap
+  pub trap-granted : (v : ℕ) → Faultless (granted c x (Trap v) m .act) → granted c x (Trap v) m .act ≡ trap v
+  unfolding granted
+  trap-granted v h =
+      bool-cases (ltb (current (c .psw)) (priority m v))
+      (λ q. rw q refl)
+      (λ q. absurd (faulting-faults c (advanced c) 10 (rw q at h)))
+
+  pub granted-steady : (a : Access) → Faultless (granted c x a m .act) → Steady (granted c x a m .act)
+  unfolding granted
+  granted-steady Nothing h = tt
+  granted-steady (Load byte a d) h = tt
+  granted-steady (Store byte a v) h = tt
+  granted-steady (Fault v) h = absurd (faulting-faults c (advanced c) v h)
+  granted-steady (Trap v) h = subst Steady (sym (trap-granted v h)) tt
+
+pub instruction-steady : (c : Core) (m : List ℕ) → Faultless (instructionOf c m .act) → Steady (instructionOf c m .act)
+instruction-steady c m =
+    let e = effectOf (advanced c) (decodeOf (wordAt m (pc c))) in
+    instruction-cases c m (λ p. Faultless (p .act) → Steady (p .act))
+    (λ q h. tt)
+    (λ q r h. absurd (faulting-faults c c 9 h))
+    (λ q r o h. tt)
+    (λ q r o h. granted-steady c (e .core) m (e .access) h)
+
+-- A step without a fault of a machine that is not halted does not halt it.
+perform-live : (a : Act) (c : Core) (l : ℕ) (m : List ℕ) → Faultless a → (a ≡ stopped → ⊥) → perform a c l m .halted ≡ false
+unfolding perform
+perform-live stopped c l m h u = absurd (u refl)
+perform-live pull c l m h u = refl
+perform-live (chain d) c l m h u = refl
+perform-live (accept d) c l m h u = refl
+perform-live sleep c l m h u = refl
+perform-live (fault v) c l m h u = refl
+perform-live halt c l m h u = absurd h
+perform-live skip c l m h u = refl
+perform-live (trap v) c l m h u = refl
+perform-live plain c l m h u = refl
+perform-live (loads byte a d) c l m h u = refl
+perform-live (stores byte a v) c l m h u = refl
+
+-- A step without a fault that is no instruction's starts from the state's own core; and such a machine is not stopped.
+Stopped? : Act → Type 0
+Stopped? stopped = Unit {0}
+Stopped? pull = ⊥
+Stopped? (chain d) = ⊥
+Stopped? (accept d) = ⊥
+Stopped? sleep = ⊥
+Stopped? (fault v) = ⊥
+Stopped? halt = ⊥
+Stopped? skip = ⊥
+Stopped? (trap v) = ⊥
+Stopped? plain = ⊥
+Stopped? (loads byte a d) = ⊥
+Stopped? (stores byte a v) = ⊥
+
+steady-moves : (a : Act) → Steady a → a ≡ stopped → ⊥
+steady-moves a s e = subst Steady e s
+
+pub plan-moves : (s : State) → s .halted ≡ false → Faultless (planOf s .act) → planOf s .act ≡ stopped → ⊥
+unfolding Stopped?
+plan-moves s live =
+    plan-cases s (λ p. Faultless (p .act) → p .act ≡ stopped → ⊥)
+    (λ h c e. true≢false (sym h ∙ live))
+    (λ h q c e. subst Stopped? (sym e) tt)
+    (λ d h q c e. subst Stopped? (sym e) tt)
+    (λ d h q c e. subst Stopped? (sym e) tt)
+    (λ h q c e. steady-moves (instructionOf (s .core) (s .mem) .act) (instruction-steady (s .core) (s .mem) c) e)
+
+pub finished-live : (s : State) → s .halted ≡ false → Faultless (planOf s .act) → finished s .halted ≡ false
+finished-live s live h = perform-live (planOf s .act) (planOf s .core) (s .lines) (s .mem) h (plan-moves s live h)
+
+pub plan-core : (s : State) → Faultless (planOf s .act) → (Steady (planOf s .act) → ⊥) → planOf s .core ≡ s .core
+plan-core s =
+    plan-cases s (λ p. Faultless (p .act) → (Steady (p .act) → ⊥) → p .core ≡ s .core)
+    (λ h c u. refl)
+    (λ h q c u. refl)
+    (λ d h q c u. refl)
+    (λ d h q c u. refl)
+    (λ h q c u. absurd (u (instruction-steady (s .core) (s .mem) c)))

@@ -1,3 +1,0 @@
-pub mod Trace
-pub mod Rows
-pub mod Example

@@ -45,3 +45,20 @@ pub enum Verdict {
     EventFields,
     EventOrder,
 }
+
+// What a step does. A halted machine takes none. A line or a vector is named by its number; a load
+// and a store carry their address, a store its value.
+pub enum Act {
+    Stopped,
+    Pull,
+    Chain(u8),
+    Accept(u8),
+    Sleep,
+    Fault(u8),
+    Halt,
+    Skip,
+    Trap(u8),
+    Plain,
+    Loads { byte: bool, at: ByteAddr, dst: u8 },
+    Stores { byte: bool, at: ByteAddr, value: u16 },
+}

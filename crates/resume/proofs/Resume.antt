@@ -11,8 +11,9 @@ use Rattle.machine.specs.Memory.{byteAt, writes?, commit}
 use Rattle.machine.specs.Record.{stateIn}
 use Rattle.machine.specs.Events.{Event, eventsOf}
 use Rattle.machine.specs.Devices.{device?, deliverAt}
-use Rattle.machine.specs.Step.{Act, perform, outcomeOf, finished}
-use Rattle.machine.specs.Step.{stopped, pull, chain, accept, sleep, fault, halt, skip, trap, plain, loads, stores}
+use Rattle.machine.specs.declared.Act.{Act}
+use Rattle.machine.specs.Step.{perform, outcomeOf, finished}
+use Rattle.machine.specs.declared.Act.the-variants as acts
 use Rattle.machine.specs.Run.{runOf}
 use Rattle.machine_laws.specs.Bounds.{Each, Tidy, EventFits}
 use Rattle.machine_laws.specs.Passed.{Passed}
@@ -52,34 +53,34 @@ record Sim (ev : List Event) (s : State) (k : ℕ) : Type 0 where
       → byteAt (after ev s k .mem) a ≡ byteAt (free ev s k .mem) a
 
 -- a step that is taken and is no application's with no frame open is an acceptance
-accept-is : (a : Act) → acceptsNone? a ≡ false → (a ≡ stopped → ⊥) → (d : ℕ) × (a ≡ accept d)
-accept-is stopped h u = absurd (u refl)
-accept-is pull h u = absurd (true≢false h)
-accept-is (chain d) h u = absurd (true≢false h)
-accept-is (accept d) h u = (d, refl)
-accept-is sleep h u = absurd (true≢false h)
-accept-is (fault v) h u = absurd (true≢false h)
-accept-is halt h u = absurd (true≢false h)
-accept-is skip h u = absurd (true≢false h)
-accept-is (trap v) h u = absurd (true≢false h)
-accept-is plain h u = absurd (true≢false h)
-accept-is (loads byte a d) h u = absurd (true≢false h)
-accept-is (stores byte a v) h u = absurd (true≢false h)
+accept-is : (a : Act) → acceptsNone? a ≡ false → (a ≡ acts.Stopped → ⊥) → (d : ℕ) × (a ≡ acts.Accept d)
+accept-is acts.Stopped h u = absurd (u refl)
+accept-is acts.Pull h u = absurd (true≢false h)
+accept-is (acts.Chain d) h u = absurd (true≢false h)
+accept-is (acts.Accept d) h u = (d, refl)
+accept-is acts.Sleep h u = absurd (true≢false h)
+accept-is (acts.Fault v) h u = absurd (true≢false h)
+accept-is acts.Halt h u = absurd (true≢false h)
+accept-is acts.Skip h u = absurd (true≢false h)
+accept-is (acts.Trap v) h u = absurd (true≢false h)
+accept-is acts.Plain h u = absurd (true≢false h)
+accept-is (acts.Loads byte a d) h u = absurd (true≢false h)
+accept-is (acts.Stores byte a v) h u = absurd (true≢false h)
 
 -- with no frame open, a calm step that accepts nothing opens none
 frames-none : (a : Act) (t : State) → Calm a [] → acceptsNone? a ≡ true → framesAfter a t [] ≡ []
-frames-none stopped t c h = refl
-frames-none pull t c h = refl
-frames-none (chain d) t c h = refl
-frames-none (accept d) t c h = absurd (false≢true h)
-frames-none sleep t c h = refl
-frames-none (fault v) t c h = absurd c
-frames-none halt t c h = refl
-frames-none skip t c h = refl
-frames-none (trap v) t c h = absurd c
-frames-none plain t c h = refl
-frames-none (loads byte a d) t c h = refl
-frames-none (stores byte a v) t c h = refl
+frames-none acts.Stopped t c h = refl
+frames-none acts.Pull t c h = refl
+frames-none (acts.Chain d) t c h = refl
+frames-none (acts.Accept d) t c h = absurd (false≢true h)
+frames-none acts.Sleep t c h = refl
+frames-none (acts.Fault v) t c h = absurd c
+frames-none acts.Halt t c h = refl
+frames-none acts.Skip t c h = refl
+frames-none (acts.Trap v) t c h = absurd c
+frames-none acts.Plain t c h = refl
+frames-none (acts.Loads byte a d) t c h = refl
+frames-none (acts.Stores byte a v) t c h = refl
 
 -- a step of the run with no events
 free-step : (s : State) (k : ℕ) → runOf [] s k .state .halted ≡ false → runOf [] s (suc k) .state ≡ finished (runOf [] s k .state)
@@ -244,10 +245,10 @@ module _ (memory r events : List ℕ) (n : ℕ) (P : Premises memory r events n)
         λ i. perform (q i) (p i) (due ev s k .lines) (due ev s k .mem)
 
     -- An entry from the application.
-    entry : (d : ℕ) → frames ev s k ≡ [] → act ev s k ≡ accept d → Saved (after ev s (suc k)) (free ev s k .core)
+    entry : (d : ℕ) → frames ev s k ≡ [] → act ev s k ≡ acts.Accept d → Saved (after ev s (suc k)) (free ev s k .core)
     unfolding perform
     entry d none a =
-        let o = outcome-is (accept d) a (λ h. h) in
+        let o = outcome-is (acts.Accept d) a (λ h. h) in
         subst (Saved (after ev s (suc k))) (due-core ∙ outer-at [] none)
         (saves (due ev s k .core) (due ev s k .mem) (due-tidy k .core) (due-tidy k .size)
         d (current (due ev s k .core .psw)) (false || faulted? (due ev s k .core .psw)) (after ev s (suc k))
@@ -255,29 +256,29 @@ module _ (memory r events : List ℕ) (n : ℕ) (P : Premises memory r events n)
         (ap (λ t. t .mem) next-is ∙ ap (λ x. commit (x .writes) (due ev s k .mem)) o))
 
     -- A return that closes the outermost frame.
-    closing : (f : Frame) → frames ev s k ≡ f ∷ [] → act ev s k ≡ pull → finished (due ev s k) .core ≡ free ev s k .core
+    closing : (f : Frame) → frames ev s k ≡ f ∷ [] → act ev s k ≡ acts.Pull → finished (due ev s k) .core ≡ free ev s k .core
     unfolding perform
     closing f one a =
-        ap (λ x. x .core) (outcome-is pull a (λ h. h))
+        ap (λ x. x .core) (outcome-is acts.Pull a (λ h. h))
         ∙ restores (free ev s k .core) (f .held) (due ev s k) (free-tidy k .core) (S .awake) (outer-at (f ∷ []) one)
         (P .restored k f [] below a one) (due-tidy k .core .eight)
 
     -- With a frame open, the outermost frame stays, or is closed.
     inside : (a : Act) → act ev s k ≡ a → (f : Frame) (fs : List Frame) → frames ev s k ≡ f ∷ fs → Calm a (f ∷ fs)
         → Outer (finished (due ev s k) .core) (free ev s k .core) (framesAfter a (after ev s (suc k)) (f ∷ fs))
-    inside stopped q f fs o c = outer-at (f ∷ fs) o
-    inside pull q f [] o c = closing f o q
-    inside pull q f (g ∷ fs) o c = outer-at (f ∷ g ∷ fs) o
-    inside (chain d) q f fs o c = outer-at (f ∷ fs) o
-    inside (accept d) q f fs o c = outer-at (f ∷ fs) o
-    inside sleep q f fs o c = outer-at (f ∷ fs) o
-    inside (fault v) q f fs o c = absurd c
-    inside halt q f fs o c = absurd c
-    inside skip q f fs o c = outer-at (f ∷ fs) o
-    inside (trap v) q f fs o c = absurd c
-    inside plain q f fs o c = outer-at (f ∷ fs) o
-    inside (loads byte a d) q f fs o c = outer-at (f ∷ fs) o
-    inside (stores byte a v) q f fs o c = outer-at (f ∷ fs) o
+    inside acts.Stopped q f fs o c = outer-at (f ∷ fs) o
+    inside acts.Pull q f [] o c = closing f o q
+    inside acts.Pull q f (g ∷ fs) o c = outer-at (f ∷ g ∷ fs) o
+    inside (acts.Chain d) q f fs o c = outer-at (f ∷ fs) o
+    inside (acts.Accept d) q f fs o c = outer-at (f ∷ fs) o
+    inside acts.Sleep q f fs o c = outer-at (f ∷ fs) o
+    inside (acts.Fault v) q f fs o c = absurd c
+    inside acts.Halt q f fs o c = absurd c
+    inside acts.Skip q f fs o c = outer-at (f ∷ fs) o
+    inside (acts.Trap v) q f fs o c = absurd c
+    inside acts.Plain q f fs o c = outer-at (f ∷ fs) o
+    inside (acts.Loads byte a d) q f fs o c = outer-at (f ∷ fs) o
+    inside (acts.Stores byte a v) q f fs o c = outer-at (f ∷ fs) o
 
     entry-outer : frames ev s k ≡ [] → acceptsNone? (act ev s k) ≡ false
         → Outer (finished (due ev s k) .core) (free ev s k .core) (frames ev s (suc k))

@@ -14,9 +14,10 @@ use Rattle.machine.specs.Memory.{byteAt, wordAt, even, span, valueAt}
 use Rattle.machine.specs.Cex.{skips?}
 use Rattle.machine.specs.Entry.{priority, best, bestFrom, above}
 use Rattle.machine.specs.Effect.{effectOf, loaded}
-use Rattle.machine.specs.Step.{Act, Interrupt, Outcome, pulls, chains, accepts, nothing, interruptOf, returns?, advanced, faulting, granted}
+use Rattle.machine.specs.declared.Act.{Act}
+use Rattle.machine.specs.Step.{Interrupt, Outcome, pulls, chains, accepts, nothing, interruptOf, returns?, advanced, faulting, granted}
 use Rattle.machine.specs.Step.{instructionOf, perform}
-use Rattle.machine.specs.Step.{stopped, pull, chain, accept, sleep, fault, halt, skip, trap, plain, loads, stores}
+use Rattle.machine.specs.declared.Act.the-variants as acts
 use Rattle.machine_laws.specs.Bounds.{Each}
 use Rattle.machine_laws.proofs.Cases.{bool-cases}
 use Rattle.machine_laws.proofs.Plans.{instruction-cases}
@@ -49,18 +50,18 @@ quiet c l m m′ e =
 
 -- The acts of an instruction that is no fault and no SVC.
 abbrev pub Steady : Act → Type 0
-Steady stopped = ⊥
-Steady pull = ⊥
-Steady (chain d) = ⊥
-Steady (accept d) = ⊥
-Steady sleep = Unit {0}
-Steady (fault v) = ⊥
-Steady halt = ⊥
-Steady skip = Unit {0}
-Steady (trap v) = ⊥
-Steady plain = Unit {0}
-Steady (loads byte a d) = Unit {0}
-Steady (stores byte a v) = Unit {0}
+Steady acts.Stopped = ⊥
+Steady acts.Pull = ⊥
+Steady (acts.Chain d) = ⊥
+Steady (acts.Accept d) = ⊥
+Steady acts.Sleep = Unit {0}
+Steady (acts.Fault v) = ⊥
+Steady acts.Halt = ⊥
+Steady acts.Skip = Unit {0}
+Steady (acts.Trap v) = ⊥
+Steady acts.Plain = Unit {0}
+Steady (acts.Loads byte a d) = Unit {0}
+Steady (acts.Stores byte a v) = Unit {0}
 
 pub faulting-uncalm : (c x : Core) (v : ℕ) (fs : List Frame) → Calm (faulting c x v .act) fs → ⊥
 faulting-uncalm c x v fs h = bool-cases (faulted? (c .psw)) (λ q. rw q at h) (λ q. rw q at h)
@@ -146,22 +147,22 @@ pub record Same (o o′ : Outcome) : Type 0 where
 pub perform-same : (a : Act) → Steady a → (c₀ c : Core) (l : ℕ) (m m′ : List ℕ) → Each (λ b. byteAt m b ≡ byteAt m′ b) (readsOf a c₀)
     → Same (perform a c l m) (perform a c 0 m′)
 unfolding perform
-perform-same stopped s c₀ c l m m′ r = absurd s
-perform-same pull s c₀ c l m m′ r = absurd s
-perform-same (chain d) s c₀ c l m m′ r = absurd s
-perform-same (accept d) s c₀ c l m m′ r = absurd s
-perform-same sleep s c₀ c l m m′ r = record { core = refl; alone-live = refl; no-lines = refl; writes = same-refl [] }
-perform-same (fault v) s c₀ c l m m′ r = absurd s
-perform-same halt s c₀ c l m m′ r = absurd s
-perform-same skip s c₀ c l m m′ r = record { core = refl; alone-live = refl; no-lines = refl; writes = same-refl [] }
-perform-same (trap v) s c₀ c l m m′ r = absurd s
-perform-same plain s c₀ c l m m′ r = record { core = refl; alone-live = refl; no-lines = refl; writes = same-refl [] }
-perform-same (loads byte a d) s c₀ c l m m′ r =
+perform-same acts.Stopped s c₀ c l m m′ r = absurd s
+perform-same acts.Pull s c₀ c l m m′ r = absurd s
+perform-same (acts.Chain d) s c₀ c l m m′ r = absurd s
+perform-same (acts.Accept d) s c₀ c l m m′ r = absurd s
+perform-same acts.Sleep s c₀ c l m m′ r = record { core = refl; alone-live = refl; no-lines = refl; writes = same-refl [] }
+perform-same (acts.Fault v) s c₀ c l m m′ r = absurd s
+perform-same acts.Halt s c₀ c l m m′ r = absurd s
+perform-same acts.Skip s c₀ c l m m′ r = record { core = refl; alone-live = refl; no-lines = refl; writes = same-refl [] }
+perform-same (acts.Trap v) s c₀ c l m m′ r = absurd s
+perform-same acts.Plain s c₀ c l m m′ r = record { core = refl; alone-live = refl; no-lines = refl; writes = same-refl [] }
+perform-same (acts.Loads byte a d) s c₀ c l m m′ r =
     record {
-      core = ap (loaded c byte d) (value-same byte m m′ a (r .1 .1));
+      core = ap (loaded c byte d) (value-same byte m m′ (a .0) (r .1 .1));
       alone-live = refl;
       no-lines = refl;
-      writes = load-same byte m m′ a;
+      writes = load-same byte m m′ (a .0);
     }
-perform-same (stores byte a v) s c₀ c l m m′ r =
-    record { core = refl; alone-live = refl; no-lines = refl; writes = store-same byte m m′ a v }
+perform-same (acts.Stores byte a v) s c₀ c l m m′ r =
+    record { core = refl; alone-live = refl; no-lines = refl; writes = store-same byte m m′ (a .0) v }

@@ -10,9 +10,10 @@ use lib.ListN.{length, List·getD-eq-default}
 use Rattle.machine.specs.State.{Core, State}
 use Rattle.machine.specs.Memory.{byteAt, writes?}
 use Rattle.machine.specs.Devices.{device?}
-use Rattle.machine.specs.Step.{Plan, Act, Interrupt, pulls, chains, accepts, nothing, interruptOf, instructionOf, chosen, planOf, perform}
+use Rattle.machine.specs.declared.Act.{Act}
+use Rattle.machine.specs.Step.{Plan, Interrupt, pulls, chains, accepts, nothing, interruptOf, instructionOf, chosen, planOf, perform}
 use Rattle.machine.specs.Step.{outcomeOf, finished}
-use Rattle.machine.specs.Step.{stopped, pull, chain, accept, sleep, fault, halt, skip, trap, plain, loads, stores}
+use Rattle.machine.specs.declared.Act.the-variants as acts
 use Rattle.machine_laws.specs.Bounds.{Each}
 use Rattle.machine_laws.proofs.Cases.{bool-cases, lt-of, ge-of}
 use Rattle.machine_laws.proofs.Memory.{commit-at}
@@ -21,43 +22,43 @@ use Rattle.resume.specs.Frames.{Frame, Calm, acceptsNone?, readsOf}
 use Rattle.resume.proofs.Same.{quiet, Steady, instruction-steady, instruction-same, Same, perform-same}
 
 -- A calm step of a machine that is not halted does not halt it.
-perform-live : (a : Act) (fs : List Frame) (c : Core) (l : ℕ) (m : List ℕ) → Calm a fs → (a ≡ stopped → ⊥) → perform a c l m .halted ≡ false
+perform-live : (a : Act) (fs : List Frame) (c : Core) (l : ℕ) (m : List ℕ) → Calm a fs → (a ≡ acts.Stopped → ⊥) → perform a c l m .halted ≡ false
 unfolding perform
-perform-live stopped fs c l m h u = absurd (u refl)
-perform-live pull fs c l m h u = refl
-perform-live (chain d) fs c l m h u = refl
-perform-live (accept d) fs c l m h u = refl
-perform-live sleep fs c l m h u = refl
-perform-live (fault v) fs c l m h u = refl
-perform-live halt fs c l m h u = absurd h
-perform-live skip fs c l m h u = refl
-perform-live (trap v) fs c l m h u = refl
-perform-live plain fs c l m h u = refl
-perform-live (loads byte a d) fs c l m h u = refl
-perform-live (stores byte a v) fs c l m h u = refl
+perform-live acts.Stopped fs c l m h u = absurd (u refl)
+perform-live acts.Pull fs c l m h u = refl
+perform-live (acts.Chain d) fs c l m h u = refl
+perform-live (acts.Accept d) fs c l m h u = refl
+perform-live acts.Sleep fs c l m h u = refl
+perform-live (acts.Fault v) fs c l m h u = refl
+perform-live acts.Halt fs c l m h u = absurd h
+perform-live acts.Skip fs c l m h u = refl
+perform-live (acts.Trap v) fs c l m h u = refl
+perform-live acts.Plain fs c l m h u = refl
+perform-live (acts.Loads byte a d) fs c l m h u = refl
+perform-live (acts.Stores byte a v) fs c l m h u = refl
 
 -- A calm step that is no instruction's starts from the state's own core; and such a machine is not stopped.
 Stopped? : Act → Type 0
-Stopped? stopped = Unit {0}
-Stopped? pull = ⊥
-Stopped? (chain d) = ⊥
-Stopped? (accept d) = ⊥
-Stopped? sleep = ⊥
-Stopped? (fault v) = ⊥
-Stopped? halt = ⊥
-Stopped? skip = ⊥
-Stopped? (trap v) = ⊥
-Stopped? plain = ⊥
-Stopped? (loads byte a d) = ⊥
-Stopped? (stores byte a v) = ⊥
+Stopped? acts.Stopped = Unit {0}
+Stopped? acts.Pull = ⊥
+Stopped? (acts.Chain d) = ⊥
+Stopped? (acts.Accept d) = ⊥
+Stopped? acts.Sleep = ⊥
+Stopped? (acts.Fault v) = ⊥
+Stopped? acts.Halt = ⊥
+Stopped? acts.Skip = ⊥
+Stopped? (acts.Trap v) = ⊥
+Stopped? acts.Plain = ⊥
+Stopped? (acts.Loads byte a d) = ⊥
+Stopped? (acts.Stores byte a v) = ⊥
 
-steady-moves : (a : Act) → Steady a → a ≡ stopped → ⊥
+steady-moves : (a : Act) → Steady a → a ≡ acts.Stopped → ⊥
 steady-moves a s e = subst Steady e s
 
-pub plan-moves : (s : State) (fs : List Frame) → s .halted ≡ false → Calm (planOf s .act) fs → planOf s .act ≡ stopped → ⊥
+pub plan-moves : (s : State) (fs : List Frame) → s .halted ≡ false → Calm (planOf s .act) fs → planOf s .act ≡ acts.Stopped → ⊥
 unfolding Stopped?
 plan-moves s fs live =
-    plan-cases s (λ p. Calm (p .act) fs → p .act ≡ stopped → ⊥)
+    plan-cases s (λ p. Calm (p .act) fs → p .act ≡ acts.Stopped → ⊥)
     (λ h c e. true≢false (sym h ∙ live))
     (λ h q c e. subst Stopped? (sym e) tt)
     (λ d h q c e. subst Stopped? (sym e) tt)

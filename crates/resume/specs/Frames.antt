@@ -12,7 +12,8 @@ use Rattle.machine.specs.Memory.{writes?, span}
 use Rattle.machine.specs.Events.{Event}
 use Rattle.machine.specs.Devices.{deliver}
 use Rattle.machine.specs.Entry.{frameByte}
-use Rattle.machine.specs.Step.{Act, stopped, pull, chain, accept, sleep, fault, halt, skip, trap, plain, loads, stores}
+use Rattle.machine.specs.declared.Act.{Act}
+use Rattle.machine.specs.declared.Act.the-variants as acts
 use Rattle.machine.specs.Step.{planOf, outcomeOf}
 use Rattle.machine.specs.Run.{runOf}
 use Rattle.machine.specs.Refusal.{verdictOf}
@@ -43,66 +44,66 @@ none? (f ∷ fs) = false
 -- "An entry that pushes opens a frame; a return that pulls closes the newest open one. A chained entry keeps its frame
 -- open." The frames after a step that leaves the state t, newest first. [01 Depth]
 abbrev pub framesAfter : Act → State → List Frame → List Frame
-framesAfter stopped t fs = fs
-framesAfter pull t fs = older fs
-framesAfter (chain d) t fs = fs
-framesAfter (accept d) t fs = record { held = t } ∷ fs
-framesAfter sleep t fs = fs
-framesAfter (fault v) t fs = record { held = t } ∷ fs
-framesAfter halt t fs = fs
-framesAfter skip t fs = fs
-framesAfter (trap v) t fs = record { held = t } ∷ fs
-framesAfter plain t fs = fs
-framesAfter (loads byte a d) t fs = fs
-framesAfter (stores byte a v) t fs = fs
+framesAfter acts.Stopped t fs = fs
+framesAfter acts.Pull t fs = older fs
+framesAfter (acts.Chain d) t fs = fs
+framesAfter (acts.Accept d) t fs = record { held = t } ∷ fs
+framesAfter acts.Sleep t fs = fs
+framesAfter (acts.Fault v) t fs = record { held = t } ∷ fs
+framesAfter acts.Halt t fs = fs
+framesAfter acts.Skip t fs = fs
+framesAfter (acts.Trap v) t fs = record { held = t } ∷ fs
+framesAfter acts.Plain t fs = fs
+framesAfter (acts.Loads byte a d) t fs = fs
+framesAfter (acts.Stores byte a v) t fs = fs
 
 -- A step is taken, and it accepts no line. [01 Depth]
 abbrev pub acceptsNone? : Act → Bool
-acceptsNone? stopped = false
-acceptsNone? pull = true
-acceptsNone? (chain d) = true
-acceptsNone? (accept d) = false
-acceptsNone? sleep = true
-acceptsNone? (fault v) = true
-acceptsNone? halt = true
-acceptsNone? skip = true
-acceptsNone? (trap v) = true
-acceptsNone? plain = true
-acceptsNone? (loads byte a d) = true
-acceptsNone? (stores byte a v) = true
+acceptsNone? acts.Stopped = false
+acceptsNone? acts.Pull = true
+acceptsNone? (acts.Chain d) = true
+acceptsNone? (acts.Accept d) = false
+acceptsNone? acts.Sleep = true
+acceptsNone? (acts.Fault v) = true
+acceptsNone? acts.Halt = true
+acceptsNone? acts.Skip = true
+acceptsNone? (acts.Trap v) = true
+acceptsNone? acts.Plain = true
+acceptsNone? (acts.Loads byte a d) = true
+acceptsNone? (acts.Stores byte a v) = true
 
 -- "free of faults, SVC and returns with no frame open": of returns of either kind, pulling or chaining.
 -- [01 Depth; 01 Resumption]
 abbrev pub Calm : Act → List Frame → Type 0
-Calm stopped fs = Unit {0}
-Calm pull fs = none? fs ≡ false
-Calm (chain d) fs = none? fs ≡ false
-Calm (accept d) fs = Unit {0}
-Calm sleep fs = Unit {0}
-Calm (fault v) fs = ⊥
-Calm halt fs = ⊥
-Calm skip fs = Unit {0}
-Calm (trap v) fs = ⊥
-Calm plain fs = Unit {0}
-Calm (loads byte a d) fs = Unit {0}
-Calm (stores byte a v) fs = Unit {0}
+Calm acts.Stopped fs = Unit {0}
+Calm acts.Pull fs = none? fs ≡ false
+Calm (acts.Chain d) fs = none? fs ≡ false
+Calm (acts.Accept d) fs = Unit {0}
+Calm acts.Sleep fs = Unit {0}
+Calm (acts.Fault v) fs = ⊥
+Calm acts.Halt fs = ⊥
+Calm acts.Skip fs = Unit {0}
+Calm (acts.Trap v) fs = ⊥
+Calm acts.Plain fs = Unit {0}
+Calm (acts.Loads byte a d) fs = Unit {0}
+Calm (acts.Stores byte a v) fs = Unit {0}
 
 -- The bytes that a step from the core c fetches and loads: point 7 fetches the word at PC, LD and LDR load each byte
 -- that they touch; a skipped word is not fetched. Faults and SVC, of which the run is free, are left out.
 -- [01 Resumption]
 abbrev pub readsOf : Act → Core → List ℕ
-readsOf stopped c = []
-readsOf pull c = []
-readsOf (chain d) c = []
-readsOf (accept d) c = []
-readsOf sleep c = []
-readsOf (fault v) c = []
-readsOf halt c = []
-readsOf skip c = []
-readsOf (trap v) c = []
-readsOf plain c = span false (pc c)
-readsOf (loads byte a d) c = span false (pc c) ++ span byte a
-readsOf (stores byte a v) c = span false (pc c)
+readsOf acts.Stopped c = []
+readsOf acts.Pull c = []
+readsOf (acts.Chain d) c = []
+readsOf (acts.Accept d) c = []
+readsOf acts.Sleep c = []
+readsOf (acts.Fault v) c = []
+readsOf acts.Halt c = []
+readsOf acts.Skip c = []
+readsOf (acts.Trap v) c = []
+readsOf acts.Plain c = span false (pc c)
+readsOf (acts.Loads byte a d) c = span false (pc c) ++ span byte (a .0)
+readsOf (acts.Stores byte a v) c = span false (pc c)
 
 -- The state t has SP and the eight bytes of the frame at that SP as the state s has them. [01 Depth; 01 Resumption]
 pub record FrameFound (s t : State) : Type 0 where

@@ -1,29 +1,21 @@
--- A run as its loop goes: steps with no event due, the stretch after a step, one turn, and the two ways in which it ends.
+-- A run as its loop goes: steps with no event due, one turn, and the two ways in which it ends.
 -- Assumes nothing.
-use Prim.Native.Nat.{ℕ, _+_, _-_, _/_, _%_, _<_, _≤_}
-use mathlib.Core.Bool.{Bool, true, false, not, _&&_, _||_}
+use Prim.Native.Nat.{ℕ, _+_, _-_, _<_, _≤_}
+use mathlib.Core.Bool.{true, false}
 use mathlib.Core.List.{List}
 use mathlib.Core.Path.{_≡_, sym, ap, _∙_}
 use native.Mathlib.Omega.{arith}
-use lib.Dec.{eqb}
-use lib.ListN.{getD}
-use mathlib.Mathlib.Data.Bool.Basic.{or-eq-false-eq-eq-false-and-eq-false}
-use borrow.Author.Tests.{lt-ltb, not-true, not-false}
-use Rattle.machine.specs.State.{State, coreOf}
+use borrow.Author.Tests.{lt-ltb}
+use Rattle.machine.specs.State.{State}
 use Rattle.machine.specs.Events.{Event, eventAt, eventCount, eventsOf}
 use Rattle.machine.specs.Devices.{deliver}
 use Rattle.machine.specs.Step.{finished}
 use Rattle.machine.specs.Run.{ran, runOf}
-use Rattle.machine_laws.proofs.Cases.{and-left, and-right, eq-of}
-use Rattle.machine_laws.proofs.Runs.{run-zero, run-stays, run-append}
-use Rattle.devices.specs.Cursor.{Ordered, stateFrom}
+use Rattle.machine_laws.proofs.Runs.{run-zero, run-stays, run-append, run-turn}
+use Rattle.devices.specs.Cursor.{Ordered}
 use Rattle.devices.proofs.Laws.{behind-later, index-quiet}
-use Rattle.entry.specs.declared.Rest.{Rest}
-use Rattle.entry.specs.Rest.{stateWith}
-use Rattle.quiet_memory.specs.Served.{quietState}
-use Rattle.quiet.specs.Stretch.{Undisturbed}
-use Rattle.quiet.proofs.Laws.{Reaches, Asleep, withCount, run-turn, sleep-run}
-use Rattle.run.specs.Due.{dueOf, Awaits, Quiet}
+use Rattle.stretch.specs.Stretch.{Undisturbed}
+use Rattle.run.specs.Due.{dueOf, Awaits}
 
 due-in : (b : List ℕ) (k : ℕ) → k < eventCount b → dueOf b k ≡ eventAt b k .step
 unfolding dueOf
@@ -40,51 +32,6 @@ module _ (b : List ℕ) (next due k : ℕ) (a : Awaits b next due k) where
   pub undisturbed : Ordered b → Undisturbed (eventsOf b) k due
   undisturbed o j h l s =
       index-quiet b j next s o (awaits-later j h .0) (λ q. let e : due ≡ eventAt b next .step = a .1 ∙ due-in b next q in omega arith)
-
--- ---- the stretch after a step
-
-pub tests-quiet :
-    (regs : List ℕ) (t : Rest) → t .halted || not (eqb (t .lines) 0) || not (eqb (t .cex) 0) ≡ false →
-    eqb (getD regs 7 0 % 2) 0 && not (eqb (t .psw / 8 % 2) 1) ≡ true → Quiet regs t
-tests-quiet regs t e f =
-    let p = or-eq-false-eq-eq-false-and-eq-false _ _ .0 e in
-    let q = or-eq-false-eq-eq-false-and-eq-false _ _ .0 (p .0) in
-    let even = eqb (getD regs 7 0 % 2) 0 in
-    let awake = not (eqb (t .psw / 8 % 2) 1) in (
-      q .0,
-      eq-of (not-false _ (q .1)),
-      eq-of (not-false _ (p .1)),
-      (eq-of (and-left even awake f), not-true _ (and-right even awake f)),
-    )
-
-pub stretch-none : (ev : List Event) (s : State) (n : ℕ) → ran s (n - n) ≡ runOf ev s (n - n)
-stretch-none ev s n = let e : n - n ≡ 0 = omega arith in rw e (sym (run-zero ev s))
-
-pub tests-asleep :
-    (regs m : List ℕ) (t : Rest) → t .halted || not (eqb (t .lines) 0) || not (eqb (t .psw / 8 % 2) 1) ≡ false → Asleep (stateWith regs t m)
-tests-asleep regs m t e =
-    let p = or-eq-false-eq-eq-false-and-eq-false _ _ .0 e in
-    let q = or-eq-false-eq-eq-false-and-eq-false _ _ .0 (p .0) in
-    (q .0, eq-of (not-false _ (q .1)), not-false _ (p .1))
-
-pub stretch-asleep :
-    (ev : List Event) (s : State) (due j : ℕ) → Asleep s → j ≤ due - s .count → Undisturbed ev (s .count) due →
-    ran (withCount s (s .count + j)) (s .count + j - s .count) ≡ runOf ev s (s .count + j - s .count)
-stretch-asleep ev s due j a h u =
-    let n = s .count in
-    let e : n + j - n ≡ j = omega arith in
-    rw e (sleep-run ev s j a (λ i b c. u i b (omega arith)))
-
-pub stretch-done :
-    (regs m regs₁ m₁ : List ℕ) (t : Rest) (due psw j : ℕ) (ev : List Event) → Quiet regs t → j ≤ due - t .count →
-    Reaches regs (t .psw) m regs₁ psw m₁ j → Undisturbed ev (t .count) due →
-    ran (quietState regs₁ psw 0 (t .count + j) m₁) (t .count + j - t .count) ≡ runOf ev (stateWith regs t m) (t .count + j - t .count)
-stretch-done regs m regs₁ m₁ t due psw j ev q h f u =
-    let n = t .count in
-    let e : n + j - n ≡ j = omega arith in
-    let s : quietState regs (t .psw) 0 n m ≡ stateWith regs t m =
-    λ i. stateFrom (coreOf regs (t .psw) (sym (q .2) i)) (sym (q .1) i) (sym (q .0) i) n m in
-    rw e (f ev n (λ i a b. u i a (omega arith)) ∙ ap (λ x. runOf ev x j) s)
 
 -- ---- a run
 

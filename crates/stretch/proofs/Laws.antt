@@ -1,5 +1,5 @@
--- What the code of a quiet machine's instruction leaves, put together as its definition has it. l is the registers with PC
--- past the instruction, m the memory before it, p the PSW. Assumes nothing.
+-- What the code of one instruction leaves, put together as its definition has it. l is the registers with PC past the
+-- instruction, m the memory before it, p the PSW. Assumes nothing.
 use Prim.Native.Nat.{ℕ, _+_, _*_, _/_, _%_, _<_, _≤_}
 use native.Mathlib.Omega.{arith}
 use mathlib.Core.Bool.{Bool, true, false, cond, _||_}
@@ -17,30 +17,31 @@ use Rattle.isa.specs.declared.Instr.the-variants as Instr
 use Rattle.isa.specs.Decode.{relativeOf, decodeOf}
 use Rattle.machine.specs.declared.Access.the-variants as asks
 use Rattle.machine.specs.State.{coreOf, moved}
-use Rattle.machine.specs.Memory.{commit}
-use Rattle.machine.specs.Devices.{storeWrites}
-use Rattle.machine.specs.Effect.{Effect, effect, effectOf, operand, moves?, adjusted}
-use Rattle.machine.specs.Step.{planned, loads, executed}
+use Rattle.machine.specs.Memory.{commit, valueAt}
+use Rattle.machine.specs.Devices.{loadWrites, storeWrites}
+use Rattle.machine.specs.Effect.{Effect, effect, effectOf, operand, moves?, adjusted, loaded}
+use Rattle.machine.specs.Step.{granted, executed, perform}
 use Rattle.exec.proofs.Laws.{loading, storing}
-use Rattle.instruction.proofs.Laws.{granted-nothing, granted-load, granted-store}
-use Rattle.quiet_registers.specs.Quiet.{calm, Steady, Tried, Words, operation, named}
-use Rattle.quiet_memory.specs.Served.{quietState, carriedOut, Served, Taken}
+use Rattle.devices.specs.Cursor.{stateFrom}
+use Rattle.stretch_registers.specs.Executed.{unblocked, Keeps, Tried, Words, operation, named}
+use Rattle.stretch.specs.Ordinary.{aligned?, storable?, ordinary?}
+use Rattle.stretch.specs.Served.{running, carriedOut, Served, Taken}
 
 -- ---- the CEX state and PC
 
 -- a CEX state of 0 stays
-pub cex-calm : (moves pc : Bool) → _≡_ {A = ℕ} (cond moves (cond pc 0 0) 0) 0
-cex-calm true true = refl
-cex-calm true false = refl
-cex-calm false pc = refl
+pub cex-stays : (moves pc : Bool) → _≡_ {A = ℕ} (cond moves (cond pc 0 0) 0) 0
+cex-stays true true = refl
+cex-stays true false = refl
+cex-stays false pc = refl
 
 -- a write to another register
 pub pc-set : (l : List ℕ) (i v : ℕ) → i < 7 → getD (set l i v) 7 0 ≡ getD l 7 0
 pc-set l i v h = getD-set-other l i 7 v 0 (λ e. omega arith)
 
--- a steady machine whose PC and PSW stay is steady
-steady-kept : (l k : List ℕ) (p : ℕ) → getD k 7 0 ≡ getD l 7 0 → Steady l p → Steady k p
-steady-kept l k p e h = (ap (λ (x : ℕ). x % 2) e ∙ h .0, h .1)
+-- PC and the PSW stay
+same-pc : (l k : List ℕ) (p : ℕ) → getD k 7 0 ≡ getD l 7 0 → Keeps l p k p
+same-pc l k p e = ((λ h. ap (λ (x : ℕ). x % 2) e ∙ h), refl, refl)
 
 -- ---- what is granted
 
@@ -48,39 +49,41 @@ module _ (x : Instr) (l k m : List ℕ) (p : ℕ) where
   -- a load's registers before it are k; k′ and m′ are after it
   pub served-load :
       (k′ m′ : List ℕ) (byte : Bool) (at dst : ℕ) → p < 65536 →
-      effect (calm k p) (asks.Load byte at dst) ≡ effectOf (calm l p) x →
-      ((q t n : ℕ) → quietState k′ q t (n + 1) m′ ≡ carriedOut (planned (calm k q) (loads byte at dst)) t n m) →
+      effect (unblocked k p) (asks.Load byte at dst) ≡ effectOf (unblocked l p) x → aligned? byte at ≡ true →
+      ((q : ℕ) → unblocked k′ q ≡ loaded (unblocked k q) byte dst (valueAt byte m at)) → m′ ≡ commit (loadWrites byte m at) m →
       getD k′ 7 0 ≡ getD l 7 0 → Served x l p m k′ p m′
-  served-load k′ m′ byte at dst hp e f g = (
+  unfolding granted perform
+  served-load k′ m′ byte at dst hp e h f g c = (
     hp,
-    (λ b t n.
-        granted-load b (calm k p) (asks.Load byte at dst) t n m byte at dst refl (f p t n)
-        ∙ ap (λ (y : Effect). carriedOut (executed b y m) t n m) e),
-    steady-kept l k′ p g,
+    (λ b t n. (λ i. stateFrom (f p i) t false (n + 1) (g i)) ∙ ap (λ (y : Effect). carriedOut (executed b y m) t n m) e),
+    same-pc l k′ p c,
+    ap (λ (y : Effect). ordinary? (y .access)) (sym e) ∙ h,
   )
 
   pub served-store :
       (m′ : List ℕ) (byte : Bool) (at v : ℕ) → p < 65536 →
-      effect (calm k p) (asks.Store byte at v) ≡ effectOf (calm l p) x → m′ ≡ commit (storeWrites byte m at v) m →
-      getD k 7 0 ≡ getD l 7 0 → Served x l p m k p m′
-  served-store m′ byte at v hp e f g = (
+      effect (unblocked k p) (asks.Store byte at v) ≡ effectOf (unblocked l p) x → storable? byte at ≡ true →
+      m′ ≡ commit (storeWrites byte m at v) m → getD k 7 0 ≡ getD l 7 0 → Served x l p m k p m′
+  unfolding granted perform
+  served-store m′ byte at v hp e h f c = (
     hp,
     (λ b t n.
-        granted-store b (calm k p) (asks.Store byte at v) t n m byte at v m′ refl f
-        ∙ ap (λ (y : Effect). carriedOut (executed b y m) t n m) e),
-    steady-kept l k p g,
+        ap (λ (o : List ℕ). running k p t (n + 1) o) f ∙ ap (λ (y : Effect). carriedOut (executed b y m) t n m) e),
+    same-pc l k p c,
+    ap (λ (y : Effect). ordinary? (y .access)) (sym e) ∙ h,
   )
 
   -- an instruction that touches registers alone
   pub tried-taken : (r : ℕ) → Tried x l p k r → Taken x l p m k r m
+  unfolding granted perform commit
   tried-taken r =
       ⊎-elim (λ h. inl (h .0, h .1, refl))
       (λ h.
       inr (
         h .0,
-        (λ b t n.
-            granted-nothing b (calm k r) asks.Nothing t n m refl ∙ ap (λ (y : Effect). carriedOut (executed b y m) t n m) (sym (h .1))),
+        (λ b t n. ap (λ (y : Effect). carriedOut (executed b y m) t n m) (sym (h .1))),
         h .2,
+        ap (λ (y : Effect). ordinary? (y .access)) (h .1),
       ))
 
 -- ---- LD and ST
@@ -97,20 +100,20 @@ pc-adjusted moves l k i v h e = ap (λ (x : List ℕ). getD x 7 0) e ∙ pc-move
 module _ (l k : List ℕ) (p y prpo dec inc wb i : ℕ) {a b at : ℕ} (ha : a ≡ getD l i 0) (hb : b ≡ adjusted a dec inc wb)
     (ht : at ≡ cond (eqb prpo 1) b a)
     (w : (k ≡ cond (moves? dec inc) (set l i b) l) × (y ≡ cond (moves? dec inc) (cond (eqb i 7) 0 0) 0)) where
-  calm-after : 0 ≡ y
-  calm-after = sym (w .1 ∙ cex-calm (moves? dec inc) (eqb i 7))
+  no-block : 0 ≡ y
+  no-block = sym (w .1 ∙ cex-stays (moves? dec inc) (eqb i 7))
 
   pub load-effect :
-      (dst : ℕ) → effect (calm k p) (asks.Load (eqb wb 1) at dst) ≡ effectOf (calm l p) (Instr.Ld prpo dec inc wb i dst)
+      (dst : ℕ) → effect (unblocked k p) (asks.Load (eqb wb 1) at dst) ≡ effectOf (unblocked l p) (Instr.Ld prpo dec inc wb i dst)
   load-effect dst =
-      ap (λ (x : ℕ). effect (coreOf k p x) (asks.Load (eqb wb 1) at dst)) calm-after
+      ap (λ (x : ℕ). effect (coreOf k p x) (asks.Load (eqb wb 1) at dst)) no-block
       ∙ loading l k p 0 y prpo dec inc wb i ha hb ht w dst
 
   pub store-effect :
       (src : ℕ) {v : ℕ} → v ≡ getD l src 0 →
-      effect (calm k p) (asks.Store (eqb wb 1) at v) ≡ effectOf (calm l p) (Instr.St prpo dec inc wb src i)
+      effect (unblocked k p) (asks.Store (eqb wb 1) at v) ≡ effectOf (unblocked l p) (Instr.St prpo dec inc wb src i)
   store-effect src {v} h =
-      ap (λ (x : ℕ). effect (coreOf k p x) (asks.Store (eqb wb 1) at v)) calm-after
+      ap (λ (x : ℕ). effect (coreOf k p x) (asks.Store (eqb wb 1) at v)) no-block
       ∙ storing l k p 0 y prpo dec inc wb i ha hb ht w src h
 
 -- two registers that are not R7, as LD's one test tells
@@ -128,15 +131,15 @@ module _ (l : List ℕ) (p wb i : ℕ) (off : ℤ) {a at : ℕ} (ha : a ≡ getD
   from-base = ht ∙ ap (λ (x : ℕ). moved x off) ha
 
   pub load-relative-effect :
-      (dst : ℕ) → effect (calm l p) (asks.Load (eqb wb 1) at dst) ≡ effectOf (calm l p) (Instr.Ldr off wb i dst)
+      (dst : ℕ) → effect (unblocked l p) (asks.Load (eqb wb 1) at dst) ≡ effectOf (unblocked l p) (Instr.Ldr off wb i dst)
   unfolding effectOf
-  load-relative-effect dst = λ j. effect (calm l p) (asks.Load (eqb wb 1) (from-base j) dst)
+  load-relative-effect dst = λ j. effect (unblocked l p) (asks.Load (eqb wb 1) (from-base j) dst)
 
   pub store-relative-effect :
       (src : ℕ) {v : ℕ} → v ≡ getD l src 0 →
-      effect (calm l p) (asks.Store (eqb wb 1) at v) ≡ effectOf (calm l p) (Instr.Str off wb src i)
+      effect (unblocked l p) (asks.Store (eqb wb 1) at v) ≡ effectOf (unblocked l p) (Instr.Str off wb src i)
   unfolding effectOf
-  store-relative-effect src h = λ j. effect (calm l p) (asks.Store (eqb wb 1) (from-base j) (h j))
+  store-relative-effect src h = λ j. effect (unblocked l p) (asks.Store (eqb wb 1) (from-base j) (h j))
 
 -- ---- words from 5800
 
@@ -185,10 +188,10 @@ module _ (op rc w : ℕ) (ho : op < 12) (hr : rc < 2) (h : w / 64 ≡ 0x100 + op
       simp (le-ltb _ _ p, le-ltb _ _ q, lt-ltb _ _ r)
 
   pub operand-words :
-      (l : List ℕ) (p : ℕ) {s : ℕ} → s ≡ operand (calm l p) rc (w / 8 % 8) → Words op w × (s ≡ named l p w)
+      (l : List ℕ) (p : ℕ) {s : ℕ} → s ≡ operand (unblocked l p) rc (w / 8 % 8) → Words op w × (s ≡ named l p w)
   operand-words l p e =
       let k : w / 128 % 2 ≡ rc = omega arith in
-      ((omega arith, omega arith, omega arith, omega arith), e ∙ ap (λ (x : ℕ). operand (calm l p) x (w / 8 % 8)) (sym k))
+      ((omega arith, omega arith, omega arith, omega arith), e ∙ ap (λ (x : ℕ). operand (unblocked l p) x (w / 8 % 8)) (sym k))
 
   pub operation-taken :
       (l k m : List ℕ) (p r : ℕ) → Tried (operation w) l p k r → Taken (decodeOf w) l p m k r m

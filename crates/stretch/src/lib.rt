@@ -23,7 +23,7 @@ ghost use Rattle.machine.specs.Uneventful.{Uneventful};
 ghost use Rattle.entry.specs.Rest.{stateWith};
 ghost use Rattle.stretch.specs.Ordinary.{aligned?, storable?};
 ghost use Rattle.stretch.specs.Served.{Taken};
-ghost use Rattle.stretch.specs.Stretch.{Undisturbed, Fetching, NoneAbove, Stepping, Reaches};
+ghost use Rattle.stretch.specs.Stretch.{Undisturbed, Fetching, NoneAbove, Stepping, Passes, Reaches};
 use entry::Rest;
 use machine::ByteAddr;
 use operands::get;
@@ -140,8 +140,8 @@ fn store_relative(regs: &[u16; 8], mem: &mut [u8], psw: u16, w: u16) -> u32
     if !storable(w / 64 % 2 == 1, at) {
         return 65536;
     }
-    let value = get(regs, (w / 8 % 8) as u8);
-    memory::store(mem, w / 64 % 2 == 1, ByteAddr(at), value);
+    let v = get(regs, (w / 8 % 8) as u8);
+    memory::store(mem, w / 64 % 2 == 1, ByteAddr(at), v);
     psw as u32
 }
 
@@ -315,36 +315,53 @@ fn until(count: u32, due: u64, left: u32) -> u32
     left
 }
 
-// Not halted, and no line waits above the priority: the next step is a return or points 4 to 7.
-fn unasked(mem: &[u8], t: Rest) -> bool
-    requires { ⌜ length (now mem) ≡ 65536 ⌝ }
-    ensures { λ r. ⌜ (r ≡ true → (t .halted ≡ false)
-        × NoneAbove (now (mem .entry)) (t .lines) (current (t .psw))) ⌝ }
+// Does the next step fetch an instruction if no line is accepted: not halted, awake, PC even, no CEX
+// block open?
+fn fetching(regs: &[u16; 8], t: Rest) -> bool
+    ensures { λ r. ⌜ (r ≡ true →
+        (t .halted ≡ false) × (t .cex ≡ 0) × Fetching (now (regs .entry)) (t .psw)) ⌝ }
 {
-    if t.halted {
+    if t.halted | (t.cex != 0) {
         return false;
     }
-    plan::line_above(mem, t.lines, t.psw / 32 % 8) == 8
+    (regs[7] % 2 == 0) & (t.psw / 8 % 2 != 1)
 }
 
-// The machine n steps later, its PSW given.
-fn later(t: Rest, psw: u16, n: u32) -> Rest
-    requires { ⌜ t .count + n ≤ 4294967295 ⌝ }
-    ensures { λ r. ⌜ r ≡ record { psw = psw; cex = t .cex; lines = t .lines; halted = t .halted;
-        count = t .count + n } ⌝ }
+// Does no line wait above the priority?
+fn unasked(mem: &[u8], lines: u8, psw: u16) -> bool
+    requires { ⌜ length (now mem) ≡ 65536 ⌝ }
+    ensures { λ r. ⌜ (r ≡ true → NoneAbove (now (mem .entry)) lines (current psw)) ⌝ }
 {
+    plan::line_above(mem, lines, psw / 32 % 8) == 8
+}
+
+// Asleep with no line above the priority, a step changes nothing but the count: all steps before the
+// next event pass at once, at most `left`. Any other machine stays as it is.
+fn sleep_on(mem: &[u8], t: Rest, due: u64, left: u32) -> Rest
+    requires { ⌜ (length (now mem) ≡ 65536) × (t .count + left ≤ 4294967295) ⌝ }
+    ensures passes { λ r. ⌜ ((regs : List ℕ) (ev : List Event) → Undisturbed ev (t .count) due →
+        Passes ev (stateWith regs t (now (mem .entry))) (stateWith regs r (now (mem .entry)))
+        (r .count - t .count)) ⌝ }
+    ensures count { λ r. ⌜ (t .count ≤ r .count) × (r .count ≤ t .count + left) ⌝ }
+{
+    if t.halted | (t.psw / 8 % 2 != 1) {
+        return t;
+    }
+    if !unasked(mem, t.lines, t.psw) {
+        return t;
+    }
     Rest {
-        psw,
+        psw: t.psw,
         cex: t.cex,
         lines: t.lines,
         halted: t.halted,
-        count: t.count + n,
+        count: t.count + until(t.count, due, left),
     }
 }
 
 // The steps that can be done at once, at most `left` and none from where an event is due (`due` is
 // the step of the next one): instructions, or sleep, in which nothing changes but the count. None
-// where the machine is halted, a line waits above the priority, a CEX block is open or PC is odd.
+// where the machine is halted or a line waits above the priority.
 pub fn stretch(regs: &mut [u16; 8], mem: &mut [u8], t: Rest, due: u64, left: u32) -> Rest
     requires { ⌜ (length (now mem) ≡ 65536) × (t .count + left ≤ 4294967295) ⌝ }
     ensures state { λ r. ⌜ ((ev : List Event) → Undisturbed ev (t .count) due →
@@ -355,16 +372,18 @@ pub fn stretch(regs: &mut [u16; 8], mem: &mut [u8], t: Rest, due: u64, left: u32
         (r .count - t .count)) ⌝ }
     ensures count { λ r. ⌜ (t .count ≤ r .count) × (r .count ≤ t .count + left) ⌝ }
 {
-    if !unasked(mem, t) {
+    if !fetching(regs, t) {
+        return sleep_on(mem, t, due, left);
+    }
+    if !unasked(mem, t.lines, t.psw) {
         return t;
     }
-    let n = until(t.count, due, left);
-    if t.psw / 8 % 2 == 1 {
-        return later(t, t.psw, n);
+    let p = take_steps(regs, mem, t.psw, until(t.count, due, left));
+    Rest {
+        psw: p.psw,
+        cex: 0,
+        lines: t.lines,
+        halted: false,
+        count: t.count + p.steps,
     }
-    if (t.cex != 0) | (regs[7] % 2 == 1) {
-        return t;
-    }
-    let p = take_steps(regs, mem, t.psw, n);
-    later(t, p.psw, p.steps)
 }

@@ -1,9 +1,9 @@
--- `quiet_memory::any_word` meets its contract. Assumes nothing.
+-- `stretch::any_word` meets its contract. Assumes nothing.
 use denote.Ref.{now}
 use borrow.Author.Needs.{needs}
-use Rattle.quiet_memory.proofs.Laws.{tried-taken}
-use Rattle.quiet_memory.proofs.any_word.Statement.{statement}
-use Rattle.quiet_memory.proofs.any_word.Tie as tie
+use Rattle.stretch.proofs.Laws.{tried-taken}
+use Rattle.stretch.proofs.any_word.Statement.{statement}
+use Rattle.stretch.proofs.any_word.Tie as tie
 
 register-word-requires : tie.Need-register-word-requires
 register-word-requires c κs = search needs

@@ -1,9 +1,9 @@
--- `quiet_memory::high_word` meets its contract. Assumes nothing.
+-- `stretch::high_word` meets its contract. Assumes nothing.
 use denote.Ref.{now}
 use borrow.Author.Needs.{needs}
-use Rattle.quiet_memory.proofs.Laws.{tried-taken, decode-load, decode-store, decode-immediate, decode-relative}
-use Rattle.quiet_memory.proofs.high_word.Statement.{statement}
-use Rattle.quiet_memory.proofs.high_word.Tie as tie
+use Rattle.stretch.proofs.Laws.{tried-taken, decode-load, decode-store, decode-immediate, decode-relative}
+use Rattle.stretch.proofs.high_word.Statement.{statement}
+use Rattle.stretch.proofs.high_word.Tie as tie
 
 load-indexed-requires : tie.Need-load-indexed-requires
 load-indexed-requires c κs = search needs

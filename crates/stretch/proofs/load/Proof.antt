@@ -1,4 +1,4 @@
--- `quiet_memory::load` meets its contract. Assumes nothing.
+-- `stretch::load` meets its contract. Assumes nothing.
 use native.Mathlib.Omega.{arith}
 use mathlib.Core.Path.{sym, ap, _∙_}
 use mathlib.Core.Bool.{true}
@@ -8,9 +8,9 @@ use lib.Dec.{eqb}
 use lib.ListN.{getD}
 use Rattle.machine_laws.specs.Bounds.{Bytes}
 use Rattle.instruction.proofs.Laws.{value-lt, load-law}
-use Rattle.quiet_memory.proofs.Laws.{cex-calm, pc-set}
-use Rattle.quiet_memory.proofs.load.Statement.{statement}
-use Rattle.quiet_memory.proofs.load.Tie as tie
+use Rattle.stretch.proofs.Laws.{cex-calm, pc-set}
+use Rattle.stretch.proofs.load.Statement.{statement}
+use Rattle.stretch.proofs.load.Tie as tie
 
 load-requires : tie.Need-load-requires
 load-requires c κs = search needs

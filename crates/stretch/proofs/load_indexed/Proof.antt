@@ -1,4 +1,4 @@
--- `quiet_memory::load_indexed` meets its contract. Assumes nothing.
+-- `stretch::load_indexed` meets its contract. Assumes nothing.
 use Prim.Native.Nat.{_/_, _%_}
 use native.Mathlib.Omega.{arith}
 use mathlib.Core.Logic.{inl, inr}
@@ -6,9 +6,9 @@ use mathlib.Core.Path.{refl, _∙_}
 use denote.Ref.{now}
 use borrow.Author.Needs.{needs}
 use Rattle.machine.specs.Effect.{moves?}
-use Rattle.quiet_memory.proofs.Laws.{below-seven, served-load, load-effect, pc-adjusted}
-use Rattle.quiet_memory.proofs.load_indexed.Statement.{statement}
-use Rattle.quiet_memory.proofs.load_indexed.Tie as tie
+use Rattle.stretch.proofs.Laws.{below-seven, served-load, load-effect, pc-adjusted}
+use Rattle.stretch.proofs.load_indexed.Statement.{statement}
+use Rattle.stretch.proofs.load_indexed.Tie as tie
 
 cast-src : tie.Need-cast-src
 cast-src c = search needs

@@ -1,13 +1,13 @@
--- `quiet_memory::load_plain` meets its contract. Assumes nothing.
+-- `stretch::load_plain` meets its contract. Assumes nothing.
 use Prim.Native.Nat.{_/_, _%_}
 use native.Mathlib.Omega.{arith}
 use mathlib.Core.Logic.{inl, inr}
 use mathlib.Core.Path.{refl}
 use denote.Ref.{now}
 use borrow.Author.Needs.{needs}
-use Rattle.quiet_memory.proofs.Laws.{served-load, load-effect}
-use Rattle.quiet_memory.proofs.load_plain.Statement.{statement}
-use Rattle.quiet_memory.proofs.load_plain.Tie as tie
+use Rattle.stretch.proofs.Laws.{served-load, load-effect}
+use Rattle.stretch.proofs.load_plain.Statement.{statement}
+use Rattle.stretch.proofs.load_plain.Tie as tie
 
 cast-dst : tie.Need-cast-dst
 cast-dst c = search needs

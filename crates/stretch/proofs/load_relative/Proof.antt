@@ -1,4 +1,4 @@
--- `quiet_memory::load_relative` meets its contract. Assumes nothing.
+-- `stretch::load_relative` meets its contract. Assumes nothing.
 use Prim.Native.Nat.{_/_, _%_}
 use native.Mathlib.Omega.{arith}
 use mathlib.Core.Logic.{inl, inr}
@@ -8,9 +8,9 @@ use mir.Val.{toZ, ofZ}
 use denote.Ref.{now}
 use borrow.Author.Needs.{needs}
 use Rattle.word.specs.Offset.{signedOf}
-use Rattle.quiet_memory.proofs.Laws.{served-load, load-relative-effect}
-use Rattle.quiet_memory.proofs.load_relative.Statement.{statement}
-use Rattle.quiet_memory.proofs.load_relative.Tie as tie
+use Rattle.stretch.proofs.Laws.{served-load, load-relative-effect}
+use Rattle.stretch.proofs.load_relative.Statement.{statement}
+use Rattle.stretch.proofs.load_relative.Tie as tie
 
 cast-dst : tie.Need-cast-dst
 cast-dst c = search needs

@@ -1,9 +1,9 @@
--- `quiet_memory::relative_word` meets its contract. Assumes nothing.
+-- `stretch::relative_word` meets its contract. Assumes nothing.
 use mathlib.Core.Logic.{inr}
 use borrow.Author.Tests.{lt-ltb, le-ltb}
 use borrow.Author.Needs.{needs}
-use Rattle.quiet_memory.proofs.relative_word.Statement.{statement}
-use Rattle.quiet_memory.proofs.relative_word.Tie as tie
+use Rattle.stretch.proofs.relative_word.Statement.{statement}
+use Rattle.stretch.proofs.relative_word.Tie as tie
 
 load-relative-requires : tie.Need-load-relative-requires
 load-relative-requires c κs = search needs

@@ -1,4 +1,4 @@
--- `quiet_memory::store_indexed` meets its contract. Assumes nothing.
+-- `stretch::store_indexed` meets its contract. Assumes nothing.
 use Prim.Native.Nat.{_/_, _%_}
 use native.Mathlib.Omega.{arith}
 use mathlib.Core.Logic.{inl, inr}
@@ -6,9 +6,9 @@ use mathlib.Core.Path.{refl}
 use denote.Ref.{now}
 use borrow.Author.Needs.{needs}
 use Rattle.machine.specs.Effect.{moves?}
-use Rattle.quiet_memory.proofs.Laws.{served-store, store-effect, pc-adjusted}
-use Rattle.quiet_memory.proofs.store_indexed.Statement.{statement}
-use Rattle.quiet_memory.proofs.store_indexed.Tie as tie
+use Rattle.stretch.proofs.Laws.{served-store, store-effect, pc-adjusted}
+use Rattle.stretch.proofs.store_indexed.Statement.{statement}
+use Rattle.stretch.proofs.store_indexed.Tie as tie
 
 cast-dst : tie.Need-cast-dst
 cast-dst c = search needs

@@ -1,12 +1,12 @@
--- `quiet_memory::store_plain` meets its contract. Assumes nothing.
+-- `stretch::store_plain` meets its contract. Assumes nothing.
 use Prim.Native.Nat.{_/_, _%_}
 use native.Mathlib.Omega.{arith}
 use mathlib.Core.Path.{refl}
 use denote.Ref.{now}
 use borrow.Author.Needs.{needs}
-use Rattle.quiet_memory.proofs.Laws.{served-store, store-effect}
-use Rattle.quiet_memory.proofs.store_plain.Statement.{statement}
-use Rattle.quiet_memory.proofs.store_plain.Tie as tie
+use Rattle.stretch.proofs.Laws.{served-store, store-effect}
+use Rattle.stretch.proofs.store_plain.Statement.{statement}
+use Rattle.stretch.proofs.store_plain.Tie as tie
 
 cast-get : tie.Need-cast-get
 cast-get c = search needs

@@ -1,4 +1,4 @@
--- `quiet_memory::store_relative` meets its contract. Assumes nothing.
+-- `stretch::store_relative` meets its contract. Assumes nothing.
 use Prim.Native.Nat.{_/_, _%_}
 use native.Mathlib.Omega.{arith}
 use mathlib.Core.Path.{_≡_, refl, _∙_}
@@ -7,9 +7,9 @@ use mir.Val.{toZ, ofZ}
 use denote.Ref.{now}
 use borrow.Author.Needs.{needs}
 use Rattle.word.specs.Offset.{signedOf}
-use Rattle.quiet_memory.proofs.Laws.{served-store, store-relative-effect}
-use Rattle.quiet_memory.proofs.store_relative.Statement.{statement}
-use Rattle.quiet_memory.proofs.store_relative.Tie as tie
+use Rattle.stretch.proofs.Laws.{served-store, store-relative-effect}
+use Rattle.stretch.proofs.store_relative.Statement.{statement}
+use Rattle.stretch.proofs.store_relative.Tie as tie
 
 signed-requires : tie.Need-signed-requires
 signed-requires c κs = search needs

@@ -2,9 +2,9 @@ use native.Mathlib.Omega.{arith}
 use borrow.Author.Needs.{needs}
 use denote.Ref.{now}
 use borrow.Author.Tests.{not-false}
-use Rattle.run.proofs.Laws.{stretch-done}
-use Rattle.run.proofs.stretch.Statement.{statement}
-use Rattle.run.proofs.stretch.Tie as tie
+use Rattle.stretch.proofs.Laws.{stretch-done}
+use Rattle.stretch.proofs.stretch.Statement.{statement}
+use Rattle.stretch.proofs.stretch.Tie as tie
 
 is-quiet-requires : tie.Need-is-quiet-requires
 is-quiet-requires c κs = search needs
@@ -18,8 +18,8 @@ returns c = (c .sleep-on .ensures .0 _ _, c .sleep-on .ensures .1)
 until-requires : tie.Need-until-requires
 until-requires c κs = search needs
 
-quiet-run-requires : tie.Need-quiet-run-requires
-quiet-run-requires c κs =
+take-steps-requires : tie.Need-take-steps-requires
+take-steps-requires c κs =
     let b = c .before .before .before in
     (omega arith, b .before .is-quiet .ensures (not-false _ (b .if1 .left)) .3)
 
@@ -31,7 +31,7 @@ same-length c = search needs
 
 returns-2 : tie.Need-returns-2
 returns-2 c =
-    let r = c .before .before .before .before .quiet-run in
+    let r = c .before .before .before .before .take-steps in
     let v = c .before .before .before .before .before .until in
     let b = c .before .before .before .before .before .before .before .before in
     let a = b .before .before .before .before .args in
@@ -48,7 +48,7 @@ stretch-spec =
     sleep-on-requires
     returns
     until-requires
-    quiet-run-requires
+    take-steps-requires
     add-t13
     same-length
     returns-2)

@@ -1,8 +1,8 @@
 use borrow.Author.Needs.{needs}
 use denote.Ref.{now}
-use Rattle.quiet.proofs.Laws.{step-left, step-served}
-use Rattle.quiet.proofs.quiet_step.Statement.{statement}
-use Rattle.quiet.proofs.quiet_step.Tie as tie
+use Rattle.stretch.proofs.Laws.{step-left, step-served}
+use Rattle.stretch.proofs.take_step.Statement.{statement}
+use Rattle.stretch.proofs.take_step.Tie as tie
 
 element-copy-out-pc : tie.Need-element-copy-out-pc
 element-copy-out-pc c = search needs
@@ -19,8 +19,8 @@ wrapping-add-u16-requires c κs = search needs
 element-write-regs : tie.Need-element-write-regs
 element-write-regs c = search needs
 
-quiet-word-requires : tie.Need-quiet-word-requires
-quiet-word-requires c κs = search needs
+take-word-requires : tie.Need-take-word-requires
+take-word-requires c κs = search needs
 
 element-write-regs-2 : tie.Need-element-write-regs-2
 element-write-regs-2 c = search needs
@@ -30,7 +30,7 @@ same-length c = search needs
 
 returns : tie.Need-returns
 returns c =
-    let q = c .before .before .before .quiet-word in
+    let q = c .before .before .before .take-word in
     let a = c .before .before .before .before .before .before .before .before .before .before .before .before .args in
     step-left (now (a .regs)) (now (a .mem)) (q .last .0) (q .last .1 .0) (a .psw) (q .result) _ _ (c .if1 .taken) (q .ensures)
 
@@ -39,7 +39,7 @@ same-length-2 c = search needs
 
 returns-2 : tie.Need-returns-2
 returns-2 c =
-    let q = c .before .before .before .quiet-word in
+    let q = c .before .before .before .take-word in
     let b = c .before .before .before .before .before .before in
     let s = b .before .before .before .before .before .before in
     let a = s .args in
@@ -50,8 +50,8 @@ returns-2 c =
     (c .if1 .left)
     (q .ensures)
 
-pub quiet-step-spec : {M : Type 1} → statement M
-quiet-step-spec =
+pub take-step-spec : {M : Type 1} → statement M
+take-step-spec =
     tie.close
     (tie.spec
     element-copy-out-pc
@@ -59,7 +59,7 @@ quiet-step-spec =
     read-word-requires
     wrapping-add-u16-requires
     element-write-regs
-    quiet-word-requires
+    take-word-requires
     element-write-regs-2
     same-length
     returns

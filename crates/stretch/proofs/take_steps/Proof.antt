@@ -4,9 +4,9 @@ use mathlib.Core.Path.{_≡_, refl}
 use native.Mathlib.Omega.{arith}
 use lib.ListN.{length}
 use Rattle.quiet_registers.specs.Quiet.{Steady}
-use Rattle.quiet.proofs.Laws.{stepped-left, stepped-taken, Reaches, reaches-start, reaches-next, reaches-same}
-use Rattle.quiet.proofs.quiet_run.Statement.{statement}
-use Rattle.quiet.proofs.quiet_run.Tie as tie
+use Rattle.stretch.proofs.Laws.{stepped-left, stepped-taken, Reaches, reaches-start, reaches-next, reaches-same}
+use Rattle.stretch.proofs.take_steps.Statement.{statement}
+use Rattle.stretch.proofs.take_steps.Tie as tie
 
 abbrev Inv-loop : tie.InvT-loop
 Inv-loop regs₀ mem₀ psw n p₀ steps₀ regs mem p steps =
@@ -21,12 +21,12 @@ abbrev μ-loop : tie.MeasureT-loop
 loop-holds : tie.Need-loop-holds Inv-loop μ-loop
 loop-holds c = (omega arith, refl, c .before .pre .1, reaches-start _ _ _)
 
-quiet-step-requires : tie.Need-quiet-step-requires Inv-loop μ-loop
-quiet-step-requires c κs = (omega arith, c .before .before .before .loop .inv .2)
+take-step-requires : tie.Need-take-step-requires Inv-loop μ-loop
+take-step-requires c κs = (omega arith, c .before .before .before .loop .inv .2)
 
 cast-p : tie.Need-cast-p Inv-loop μ-loop
 cast-p c =
-    let w = stepped-taken _ _ _ _ _ _ (c .before .before .before .quiet-step .ensures) (c .if1 .left) in
+    let w = stepped-taken _ _ _ _ _ _ (c .before .before .before .take-step .ensures) (c .if1 .left) in
     omega (arith, w .0)
 
 add-steps : tie.Need-add-steps Inv-loop μ-loop
@@ -37,7 +37,7 @@ loop-less c = omega arith
 
 loop-again : tie.Need-loop-again Inv-loop μ-loop
 loop-again c =
-    let q = c .before .before .before .quiet-step in
+    let q = c .before .before .before .take-step in
     let l = c .before .before .before .before .before .before .before .loop in
     let w = stepped-taken _ _ _ _ _ _ (q .ensures) (c .if1 .left) in
     (omega arith, omega arith, w .2, reaches-next _ _ _ _ _ _ _ _ _ _ (l .inv .3) (w .1))
@@ -53,19 +53,19 @@ same-length-2 c = omega arith
 
 returns-2 : tie.Need-returns-2 Inv-loop μ-loop
 returns-2 c =
-    let q = c .before .before .before .quiet-step in
+    let q = c .before .before .before .take-step in
     let l = c .before .before .before .before .before .before .before .loop in
     let u = stepped-left _ _ _ _ _ _ (q .ensures) (c .if1 .taken) in
     (reaches-same _ _ _ _ _ _ _ _ _ (l .inv .3) (u .1) (u .2), l .inv .0)
 
-pub quiet-run-spec : {M : Type 1} → statement M
-quiet-run-spec =
+pub take-steps-spec : {M : Type 1} → statement M
+take-steps-spec =
     tie.close
     (tie.spec
     Inv-loop
     μ-loop
     loop-holds
-    quiet-step-requires
+    take-step-requires
     cast-p
     add-steps
     loop-less

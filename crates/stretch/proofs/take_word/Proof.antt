@@ -1,11 +1,11 @@
--- `quiet_memory::quiet_word` meets its contract. Assumes nothing.
+-- `stretch::take_word` meets its contract. Assumes nothing.
 use native.Mathlib.Omega.{arith}
 use mathlib.Core.Logic.{inr}
 use denote.Ref.{now}
 use borrow.Author.Needs.{needs}
-use Rattle.quiet_memory.proofs.Laws.{operand-words, operation-taken, decode-load-plain, decode-store-plain}
-use Rattle.quiet_memory.proofs.quiet_word.Statement.{statement}
-use Rattle.quiet_memory.proofs.quiet_word.Tie as tie
+use Rattle.stretch.proofs.Laws.{operand-words, operation-taken, decode-load-plain, decode-store-plain}
+use Rattle.stretch.proofs.take_word.Statement.{statement}
+use Rattle.stretch.proofs.take_word.Tie as tie
 
 register-of-requires : tie.Need-register-of-requires
 register-of-requires c κs = search needs
@@ -262,8 +262,8 @@ same-length-3 c = search needs
 returns-17 : tie.Need-returns-17
 returns-17 c = search needs
 
-pub quiet-word-spec : {M : Type 1} → statement M
-quiet-word-spec =
+pub take-word-spec : {M : Type 1} → statement M
+take-word-spec =
     tie.close
     (tie.spec
     register-of-requires

@@ -29,7 +29,7 @@ use Rattle.machine.specs.Step.{Plan, Interrupt, planned, chosen, returns?, inte
 use Rattle.machine.specs.Step.{planOf, perform, finished}
 use Rattle.machine.specs.Run.{ran, runOf}
 use Rattle.machine.specs.Uneventful.{uneventful?, Uneventful}
-use Rattle.machine_laws.proofs.Cases.{and-left, and-right, le-of, lt-of, eq-of}
+use Rattle.machine_laws.proofs.Cases.{and-left, and-right, le-of, lt-of, eq-of, not-lt}
 use Rattle.machine_laws.proofs.Plans.{plan-live}
 use Rattle.machine_laws.proofs.Runs.{run-zero, run-turn}
 use Rattle.machine_laws.proofs.Uneventful.{uneventful-none, uneventful-one, uneventful-append}
@@ -50,7 +50,8 @@ unfolding granted
 granted-uneventful c x asks.Nothing m h = refl
 granted-uneventful c x (asks.Load byte a d) m h = refl
 granted-uneventful c x (asks.Store byte a v) m h =
-    let k : 16 ≤ a = le-of (and-left _ _ h) in ap not (not-lt {m = a} {n = 16} k)
+    let k : 16 ≤ a = le-of (and-left _ (ltb a 0xFFC0) (and-left (leb 16 a && ltb a 0xFFC0) (aligned? byte a) h)) in
+    ap not (not-lt {m = a} {n = 16} k)
 granted-uneventful c x (asks.Fault v) m h = absurd (false≢true h)
 granted-uneventful c x (asks.Trap v) m h = absurd (false≢true h)
 
@@ -61,7 +62,8 @@ unfolding granted perform
 granted-below c x asks.Nothing l m h = tt
 granted-below c x (asks.Load byte a d) l m h = load-below byte m a
 granted-below c x (asks.Store byte a v) l m h =
-    let k = and-right _ _ h in store-below byte m a v (le-of (and-left _ _ h)) (lt-of (and-left _ _ k))
+    let k = and-left (leb 16 a && ltb a 0xFFC0) (aligned? byte a) h in
+    store-below byte m a v (le-of (and-left _ _ k)) (lt-of (and-right (leb 16 a) _ k))
 granted-below c x (asks.Fault v) l m h = absurd (false≢true h)
 granted-below c x (asks.Trap v) l m h = absurd (false≢true h)
 

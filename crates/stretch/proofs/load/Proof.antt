@@ -7,8 +7,8 @@ use borrow.Author.Needs.{needs}
 use lib.Dec.{eqb}
 use lib.ListN.{getD}
 use Rattle.machine_laws.specs.Bounds.{Bytes}
-use Rattle.instruction.proofs.Laws.{value-lt, load-law}
-use Rattle.stretch.proofs.Laws.{cex-calm, pc-set}
+use Rattle.plan.proofs.Laws.{value-lt, load-law}
+use Rattle.stretch.proofs.Laws.{cex-stays, pc-set}
 use Rattle.stretch.proofs.load.Statement.{statement}
 use Rattle.stretch.proofs.load.Tie as tie
 
@@ -36,16 +36,15 @@ returns c =
     let a = start .args in
     let o = c .before .before .before .before .before .before .before .load .ensures in
     let p = c .put .ensures in (
-      (λ psw l n.
-          load-law (now (a .regs)) _ (now (a .mem)) _ psw 0 0 l n (a .byte) (a .at) (a .dst) _ _ _
+      (λ psw.
+          load-law (now (a .regs)) _ (now (a .mem)) psw 0 0 (a .byte) (a .at) (a .dst) _ _ _
           (o .0)
-          (o .1)
           (omega arith)
           (c .before .before .before .get .ensures)
           (c .before .before .with-low .ensures)
           (p .0)
-          (sym (cex-calm true (eqb (a .dst) 7)))),
-      ap (λ r. getD r 7 0) (p .0) ∙ pc-set (now (a .regs)) (a .dst) _ (start .pre .1),
+          (sym (cex-stays true (eqb (a .dst) 7)))),
+      (o .1, ap (λ r. getD r 7 0) (p .0) ∙ pc-set (now (a .regs)) (a .dst) _ (start .pre .1)),
     )
 
 pub load-spec : {M : Type 1} → statement M

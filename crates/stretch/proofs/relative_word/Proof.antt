@@ -1,5 +1,4 @@
 -- `stretch::relative_word` meets its contract. Assumes nothing.
-use mathlib.Core.Logic.{inr}
 use borrow.Author.Tests.{lt-ltb, le-ltb}
 use borrow.Author.Needs.{needs}
 use Rattle.stretch.proofs.relative_word.Statement.{statement}
@@ -21,7 +20,7 @@ same-length-2 : tie.Need-same-length-2
 same-length-2 c = search needs
 
 returns-2 : tie.Need-returns-2
-returns-2 c = rw (le-ltb _ _ (c .before .before .before .before .before .if1 .left)) (inr (c .before .before .store-relative .ensures))
+returns-2 c = rw (le-ltb _ _ (c .before .before .before .before .before .if1 .left)) (c .before .before .store-relative .ensures)
 
 pub relative-word-spec : {M : Type 1} → statement M
 relative-word-spec =

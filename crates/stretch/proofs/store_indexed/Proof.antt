@@ -2,11 +2,12 @@
 use Prim.Native.Nat.{_/_, _%_}
 use native.Mathlib.Omega.{arith}
 use mathlib.Core.Logic.{inl, inr}
-use mathlib.Core.Path.{refl}
+use mathlib.Core.Path.{refl, sym, _∙_}
 use denote.Ref.{now}
-use borrow.Author.Needs.{needs}
+use borrow.Author.Tests.{not-false}
 use Rattle.machine.specs.Effect.{moves?}
 use Rattle.stretch.proofs.Laws.{served-store, store-effect, pc-adjusted}
+use borrow.Author.Needs.{needs}
 use Rattle.stretch.proofs.store_indexed.Statement.{statement}
 use Rattle.stretch.proofs.store_indexed.Tie as tie
 
@@ -43,6 +44,12 @@ cast-address c = search needs
 address-requires : tie.Need-address-requires
 address-requires c κs = search needs
 
+storable-requires : tie.Need-storable-requires
+storable-requires c κs = search needs
+
+returns-2 : tie.Need-returns-2
+returns-2 c = inl (refl, refl, refl)
+
 adjust-index-requires : tie.Need-adjust-index-requires
 adjust-index-requires c κs = search needs
 
@@ -52,18 +59,21 @@ store-requires c κs = search needs
 same-length : tie.Need-same-length
 same-length c = search needs
 
-returns-2 : tie.Need-returns-2
-returns-2 c =
+returns-3 : tie.Need-returns-3
+returns-3 c =
     let d = c .before .before .before .before in
-    let g = d .before .before .before .before in
+    let s = d .before .before in
+    let g = d .before .before .before .before .before .before in
     let start = g .before .before .before .before .before .before in
     let a = start .args in
     let w = a .w in
     let e = store-effect (now (a .regs)) _ (a .psw) _ (w / 512 % 2) (w / 256 % 2) (w / 128 % 2) (w / 64 % 2) (w % 8)
-    (g .get2 .ensures) (d .before .before .before .adjusted-by .ensures) (d .before .before .address .ensures)
+    (g .get2 .ensures) (d .before .before .before .before .before .adjusted-by .ensures) (d .before .before .before .before .address .ensures)
     (d .adjust-index .ensures) (w / 8 % 8) (g .before .before .get .ensures) in
     let p = pc-adjusted (moves? (w / 256 % 2) (w / 128 % 2)) (now (a .regs)) _ (w % 8) _ (omega arith) (d .adjust-index .ensures .0) in
-    inr (served-store _ (now (a .regs)) _ (now (a .mem)) (a .psw) _ _ _ _ (omega arith) e (c .before .before .store .ensures) p)
+    inr
+    (served-store _ (now (a .regs)) _ (now (a .mem)) (a .psw) _ _ _ _ (omega (arith, start .fits)) e
+    (sym (s .before .storable .ensures) ∙ not-false _ (s .if2 .left)) (c .before .before .store .ensures) p)
 
 pub store-indexed-spec : {M : Type 1} → statement M
 store-indexed-spec =
@@ -80,7 +90,9 @@ store-indexed-spec =
     adjusted-by-requires
     cast-address
     address-requires
+    storable-requires
+    returns-2
     adjust-index-requires
     store-requires
     same-length
-    returns-2)
+    returns-3)

@@ -1,6 +1,6 @@
 use borrow.Author.Needs.{needs}
 use denote.Ref.{now}
-use Rattle.stretch.proofs.Laws.{step-left, step-served}
+use Rattle.stretch.proofs.Steps.{step-left, step-taken}
 use Rattle.stretch.proofs.take_step.Statement.{statement}
 use Rattle.stretch.proofs.take_step.Tie as tie
 
@@ -43,7 +43,7 @@ returns-2 c =
     let b = c .before .before .before .before .before .before in
     let s = b .before .before .before .before .before .before in
     let a = s .args in
-    step-served (now (a .regs)) (now (a .mem)) (q .last .0) (q .last .1 .0) (a .psw) (q .result) _ _ _ (s .pre .1)
+    step-taken (now (a .regs)) (now (a .mem)) (q .last .0) (q .last .1 .0) (a .psw) (q .result) _ _ _ (s .pre .1)
     (b .before .before .word-of .ensures .0)
     (b .before .read-word .ensures)
     (b .wrapping-add-u16 .ensures)

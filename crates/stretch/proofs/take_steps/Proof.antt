@@ -1,10 +1,10 @@
--- The loop's invariant: the machine is steady, and the steps done are a run in which no event is due. Assumes nothing.
+-- The loop's invariant: PC is even and SLP clear, and the steps done are a run in which no event is due. Assumes nothing.
 use Prim.Native.Nat.{_-_, _≤_}
 use mathlib.Core.Path.{_≡_, refl}
 use native.Mathlib.Omega.{arith}
 use lib.ListN.{length}
-use Rattle.quiet_registers.specs.Quiet.{Steady}
-use Rattle.stretch.proofs.Laws.{stepped-left, stepped-taken, Reaches, reaches-start, reaches-next, reaches-same}
+use Rattle.stretch.specs.Stretch.{Fetching, Reaches}
+use Rattle.stretch.proofs.Steps.{stepping-left, stepping-on, reaches-start, reaches-next, reaches-same}
 use Rattle.stretch.proofs.take_steps.Statement.{statement}
 use Rattle.stretch.proofs.take_steps.Tie as tie
 
@@ -12,7 +12,7 @@ abbrev Inv-loop : tie.InvT-loop
 Inv-loop regs₀ mem₀ psw n p₀ steps₀ regs mem p steps =
     (steps ≤ n)
     × (length mem ≡ length mem₀)
-    × Steady regs p
+    × Fetching regs p
     × Reaches regs₀ p₀ mem₀ regs p mem steps
 
 abbrev μ-loop : tie.MeasureT-loop
@@ -26,7 +26,7 @@ take-step-requires c κs = (omega arith, c .before .before .before .loop .inv .2
 
 cast-p : tie.Need-cast-p Inv-loop μ-loop
 cast-p c =
-    let w = stepped-taken _ _ _ _ _ _ (c .before .before .before .take-step .ensures) (c .if1 .left) in
+    let w = stepping-on _ _ _ _ _ _ (c .before .before .before .take-step .ensures) (c .if1 .left) in
     omega (arith, w .0)
 
 add-steps : tie.Need-add-steps Inv-loop μ-loop
@@ -39,8 +39,8 @@ loop-again : tie.Need-loop-again Inv-loop μ-loop
 loop-again c =
     let q = c .before .before .before .take-step in
     let l = c .before .before .before .before .before .before .before .loop in
-    let w = stepped-taken _ _ _ _ _ _ (q .ensures) (c .if1 .left) in
-    (omega arith, omega arith, w .2, reaches-next _ _ _ _ _ _ _ _ _ _ (l .inv .3) (w .1))
+    let w = stepping-on _ _ _ _ _ _ (q .ensures) (c .if1 .left) in
+    (omega arith, omega arith, w .1, reaches-next _ _ _ _ _ _ _ _ _ _ (l .inv .3) w)
 
 same-length : tie.Need-same-length Inv-loop μ-loop
 same-length c = omega arith
@@ -55,7 +55,7 @@ returns-2 : tie.Need-returns-2 Inv-loop μ-loop
 returns-2 c =
     let q = c .before .before .before .take-step in
     let l = c .before .before .before .before .before .before .before .loop in
-    let u = stepped-left _ _ _ _ _ _ (q .ensures) (c .if1 .taken) in
+    let u = stepping-left _ _ _ _ _ _ (q .ensures) (c .if1 .taken) in
     (reaches-same _ _ _ _ _ _ _ _ _ (l .inv .3) (u .1) (u .2), l .inv .0)
 
 pub take-steps-spec : {M : Type 1} → statement M

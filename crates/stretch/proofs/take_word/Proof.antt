@@ -254,7 +254,7 @@ same-length-2 c = search needs
 returns-16 : tie.Need-returns-16
 returns-16 c =
     let d = c .before .before .before .before .before in
-    rw (decode-store-plain _ (d .match .keys16)) (inr (c .before .before .store-plain .ensures))
+    rw (decode-store-plain _ (d .match .keys16)) (c .before .before .store-plain .ensures)
 
 same-length-3 : tie.Need-same-length-3
 same-length-3 c = search needs

@@ -18,8 +18,8 @@ use Rattle.machine_laws.proofs.Cases.{and-left, and-right, eq-of}
 use Rattle.machine_laws.proofs.Runs.{run-zero, run-stays, run-append}
 use Rattle.devices.specs.Cursor.{Ordered, stateFrom}
 use Rattle.devices.proofs.Laws.{behind-later, index-quiet}
-use Rattle.entry.specs.declared.Rest.{Rest}
-use Rattle.entry.specs.Rest.{stateWith}
+use Rattle.machine.specs.declared.Rest.{Rest}
+use Rattle.machine.specs.Rest.{stateWith}
 use Rattle.quiet_memory.specs.Served.{quietState}
 use Rattle.quiet.specs.Stretch.{Undisturbed}
 use Rattle.quiet.proofs.Laws.{Reaches, Asleep, withCount, run-turn, sleep-run}

@@ -8,7 +8,7 @@ use mathlib.Core.Path.{_≡_}
 use lib.Dec.{ltb}
 use Rattle.machine.specs.Events.{eventAt, eventCount}
 use Rattle.devices.specs.Cursor.{Behind}
-use Rattle.entry.specs.declared.Rest.{Rest}
+use Rattle.machine.specs.declared.Rest.{Rest}
 use Rattle.quiet_registers.specs.Quiet.{Steady}
 
 -- the step of record k, past every step where there is none. [01 One step, in order, 1]

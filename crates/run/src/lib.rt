@@ -12,10 +12,10 @@ ghost use Rattle.machine.specs.Refusal.{eventsFitBelow};
 ghost use Rattle.machine.specs.Run.{ran, runOf, reasonOf, reasonNumber};
 ghost use Rattle.machine.specs.Call.{runCallOf};
 ghost use Rattle.devices.specs.Cursor.{Ordered, stateFrom};
-ghost use Rattle.entry.specs.Rest.{stateWith};
+ghost use Rattle.machine.specs.Rest.{stateWith};
 ghost use Rattle.quiet.specs.Stretch.{Undisturbed};
 ghost use Rattle.run.specs.Due.{dueOf, Awaits, Quiet};
-use entry::Rest;
+use machine::Rest;
 use machine::Machine;
 use machine::Reason;
 

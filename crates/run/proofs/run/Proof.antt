@@ -9,7 +9,7 @@ use lib.ListN.{length}
 use Rattle.machine.specs.State.{State, stateOf}
 use Rattle.machine.specs.Events.{eventsOf}
 use Rattle.machine.specs.Run.{ran, runOf, reasonOf}
-use Rattle.entry.specs.Rest.{stateWith}
+use Rattle.machine.specs.Rest.{stateWith}
 use Rattle.run.specs.Due.{Awaits}
 use Rattle.run.proofs.Laws.{awaits-first, awaits-later, undisturbed, run-start, run-turns, run-full, run-stopped}
 use Rattle.run.proofs.run.Statement.{statement}

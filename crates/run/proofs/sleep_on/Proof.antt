@@ -1,6 +1,6 @@
 use native.Mathlib.Omega.{arith}
 use borrow.Author.Needs.{needs}
-use Rattle.entry.specs.Rest.{stateWith}
+use Rattle.machine.specs.Rest.{stateWith}
 use Rattle.run.proofs.Laws.{stretch-none, tests-asleep, stretch-asleep}
 use Rattle.run.proofs.sleep_on.Statement.{statement}
 use Rattle.run.proofs.sleep_on.Tie as tie

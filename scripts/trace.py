@@ -1,10 +1,12 @@
 #!/usr/bin/env python3
-"""Holds the definitions and docs/TRACE.md against document 01: trace.py [ROOT].
+"""Holds the definitions and docs/TRACE.md against documents 01 and 02: trace.py [ROOT].
 
-The comment of a definition ends with a tag, `[01 Heading, item; 003 section]`. This script fails
-- on a tag of a specs file that names no heading of 01,
+The comment of a definition ends with a tag, `[01 Heading, item; 003 section]`, or `[02 §5]` where a change request says
+it, `[02 §5, for 01 Arithmetic]` where the request replaces a rule of 01. This script fails
+- on a tag of a specs file that names no heading of 01 or no section of 02,
 - on a heading of 01 that no tag names (the misreadings aside, which no definition says), or that has no section in
   docs/TRACE.md,
+- on a section of 02 that a tag names and that has no section in docs/TRACE.md, `## 02 §5: topic`, and the other way round,
 - on a name in docs/TRACE.md that is defined nowhere: `File.antt`: `name` (a file without a folder is of machine/specs),
   proof: `crate::function` and law: `crate/proofs/File.antt::law` and edit: `crate/edit` of a crate that is there,
   oracle: `file::test`, case: `name`,
@@ -20,6 +22,9 @@ HEADINGS = [
     "Arithmetic", "Who can be turned back", "Sheet for the markers", "Which shape goes where", "Plausible misreadings",
 ]
 OWED = HEADINGS[:-1]
+
+# document 02: a section, and the heading of 01 whose rule it replaces
+REQUEST = re.compile(r"§(1[0-4]|[1-9])(?:, for 01 (.*))?$")
 
 # what may stand after a heading: items, as ", 3" or ", 4 to 7"
 ITEMS = re.compile(r"(, \d+( to \d+)?)*$")
@@ -42,10 +47,17 @@ def heading_of(part):
     return None
 
 
+def request_of(part):
+    """The section of 02 that a part of a tag names, or None."""
+    named = REQUEST.match(part)
+    return named and (named[2] is None or heading_of(named[2])) and f"02 §{named[1]}"
+
+
 def headings_in(tag):
-    """For each part of a tag that is about 01, the heading that it names, or None."""
+    """For each part of a tag that is about 01 or 02, the heading or the section that it names, or None."""
     parts = [part.strip().partition(" ") for part in tag.split(";")]
-    return [heading_of(rest) for document, _, rest in parts if document == "01"]
+    naming = {"01": heading_of, "02": request_of}
+    return [naming[document](rest) for document, _, rest in parts if document in naming]
 
 
 class Trace:
@@ -71,9 +83,10 @@ class Trace:
             for tag in tags(path.read_text()):
                 for heading in headings_in(tag):
                     seen.add(heading)
-                    self.check(heading, f"{path.relative_to(self.root)}: [{tag}] names no heading of 01")
+                    self.check(heading, f"{path.relative_to(self.root)}: [{tag}] names no heading of 01, no section of 02")
         for heading in OWED:
             self.check(heading in seen, f'no definition has a tag of 01 "{heading}"')
+        self.requests = {heading for heading in seen if heading and heading.startswith("02 ")}
 
     def document(self):
         """The sections of docs/TRACE.md, and every name in its rows."""
@@ -81,6 +94,10 @@ class Trace:
         sections = re.findall(r"^## (.*)$", text, re.MULTILINE)
         for heading in HEADINGS:
             self.check(heading in sections, f'docs/TRACE.md has no section "{heading}"')
+        written = {section.partition(":")[0] for section in sections if section.startswith("02 ")}
+        for section in sorted(self.requests | written):
+            self.check(section in written, f'docs/TRACE.md has no section "{section}: .."')
+            self.check(section in self.requests, f"no definition has a tag of {section}")
         for row in re.findall(r"^\|(.*)\|$", text, re.MULTILINE):
             cells = row.split("|")
             if len(cells) != 3:

@@ -51,6 +51,12 @@ CASES = {
     "a case that is not there": len(failures(document=row("", "case: `one`, `gone`"))) == 1,
     "a case that no row names": len(failures(document=DOCUMENT.replace("`one`", ""))) == 1,
     "a misreading needs no tag but a section": len(failures(document=DOCUMENT.replace("## Plaus", "## Implaus"))) == 1,
+    "a request with its section": failures(SPECS + "-- x [02 §5]\n", DOCUMENT + "## 02 §5: bits\n") == [],
+    "a request for a rule of 01": failures(SPECS + "-- x [02 §5, for 01 Entry]\n", DOCUMENT + "## 02 §5: bits\n") == [],
+    "a request for no rule of 01": len(failures(SPECS + "-- x [02 §5, for 01 Entree]\n")) == 1,
+    "a section that 02 does not have": len(failures(SPECS + "-- x [02 §15]\n")) == 1,
+    "a request with no section": len(failures(SPECS + "-- x [02 §5; 01 Entry]\n")) == 1,
+    "a section with no request": len(failures(document=DOCUMENT + "## 02 §12: sources\n")) == 1,
     "a law that is not there": len(failures(document=row("", "law: `machine/specs/A.antt::gone`"))) == 1,
 }
 

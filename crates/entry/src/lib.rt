@@ -7,17 +7,9 @@ ghost use Rattle.machine.specs.Memory.{wordAt, wordWrites, commit};
 ghost use Rattle.machine.specs.Entry.{vectorPsw, vectorPc, priority, better, best};
 ghost use Rattle.machine.specs.Entry.{enteredPsw, pushed, pushes, pulled};
 ghost use Rattle.machine.specs.Step.{entered, chained};
+ghost use Rattle.entry.specs.Lines.{lineAbove};
 use machine::ByteAddr;
 use machine::WordAddr;
-
-// A machine without its registers.
-pub struct Rest {
-    pub psw: u16,
-    pub cex: u16,
-    pub lines: u8,
-    pub halted: bool,
-    pub count: u32,
-}
 
 // A pulled PSW and CEX state.
 pub struct Pulled {
@@ -75,6 +67,31 @@ pub fn best_line(mem: &[u8], lines: u8) -> u8
         }
     }
     e
+}
+
+// The best waiting line if its priority is above `level`, else 8.
+pub fn best_above(mem: &[u8], lines: u8, level: u16) -> u8
+    requires { ⌜ length (now mem) ≡ 65536 ⌝ }
+    ensures { λ r. ⌜ (r ≡ lineAbove (now (mem .entry)) lines level) × (r ≤ 8) ⌝ }
+{
+    let d = best_line(mem, lines);
+    if d < 8 {
+        if level < priority_of(mem, d) {
+            return d;
+        }
+    }
+    8
+}
+
+// The same, asked at every step; no vector is read where no line waits.
+pub fn line_above(mem: &[u8], lines: u8, level: u16) -> u8
+    requires { ⌜ length (now mem) ≡ 65536 ⌝ }
+    ensures { λ r. ⌜ (r ≡ lineAbove (now (mem .entry)) lines level) × (r ≤ 8) ⌝ }
+{
+    if lines == 0 {
+        return 8;
+    }
+    best_above(mem, lines, level)
 }
 
 // The PSW of an entry, from the vector's word.

@@ -1,4 +1,5 @@
 pub mod State
+pub mod Rest
 pub mod Memory
 pub mod Record
 pub mod Events

@@ -13,6 +13,15 @@ pub struct Machine {
     pub count: u32,
 }
 
+// A machine without its registers, where those are lent.
+pub struct Rest {
+    pub psw: u16,
+    pub cex: u16,
+    pub lines: u8,
+    pub halted: bool,
+    pub count: u32,
+}
+
 // A byte's place in memory, and a word's: word w is bytes 2 * w and 2 * w + 1.
 pub struct ByteAddr(pub u16);
 

@@ -4,3 +4,4 @@ pub mod Same
 pub mod Step
 pub mod Resume
 pub mod Depth
+pub mod Resumption

@@ -1,3 +1,4 @@
 pub mod Frames
 pub mod Resume
 pub mod Depth
+pub mod Resumption

@@ -1,16 +1,19 @@
--- A run as its loop goes: steps with no event due, one turn, and the two ways in which it ends.
+-- A run as its loop goes: steps with no event due, a stretch, one step, and the two ways in which it ends.
 -- Assumes nothing.
 use Prim.Native.Nat.{ℕ, _+_, _-_, _<_, _≤_}
-use mathlib.Core.Bool.{true, false}
+use mathlib.Core.Bool.{Bool, true, false, _||_}
 use mathlib.Core.List.{List}
 use mathlib.Core.Path.{_≡_, sym, ap, _∙_}
 use native.Mathlib.Omega.{arith}
-use borrow.Author.Tests.{lt-ltb}
+use lib.Dec.{eqb}
+use mathlib.Mathlib.Data.Bool.Basic.{or-eq-false-eq-eq-false-and-eq-false}
+use borrow.Author.Tests.{lt-ltb, eqb-false}
 use Rattle.machine.specs.State.{State}
 use Rattle.machine.specs.Events.{Event, eventAt, eventCount, eventsOf}
 use Rattle.machine.specs.Devices.{deliver}
 use Rattle.machine.specs.Step.{finished}
 use Rattle.machine.specs.Run.{ran, runOf}
+use Rattle.machine_laws.proofs.Cases.{bool-cases, eq-of}
 use Rattle.machine_laws.proofs.Runs.{run-zero, run-stays, run-append, run-turn}
 use Rattle.devices.specs.Cursor.{Ordered}
 use Rattle.devices.proofs.Laws.{behind-later, index-quiet}
@@ -39,18 +42,19 @@ module _ (ev : List Event) (s₀ : State) where
   pub run-start : ran s₀ 0 ≡ runOf ev s₀ 0
   run-start = sym (run-zero ev s₀)
 
-  -- one turn: the events of a step, the step, and a stretch of j more
-  pub run-turns :
-      (s t u v : State) (k j : ℕ) → ran s k ≡ runOf ev s₀ k → s .halted ≡ false → t ≡ deliver ev s → u ≡ finished t →
-      ran v j ≡ runOf ev u j → ran v (k + (1 + j)) ≡ runOf ev s₀ (k + (1 + j))
-  run-turns s t u v k j e h p q r =
-      let w = run-turn ev s₀ s t u k e h p q in
-      let a : k + (1 + j) ≡ k + 1 + j = omega arith in
-      rw a
-      (sym
-      (run-append ev s₀ (k + 1) j
-      ∙ ap (λ x. ran (runOf ev (x .state) j .state) (x .steps + runOf ev (x .state) j .steps)) (sym w)
-      ∙ ap (λ x. ran (x .state) (k + 1 + x .steps)) (sym r)))
+  -- a stretch of j steps, from a state that the run reaches
+  pub run-on : (s v : State) (k j : ℕ) → ran s k ≡ runOf ev s₀ k → ran v j ≡ runOf ev s j → ran v (k + j) ≡ runOf ev s₀ (k + j)
+  run-on s v k j e r =
+      sym
+      (run-append ev s₀ k j
+      ∙ ap (λ x. ran (runOf ev (x .state) j .state) (x .steps + runOf ev (x .state) j .steps)) (sym e)
+      ∙ ap (λ x. ran (x .state) (k + x .steps)) (sym r))
+
+  -- one step: its events, and then what they begin
+  pub run-step :
+      (s t u : State) (k : ℕ) → ran s k ≡ runOf ev s₀ k → s .halted ≡ false → t ≡ deliver ev s → u ≡ finished t →
+      ran u (k + 1) ≡ runOf ev s₀ (k + 1)
+  run-step s t u k e h p q = run-turn ev s₀ s t u k e h p q
 
   -- all steps done, and halted before that
   pub run-full : (s : State) (k n : ℕ) → ran s k ≡ runOf ev s₀ k → k ≤ n → n ≤ k → ran s k ≡ runOf ev s₀ n
@@ -60,3 +64,14 @@ module _ (ev : List Event) (s₀ : State) where
   run-stopped s k n e h l =
       let q : k + (n - k) ≡ n = omega arith in
       e ∙ sym (run-stays ev s₀ k (n - k) (sym (ap (λ x. x .state .halted) e) ∙ l)) ∙ ap (runOf ev s₀) q
+
+  -- a turn breaks off after its stretch
+  pub run-left : (s : State) (k n : ℕ) → ran s k ≡ runOf ev s₀ k → k ≤ n → (s .halted || eqb k n) ≡ true → ran s k ≡ runOf ev s₀ n
+  run-left s k n e h l =
+      bool-cases (s .halted)
+      (λ q. run-stopped s k n e h q)
+      (λ q. let f = eq-of (sym (ap (λ (b : Bool). b || eqb k n) q) ∙ l) in e ∙ ap (runOf ev s₀) f)
+
+-- or goes on
+pub goes-on : (h : Bool) (k n : ℕ) → (h || eqb k n) ≡ false → (h ≡ false) × (k ≡ n → ⊥)
+goes-on h k n e = let p = or-eq-false-eq-eq-false-and-eq-false h (eqb k n) .0 e in (p .0, eqb-false k n (p .1))

@@ -2,19 +2,19 @@
 ghost use mathlib.Core.Path.{_≡_};
 ghost use mathlib.Core.Bool.{Bool, true, cond};
 ghost use mathlib.Core.List.{List};
-ghost use Prim.Native.Nat.{ℕ, _+_, _-_, _≤_};
+ghost use Prim.Native.Nat.{ℕ, _+_, _≤_};
 ghost use lib.ListN.{length};
 ghost use Rattle.machine.specs.declared.Reason.the-variants.{Done, Halted};
 ghost use Rattle.machine.specs.State.{Core, stateOf};
-ghost use Rattle.machine.specs.Events.{Event, eventsOf, eventCount};
+ghost use Rattle.machine.specs.Events.{eventsOf, eventCount};
 ghost use Rattle.machine.specs.Devices.{deliverAt};
 ghost use Rattle.machine.specs.Refusal.{eventsFitBelow};
 ghost use Rattle.machine.specs.Run.{ran, runOf, reasonOf, reasonNumber};
 ghost use Rattle.machine.specs.Call.{runCallOf};
 ghost use Rattle.devices.specs.Cursor.{Ordered, stateFrom};
-ghost use Rattle.entry.specs.Rest.{stateWith};
+ghost use Rattle.machine.specs.Rest.{stateWith};
 ghost use Rattle.run.specs.Due.{dueOf, Awaits};
-use entry::Rest;
+use machine::Rest;
 use machine::Machine;
 use machine::Reason;
 
@@ -96,7 +96,7 @@ fn put_together(regs: [u16; 8], t: Rest) -> Machine
 }
 
 // A run of n steps, fewer if the machine halts. The machine is taken apart where the loop begins
-// and put together where it ends. Each turn is one step and the stretch that follows it.
+// and put together where it ends. Each turn is a stretch, which may be empty, and then one step.
 pub fn run(m: Machine, memory: &mut [u8], events: &[u8], n: u32) -> Ran
     requires { ⌜ (length (now memory) ≡ 65536) × (m .count + n ≤ 4294967295)
         × Ordered (now events) × (eventsFitBelow (now events) (eventCount (now events)) ≡ true) ⌝ }
@@ -118,17 +118,19 @@ pub fn run(m: Machine, memory: &mut [u8], events: &[u8], n: u32) -> Ran
     let mut due = due_at(events, 0);
     let mut done: u32 = 0;
     while done < n {
-        if t.halted {
+        let before = t.count;
+        t = stretch::stretch(&mut regs, memory, t, due, n - done);
+        done += t.count - before;
+        if t.halted | (done == n) {
             break;
         }
         let d = deliver_due(memory, events, next, due, t.count, t.lines);
         next = d.next;
         due = d.due;
         t.lines = d.lines;
-        t = step::step_due(&mut regs, memory, t);
-        let before = t.count;
-        t = stretch::stretch(&mut regs, memory, t, due, n - done - 1);
-        done += 1 + (t.count - before);
+        let p = step::plan(&mut regs, memory, t);
+        t = step::perform(&mut regs, memory, t.lines, t.count, p);
+        done += 1;
     }
     Ran {
         machine: put_together(regs, t),

@@ -21,9 +21,9 @@ use Rattle.machine.specs.Memory.{commit, valueAt}
 use Rattle.machine.specs.Devices.{loadWrites, storeWrites}
 use Rattle.machine.specs.Effect.{Effect, effect, effectOf, operand, moves?, adjusted, loaded}
 use Rattle.machine.specs.Step.{granted, executed, perform}
-use Rattle.exec.proofs.Laws.{loading, storing}
+use Rattle.execute.proofs.Laws.{loading, storing}
 use Rattle.devices.specs.Cursor.{stateFrom}
-use Rattle.stretch_registers.specs.Executed.{unblocked, Keeps, Tried, Words, operation, named}
+use Rattle.stretch_registers.specs.Effected.{unblocked, Keeps, Tried, Words, operation, named}
 use Rattle.stretch.specs.Ordinary.{aligned?, storable?, ordinary?}
 use Rattle.stretch.specs.Served.{running, carriedOut, Served, Taken}
 

@@ -35,9 +35,9 @@ use Rattle.machine_laws.proofs.Runs.{run-zero, run-turn}
 use Rattle.machine_laws.proofs.Uneventful.{uneventful-none, uneventful-one, uneventful-append}
 use Rattle.machine_laws.proofs.Vectors.{BelowVectors, load-below, store-below, above-kept}
 use Rattle.devices.specs.Cursor.{stateFrom}
-use Rattle.entry.specs.declared.Rest.{Rest}
-use Rattle.entry.specs.Rest.{stateWith}
-use Rattle.stretch_registers.specs.Executed.{unblocked}
+use Rattle.machine.specs.declared.Rest.{Rest}
+use Rattle.machine.specs.Rest.{stateWith}
+use Rattle.stretch_registers.specs.Effected.{unblocked}
 use Rattle.stretch_registers.proofs.Laws.{set-even}
 use Rattle.stretch.specs.Ordinary.{ordinary?, aligned?}
 use Rattle.stretch.specs.Served.{running, carriedOut, Untouched, Served, Taken}

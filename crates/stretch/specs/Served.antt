@@ -9,7 +9,7 @@ use Rattle.isa.specs.declared.Instr.{Instr}
 use Rattle.machine.specs.State.{Core, State}
 use Rattle.machine.specs.Effect.{effectOf}
 use Rattle.machine.specs.Step.{Plan, executed, perform, closed}
-use Rattle.stretch_registers.specs.Executed.{unblocked, Keeps}
+use Rattle.stretch_registers.specs.Effected.{unblocked, Keeps}
 use Rattle.stretch.specs.Ordinary.{ordinary?}
 
 -- a machine that is not halted and in no CEX block, with the lines l, the count n and the memory m.

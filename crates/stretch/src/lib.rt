@@ -20,11 +20,11 @@ ghost use Rattle.machine.specs.Effect.{constantOf, loaded};
 ghost use Rattle.machine.specs.Events.{Event};
 ghost use Rattle.machine.specs.Run.{ran, runOf};
 ghost use Rattle.machine.specs.Uneventful.{Uneventful};
-ghost use Rattle.entry.specs.Rest.{stateWith};
+ghost use Rattle.machine.specs.Rest.{stateWith};
 ghost use Rattle.stretch.specs.Ordinary.{aligned?, storable?};
 ghost use Rattle.stretch.specs.Served.{Taken};
 ghost use Rattle.stretch.specs.Stretch.{Undisturbed, Fetching, NoneAbove, Stepping, Passes, Reaches};
-use entry::Rest;
+use machine::Rest;
 use machine::ByteAddr;
 use operands::get;
 use operands::put;
@@ -332,7 +332,7 @@ fn unasked(mem: &[u8], lines: u8, psw: u16) -> bool
     requires { ⌜ length (now mem) ≡ 65536 ⌝ }
     ensures { λ r. ⌜ (r ≡ true → NoneAbove (now (mem .entry)) lines (current psw)) ⌝ }
 {
-    plan::line_above(mem, lines, psw / 32 % 8) == 8
+    entry::line_above(mem, lines, psw / 32 % 8) == 8
 }
 
 // Asleep with no line above the priority, a step changes nothing but the count: all steps before the

@@ -22,9 +22,9 @@ use Rattle.isa.specs.declared.Instr.{Instr}
 use Rattle.isa.specs.declared.Instr.the-variants as i
 use Rattle.machine.specs.State.{Core, moved, doubled, withPsw, put}
 use Rattle.machine.specs.Effect.{Effect, effectOf, plainly, operated, operand, binaryOf, flagsOnly?, branched, takenOf}
-use Rattle.exec.specs.declared.Done.{Done}
-use Rattle.exec.specs.Done.{doneWith}
-use Rattle.stretch_registers.specs.Executed.{unblocked, Keeps, Executed}
+use Rattle.execute.specs.declared.Executed.{Executed}
+use Rattle.execute.specs.Executed.{effectWith}
+use Rattle.stretch_registers.specs.Effected.{unblocked, Keeps, Effected}
 
 -- ---- a core in no CEX block, which has kept what it must
 
@@ -67,13 +67,13 @@ module _ (l : List ℕ) (p : ℕ) where
 
   -- an instruction that leaves such a core is executed
   settled : (x : Instr) (m : List ℕ) (r : ℕ) (c : Core) → effectOf (unblocked l p) x ≡ plainly c → Kept l p c
-      → m ≡ c .regs → r ≡ c .psw → r < 65536 → Executed x l p m r
+      → m ≡ c .regs → r ≡ c .psw → r < 65536 → Effected x l p m r
   settled x m r c e k hm hr h =
       let f : unblocked m r ≡ c = λ j. record { regs = hm j; psw = hr j; cex = sym (k .0) j } in
       (h, e ∙ ap plainly (sym f), rw (hm, hr) (k .1))
 
 -- the registers that its code leaves
-left : {m : List ℕ} {d : Done} {c : Core} → doneWith m d ≡ plainly c → m ≡ c .regs
+left : {m : List ℕ} {d : Executed} {c : Core} → effectWith m d ≡ plainly c → m ≡ c .regs
 left h = ap (λ (e : Effect). e .core .regs) h
 
 -- ---- one register
@@ -84,26 +84,26 @@ unfolding widthOf
 copied-even true x v h = omega arith
 copied-even false x v h = omega arith
 
-module _ (l m : List ℕ) (p : ℕ) {d : Done} (hp : p < 65536) where
-  pub moving : (wb src dst : ℕ) → dst < 7 → doneWith m d ≡ effectOf (unblocked l p) (i.Mov wb src dst)
-      → Executed (i.Mov wb src dst) l p m p
+module _ (l m : List ℕ) (p : ℕ) {d : Executed} (hp : p < 65536) where
+  pub moving : (wb src dst : ℕ) → dst < 7 → effectWith m d ≡ effectOf (unblocked l p) (i.Mov wb src dst)
+      → Effected (i.Mov wb src dst) l p m p
   unfolding effectOf
   moving wb src dst h e = settled l p (i.Mov wb src dst) m p _ refl (written l p dst _ p h refl refl) (left e) refl hp
 
-  pub moving-to-pc : (wb src dst : ℕ) → dst ≡ 7 → getD l src 0 % 2 ≡ 0 → doneWith m d ≡ effectOf (unblocked l p) (i.Mov wb src dst)
-      → Executed (i.Mov wb src dst) l p m p
+  pub moving-to-pc : (wb src dst : ℕ) → dst ≡ 7 → getD l src 0 % 2 ≡ 0 → effectWith m d ≡ effectOf (unblocked l p) (i.Mov wb src dst)
+      → Effected (i.Mov wb src dst) l p m p
   unfolding effectOf
   moving-to-pc wb src dst h v e =
       settled l p (i.Mov wb src dst) m p _ refl
       (directed l p dst _ h (copied-even (eqb wb 1) (getD l dst 0) (getD l src 0) v)) (left e) refl hp
 
-  pub moving-byte : (op b dst : ℕ) → dst < 7 → doneWith m d ≡ effectOf (unblocked l p) (i.MovImm op b dst)
-      → Executed (i.MovImm op b dst) l p m p
+  pub moving-byte : (op b dst : ℕ) → dst < 7 → effectWith m d ≡ effectOf (unblocked l p) (i.MovImm op b dst)
+      → Effected (i.MovImm op b dst) l p m p
   unfolding effectOf
   moving-byte op b dst h e = settled l p (i.MovImm op b dst) m p _ refl (written l p dst _ p h refl refl) (left e) refl hp
 
-  pub swapping : (src dst : ℕ) → src < 7 → dst < 7 → doneWith m d ≡ effectOf (unblocked l p) (i.Swap src dst)
-      → Executed (i.Swap src dst) l p m p
+  pub swapping : (src dst : ℕ) → src < 7 → dst < 7 → effectWith m d ≡ effectOf (unblocked l p) (i.Swap src dst)
+      → Effected (i.Swap src dst) l p m p
   unfolding effectOf
   swapping src dst h k e =
       settled l p (i.Swap src dst) m p _ refl
@@ -115,8 +115,8 @@ module _ (l : List ℕ) (p : ℕ) (x : Instr) (b : Op) (w dst : ℕ) where
   abbrev altered : Outcome
   altered = aluOf b w (getD l dst 0) 0 p
 
-  pub operating-on-one : (m : List ℕ) {d : Done} → effectOf (unblocked l p) x ≡ plainly (operated (unblocked l p) dst altered) → dst < 7
-      → d .psw < 65536 → doneWith m d ≡ plainly (operated (unblocked l p) dst altered) → Executed x l p m (d .psw)
+  pub operating-on-one : (m : List ℕ) {d : Executed} → effectOf (unblocked l p) x ≡ plainly (operated (unblocked l p) dst altered) → dst < 7
+      → d .psw < 65536 → effectWith m d ≡ plainly (operated (unblocked l p) dst altered) → Effected x l p m (d .psw)
   operating-on-one m {d} hx h f e =
       settled l p x m (d .psw) _ hx
       (written l p dst (altered .value) (altered .psw) h (alu-asleep b w (getD l dst 0) 0 p) (alu-current b w (getD l dst 0) 0 p))
@@ -138,8 +138,8 @@ module _ (l : List ℕ) (p op rc wb src dst : ℕ) where
   flagged-kept = (refl, ((λ s. s), awake, level))
 
   -- by the general code
-  pub operating : (m : List ℕ) {d : Done} → dst < 7 → d .psw < 65536
-      → doneWith m d ≡ effectOf (unblocked l p) (i.Alu op rc wb src dst) → Executed (i.Alu op rc wb src dst) l p m (d .psw)
+  pub operating : (m : List ℕ) {d : Executed} → dst < 7 → d .psw < 65536
+      → effectWith m d ≡ effectOf (unblocked l p) (i.Alu op rc wb src dst) → Effected (i.Alu op rc wb src dst) l p m (d .psw)
   unfolding effectOf
   operating m {d} h f e =
       settled l p (i.Alu op rc wb src dst) m (d .psw) _ refl
@@ -158,14 +158,14 @@ module _ (l : List ℕ) (p op rc wb src dst : ℕ) where
     fits = rw result (alu-psw-word (binaryOf op) (widthOf (eqb wb 1)) (getD l dst 0) (operand (unblocked l p) rc src) p hp)
 
     pub computing : flagsOnly? n ≡ false → dst < 7 → (m : List ℕ) {r : ℕ} → (r ≡ o .psw) × (m ≡ set l dst (o .value))
-        → Executed (i.Alu op rc wb src dst) l p m r
+        → Effected (i.Alu op rc wb src dst) l p m r
     unfolding effectOf
     computing t h m {r} w =
         settled l p (i.Alu op rc wb src dst) m r (operated (unblocked l p) dst outcome) (rw (hn, t) refl)
         (written l p dst (outcome .value) (outcome .psw) h awake level)
         (w .1 ∙ ap (λ (x : Outcome). set l dst (x .value)) result) (w .0 ∙ ap (λ (x : Outcome). x .psw) result) (rw (w .0) fits)
 
-    pub testing : flagsOnly? n ≡ true → Executed (i.Alu op rc wb src dst) l p l (o .psw)
+    pub testing : flagsOnly? n ≡ true → Effected (i.Alu op rc wb src dst) l p l (o .psw)
     unfolding effectOf
     testing t =
         settled l p (i.Alu op rc wb src dst) l (o .psw) (withPsw (unblocked l p) (outcome .psw)) (rw (hn, t) refl) flagged-kept refl
@@ -212,14 +212,14 @@ module _ (l : List ℕ) (p : ℕ) where
   branched-kept c off k =
       (refl, ((λ s. set-even (c .regs) 7 _ (moved-even (getD (c .regs) 7 0) off (k .1 .0 s))), k .1 .1, k .1 .2))
 
-module _ (l m : List ℕ) (p : ℕ) {d : Done} (hp : p < 65536) where
-  pub linking : (off : ℤ) → doneWith m d ≡ effectOf (unblocked l p) (i.Bl off) → Executed (i.Bl off) l p m p
+module _ (l m : List ℕ) (p : ℕ) {d : Executed} (hp : p < 65536) where
+  pub linking : (off : ℤ) → effectWith m d ≡ effectOf (unblocked l p) (i.Bl off) → Effected (i.Bl off) l p m p
   unfolding effectOf
   linking off e =
       settled l p (i.Bl off) m p _ refl
       (branched-kept l p (put (unblocked l p) 5 (getD l 7 0)) off (written l p 5 (getD l 7 0) p (omega arith) refl refl)) (left e) refl hp
 
-  pub branching : (n : ℕ) (off : ℤ) → doneWith m d ≡ effectOf (unblocked l p) (i.Branch n off) → Executed (i.Branch n off) l p m p
+  pub branching : (n : ℕ) (off : ℤ) → effectWith m d ≡ effectOf (unblocked l p) (i.Branch n off) → Effected (i.Branch n off) l p m p
   unfolding effectOf
   branching n off e =
       settled l p (i.Branch n off) m p _ refl

@@ -1,1 +1,1 @@
-pub mod Executed
+pub mod Effected

@@ -8,7 +8,7 @@ ghost use Prim.Native.Nat.{_/_, _%_, _<_, _≤_};
 ghost use lib.ListN.{set};
 ghost use Rattle.isa.specs.declared.Instr.the-variants as Instr;
 ghost use Rattle.isa.specs.Decode.{unaryOf, decodeOf};
-ghost use Rattle.stretch_registers.specs.Executed.{Executed, Tried, Words, operation, named};
+ghost use Rattle.stretch_registers.specs.Effected.{Effected, Tried, Words, operation, named};
 use alu::Op;
 use alu::Outcome;
 use operands::get;
@@ -29,12 +29,12 @@ fn write(regs: &mut [u16; 8], dst: u8, o: Outcome) -> u32
 // ADD to BIS, any of them at any width.
 fn operate(regs: &mut [u16; 8], psw: u16, w: u16) -> u32
     requires { ⌜ (0x4000 ≤ w) × (w < 0x4C00) × (w % 8 < 7) ⌝ }
-    ensures { λ r. ⌜ Executed (operation w) (now (regs .entry)) psw (now (regs .exit)) r ⌝ }
+    ensures { λ r. ⌜ Effected (operation w) (now (regs .entry)) psw (now (regs .exit)) r ⌝ }
 {
     let op = (w / 256 % 16) as u8;
     let rc = (w / 128 % 2) as u8;
     let wb = (w / 64 % 2) as u8;
-    let d = exec::arithmetic(regs, psw, 0, op, rc, wb, (w / 8 % 8) as u8, (w % 8) as u8);
+    let d = execute::arithmetic(regs, psw, 0, op, rc, wb, (w / 8 % 8) as u8, (w % 8) as u8);
     d.psw as u32
 }
 
@@ -66,7 +66,7 @@ pub fn subtract_words(regs: &mut [u16; 8], psw: u16, w: u16, s: u16) -> u32
 
 pub fn compare_words(regs: &[u16; 8], psw: u16, w: u16, s: u16) -> u32
     requires { ⌜ Words 5 w × (s ≡ named (now regs) psw w) ⌝ }
-    ensures { λ r. ⌜ Executed (operation w) (now (regs .entry)) psw (now (regs .entry)) r ⌝ }
+    ensures { λ r. ⌜ Effected (operation w) (now (regs .entry)) psw (now (regs .entry)) r ⌝ }
 {
     let d = get(regs, (w % 8) as u8);
     let o = alu::subtract_into(false, d, s, 1, psw);
@@ -111,7 +111,7 @@ pub fn or_words(regs: &mut [u16; 8], psw: u16, w: u16, s: u16) -> u32
 
 pub fn bit_words(regs: &[u16; 8], psw: u16, w: u16, s: u16) -> u32
     requires { ⌜ Words 9 w × (s ≡ named (now regs) psw w) ⌝ }
-    ensures { λ r. ⌜ Executed (operation w) (now (regs .entry)) psw (now (regs .entry)) r ⌝ }
+    ensures { λ r. ⌜ Effected (operation w) (now (regs .entry)) psw (now (regs .entry)) r ⌝ }
 {
     let d = get(regs, (w % 8) as u8);
     let o = alu::logic_into(false, d, d & s, psw);
@@ -147,7 +147,7 @@ fn move_word(regs: &mut [u16; 8], psw: u16, w: u16) -> u32
             return 65536;
         }
     }
-    exec::mov(regs, psw, 0, (w / 64 % 2) as u8, src, dst);
+    execute::mov(regs, psw, 0, (w / 64 % 2) as u8, src, dst);
     psw as u32
 }
 
@@ -165,7 +165,7 @@ fn swap_word(regs: &mut [u16; 8], psw: u16, w: u16) -> u32
     if dst == 7 {
         return 65536;
     }
-    exec::swap(regs, psw, 0, src, dst);
+    execute::swap(regs, psw, 0, src, dst);
     psw as u32
 }
 
@@ -180,15 +180,15 @@ fn single_word(regs: &mut [u16; 8], psw: u16, w: u16) -> u32
     }
     if op < 3 {
         let o = operands::unary(op as u8);
-        let d = exec::one_operand(regs, psw, 0, o, w / 64 % 2 == 1, dst);
+        let d = execute::one_operand(regs, psw, 0, o, w / 64 % 2 == 1, dst);
         return d.psw as u32;
     }
     if op < 4 {
-        let d = exec::one_operand(regs, psw, 0, Op::Swpb, false, dst);
+        let d = execute::one_operand(regs, psw, 0, Op::Swpb, false, dst);
         return d.psw as u32;
     }
     if op < 5 {
-        let d = exec::one_operand(regs, psw, 0, Op::Sxt, false, dst);
+        let d = execute::one_operand(regs, psw, 0, Op::Sxt, false, dst);
         return d.psw as u32;
     }
     65536
@@ -210,20 +210,20 @@ pub fn immediate_word(regs: &mut [u16; 8], psw: u16, w: u16) -> u32
         return 65536;
     }
     let byte = (w / 8 % 256) as u8;
-    exec::move_immediate(regs, psw, 0, (w / 2048 % 4) as u8, byte, dst);
+    execute::move_immediate(regs, psw, 0, (w / 2048 % 4) as u8, byte, dst);
     psw as u32
 }
 
 // 0000 to 3FFF: BL and the branches. Their targets are even where PC is.
 fn branch_word(regs: &mut [u16; 8], psw: u16, w: u16) -> u32
     requires { ⌜ w < 0x4000 ⌝ }
-    ensures { λ r. ⌜ Executed (decodeOf w) (now (regs .entry)) psw (now (regs .exit)) r ⌝ }
+    ensures { λ r. ⌜ Effected (decodeOf w) (now (regs .entry)) psw (now (regs .exit)) r ⌝ }
 {
     if w < 0x2000 {
-        exec::bl(regs, psw, 0, signed(4096, w % 8192));
+        execute::bl(regs, psw, 0, signed(4096, w % 8192));
         return psw as u32;
     }
-    exec::branch(regs, psw, 0, (w / 1024 % 8) as u8, signed(512, w % 1024));
+    execute::branch(regs, psw, 0, (w / 1024 % 8) as u8, signed(512, w % 1024));
     psw as u32
 }
 

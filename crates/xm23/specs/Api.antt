@@ -9,4 +9,4 @@ pub use Rattle.isa_number.specs.Reply.{encodeNumber, replyOf, refusalNumber}
 -- xm23_run replies and leaves what runCallOf gives for its buffers and n; Resumption is demand 3 of that call.
 -- [01 Who can be turned back; 01 Resumption]
 pub use Rattle.machine.specs.Call.{Closing, runCallOf}
-pub use Rattle.resume_call.specs.Resumption.{Resumption}
+pub use Rattle.resume.specs.Resumption.{Resumption}

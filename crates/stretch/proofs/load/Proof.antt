@@ -7,7 +7,7 @@ use borrow.Author.Needs.{needs}
 use lib.Dec.{eqb}
 use lib.ListN.{getD}
 use Rattle.machine_laws.specs.Bounds.{Bytes}
-use Rattle.plan.proofs.Laws.{value-lt, load-law}
+use Rattle.machine_laws.proofs.Loads.{value-lt, load-law}
 use Rattle.stretch.proofs.Laws.{cex-stays, pc-set}
 use Rattle.stretch.proofs.load.Statement.{statement}
 use Rattle.stretch.proofs.load.Tie as tie

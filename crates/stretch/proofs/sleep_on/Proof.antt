@@ -2,7 +2,7 @@
 use native.Mathlib.Omega.{arith}
 use denote.Ref.{now}
 use borrow.Author.Tests.{not-false}
-use Rattle.entry.specs.Rest.{stateWith}
+use Rattle.machine.specs.Rest.{stateWith}
 use Rattle.stretch.proofs.Steps.{stretch-none, tests-asleep, stretch-asleep}
 use borrow.Author.Needs.{needs}
 use Rattle.stretch.proofs.sleep_on.Statement.{statement}

@@ -3,7 +3,7 @@ use Prim.Native.Nat.{_/_, _%_}
 use native.Mathlib.Omega.{arith}
 use denote.Ref.{now}
 use Rattle.machine_laws.proofs.Cases.{eq-of}
-use Rattle.plan.proofs.Laws.{line-isnt}
+use Rattle.entry.proofs.Lines.{line-isnt}
 use borrow.Author.Needs.{needs}
 use Rattle.stretch.proofs.unasked.Statement.{statement}
 use Rattle.stretch.proofs.unasked.Tie as tie

@@ -68,6 +68,14 @@ pub enum Act {
     Skip,
     Trap(u8),
     Plain,
-    Loads { byte: bool, at: ByteAddr, dst: u8 },
-    Stores { byte: bool, at: ByteAddr, value: u16 },
+    Loads {
+        byte: bool,
+        at: ByteAddr,
+        dst: u8,
+    },
+    Stores {
+        byte: bool,
+        at: ByteAddr,
+        value: u16,
+    },
 }

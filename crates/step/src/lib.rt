@@ -20,12 +20,12 @@ ghost use Rattle.devices.specs.Cursor.{Behind, Ordered};
 ghost use Rattle.machine.specs.Rest.{coreWith, stateWith};
 ghost use Rattle.step.specs.Planned.{planWith, Asked, Within};
 ghost use Rattle.step.specs.Interrupt.{leaving};
-use machine::Rest;
 use execute::Executed;
 use machine::Access;
 use machine::Act;
 use machine::ByteAddr;
 use machine::Machine;
+use machine::Rest;
 
 // What a step does, and the PSW and the CEX state that it starts from. The registers that it starts
 // from are those lent to `plan`.

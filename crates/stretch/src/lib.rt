@@ -15,17 +15,17 @@ ghost use Rattle.isa.specs.declared.Instr.the-variants as Instr;
 ghost use Rattle.isa.specs.Decode.{relativeOf, decodeOf};
 ghost use Rattle.machine.specs.State.{coreOf};
 ghost use Rattle.machine.specs.Memory.{commit, valueAt};
-ghost use Rattle.machine.specs.Devices.{loadWrites};
+ghost use Rattle.machine.specs.Devices.{loadWrites, storeWrites};
 ghost use Rattle.machine.specs.Effect.{constantOf, loaded};
 ghost use Rattle.machine.specs.Events.{Event};
 ghost use Rattle.machine.specs.Run.{ran, runOf};
 ghost use Rattle.machine.specs.Uneventful.{Uneventful};
 ghost use Rattle.machine.specs.Rest.{stateWith};
-ghost use Rattle.stretch.specs.Ordinary.{aligned?, storable?};
+ghost use Rattle.stretch.specs.Ordinary.{aligned?, inside?, storable?};
 ghost use Rattle.stretch.specs.Served.{Taken};
 ghost use Rattle.stretch.specs.Stretch.{Undisturbed, Fetching, NoneAbove, Stepping, Passes, Reaches};
-use machine::Rest;
 use machine::ByteAddr;
+use machine::Rest;
 use operands::get;
 use operands::put;
 use word::signed;
@@ -37,11 +37,32 @@ fn aligned(byte: bool, at: u16) -> bool
     byte | (at % 2 == 0)
 }
 
-// Is a store there one that a stretch takes: aligned, past the device bytes and below the vectors?
-fn storable(byte: bool, at: u16) -> bool
-    ensures { λ r. ⌜ r ≡ storable? byte at ⌝ }
+// Is the address past the device bytes and below the vectors?
+fn inside(at: u16) -> bool
+    ensures { λ r. ⌜ r ≡ inside? at ⌝ }
 {
-    (0x10 <= at) & (at < 0xFFC0) & aligned(byte, at)
+    (0x10 <= at) & (at < 0xFFC0)
+}
+
+// A store, if it is one that a stretch takes; else memory is as it was.
+fn store(mem: &mut [u8], byte: bool, at: u16, v: u16) -> bool
+    requires { ⌜ length (now mem) ≡ 65536 ⌝ }
+    ensures declined { λ r. ⌜ (r ≡ false → now (mem .exit) ≡ now (mem .entry)) ⌝ }
+    ensures stored { λ r. ⌜ (r ≡ true → (storable? byte at ≡ true) × (now (mem .exit) ≡
+        commit (storeWrites byte (now (mem .entry)) at v) (now (mem .entry)))) ⌝ }
+{
+    if !inside(at) {
+        return false;
+    }
+    if byte {
+        memory::store(mem, true, ByteAddr(at), v);
+        return true;
+    }
+    if at % 2 == 1 {
+        return false;
+    }
+    memory::store(mem, false, ByteAddr(at), v);
+    true
 }
 
 // A load into a register that is not R7.
@@ -100,11 +121,10 @@ fn store_indexed(regs: &mut [u16; 8], mem: &mut [u8], psw: u16, w: u16) -> u32
     let a = get(regs, dst);
     let b = operands::adjusted_by(a, dec, inc, (w / 64 % 2) as u8);
     let at = operands::address((w / 512 % 2) as u8, a, b);
-    if !storable(w / 64 % 2 == 1, at) {
+    if !store(mem, w / 64 % 2 == 1, at, value) {
         return 65536;
     }
     operands::adjust_index(regs, 0, dst, dec, inc, b);
-    memory::store(mem, w / 64 % 2 == 1, ByteAddr(at), value);
     psw as u32
 }
 
@@ -137,11 +157,10 @@ fn store_relative(regs: &[u16; 8], mem: &mut [u8], psw: u16, w: u16) -> u32
 {
     let off = signed(64, w / 128 % 128);
     let at = operands::offset_from(get(regs, (w % 8) as u8), off);
-    if !storable(w / 64 % 2 == 1, at) {
+    let v = get(regs, (w / 8 % 8) as u8);
+    if !store(mem, w / 64 % 2 == 1, at, v) {
         return 65536;
     }
-    let v = get(regs, (w / 8 % 8) as u8);
-    memory::store(mem, w / 64 % 2 == 1, ByteAddr(at), v);
     psw as u32
 }
 
@@ -200,10 +219,10 @@ fn store_plain(regs: &[u16; 8], mem: &mut [u8], psw: u16, w: u16) -> u32
         (now (regs .entry)) psw (now (mem .entry)) (now (regs .entry)) r (now (mem .exit)) ⌝ }
 {
     let at = get(regs, (w % 8) as u8);
-    if !storable(false, at) {
+    let v = get(regs, (w / 8 % 8) as u8);
+    if !store(mem, false, at, v) {
         return 65536;
     }
-    memory::store(mem, false, ByteAddr(at), get(regs, (w / 8 % 8) as u8));
     psw as u32
 }
 

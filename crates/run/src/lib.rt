@@ -14,9 +14,9 @@ ghost use Rattle.machine.specs.Call.{runCallOf};
 ghost use Rattle.devices.specs.Cursor.{Ordered, stateFrom};
 ghost use Rattle.machine.specs.Rest.{stateWith};
 ghost use Rattle.run.specs.Due.{dueOf, Awaits};
-use machine::Rest;
 use machine::Machine;
 use machine::Reason;
+use machine::Rest;
 
 // The step of record k, past every step where there is none.
 fn due_at(events: &[u8], k: usize) -> u64

@@ -145,15 +145,17 @@ returns c =
     let s₀ = stateOf (a .m) (now (a .memory)) in
     let e : (ran (stateWith (x .regs) (x .t) (x .memory)) (x .done) ≡ runOf ev s₀ (a .n)) × (x .done ≤ a .n) =
     ⊎-elim
-    (λ w.
-    ((λ i. ran (stateWith (w .2 i) (w .3 i) (w .1 i)) (w .4 i)) ∙ run-full ev s₀ _ _ _ (l .inv .4) (l .inv .0) (w .0 .left),
-    omega (arith, w .4, l .inv .0)))
+    (λ w. (
+      (λ i. ran (stateWith (w .2 i) (w .3 i) (w .1 i)) (w .4 i)) ∙ run-full ev s₀ _ _ _ (l .inv .4) (l .inv .0) (w .0 .left),
+      omega (arith, w .4, l .inv .0),
+    ))
     (λ w.
     let u = undisturbed (now (a .events)) (l .next) (l .due) (l .t .count) (l .inv .3) (s .pre .2) in
     let r = run-on ev s₀ _ _ _ _ (l .inv .4) (w .3 .ensures .0 ev u) in
-    let h = w .3 .ensures .1 in
-    ((λ i. ran (stateWith (w .10 i) (w .11 i) (w .9 i)) (w .12 i)) ∙ run-left ev s₀ _ _ _ r (omega (arith, h, l .inv .0)) (w .8 .taken),
-    omega (arith, w .12, h, l .inv .0)))
+    let h = w .3 .ensures .1 in (
+      (λ i. ran (stateWith (w .10 i) (w .11 i) (w .9 i)) (w .12 i)) ∙ run-left ev s₀ _ _ _ r (omega (arith, h, l .inv .0)) (w .8 .taken),
+      omega (arith, w .12, h, l .inv .0),
+    ))
     (x .came) in
     let p = c .before .put-together .ensures (x .memory) in
     (ap (λ y. ran y (x .done)) p ∙ e .0, (c .reason-of .ensures ∙ ap reasonOf (e .0), e .1))

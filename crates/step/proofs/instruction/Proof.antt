@@ -68,9 +68,10 @@ execute-requires : tie.Need-execute-requires
 execute-requires c κs = subst Fields (sym (c .decode .ensures)) (decode-fields _)
 
 grant-requires : tie.Need-grant-requires
-grant-requires c κs =
-    (c .before .before .before .before .before .before .before .before .before .before .before .before .before .before .pre,
-    subst (λ (e : Effect). Asked (e .access)) (sym (c .before .execute .ensures)) (effect-within _ _ (subst Fields (sym (c .before .before .decode .ensures)) (decode-fields _))))
+grant-requires c κs = (
+  c .before .before .before .before .before .before .before .before .before .before .before .before .before .before .pre,
+  subst (λ (e : Effect). Asked (e .access)) (sym (c .before .execute .ensures)) (effect-within _ _ (subst Fields (sym (c .before .before .decode .ensures)) (decode-fields _))),
+)
 
 returns-4 : tie.Need-returns-4
 returns-4 c =

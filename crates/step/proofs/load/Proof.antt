@@ -28,10 +28,11 @@ returns : tie.Need-returns
 returns c =
     let a = c .before .before .before .before .before .before .before .before .before .before .args in
     let o = c .before .before .before .before .before .before .before .load .ensures in
-    let p = c .put .ensures in
-    (λ psw. load-law (now (a .regs)) _ (now (a .mem)) psw (a .cex) _ (a .byte) (a .at .0) (a .dst) _ _ _
-    (o .0) (omega arith) (c .before .before .before .get .ensures) (c .before .before .with-low .ensures) (p .0) (p .1),
-    o .1)
+    let p = c .put .ensures in (
+      λ psw. load-law (now (a .regs)) _ (now (a .mem)) psw (a .cex) _ (a .byte) (a .at .0) (a .dst) _ _ _
+          (o .0) (omega arith) (c .before .before .before .get .ensures) (c .before .before .with-low .ensures) (p .0) (p .1),
+      o .1,
+    )
 
 pub load-spec : {M : Type 1} → statement M
 load-spec =

@@ -36,9 +36,10 @@ returns-3 : tie.Need-returns-3
 returns-3 c =
     let a = c .before .before .before .before .before .before .before .before .before .args in
     let s = stateWith (now (a .regs)) (a .t) (now (a .mem)) in
-    let e = c .instruction .ensures in
-    (due-runs s (c .before .before .before .before .before .before .before .before .before .pre .1) _ (c .before .before .before .before .before .if1 .left) (c .before .before .before .line-above .ensures .0) (c .before .before .if2 .left) e,
-    subst (λ (p : Plan). Within (p .act)) (sym e) (instruction-within _ _))
+    let e = c .instruction .ensures in (
+      due-runs s (c .before .before .before .before .before .before .before .before .before .pre .1) _ (c .before .before .before .before .before .if1 .left) (c .before .before .before .line-above .ensures .0) (c .before .before .if2 .left) e,
+      subst (λ (p : Plan). Within (p .act)) (sym e) (instruction-within _ _),
+    )
 
 pub plan-spec : {M : Type 1} → statement M
 plan-spec =

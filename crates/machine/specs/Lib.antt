@@ -9,5 +9,6 @@ pub mod Entry
 pub mod Effect
 pub mod Step
 pub mod Run
+pub mod Uneventful
 pub mod Refusal
 pub mod Call

@@ -1,7 +1,6 @@
 -- A run as its loop goes: steps with no event due, a stretch, one step, and the two ways in which it ends.
 -- Assumes nothing.
-use Prim.Native.Nat.{ℕ, suc, _+_, _-_, _<_, _≤_}
-use native.Mathlib.Numerals.{add-one}
+use Prim.Native.Nat.{ℕ, _+_, _-_, _<_, _≤_}
 use mathlib.Core.Bool.{Bool, true, false, _||_}
 use mathlib.Core.List.{List}
 use mathlib.Core.Path.{_≡_, sym, ap, _∙_}
@@ -12,10 +11,10 @@ use borrow.Author.Tests.{lt-ltb, eqb-false}
 use Rattle.machine.specs.State.{State}
 use Rattle.machine.specs.Events.{Event, eventAt, eventCount, eventsOf}
 use Rattle.machine.specs.Devices.{deliver}
-use Rattle.machine.specs.Step.{finished, stepOf}
+use Rattle.machine.specs.Step.{finished}
 use Rattle.machine.specs.Run.{ran, runOf}
 use Rattle.machine_laws.proofs.Cases.{bool-cases, eq-of}
-use Rattle.machine_laws.proofs.Runs.{step-live, run-zero, run-next, run-stays, run-append}
+use Rattle.machine_laws.proofs.Runs.{run-zero, run-stays, run-append, run-turn}
 use Rattle.devices.specs.Cursor.{Ordered}
 use Rattle.devices.proofs.Laws.{behind-later, index-quiet}
 use Rattle.stretch.specs.Stretch.{Undisturbed}
@@ -55,13 +54,7 @@ module _ (ev : List Event) (s₀ : State) where
   pub run-step :
       (s t u : State) (k : ℕ) → ran s k ≡ runOf ev s₀ k → s .halted ≡ false → t ≡ deliver ev s → u ≡ finished t →
       ran u (k + 1) ≡ runOf ev s₀ (k + 1)
-  run-step s t u k e h p q =
-      let r = sym (ap (λ x. x .state) e) in
-      let f : stepOf ev s ≡ u = step-live ev s h ∙ ap finished (sym p) ∙ sym q in
-      let g = run-next ev s₀ k (ap (λ x. x .halted) r ∙ h) in
-      let w : runOf ev s₀ (suc k) ≡ ran u (suc k) =
-      g ∙ ap (λ x. ran (stepOf ev (x .state)) (suc (x .steps))) (sym e) ∙ ap (λ x. ran x (suc k)) f in
-      rw (add-one k) (sym w)
+  run-step s t u k e h p q = run-turn ev s₀ s t u k e h p q
 
   -- all steps done, and halted before that
   pub run-full : (s : State) (k n : ℕ) → ran s k ≡ runOf ev s₀ k → k ≤ n → n ≤ k → ran s k ≡ runOf ev s₀ n

@@ -1,6 +1,6 @@
 -- What the code of a plan and of its performance leaves, over plain cores, lists and numbers: each law takes what the
 -- code's calls give, in their order. l is the lines, n the count, m the memory. Assumes nothing.
-use Prim.Native.Nat.{ℕ, _+_, _*_, _/_, _%_, _^_, _<_, _≤_}
+use Prim.Native.Nat.{ℕ, _+_, _*_, _/_, _%_, _<_, _≤_}
 use native.Mathlib.Omega.{arith}
 use mathlib.Core.Bool.{Bool, true, false, cond, not, _&&_}
 use mathlib.Core.List.{List}
@@ -9,7 +9,6 @@ use lib.Dec.{eqb, ltb}
 use lib.ListN.{getD, set}
 use lib.Seq.{set-set, set-getD}
 use borrow.Author.Tests.{eq-eqb, ne-eqb, lt-ltb, le-ltb}
-use Rattle.word.specs.Width.{widthOf, withLow}
 use Rattle.word.specs.Psw.{asleep?, faulted?, current, previous}
 use Rattle.isa.specs.declared.Instr.{Instr}
 use Rattle.isa.specs.declared.Instr.the-variants as i
@@ -31,10 +30,9 @@ use Rattle.machine.specs.Effect.{Effect, effectOf, loaded}
 use Rattle.machine.specs.Step as step
 use Rattle.machine.specs.Step.{Plan, Interrupt, planned, chosen, returns?, interruptOf, advanced, faulting, granted, executed, instructionOf, planOf}
 use Rattle.machine.specs.Step.{outcome, entered, chained, perform, closed, finished, stepOf}
-use Rattle.machine_laws.specs.Bounds.{Bytes, Quits}
+use Rattle.machine_laws.specs.Bounds.{Quits}
 use Rattle.machine_laws.proofs.Cases.{bool-cases, and-left, and-both}
 use Rattle.machine_laws.proofs.Effects.{effect-fault-core}
-use Rattle.machine_laws.proofs.Memory.{word-lt}
 use Rattle.machine_laws.proofs.Plans.{plan-live, instruction-cases}
 use Rattle.machine_laws.proofs.Runs.{step-live}
 use Rattle.devices.specs.Cursor.{stateFrom}
@@ -211,29 +209,6 @@ module _ (u : State) (live : u .halted ≡ false) {t : Plan} where
 -- the test of a return
 pub returns-is : (c : Core) {a b : Bool} → a ≡ asleep? (c .psw) → not a && eqb (pc c) 0xFFFF ≡ b → returns? c ≡ b
 returns-is c ea h = ap (λ (x : Bool). not x && eqb (pc c) 0xFFFF) (sym ea) ∙ h
-
--- ---- loads
-
--- a loaded value fits its width
-pub value-lt : (byte : Bool) (m : List ℕ) (a v : ℕ) → Bytes m → v ≡ valueAt byte m a → v < 2 ^ widthOf byte
-unfolding widthOf
-value-lt true m a v h e = subst (λ (x : ℕ). x < 256) (sym e) (h a)
-value-lt false m a v h e = subst (λ (x : ℕ). x < 65536) (sym e) (word-lt m a h)
-
-value-kept : (byte : Bool) (x v : ℕ) → x < 65536 → withLow (widthOf byte) x v ≡ cond byte (withLow 8 x v) v
-unfolding widthOf
-value-kept true x v h = refl
-value-kept false x v h = omega arith
-
-pub load-law :
-    (regs k m : List ℕ) (psw cex y : ℕ) (byte : Bool) (a d v x w : ℕ) → v ≡ valueAt byte m a → x < 65536 → x ≡ getD regs d 0
-    → w ≡ withLow (widthOf byte) x v → k ≡ set regs d w → y ≡ cond (eqb d 7) 0 cex →
-    coreOf k psw y ≡ loaded (coreOf regs psw cex) byte d (valueAt byte m a)
-load-law regs k m psw cex y byte a d v x w ev hx ex ew ek ey =
-    let w′ : w ≡ cond byte (withLow 8 (getD regs d 0) (valueAt byte m a)) (valueAt byte m a) =
-    ew ∙ value-kept byte x v hx ∙ (λ i. cond byte (withLow 8 (ex i) (ev i)) (ev i)) in
-    let k′ = ek ∙ ap (set regs d) w′ in
-    λ i. coreOf (k′ i) psw (ey i)
 
 -- ---- the whole step
 

@@ -47,7 +47,7 @@ sub-done c = omega arith
 
 add-done : tie.Need-add-done Inv-loop μ-loop
 add-done c =
-    let f = c .before .before .before .stretch .ensures .1 in
+    let f = c .before .before .before .stretch .ensures .1 .1 in
     let l = c .before .before .before .before .before .before .before in
     omega (arith, f, l .loop .inv .0)
 
@@ -74,7 +74,7 @@ perform-requires c κs =
     let more = goes-on (f .result .halted) k (l .before .before .before .before .before .args .n) (d .if1 .left) .1 in
     let s = l .before .before .before .before .before in (
       plan-requires (c .before .before .before) κs .0,
-      omega (arith, more, f .ensures .1, l .loop .inv .0, l .loop .inv .2, s .pre .1),
+      omega (arith, more, f .ensures .1 .1, l .loop .inv .0, l .loop .inv .2, s .pre .1),
       c .before .before .plan .ensures .1,
     )
 
@@ -85,7 +85,7 @@ add-done-2 c =
     let f = d .before .before .before .before .before .stretch in
     let k = l .loop .done + (f .result .count - l .loop .t .count) in
     let more = goes-on (f .result .halted) k (l .before .before .before .before .before .args .n) (d .if1 .left) .1 in
-    omega (arith, more, f .ensures .1, l .loop .inv .0)
+    omega (arith, more, f .ensures .1 .1, l .loop .inv .0)
 
 loop-less : tie.Need-loop-less Inv-loop μ-loop
 loop-less c =
@@ -94,7 +94,7 @@ loop-less c =
     let f = d .before .before .before .before .before .stretch in
     let k = l .loop .done + (f .result .count - l .loop .t .count) in
     let more = goes-on (f .result .halted) k (l .before .before .before .before .before .args .n) (d .if1 .left) .1 in
-    omega (arith, more, f .ensures .1, l .loop .inv .0)
+    omega (arith, more, f .ensures .1 .1, l .loop .inv .0)
 
 loop-again : tie.Need-loop-again Inv-loop μ-loop
 loop-again c =
@@ -114,9 +114,9 @@ loop-again c =
     let u = undisturbed b (l .loop .next) (l .loop .due) (l .loop .t .count) (a .3) (s .pre .2) in
     let r = run-on (eventsOf b) _ _ _ _ _ (a .4) (f .ensures .0 (eventsOf b) u) in
     let on = goes-on (f .result .halted) (l .loop .done + (n - l .loop .t .count)) (s .args .n) i in (
-      omega (arith, on .1, f .ensures .1, a .0),
+      omega (arith, on .1, f .ensures .1 .1, a .0),
       omega arith,
-      omega (arith, k, f .ensures .1, a .2),
+      omega (arith, k, f .ensures .1 .1, a .2),
       awaits-later b (d .result .next) (d .result .due) (n + 1) (d .ensures .1) _ (omega (arith, k)),
       run-step (eventsOf b) _ _ _ _ _ r (on .0) (d .ensures .0 _ _)
           (p .ensures ∙ ap (λ (x : Plan). closed (perform (x .act) (x .core) (d .result .lines) m) n m) (q .ensures .0)),
@@ -152,7 +152,7 @@ returns c =
     (λ w.
     let u = undisturbed (now (a .events)) (l .next) (l .due) (l .t .count) (l .inv .3) (s .pre .2) in
     let r = run-on ev s₀ _ _ _ _ (l .inv .4) (w .3 .ensures .0 ev u) in
-    let h = w .3 .ensures .1 in (
+    let h = w .3 .ensures .1 .1 in (
       (λ i. ran (stateWith (w .10 i) (w .11 i) (w .9 i)) (w .12 i)) ∙ run-left ev s₀ _ _ _ r (omega (arith, h, l .inv .0)) (w .8 .taken),
       omega (arith, w .12, h, l .inv .0),
     ))

@@ -1,4 +1,4 @@
-use Rattle.step.proofs.Laws.{value-lt, load-law}
+use Rattle.machine_laws.proofs.Loads.{value-lt, load-law}
 use Rattle.machine_laws.specs.Bounds.{Bytes}
 use denote.Ref.{now}
 use native.Mathlib.Omega.{arith}

@@ -9,7 +9,6 @@ ghost use Rattle.machine.specs.Entry.{enteredPsw, pushed, pushes, pulled};
 ghost use Rattle.machine.specs.Step.{entered, chained};
 ghost use Rattle.entry.specs.Lines.{lineAbove};
 use machine::ByteAddr;
-use machine::WordAddr;
 
 // A pulled PSW and CEX state.
 pub struct Pulled {
@@ -17,19 +16,27 @@ pub struct Pulled {
     pub cex: u16,
 }
 
+// The word at an address, bit 0 dropped.
+fn word_at(mem: &[u8], a: u16) -> u16
+    requires { ⌜ length (now mem) ≡ 65536 ⌝ }
+    ensures { λ r. ⌜ r ≡ wordAt (now (mem .entry)) a ⌝ }
+{
+    memory::read_word(mem, memory::word_of(ByteAddr(a)))
+}
+
 // The two words of vector v.
 fn vector_psw(mem: &[u8], v: u8) -> u16
     requires { ⌜ (length (now mem) ≡ 65536) × (v < 16) ⌝ }
     ensures { λ r. ⌜ r ≡ vectorPsw (now (mem .entry)) v ⌝ }
 {
-    memory::read_word(mem, WordAddr(0x7FE0 + 2 * v as u16))
+    word_at(mem, 0xFFC0 + 4 * v as u16)
 }
 
 fn vector_pc(mem: &[u8], v: u8) -> u16
     requires { ⌜ (length (now mem) ≡ 65536) × (v < 16) ⌝ }
     ensures { λ r. ⌜ r ≡ vectorPc (now (mem .entry)) v ⌝ }
 {
-    memory::read_word(mem, WordAddr(0x7FE1 + 2 * v as u16))
+    word_at(mem, 0xFFC0 + 4 * v as u16 + 2)
 }
 
 // The priority of vector v.
@@ -37,7 +44,7 @@ pub fn priority_of(mem: &[u8], v: u8) -> u16
     requires { ⌜ (length (now mem) ≡ 65536) × (v < 16) ⌝ }
     ensures { λ r. ⌜ r ≡ priority (now (mem .entry)) v ⌝ }
 {
-    vector_psw(mem, v) / 32 % 8
+    word::current_priority(vector_psw(mem, v))
 }
 
 // The better of line d and the best e of those after it.
@@ -147,7 +154,7 @@ pub fn enter(regs: &mut [u16; 8], mem: &mut [u8], psw: u16, cex: u16, v: u8, fau
     let start = vector_pc(mem, v);
     let sp = push_frame(regs, mem, psw, cex);
     set_three(regs, 0xFFFF, sp, start);
-    entered_psw(status, psw / 32 % 8, fault | (psw / 256 % 2 == 1))
+    entered_psw(status, word::current_priority(psw), fault | word::faulted(psw))
 }
 
 // A chained entry by vector v, which pushes nothing: the PSW after it. CEX is then clear.
@@ -160,15 +167,7 @@ pub fn chain(regs: &mut [u16; 8], mem: &[u8], psw: u16, v: u8) -> u16
     let pc = vector_pc(mem, v);
     let sp = regs[6];
     set_three(regs, 0xFFFF, sp, pc);
-    entered_psw(p, psw / 8192 % 8, psw / 256 % 2 == 1)
-}
-
-// The word at an address, bit 0 dropped.
-fn word_at(mem: &[u8], a: u16) -> u16
-    requires { ⌜ length (now mem) ≡ 65536 ⌝ }
-    ensures { λ r. ⌜ r ≡ wordAt (now (mem .entry)) a ⌝ }
-{
-    memory::read_word(mem, memory::word_of(ByteAddr(a)))
+    entered_psw(p, word::previous_priority(psw), word::faulted(psw))
 }
 
 // A return that pulls.

@@ -13,12 +13,13 @@ use Rattle.word.specs.Width.{widthOf}
 use Rattle.alu.specs.declared.Op.{Op}
 use Rattle.alu.specs.declared.Outcome.{Outcome}
 use Rattle.alu.specs.Alu.{aluOf}
+use Rattle.isa.specs.declared.Instr.{Instr}
 use Rattle.isa.specs.declared.Instr.the-variants as Instr
 use Rattle.machine.specs.declared.Access.{Access}
 use Rattle.machine.specs.declared.Access.the-variants.{Nothing, Load, Store}
 use Rattle.machine.specs.State.{Core, coreOf, moved, doubled, withPsw}
-use Rattle.machine.specs.Effect.{effect, effectOf, plainly, operated, operand, binaryOf, flagsOnly?, takenOf}
-use Rattle.machine.specs.Effect.{moves?, adjusted, adjust, indexed}
+use Rattle.machine.specs.Effect.{Effect, effect, effectOf, plainly, operated, operand, binaryOf, unaryOf, flagsOnly?, takenOf}
+use Rattle.machine.specs.Effect.{byteAddr, moves?, adjusted, adjust, indexed}
 use Rattle.execute.specs.declared.Executed.{Executed}
 use Rattle.execute.specs.Executed.{effectWith}
 
@@ -35,6 +36,27 @@ Written l l′ x y i v = (l′ ≡ set l i v) × (y ≡ cond (eqb i 7) 0 x)
 effect-parts : {l : List ℕ} {d : Executed} {a : Access} (c : Core) → l ≡ c .regs → d .psw ≡ c .psw → d .cex ≡ c .cex → d .access ≡ a
     → effectWith l d ≡ effect c a
 effect-parts c r p x a i = record { core = record { regs = r i; psw = p i; cex = x i }; access = a i }
+
+-- ---- the arms of `execute`
+
+-- a form executed, and the instruction that has it
+pub arm : {r : Effect} {c : Core} {i j : Instr} → i ≡ j → r ≡ effectOf c j → r ≡ effectOf c i
+arm {c = c} e f = f ∙ sym (ap (effectOf c) e)
+
+-- what asks and does nothing else
+pub arm-asks : {l : List ℕ} {p x : ℕ} {d : Executed} {a : Access} {i j : Instr} → i ≡ j
+    → (d .psw ≡ p) × (d .cex ≡ x) × (d .access ≡ a) → effect (coreOf l p x) a ≡ effectOf (coreOf l p x) j
+    → effectWith l d ≡ effectOf (coreOf l p x) i
+arm-asks e q f = arm e (effect-parts _ refl (q .0) (q .1) (q .2) ∙ f)
+
+-- an operation on one register, its number read
+pub arm-one : {l : List ℕ} {p x op wb dst : ℕ} {r : Effect} {o : Op} {i : Instr} → i ≡ Instr.Unary op wb dst → o ≡ unaryOf op
+    → r ≡ plainly (operated (coreOf l p x) dst (aluOf o (widthOf (eqb wb 1)) (getD l dst 0) 0 p)) → r ≡ effectOf (coreOf l p x) i
+unfolding effectOf
+arm-one {l = l} {p = p} {x = x} {wb = wb} {dst = dst} e h f =
+    f
+    ∙ ap (λ (o : Op). plainly (operated (coreOf l p x) dst (aluOf o (widthOf (eqb wb 1)) (getD l dst 0) 0 p))) h
+    ∙ sym (ap (effectOf (coreOf l p x)) e)
 
 -- ---- operations
 
@@ -109,12 +131,12 @@ module _ (l l′ : List ℕ) (p x y prpo dec inc wb i : ℕ) {a b at : ℕ} (ha 
   address : at ≡ indexed (coreOf l p x) i prpo dec inc wb
   address = rw (ht, hb, ha)
 
-  pub loading : (dst : ℕ) → effectWith l′ (record { psw = p; cex = y; access = Load (eqb wb 1) at dst })
+  pub loading : (dst : ℕ) → effectWith l′ (record { psw = p; cex = y; access = Load (eqb wb 1) (byteAddr at) dst })
       ≡ effectOf (coreOf l p x) (Instr.Ld prpo dec inc wb i dst)
   unfolding effectOf
-  loading dst = λ j. record { core = core j; access = Load (eqb wb 1) (address j) dst }
+  loading dst = λ j. record { core = core j; access = Load (eqb wb 1) (byteAddr (address j)) dst }
 
-  pub storing : (src : ℕ) {v : ℕ} → v ≡ getD l src 0 → effectWith l′ (record { psw = p; cex = y; access = Store (eqb wb 1) at v })
+  pub storing : (src : ℕ) {v : ℕ} → v ≡ getD l src 0 → effectWith l′ (record { psw = p; cex = y; access = Store (eqb wb 1) (byteAddr at) v })
       ≡ effectOf (coreOf l p x) (Instr.St prpo dec inc wb src i)
   unfolding effectOf
-  storing src h = λ j. record { core = core j; access = Store (eqb wb 1) (address j) (h j) }
+  storing src h = λ j. record { core = core j; access = Store (eqb wb 1) (byteAddr (address j)) (h j) }

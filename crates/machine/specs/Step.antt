@@ -59,8 +59,8 @@ faulting before c v = cond (faulted? (before .psw)) (planned before act.Halt) (p
 -- faulting instruction changes nothing besides its CEX count and PC. [01 Faults]
 unfoldable pub granted : (before x : Core) → Access → List ℕ → Plan
 granted c x Nothing m = planned x act.Plain
-granted c x (Load byte a d) m = planned x (act.Loads byte (record { 0 = a }) d)
-granted c x (Store byte a v) m = planned x (act.Stores byte (record { 0 = a }) v)
+granted c x (Load byte a d) m = planned x (act.Loads byte a d)
+granted c x (Store byte a v) m = planned x (act.Stores byte a v)
 granted c x (Fault v) m = faulting c (advanced c) v
 granted c x (Trap v) m =
     cond (ltb (current (c .psw)) (priority m v)) (planned x (act.Trap v)) (faulting c (advanced c) 10)

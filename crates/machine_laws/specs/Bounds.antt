@@ -51,8 +51,8 @@ Quits (Trap v) = Unit {0}
 -- [01 State and memory]
 abbrev pub AccessFits : Access → Type 0
 AccessFits Nothing = Unit {0}
-AccessFits (Load byte a d) = (a < 65536) × (d < 8)
-AccessFits (Store byte a v) = (a < 65536) × (v < 65536)
+AccessFits (Load byte a d) = (a .0 < 65536) × (d < 8)
+AccessFits (Store byte a v) = (a .0 < 65536) × (v < 65536)
 AccessFits (Fault v) = v < 16
 AccessFits (Trap v) = v < 16
 

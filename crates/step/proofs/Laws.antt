@@ -2,19 +2,20 @@
 -- code's calls give, in their order. l is the lines, n the count, m the memory. Assumes nothing.
 use Prim.Native.Nat.{ℕ, _+_, _*_, _/_, _%_, _<_, _≤_}
 use native.Mathlib.Omega.{arith}
-use mathlib.Core.Bool.{Bool, true, false, cond, _&&_, and-false}
+use mathlib.Core.Bool.{Bool, true, false, cond, not, _&&_}
 use mathlib.Core.List.{List}
 use mathlib.Core.Path.{_≡_, refl, sym, ap, subst, _∙_}
 use lib.Dec.{eqb, ltb}
 use lib.ListN.{getD, set}
 use lib.Seq.{set-set, set-getD}
-use borrow.Author.Tests.{eq-eqb, ne-eqb, lt-ltb, le-ltb, ltb-true}
-use Rattle.word.specs.Psw.{current, previous, faulted?}
+use borrow.Author.Tests.{eq-eqb, ne-eqb, lt-ltb, le-ltb}
+use Rattle.word.specs.Psw.{asleep?, faulted?, current, previous}
 use Rattle.isa.specs.declared.Instr.{Instr}
 use Rattle.isa.specs.declared.Instr.the-variants as i
 use Rattle.isa.specs.Fields.{Fields}
 use Rattle.isa.specs.Decode.{decodeOf}
 use Rattle.isa.proofs.Laws.{decode-fields}
+use Rattle.machine.specs.declared.ByteAddr.{ByteAddr}
 use Rattle.machine.specs.declared.Access.{Access}
 use Rattle.machine.specs.declared.Access.the-variants as asks
 use Rattle.machine.specs.declared.Act.{Act}
@@ -42,12 +43,12 @@ use Rattle.step.specs.Interrupt.{leaving}
 
 -- ---- faults and traps
 
-module _ (b c : Core) (v : ℕ) where
-  pub fault-halts : b .psw / 256 % 2 ≡ 1 → planned b act.Halt ≡ faulting b c v
-  fault-halts h = ap (λ (x : Bool). cond x (planned b act.Halt) (planned c (act.Fault v))) (sym (eq-eqb _ _ h))
+module _ (b c : Core) (v : ℕ) {f : Bool} (ef : f ≡ faulted? (b .psw)) where
+  pub fault-halts : f ≡ true → planned b act.Halt ≡ faulting b c v
+  fault-halts h = ap (λ (x : Bool). cond x (planned b act.Halt) (planned c (act.Fault v))) (sym h ∙ ef)
 
-  pub fault-enters : (b .psw / 256 % 2 ≡ 1 → ⊥) → planned c (act.Fault v) ≡ faulting b c v
-  fault-enters h = ap (λ (x : Bool). cond x (planned b act.Halt) (planned c (act.Fault v))) (sym (ne-eqb _ _ h))
+  pub fault-enters : f ≡ false → planned c (act.Fault v) ≡ faulting b c v
+  fault-enters h = ap (λ (x : Bool). cond x (planned b act.Halt) (planned c (act.Fault v))) (sym h ∙ ef)
 
 -- the core from before the instruction, its PC put back
 restored :
@@ -70,11 +71,11 @@ module _ (b x : Core) (a : Access) (m : List ℕ) where
   unfolding granted
   granted-nothing e = ap (λ (y : Access). granted b x y m) (sym e)
 
-  pub granted-load : (byte : Bool) (at d : ℕ) → a ≡ asks.Load byte at d → planned x (act.Loads byte (record { 0 = at }) d) ≡ granted b x a m
+  pub granted-load : (byte : Bool) (at : ByteAddr) (d : ℕ) → a ≡ asks.Load byte at d → planned x (act.Loads byte at d) ≡ granted b x a m
   unfolding granted
   granted-load byte at d e = ap (λ (y : Access). granted b x y m) (sym e)
 
-  pub granted-store : (byte : Bool) (at v : ℕ) → a ≡ asks.Store byte at v → planned x (act.Stores byte (record { 0 = at }) v) ≡ granted b x a m
+  pub granted-store : (byte : Bool) (at : ByteAddr) (v : ℕ) → a ≡ asks.Store byte at v → planned x (act.Stores byte at v) ≡ granted b x a m
   unfolding granted
   granted-store byte at v e = ap (λ (y : Access). granted b x y m) (sym e)
 
@@ -88,25 +89,25 @@ module _ (b x : Core) (a : Access) (m : List ℕ) where
         f ∙ (λ i. faulting (restored b x p q r ep eq er ex i) (advanced-of b x p ep ex i) v)
         ∙ ap (λ (y : Access). granted b x y m) (sym e)
 
-    pub granted-trap : (v k : ℕ) → a ≡ asks.Trap v → k ≡ priority m v → p / 32 % 8 < k → planned x (act.Trap v) ≡ granted b x a m
-    unfolding granted
-    granted-trap v k e f h =
-        let g : ltb (current (b .psw)) (priority m v) ≡ true =
-        ap (λ (y : ℕ). ltb (current y) (priority m v)) ep ∙ lt-ltb _ _ (subst (λ (y : ℕ). p / 32 % 8 < y) f h) in
-        ap (λ (y : Bool). cond y (planned x (act.Trap v)) (faulting b (advanced b) 10)) (sym g)
-        ∙ ap (λ (y : Access). granted b x y m) (sym e)
+    module _ (v c k : ℕ) (e : a ≡ asks.Trap v) (ec : c ≡ current p) (ek : k ≡ priority m v) where
+      -- the test of SVC, as the definition has it
+      tested : (o : Bool) → ltb c k ≡ o → ltb (current (b .psw)) (priority m v) ≡ o
+      tested o h = (λ i. ltb (current (ep i)) (sym ek i)) ∙ ap (λ (y : ℕ). ltb y k) (sym ec) ∙ h
 
-    pub granted-low :
-        {t : Plan} (v k : ℕ) → a ≡ asks.Trap v → k ≡ priority m v → k ≤ p / 32 % 8 →
-        t ≡ faulting (coreOf (set (x .regs) 7 r) p q) (coreOf (x .regs) p (x .cex)) 10 → t ≡ granted b x a m
-    unfolding granted
-    granted-low v k e f h w =
-        let ex : x ≡ advanced b = quits (subst Quits (sym e) tt) in
-        let g : ltb (current (b .psw)) (priority m v) ≡ false =
-        ap (λ (y : ℕ). ltb (current y) (priority m v)) ep ∙ le-ltb _ _ (subst (λ (y : ℕ). y ≤ p / 32 % 8) f h) in
-        w ∙ (λ i. faulting (restored b x p q r ep eq er ex i) (advanced-of b x p ep ex i) 10)
-        ∙ ap (λ (y : Bool). cond y (planned x (act.Trap v)) (faulting b (advanced b) 10)) (sym g)
-        ∙ ap (λ (y : Access). granted b x y m) (sym e)
+      pub granted-trap : c < k → planned x (act.Trap v) ≡ granted b x a m
+      unfolding granted
+      granted-trap h =
+          ap (λ (y : Bool). cond y (planned x (act.Trap v)) (faulting b (advanced b) 10)) (sym (tested true (lt-ltb _ _ h)))
+          ∙ ap (λ (y : Access). granted b x y m) (sym e)
+
+      pub granted-low :
+          {t : Plan} → k ≤ c → t ≡ faulting (coreOf (set (x .regs) 7 r) p q) (coreOf (x .regs) p (x .cex)) 10 → t ≡ granted b x a m
+      unfolding granted
+      granted-low h w =
+          let ex : x ≡ advanced b = quits (subst Quits (sym e) tt) in
+          w ∙ (λ i. faulting (restored b x p q r ep eq er ex i) (advanced-of b x p ep ex i) 10)
+          ∙ ap (λ (y : Bool). cond y (planned x (act.Trap v)) (faulting b (advanced b) 10)) (sym (tested false (le-ltb _ _ h)))
+          ∙ ap (λ (y : Access). granted b x y m) (sym e)
 
 -- ---- an instruction
 
@@ -141,29 +142,31 @@ unfolding advanced
 skip-law regs psw cex q y e f = λ i. planned (coreOf (set regs 7 (e i)) psw (f i)) act.Skip
 
 module _ (c : Core) (m : List ℕ) where
-  pub instruction-asleep : c .psw / 8 % 2 ≡ 1 → instructionOf c m ≡ planned c act.Sleep
+  pub instruction-asleep : asleep? (c .psw) ≡ true → instructionOf c m ≡ planned c act.Sleep
   unfolding instructionOf
-  instruction-asleep h = simp (eq-eqb _ _ h)
+  instruction-asleep h = rw h refl
 
-  pub instruction-odd : (c .psw / 8 % 2 ≡ 1 → ⊥) → pc c % 2 ≡ 1 → instructionOf c m ≡ faulting c c 9
+  pub instruction-odd : asleep? (c .psw) ≡ false → pc c % 2 ≡ 1 → instructionOf c m ≡ faulting c c 9
   unfolding instructionOf
-  instruction-odd h o = simp (ne-eqb _ _ h, eq-eqb _ _ o)
+  instruction-odd h o = rw (h, eq-eqb _ _ o) refl
 
   pub instruction-skips :
-      (c .psw / 8 % 2 ≡ 1 → ⊥) → (pc c % 2 ≡ 1 → ⊥) → skips? (c .cex) ≡ true →
-      instructionOf c m ≡ planned (advanced c) act.Skip
+      asleep? (c .psw) ≡ false → (pc c % 2 ≡ 1 → ⊥) → skips? (c .cex) ≡ true → instructionOf c m ≡ planned (advanced c) act.Skip
   unfolding instructionOf
-  instruction-skips h o k = simp (ne-eqb _ _ h, ne-eqb _ _ o, k)
+  instruction-skips h o k = rw (h, ne-eqb _ _ o, k) refl
 
   pub instruction-runs :
-      (c .psw / 8 % 2 ≡ 1 → ⊥) → (pc c % 2 ≡ 1 → ⊥) → skips? (c .cex) ≡ false →
+      asleep? (c .psw) ≡ false → (pc c % 2 ≡ 1 → ⊥) → skips? (c .cex) ≡ false →
       instructionOf c m ≡ executed c (effectOf (advanced c) (decodeOf (wordAt m (pc c)))) m
   unfolding instructionOf
-  instruction-runs h o k = simp (ne-eqb _ _ h, ne-eqb _ _ o, k)
+  instruction-runs h o k = rw (h, ne-eqb _ _ o, k) refl
 
 -- ---- a return, and points 2 to 7
 
-module _ (c : Core) (l d : ℕ) (m : List ℕ) (e : d ≡ lineAbove m l (previous (c .psw))) (p : Plan) where
+module _ (c : Core) (l d q : ℕ) (m : List ℕ) (eq : q ≡ previous (c .psw)) (ed : d ≡ lineAbove m l q) (p : Plan) where
+  e : d ≡ lineAbove m l (previous (c .psw))
+  e = ed ∙ ap (lineAbove m l) eq
+
   pub leave-chains : d < 8 → planned c (act.Chain d) ≡ chosen (leaving c l m) c p
   leave-chains h =
       let k = line-is m l (previous (c .psw)) d e h in
@@ -188,19 +191,24 @@ module _ (u : State) (live : u .halted ≡ false) {t : Plan} where
   due-leaves r f = due (leaving (u .core) (u .lines) (u .mem)) (rw r refl) (f (instructionOf (u .core) (u .mem)))
 
   pub due-accepts :
-      (d : ℕ) → returns? (u .core) ≡ false → d ≡ lineAbove (u .mem) (u .lines) (current (u .core .psw)) → d < 8
+      (d q : ℕ) → returns? (u .core) ≡ false → q ≡ current (u .core .psw) → d ≡ lineAbove (u .mem) (u .lines) q → d < 8
       → t ≡ planned (u .core) (act.Accept d) → t ≡ planOf u
   unfolding interruptOf
-  due-accepts d r e h f =
-      let k = line-is (u .mem) (u .lines) (current (u .core .psw)) d e h in
+  due-accepts d q r eq e h f =
+      let k = line-is (u .mem) (u .lines) (current (u .core .psw)) d (e ∙ ap (lineAbove (u .mem) (u .lines)) eq) h in
       due (step.accepts d) (rw (r, k .0) (ap step.accepts (k .1))) f
 
   pub due-runs :
-      (d : ℕ) → returns? (u .core) ≡ false → d ≡ lineAbove (u .mem) (u .lines) (current (u .core .psw)) → 8 ≤ d
+      (d q : ℕ) → returns? (u .core) ≡ false → q ≡ current (u .core .psw) → d ≡ lineAbove (u .mem) (u .lines) q → 8 ≤ d
       → t ≡ instructionOf (u .core) (u .mem) → t ≡ planOf u
   unfolding interruptOf
-  due-runs d r e h f =
-      due step.nothing (rw (r, line-isnt (u .mem) (u .lines) (current (u .core .psw)) d e h) refl) f
+  due-runs d q r eq e h f =
+      let k = line-isnt (u .mem) (u .lines) (current (u .core .psw)) d (e ∙ ap (lineAbove (u .mem) (u .lines)) eq) h in
+      due step.nothing (rw (r, k) refl) f
+
+-- the test of a return
+pub returns-is : (c : Core) {a b : Bool} → a ≡ asleep? (c .psw) → not a && eqb (pc c) 0xFFFF ≡ b → returns? c ≡ b
+returns-is c ea h = ap (λ (x : Bool). not x && eqb (pc c) 0xFFFF) (sym ea) ∙ h
 
 -- ---- the whole step
 

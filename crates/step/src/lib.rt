@@ -42,7 +42,7 @@ fn faulted(regs: &mut [u16; 8], psw: u16, cex: u16, pc: u16, left: u16, v: u8) -
         faulting (coreOf (set (now (regs .entry)) 7 pc) psw cex)
         (coreOf (now (regs .entry)) psw left) v ⌝ }
 {
-    if psw / 256 % 2 == 1 {
+    if word::faulted(psw) {
         regs[7] = pc;
         return Planned {
             psw,
@@ -76,24 +76,16 @@ fn grant(regs: &mut [u16; 8], mem: &[u8], psw: u16, cex: u16, pc: u16, d: Execut
         Access::Load { byte, at, dst } => Planned {
             psw: d.psw,
             cex: d.cex,
-            act: Act::Loads {
-                byte,
-                at: ByteAddr(at),
-                dst,
-            },
+            act: Act::Loads { byte, at, dst },
         },
         Access::Store { byte, at, value } => Planned {
             psw: d.psw,
             cex: d.cex,
-            act: Act::Stores {
-                byte,
-                at: ByteAddr(at),
-                value,
-            },
+            act: Act::Stores { byte, at, value },
         },
         Access::Fault(v) => faulted(regs, psw, cex, pc, d.cex, v),
         Access::Trap(v) => {
-            if psw / 32 % 8 < entry::priority_of(mem, v) {
+            if word::current_priority(psw) < entry::priority_of(mem, v) {
                 return Planned {
                     psw: d.psw,
                     cex: d.cex,
@@ -137,7 +129,7 @@ fn instruction(regs: &mut [u16; 8], mem: &[u8], psw: u16, cex: u16) -> Planned
     ensures { λ r. ⌜ planWith (now (regs .exit)) r ≡
         instructionOf (coreOf (now (regs .entry)) psw cex) (now (mem .entry)) ⌝ }
 {
-    if psw / 8 % 2 == 1 {
+    if word::asleep(psw) {
         return Planned {
             psw,
             cex,
@@ -169,7 +161,7 @@ fn leave(mem: &[u8], lines: u8, psw: u16, cex: u16) -> Planned
         chosen (leaving (coreOf regs psw cex) lines (now (mem .entry))) (coreOf regs psw cex) p) ⌝ }
     ensures within { λ r. ⌜ Within (r .act) ⌝ }
 {
-    let d = entry::best_above(mem, lines, psw / 8192 % 8);
+    let d = entry::best_above(mem, lines, word::previous_priority(psw));
     if d < 8 {
         return Planned {
             psw,
@@ -192,10 +184,10 @@ pub fn plan(regs: &mut [u16; 8], mem: &[u8], t: Rest) -> Planned
         planOf (stateWith (now (regs .entry)) t (now (mem .entry))) ⌝ }
     ensures within { λ r. ⌜ Within (r .act) ⌝ }
 {
-    if (t.psw / 8 % 2 != 1) & (regs[7] == 0xFFFF) {
+    if !word::asleep(t.psw) & (regs[7] == 0xFFFF) {
         return leave(mem, t.lines, t.psw, t.cex);
     }
-    let d = entry::line_above(mem, t.lines, t.psw / 32 % 8);
+    let d = entry::line_above(mem, t.lines, word::current_priority(t.psw));
     if d < 8 {
         return Planned {
             psw: t.psw,

@@ -2,8 +2,8 @@ use Prim.Native.Nat.{_/_, _%_}
 use mathlib.Core.Path.{_≡_}
 use native.Mathlib.Omega.{arith}
 use borrow.Author.Needs.{needs}
-use Rattle.state_record.proofs.put_two.Statement.{statement}
-use Rattle.state_record.proofs.put_two.Tie as tie
+use Rattle.little_endian.proofs.put_two.Statement.{statement}
+use Rattle.little_endian.proofs.put_two.Tie as tie
 
 cast-b : tie.Need-cast-b
 cast-b c = search needs

@@ -1,9 +1,8 @@
--- `devices::two_at` meets its contract. Assumes nothing.
 use Prim.Native.Nat.{_+_}
 use native.Mathlib.Omega.{arith}
 use borrow.Author.Needs.{needs}
-use Rattle.devices.proofs.two_at.Statement.{statement}
-use Rattle.devices.proofs.two_at.Tie as tie
+use Rattle.little_endian.proofs.two_at.Statement.{statement}
+use Rattle.little_endian.proofs.two_at.Tie as tie
 
 shared-slice-read-result : tie.Need-shared-slice-read-result
 shared-slice-read-result c = search needs

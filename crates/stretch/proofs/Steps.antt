@@ -39,7 +39,7 @@ use Rattle.machine.specs.declared.Rest.{Rest}
 use Rattle.machine.specs.Rest.{stateWith}
 use Rattle.stretch_registers.specs.Effected.{unblocked}
 use Rattle.stretch_registers.proofs.Laws.{set-even}
-use Rattle.stretch.specs.Ordinary.{ordinary?, aligned?}
+use Rattle.stretch.specs.Ordinary.{aligned?, inside?, ordinary?}
 use Rattle.stretch.specs.Served.{running, carriedOut, Untouched, Served, Taken}
 use Rattle.stretch.specs.Stretch.{Undisturbed, Fetching, NoneAbove, Passes, OneStep, Stepping, Reaches}
 
@@ -50,8 +50,8 @@ unfolding granted
 granted-uneventful c x asks.Nothing m h = refl
 granted-uneventful c x (asks.Load byte a d) m h = refl
 granted-uneventful c x (asks.Store byte a v) m h =
-    let k : 16 ≤ a = le-of (and-left _ (ltb a 0xFFC0) (and-left (leb 16 a && ltb a 0xFFC0) (aligned? byte a) h)) in
-    ap not (not-lt {m = a} {n = 16} k)
+    let k : 16 ≤ a .0 = le-of (and-left _ (ltb (a .0) 0xFFC0) (and-left (inside? (a .0)) (aligned? byte (a .0)) h)) in
+    ap not (not-lt {m = a .0} {n = 16} k)
 granted-uneventful c x (asks.Fault v) m h = absurd (false≢true h)
 granted-uneventful c x (asks.Trap v) m h = absurd (false≢true h)
 
@@ -60,10 +60,10 @@ granted-below :
     BelowVectors (perform (granted c x a m .act) (granted c x a m .core) l m .writes)
 unfolding granted perform
 granted-below c x asks.Nothing l m h = tt
-granted-below c x (asks.Load byte a d) l m h = load-below byte m a
+granted-below c x (asks.Load byte a d) l m h = load-below byte m (a .0)
 granted-below c x (asks.Store byte a v) l m h =
-    let k = and-left (leb 16 a && ltb a 0xFFC0) (aligned? byte a) h in
-    store-below byte m a v (le-of (and-left _ _ k)) (lt-of (and-right (leb 16 a) _ k))
+    let k = and-left (inside? (a .0)) (aligned? byte (a .0)) h in
+    store-below byte m (a .0) v (le-of (and-left _ _ k)) (lt-of (and-right (leb 16 (a .0)) _ k))
 granted-below c x (asks.Fault v) l m h = absurd (false≢true h)
 granted-below c x (asks.Trap v) l m h = absurd (false≢true h)
 

@@ -19,7 +19,7 @@ storable? byte a = inside? a && aligned? byte a
 
 abbrev pub ordinary? : Access → Bool
 ordinary? Nothing = true
-ordinary? (Load byte a d) = aligned? byte a
-ordinary? (Store byte a v) = storable? byte a
+ordinary? (Load byte a d) = aligned? byte (a .0)
+ordinary? (Store byte a v) = storable? byte (a .0)
 ordinary? (Fault v) = false
 ordinary? (Trap v) = false

@@ -343,7 +343,7 @@ fn fetching(regs: &[u16; 8], t: Rest) -> bool
     if t.halted | (t.cex != 0) {
         return false;
     }
-    (regs[7] % 2 == 0) & (t.psw / 8 % 2 != 1)
+    (regs[7] % 2 == 0) & !word::asleep(t.psw)
 }
 
 // Does no line wait above the priority?
@@ -351,7 +351,7 @@ fn unasked(mem: &[u8], lines: u8, psw: u16) -> bool
     requires { ⌜ length (now mem) ≡ 65536 ⌝ }
     ensures { λ r. ⌜ (r ≡ true → NoneAbove (now (mem .entry)) lines (current psw)) ⌝ }
 {
-    entry::line_above(mem, lines, psw / 32 % 8) == 8
+    entry::line_above(mem, lines, word::current_priority(psw)) == 8
 }
 
 // Asleep with no line above the priority, a step changes nothing but the count: all steps before the
@@ -363,7 +363,7 @@ fn sleep_on(mem: &[u8], t: Rest, due: u64, left: u32) -> Rest
         (r .count - t .count)) ⌝ }
     ensures count { λ r. ⌜ (t .count ≤ r .count) × (r .count ≤ t .count + left) ⌝ }
 {
-    if t.halted | (t.psw / 8 % 2 != 1) {
+    if t.halted | !word::asleep(t.psw) {
         return t;
     }
     if !unasked(mem, t.lines, t.psw) {

@@ -104,7 +104,8 @@ module _ (l k : List ℕ) (p y prpo dec inc wb i : ℕ) {a b at : ℕ} (ha : a �
   no-block = sym (w .1 ∙ cex-stays (moves? dec inc) (eqb i 7))
 
   pub load-effect :
-      (dst : ℕ) → effect (unblocked k p) (asks.Load (eqb wb 1) (byteAddr at) dst) ≡ effectOf (unblocked l p) (Instr.Ld prpo dec inc wb i dst)
+      (dst : ℕ) →
+      effect (unblocked k p) (asks.Load (eqb wb 1) (byteAddr at) dst) ≡ effectOf (unblocked l p) (Instr.Ld prpo dec inc wb i dst)
   load-effect dst =
       ap (λ (x : ℕ). effect (coreOf k p x) (asks.Load (eqb wb 1) (byteAddr at) dst)) no-block
       ∙ loading l k p 0 y prpo dec inc wb i ha hb ht w dst

@@ -293,20 +293,18 @@ stretch-done regs m regs₁ m₁ t due psw j ev eh ec q h f u =
     (subst (λ (x : State). Passes ev x (running regs₁ psw (t .lines) (n + j) m₁) j) s
     (f (t .lines) q .1 ev n (λ i a b. u i a (omega arith))))
 
--- what the tests say
+-- what the tests say; a is the code's answer of whether SLP is set
 pub tests-fetching :
-    (regs : List ℕ) (t : Rest) → t .halted || not (eqb (t .cex) 0) ≡ false →
-    eqb (getD regs 7 0 % 2) 0 && not (eqb (t .psw / 8 % 2) 1) ≡ true →
-    (t .halted ≡ false) × (t .cex ≡ 0) × Fetching regs (t .psw)
-tests-fetching regs t e f =
+    (regs : List ℕ) (t : Rest) {a : Bool} → a ≡ asleep? (t .psw) → t .halted || not (eqb (t .cex) 0) ≡ false →
+    eqb (getD regs 7 0 % 2) 0 && not a ≡ true → (t .halted ≡ false) × (t .cex ≡ 0) × Fetching regs (t .psw)
+tests-fetching regs t {a} h e f =
     let p = or-eq-false-eq-eq-false-and-eq-false _ _ .0 e in
     let even = eqb (getD regs 7 0 % 2) 0 in
-    let awake = not (eqb (t .psw / 8 % 2) 1) in
-    (p .0, eq-of (not-false _ (p .1)), (eq-of (and-left even awake f), not-true _ (and-right even awake f)))
+    (p .0, eq-of (not-false _ (p .1)), (eq-of (and-left even (not a) f), sym h ∙ not-true _ (and-right even (not a) f)))
 
 pub tests-asleep :
-    (regs m : List ℕ) (t : Rest) → t .halted || not (eqb (t .psw / 8 % 2) 1) ≡ false →
+    (regs m : List ℕ) (t : Rest) {a : Bool} → a ≡ asleep? (t .psw) → t .halted || not a ≡ false →
     NoneAbove m (t .lines) (current (t .psw)) → Asleep (stateWith regs t m)
-tests-asleep regs m t e q =
+tests-asleep regs m t h e q =
     let p = or-eq-false-eq-eq-false-and-eq-false _ _ .0 e in
-    (p .0, not-false _ (p .1), q)
+    (p .0, sym h ∙ not-false _ (p .1), q)

@@ -1,9 +1,9 @@
 // A stretch of steps done at once, looking at nothing but their instructions and how many are left:
-// awake, PC even, no CEX block open, no line waiting above the priority, no event due. Every step of
-// it is uneventful. A word that could end any of this is left to the general way: CEX, SETPRI, SETCC,
-// CLRCC, SVC, an odd word access, a store to the device bytes or to the vectors, a write to R7 other
-// than BL, branches and a MOV of an even number. The functions of one word take it with PC past it,
-// and give the PSW after it, or 65,536 and have left all alone.
+// awake, PC even, no CEX block open, no line waiting above the priority, no event due. Every step
+// of it is uneventful. A word that could end any of this is left to the general way: CEX, SETPRI,
+// SETCC, CLRCC, SVC, an odd word access, a store to the device bytes or to the vectors, a write to
+// R7 other than BL, branches and a MOV of an even number. The functions of one word take it with
+// PC past it, and give the PSW after it, or 65,536 and have left all alone.
 ghost use mathlib.Core.Bool.{true, false};
 ghost use mathlib.Core.List.{List};
 ghost use mathlib.Core.Path.{_≡_};
@@ -23,7 +23,8 @@ ghost use Rattle.machine.specs.Uneventful.{Uneventful};
 ghost use Rattle.machine.specs.Rest.{stateWith};
 ghost use Rattle.stretch.specs.Ordinary.{aligned?, inside?, storable?};
 ghost use Rattle.stretch.specs.Served.{Taken};
-ghost use Rattle.stretch.specs.Stretch.{Undisturbed, Fetching, NoneAbove, Stepping, Passes, Reaches};
+ghost use Rattle.stretch.specs.Stretch.{Undisturbed, Fetching, NoneAbove};
+ghost use Rattle.stretch.specs.Stretch.{Stepping, Passes, Reaches};
 use machine::ByteAddr;
 use machine::Rest;
 use operands::get;
@@ -334,8 +335,8 @@ fn until(count: u32, due: u64, left: u32) -> u32
     left
 }
 
-// Does the next step fetch an instruction if no line is accepted: not halted, awake, PC even, no CEX
-// block open?
+// Does the next step fetch an instruction, if no line is accepted: not halted, awake, PC even, no
+// CEX block open?
 fn fetching(regs: &[u16; 8], t: Rest) -> bool
     ensures { λ r. ⌜ (r ≡ true →
         (t .halted ≡ false) × (t .cex ≡ 0) × Fetching (now (regs .entry)) (t .psw)) ⌝ }
@@ -354,8 +355,8 @@ fn unasked(mem: &[u8], lines: u8, psw: u16) -> bool
     entry::line_above(mem, lines, word::current_priority(psw)) == 8
 }
 
-// Asleep with no line above the priority, a step changes nothing but the count: all steps before the
-// next event pass at once, at most `left`. Any other machine stays as it is.
+// Asleep with no line above the priority, a step changes nothing but the count: all steps before
+// the next event pass at once, at most `left`. Any other machine stays as it is.
 fn sleep_on(mem: &[u8], t: Rest, due: u64, left: u32) -> Rest
     requires { ⌜ (length (now mem) ≡ 65536) × (t .count + left ≤ 4294967295) ⌝ }
     ensures passes { λ r. ⌜ ((regs : List ℕ) (ev : List Event) → Undisturbed ev (t .count) due →

@@ -66,8 +66,9 @@ returns-3 c =
     let start = g .before .before .before .before .before .before in
     let a = start .args in
     let w = a .w in
+    let x = s .before .before .before .before .before in
     let e = store-effect (now (a .regs)) _ (a .psw) _ (w / 512 % 2) (w / 256 % 2) (w / 128 % 2) (w / 64 % 2) (w % 8)
-    (g .get2 .ensures) (s .before .before .before .before .before .before .adjusted-by .ensures) (s .before .before .before .before .before .address .ensures)
+    (g .get2 .ensures) (x .before .adjusted-by .ensures) (x .address .ensures)
     (c .adjust-index .ensures) (w / 8 % 8) (g .before .before .get .ensures) in
     let o = s .before .before .before .store .ensures .1 (not-false _ (s .if2 .left)) in
     let p = pc-adjusted (moves? (w / 256 % 2) (w / 128 % 2)) (now (a .regs)) _ (w % 8) _ (omega arith) (c .adjust-index .ensures .0) in

@@ -51,7 +51,8 @@ returns-2 c =
     let n = d .before .before .signed in
     let z : toZ w16 (ofZ w16 (n .result)) ≡ n .result = search needs in
     let e = store-relative-effect (now (a .regs)) (a .psw) (w / 64 % 2) (w % 8) (signedOf 64 (w / 128 % 128))
-    (d .before .get .ensures) (rw (z ∙ n .ensures) at (d .offset-from .ensures)) (w / 8 % 8) (c .before .before .before .before .before .get2 .ensures) in
+    (d .before .get .ensures) (rw (z ∙ n .ensures) at (d .offset-from .ensures)) (w / 8 % 8)
+    (c .before .before .before .before .before .get2 .ensures) in
     let o = c .before .before .before .store .ensures .1 (not-false _ (c .if1 .left)) in
     inr (served-store _ (now (a .regs)) (now (a .regs)) (now (a .mem)) (a .psw) _ _ _ _ (omega arith) e (o .0) (o .1) refl)
 

@@ -19,7 +19,7 @@ use Rattle.machine.specs.declared.Access.the-variants as asks
 use Rattle.machine.specs.State.{coreOf, moved}
 use Rattle.machine.specs.Memory.{commit, valueAt}
 use Rattle.machine.specs.Devices.{loadWrites, storeWrites}
-use Rattle.machine.specs.Effect.{Effect, effect, effectOf, operand, moves?, adjusted, loaded}
+use Rattle.machine.specs.Effect.{Effect, byteAddr, effect, effectOf, operand, moves?, adjusted, loaded}
 use Rattle.machine.specs.Step.{granted, executed, perform}
 use Rattle.execute.proofs.Laws.{loading, storing}
 use Rattle.devices.specs.Cursor.{stateFrom}
@@ -49,7 +49,7 @@ module _ (x : Instr) (l k m : List ℕ) (p : ℕ) where
   -- a load's registers before it are k; k′ and m′ are after it
   pub served-load :
       (k′ m′ : List ℕ) (byte : Bool) (at dst : ℕ) → p < 65536 →
-      effect (unblocked k p) (asks.Load byte at dst) ≡ effectOf (unblocked l p) x → aligned? byte at ≡ true →
+      effect (unblocked k p) (asks.Load byte (byteAddr at) dst) ≡ effectOf (unblocked l p) x → aligned? byte at ≡ true →
       ((q : ℕ) → unblocked k′ q ≡ loaded (unblocked k q) byte dst (valueAt byte m at)) → m′ ≡ commit (loadWrites byte m at) m →
       getD k′ 7 0 ≡ getD l 7 0 → Served x l p m k′ p m′
   unfolding granted perform
@@ -62,7 +62,7 @@ module _ (x : Instr) (l k m : List ℕ) (p : ℕ) where
 
   pub served-store :
       (m′ : List ℕ) (byte : Bool) (at v : ℕ) → p < 65536 →
-      effect (unblocked k p) (asks.Store byte at v) ≡ effectOf (unblocked l p) x → storable? byte at ≡ true →
+      effect (unblocked k p) (asks.Store byte (byteAddr at) v) ≡ effectOf (unblocked l p) x → storable? byte at ≡ true →
       m′ ≡ commit (storeWrites byte m at v) m → getD k 7 0 ≡ getD l 7 0 → Served x l p m k p m′
   unfolding granted perform
   served-store m′ byte at v hp e h f c = (
@@ -104,16 +104,17 @@ module _ (l k : List ℕ) (p y prpo dec inc wb i : ℕ) {a b at : ℕ} (ha : a �
   no-block = sym (w .1 ∙ cex-stays (moves? dec inc) (eqb i 7))
 
   pub load-effect :
-      (dst : ℕ) → effect (unblocked k p) (asks.Load (eqb wb 1) at dst) ≡ effectOf (unblocked l p) (Instr.Ld prpo dec inc wb i dst)
+      (dst : ℕ) →
+      effect (unblocked k p) (asks.Load (eqb wb 1) (byteAddr at) dst) ≡ effectOf (unblocked l p) (Instr.Ld prpo dec inc wb i dst)
   load-effect dst =
-      ap (λ (x : ℕ). effect (coreOf k p x) (asks.Load (eqb wb 1) at dst)) no-block
+      ap (λ (x : ℕ). effect (coreOf k p x) (asks.Load (eqb wb 1) (byteAddr at) dst)) no-block
       ∙ loading l k p 0 y prpo dec inc wb i ha hb ht w dst
 
   pub store-effect :
       (src : ℕ) {v : ℕ} → v ≡ getD l src 0 →
-      effect (unblocked k p) (asks.Store (eqb wb 1) at v) ≡ effectOf (unblocked l p) (Instr.St prpo dec inc wb src i)
+      effect (unblocked k p) (asks.Store (eqb wb 1) (byteAddr at) v) ≡ effectOf (unblocked l p) (Instr.St prpo dec inc wb src i)
   store-effect src {v} h =
-      ap (λ (x : ℕ). effect (coreOf k p x) (asks.Store (eqb wb 1) at v)) no-block
+      ap (λ (x : ℕ). effect (coreOf k p x) (asks.Store (eqb wb 1) (byteAddr at) v)) no-block
       ∙ storing l k p 0 y prpo dec inc wb i ha hb ht w src h
 
 -- two registers that are not R7, as LD's one test tells
@@ -131,15 +132,15 @@ module _ (l : List ℕ) (p wb i : ℕ) (off : ℤ) {a at : ℕ} (ha : a ≡ getD
   from-base = ht ∙ ap (λ (x : ℕ). moved x off) ha
 
   pub load-relative-effect :
-      (dst : ℕ) → effect (unblocked l p) (asks.Load (eqb wb 1) at dst) ≡ effectOf (unblocked l p) (Instr.Ldr off wb i dst)
+      (dst : ℕ) → effect (unblocked l p) (asks.Load (eqb wb 1) (byteAddr at) dst) ≡ effectOf (unblocked l p) (Instr.Ldr off wb i dst)
   unfolding effectOf
-  load-relative-effect dst = λ j. effect (unblocked l p) (asks.Load (eqb wb 1) (from-base j) dst)
+  load-relative-effect dst = λ j. effect (unblocked l p) (asks.Load (eqb wb 1) (byteAddr (from-base j)) dst)
 
   pub store-relative-effect :
       (src : ℕ) {v : ℕ} → v ≡ getD l src 0 →
-      effect (unblocked l p) (asks.Store (eqb wb 1) at v) ≡ effectOf (unblocked l p) (Instr.Str off wb src i)
+      effect (unblocked l p) (asks.Store (eqb wb 1) (byteAddr at) v) ≡ effectOf (unblocked l p) (Instr.Str off wb src i)
   unfolding effectOf
-  store-relative-effect src h = λ j. effect (unblocked l p) (asks.Store (eqb wb 1) (from-base j) (h j))
+  store-relative-effect src h = λ j. effect (unblocked l p) (asks.Store (eqb wb 1) (byteAddr (from-base j)) (h j))
 
 -- ---- words from 5800
 

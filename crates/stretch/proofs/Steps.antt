@@ -39,7 +39,7 @@ use Rattle.machine.specs.declared.Rest.{Rest}
 use Rattle.machine.specs.Rest.{stateWith}
 use Rattle.stretch_registers.specs.Effected.{unblocked}
 use Rattle.stretch_registers.proofs.Laws.{set-even}
-use Rattle.stretch.specs.Ordinary.{ordinary?, aligned?}
+use Rattle.stretch.specs.Ordinary.{aligned?, inside?, ordinary?}
 use Rattle.stretch.specs.Served.{running, carriedOut, Untouched, Served, Taken}
 use Rattle.stretch.specs.Stretch.{Undisturbed, Fetching, NoneAbove, Passes, OneStep, Stepping, Reaches}
 
@@ -50,8 +50,8 @@ unfolding granted
 granted-uneventful c x asks.Nothing m h = refl
 granted-uneventful c x (asks.Load byte a d) m h = refl
 granted-uneventful c x (asks.Store byte a v) m h =
-    let k : 16 ≤ a = le-of (and-left _ (ltb a 0xFFC0) (and-left (leb 16 a && ltb a 0xFFC0) (aligned? byte a) h)) in
-    ap not (not-lt {m = a} {n = 16} k)
+    let k : 16 ≤ a .0 = le-of (and-left _ (ltb (a .0) 0xFFC0) (and-left (inside? (a .0)) (aligned? byte (a .0)) h)) in
+    ap not (not-lt {m = a .0} {n = 16} k)
 granted-uneventful c x (asks.Fault v) m h = absurd (false≢true h)
 granted-uneventful c x (asks.Trap v) m h = absurd (false≢true h)
 
@@ -60,10 +60,10 @@ granted-below :
     BelowVectors (perform (granted c x a m .act) (granted c x a m .core) l m .writes)
 unfolding granted perform
 granted-below c x asks.Nothing l m h = tt
-granted-below c x (asks.Load byte a d) l m h = load-below byte m a
+granted-below c x (asks.Load byte a d) l m h = load-below byte m (a .0)
 granted-below c x (asks.Store byte a v) l m h =
-    let k = and-left (leb 16 a && ltb a 0xFFC0) (aligned? byte a) h in
-    store-below byte m a v (le-of (and-left _ _ k)) (lt-of (and-right (leb 16 a) _ k))
+    let k = and-left (inside? (a .0)) (aligned? byte (a .0)) h in
+    store-below byte m (a .0) v (le-of (and-left _ _ k)) (lt-of (and-right (leb 16 (a .0)) _ k))
 granted-below c x (asks.Fault v) l m h = absurd (false≢true h)
 granted-below c x (asks.Trap v) l m h = absurd (false≢true h)
 
@@ -293,20 +293,18 @@ stretch-done regs m regs₁ m₁ t due psw j ev eh ec q h f u =
     (subst (λ (x : State). Passes ev x (running regs₁ psw (t .lines) (n + j) m₁) j) s
     (f (t .lines) q .1 ev n (λ i a b. u i a (omega arith))))
 
--- what the tests say
+-- what the tests say; a is the code's answer of whether SLP is set
 pub tests-fetching :
-    (regs : List ℕ) (t : Rest) → t .halted || not (eqb (t .cex) 0) ≡ false →
-    eqb (getD regs 7 0 % 2) 0 && not (eqb (t .psw / 8 % 2) 1) ≡ true →
-    (t .halted ≡ false) × (t .cex ≡ 0) × Fetching regs (t .psw)
-tests-fetching regs t e f =
+    (regs : List ℕ) (t : Rest) {a : Bool} → a ≡ asleep? (t .psw) → t .halted || not (eqb (t .cex) 0) ≡ false →
+    eqb (getD regs 7 0 % 2) 0 && not a ≡ true → (t .halted ≡ false) × (t .cex ≡ 0) × Fetching regs (t .psw)
+tests-fetching regs t {a} h e f =
     let p = or-eq-false-eq-eq-false-and-eq-false _ _ .0 e in
     let even = eqb (getD regs 7 0 % 2) 0 in
-    let awake = not (eqb (t .psw / 8 % 2) 1) in
-    (p .0, eq-of (not-false _ (p .1)), (eq-of (and-left even awake f), not-true _ (and-right even awake f)))
+    (p .0, eq-of (not-false _ (p .1)), (eq-of (and-left even (not a) f), sym h ∙ not-true _ (and-right even (not a) f)))
 
 pub tests-asleep :
-    (regs m : List ℕ) (t : Rest) → t .halted || not (eqb (t .psw / 8 % 2) 1) ≡ false →
+    (regs m : List ℕ) (t : Rest) {a : Bool} → a ≡ asleep? (t .psw) → t .halted || not a ≡ false →
     NoneAbove m (t .lines) (current (t .psw)) → Asleep (stateWith regs t m)
-tests-asleep regs m t e q =
+tests-asleep regs m t h e q =
     let p = or-eq-false-eq-eq-false-and-eq-false _ _ .0 e in
-    (p .0, not-false _ (p .1), q)
+    (p .0, sym h ∙ not-false _ (p .1), q)

@@ -11,12 +11,15 @@ abbrev pub aligned? : (byte : Bool) → ℕ → Bool
 aligned? byte a = byte || eqb (a % 2) 0
 
 -- Past the device bytes and below the vectors: nothing is shown, and no line's priority changes. [01 Devices; 01 Entry]
+abbrev pub inside? : ℕ → Bool
+inside? a = leb 0x10 a && ltb a 0xFFC0
+
 abbrev pub storable? : (byte : Bool) → ℕ → Bool
-storable? byte a = leb 0x10 a && ltb a 0xFFC0 && aligned? byte a
+storable? byte a = inside? a && aligned? byte a
 
 abbrev pub ordinary? : Access → Bool
 ordinary? Nothing = true
-ordinary? (Load byte a d) = aligned? byte a
-ordinary? (Store byte a v) = storable? byte a
+ordinary? (Load byte a d) = aligned? byte (a .0)
+ordinary? (Store byte a v) = storable? byte (a .0)
 ordinary? (Fault v) = false
 ordinary? (Trap v) = false

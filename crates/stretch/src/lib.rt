@@ -1,9 +1,9 @@
 // A stretch of steps done at once, looking at nothing but their instructions and how many are left:
-// awake, PC even, no CEX block open, no line waiting above the priority, no event due. Every step of
-// it is uneventful. A word that could end any of this is left to the general way: CEX, SETPRI, SETCC,
-// CLRCC, SVC, an odd word access, a store to the device bytes or to the vectors, a write to R7 other
-// than BL, branches and a MOV of an even number. The functions of one word take it with PC past it,
-// and give the PSW after it, or 65,536 and have left all alone.
+// awake, PC even, no CEX block open, no line waiting above the priority, no event due. Every step
+// of it is uneventful. A word that could end any of this is left to the general way: CEX, SETPRI,
+// SETCC, CLRCC, SVC, an odd word access, a store to the device bytes or to the vectors, a write to
+// R7 other than BL, branches and a MOV of an even number. The functions of one word take it with
+// PC past it, and give the PSW after it, or 65,536 and have left all alone.
 ghost use mathlib.Core.Bool.{true, false};
 ghost use mathlib.Core.List.{List};
 ghost use mathlib.Core.Path.{_≡_};
@@ -15,17 +15,18 @@ ghost use Rattle.isa.specs.declared.Instr.the-variants as Instr;
 ghost use Rattle.isa.specs.Decode.{relativeOf, decodeOf};
 ghost use Rattle.machine.specs.State.{coreOf};
 ghost use Rattle.machine.specs.Memory.{commit, valueAt};
-ghost use Rattle.machine.specs.Devices.{loadWrites};
+ghost use Rattle.machine.specs.Devices.{loadWrites, storeWrites};
 ghost use Rattle.machine.specs.Effect.{constantOf, loaded};
 ghost use Rattle.machine.specs.Events.{Event};
 ghost use Rattle.machine.specs.Run.{ran, runOf};
 ghost use Rattle.machine.specs.Uneventful.{Uneventful};
 ghost use Rattle.machine.specs.Rest.{stateWith};
-ghost use Rattle.stretch.specs.Ordinary.{aligned?, storable?};
+ghost use Rattle.stretch.specs.Ordinary.{aligned?, inside?, storable?};
 ghost use Rattle.stretch.specs.Served.{Taken};
-ghost use Rattle.stretch.specs.Stretch.{Undisturbed, Fetching, NoneAbove, Stepping, Passes, Reaches};
-use machine::Rest;
+ghost use Rattle.stretch.specs.Stretch.{Undisturbed, Fetching, NoneAbove};
+ghost use Rattle.stretch.specs.Stretch.{Stepping, Passes, Reaches};
 use machine::ByteAddr;
+use machine::Rest;
 use operands::get;
 use operands::put;
 use word::signed;
@@ -37,11 +38,32 @@ fn aligned(byte: bool, at: u16) -> bool
     byte | (at % 2 == 0)
 }
 
-// Is a store there one that a stretch takes: aligned, past the device bytes and below the vectors?
-fn storable(byte: bool, at: u16) -> bool
-    ensures { λ r. ⌜ r ≡ storable? byte at ⌝ }
+// Is the address past the device bytes and below the vectors?
+fn inside(at: u16) -> bool
+    ensures { λ r. ⌜ r ≡ inside? at ⌝ }
 {
-    (0x10 <= at) & (at < 0xFFC0) & aligned(byte, at)
+    (0x10 <= at) & (at < 0xFFC0)
+}
+
+// A store, if it is one that a stretch takes; else memory is as it was.
+fn store(mem: &mut [u8], byte: bool, at: u16, v: u16) -> bool
+    requires { ⌜ length (now mem) ≡ 65536 ⌝ }
+    ensures declined { λ r. ⌜ (r ≡ false → now (mem .exit) ≡ now (mem .entry)) ⌝ }
+    ensures stored { λ r. ⌜ (r ≡ true → (storable? byte at ≡ true) × (now (mem .exit) ≡
+        commit (storeWrites byte (now (mem .entry)) at v) (now (mem .entry)))) ⌝ }
+{
+    if !inside(at) {
+        return false;
+    }
+    if byte {
+        memory::store(mem, true, ByteAddr(at), v);
+        return true;
+    }
+    if at % 2 == 1 {
+        return false;
+    }
+    memory::store(mem, false, ByteAddr(at), v);
+    true
 }
 
 // A load into a register that is not R7.
@@ -100,11 +122,10 @@ fn store_indexed(regs: &mut [u16; 8], mem: &mut [u8], psw: u16, w: u16) -> u32
     let a = get(regs, dst);
     let b = operands::adjusted_by(a, dec, inc, (w / 64 % 2) as u8);
     let at = operands::address((w / 512 % 2) as u8, a, b);
-    if !storable(w / 64 % 2 == 1, at) {
+    if !store(mem, w / 64 % 2 == 1, at, value) {
         return 65536;
     }
     operands::adjust_index(regs, 0, dst, dec, inc, b);
-    memory::store(mem, w / 64 % 2 == 1, ByteAddr(at), value);
     psw as u32
 }
 
@@ -137,11 +158,10 @@ fn store_relative(regs: &[u16; 8], mem: &mut [u8], psw: u16, w: u16) -> u32
 {
     let off = signed(64, w / 128 % 128);
     let at = operands::offset_from(get(regs, (w % 8) as u8), off);
-    if !storable(w / 64 % 2 == 1, at) {
+    let v = get(regs, (w / 8 % 8) as u8);
+    if !store(mem, w / 64 % 2 == 1, at, v) {
         return 65536;
     }
-    let v = get(regs, (w / 8 % 8) as u8);
-    memory::store(mem, w / 64 % 2 == 1, ByteAddr(at), v);
     psw as u32
 }
 
@@ -200,10 +220,10 @@ fn store_plain(regs: &[u16; 8], mem: &mut [u8], psw: u16, w: u16) -> u32
         (now (regs .entry)) psw (now (mem .entry)) (now (regs .entry)) r (now (mem .exit)) ⌝ }
 {
     let at = get(regs, (w % 8) as u8);
-    if !storable(false, at) {
+    let v = get(regs, (w / 8 % 8) as u8);
+    if !store(mem, false, at, v) {
         return 65536;
     }
-    memory::store(mem, false, ByteAddr(at), get(regs, (w / 8 % 8) as u8));
     psw as u32
 }
 
@@ -315,8 +335,8 @@ fn until(count: u32, due: u64, left: u32) -> u32
     left
 }
 
-// Does the next step fetch an instruction if no line is accepted: not halted, awake, PC even, no CEX
-// block open?
+// Does the next step fetch an instruction, if no line is accepted: not halted, awake, PC even, no
+// CEX block open?
 fn fetching(regs: &[u16; 8], t: Rest) -> bool
     ensures { λ r. ⌜ (r ≡ true →
         (t .halted ≡ false) × (t .cex ≡ 0) × Fetching (now (regs .entry)) (t .psw)) ⌝ }
@@ -324,7 +344,7 @@ fn fetching(regs: &[u16; 8], t: Rest) -> bool
     if t.halted | (t.cex != 0) {
         return false;
     }
-    (regs[7] % 2 == 0) & (t.psw / 8 % 2 != 1)
+    (regs[7] % 2 == 0) & !word::asleep(t.psw)
 }
 
 // Does no line wait above the priority?
@@ -332,11 +352,11 @@ fn unasked(mem: &[u8], lines: u8, psw: u16) -> bool
     requires { ⌜ length (now mem) ≡ 65536 ⌝ }
     ensures { λ r. ⌜ (r ≡ true → NoneAbove (now (mem .entry)) lines (current psw)) ⌝ }
 {
-    entry::line_above(mem, lines, psw / 32 % 8) == 8
+    entry::line_above(mem, lines, word::current_priority(psw)) == 8
 }
 
-// Asleep with no line above the priority, a step changes nothing but the count: all steps before the
-// next event pass at once, at most `left`. Any other machine stays as it is.
+// Asleep with no line above the priority, a step changes nothing but the count: all steps before
+// the next event pass at once, at most `left`. Any other machine stays as it is.
 fn sleep_on(mem: &[u8], t: Rest, due: u64, left: u32) -> Rest
     requires { ⌜ (length (now mem) ≡ 65536) × (t .count + left ≤ 4294967295) ⌝ }
     ensures passes { λ r. ⌜ ((regs : List ℕ) (ev : List Event) → Undisturbed ev (t .count) due →
@@ -344,7 +364,7 @@ fn sleep_on(mem: &[u8], t: Rest, due: u64, left: u32) -> Rest
         (r .count - t .count)) ⌝ }
     ensures count { λ r. ⌜ (t .count ≤ r .count) × (r .count ≤ t .count + left) ⌝ }
 {
-    if t.halted | (t.psw / 8 % 2 != 1) {
+    if t.halted | !word::asleep(t.psw) {
         return t;
     }
     if !unasked(mem, t.lines, t.psw) {

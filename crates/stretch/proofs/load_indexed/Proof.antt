@@ -68,8 +68,9 @@ returns-3 c =
     let a = g .before .before .before .before .args in
     let w = a .w in
     let low = below-seven (w / 8 % 8) (w % 8) (omega arith) (omega arith) (g .before .before .if1 .left) in
+    let x = d .before .before .before .before in
     let e = load-effect (now (a .regs)) _ (a .psw) _ (w / 512 % 2) (w / 256 % 2) (w / 128 % 2) (w / 64 % 2) (w / 8 % 8)
-    (g .get .ensures) (d .before .before .before .before .before .adjusted-by .ensures) (d .before .before .before .before .address .ensures) (d .adjust-index .ensures) (w % 8) in
+    (g .get .ensures) (x .before .adjusted-by .ensures) (x .address .ensures) (d .adjust-index .ensures) (w % 8) in
     let o = c .before .before .load .ensures in
     inr
     (served-load _ (now (a .regs)) _ (now (a .mem)) (a .psw) _ _ _ _ _ (omega arith) e

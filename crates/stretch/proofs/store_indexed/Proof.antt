@@ -2,9 +2,9 @@
 use Prim.Native.Nat.{_/_, _%_}
 use native.Mathlib.Omega.{arith}
 use mathlib.Core.Logic.{inl, inr}
-use mathlib.Core.Path.{refl, sym, _∙_}
+use mathlib.Core.Path.{refl}
 use denote.Ref.{now}
-use borrow.Author.Tests.{not-false}
+use borrow.Author.Tests.{not-true, not-false}
 use Rattle.machine.specs.Effect.{moves?}
 use Rattle.stretch.proofs.Laws.{served-store, store-effect, pc-adjusted}
 use borrow.Author.Needs.{needs}
@@ -44,36 +44,35 @@ cast-address c = search needs
 address-requires : tie.Need-address-requires
 address-requires c κs = search needs
 
-storable-requires : tie.Need-storable-requires
-storable-requires c κs = search needs
-
-returns-2 : tie.Need-returns-2
-returns-2 c = inl (refl, refl, refl)
-
-adjust-index-requires : tie.Need-adjust-index-requires
-adjust-index-requires c κs = search needs
-
 store-requires : tie.Need-store-requires
 store-requires c κs = search needs
 
 same-length : tie.Need-same-length
 same-length c = search needs
 
+returns-2 : tie.Need-returns-2
+returns-2 c = inl (refl, refl, c .before .before .before .store .ensures .0 (not-true _ (c .if2 .taken)))
+
+adjust-index-requires : tie.Need-adjust-index-requires
+adjust-index-requires c κs = search needs
+
+same-length-2 : tie.Need-same-length-2
+same-length-2 c = search needs
+
 returns-3 : tie.Need-returns-3
 returns-3 c =
-    let d = c .before .before .before .before in
-    let s = d .before .before in
-    let g = d .before .before .before .before .before .before in
+    let s = c .before .before in
+    let g = c .before .before .before .before .before .before .before .before .before in
     let start = g .before .before .before .before .before .before in
     let a = start .args in
     let w = a .w in
+    let x = s .before .before .before .before .before in
     let e = store-effect (now (a .regs)) _ (a .psw) _ (w / 512 % 2) (w / 256 % 2) (w / 128 % 2) (w / 64 % 2) (w % 8)
-    (g .get2 .ensures) (d .before .before .before .before .before .adjusted-by .ensures) (d .before .before .before .before .address .ensures)
-    (d .adjust-index .ensures) (w / 8 % 8) (g .before .before .get .ensures) in
-    let p = pc-adjusted (moves? (w / 256 % 2) (w / 128 % 2)) (now (a .regs)) _ (w % 8) _ (omega arith) (d .adjust-index .ensures .0) in
-    inr
-    (served-store _ (now (a .regs)) _ (now (a .mem)) (a .psw) _ _ _ _ (omega (arith, start .fits)) e
-    (sym (s .before .storable .ensures) ∙ not-false _ (s .if2 .left)) (c .before .before .store .ensures) p)
+    (g .get2 .ensures) (x .before .adjusted-by .ensures) (x .address .ensures)
+    (c .adjust-index .ensures) (w / 8 % 8) (g .before .before .get .ensures) in
+    let o = s .before .before .before .store .ensures .1 (not-false _ (s .if2 .left)) in
+    let p = pc-adjusted (moves? (w / 256 % 2) (w / 128 % 2)) (now (a .regs)) _ (w % 8) _ (omega arith) (c .adjust-index .ensures .0) in
+    inr (served-store _ (now (a .regs)) _ (now (a .mem)) (a .psw) _ _ _ _ (omega (arith, start .fits)) e (o .0) (o .1) p)
 
 pub store-indexed-spec : {M : Type 1} → statement M
 store-indexed-spec =
@@ -90,9 +89,9 @@ store-indexed-spec =
     adjusted-by-requires
     cast-address
     address-requires
-    storable-requires
-    returns-2
-    adjust-index-requires
     store-requires
     same-length
+    returns-2
+    adjust-index-requires
+    same-length-2
     returns-3)

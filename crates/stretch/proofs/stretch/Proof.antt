@@ -54,7 +54,8 @@ returns-3 c =
     let a = d .before .before .before .before .args in
     let f = d .before .fetching .ensures (not-false _ (d .if1 .left)) in
     let none = b .before .unasked .ensures (not-false _ (b .if2 .left)) in
-    let w = stretch-done (now (a .regs)) (now (a .mem)) (p .last .0) (p .last .1 .0) (a .t) (a .due) (p .result .psw) (p .result .steps) in (
+    let q = p .result in
+    let w = stretch-done (now (a .regs)) (now (a .mem)) (p .last .0) (p .last .1 .0) (a .t) (a .due) (q .psw) (q .steps) in (
       λ ev u. w ev (f .0) (f .1) none (omega arith) (p .ensures .0) u .0,
       (λ ev u. w ev (f .0) (f .1) none (omega arith) (p .ensures .0) u .1, (omega arith, omega arith)),
     )

@@ -1,6 +1,6 @@
 # XM-23 examination machine. 'make help' lists what there is.
 
-.PHONY: help run list report test fuzz replay bench clean
+.PHONY: help run lib list report test fuzz replay bench clean
 
 CFLAGS = -std=c99 -pedantic -O2 -Wall -Wextra -Werror -Iinclude
 ORACLE = --offline --locked --manifest-path oracle/Cargo.toml --target-dir oracle/target
@@ -18,6 +18,10 @@ help:
 
 run: target/bin/print_state
 	@target/bin/print_state < $(EXAMPLE).in | python3 -B scripts/legend.py
+
+# The archive to link, with include/xm23.h.
+lib: target/staticlib/libxm23.a
+	@echo '$<'
 
 report: target/bin/print_state
 	@scripts/report.sh '$(INPUT)' '$(OUT)'
@@ -57,11 +61,11 @@ build/libxm23_fast.a: bench/xm23_fast.c
 	gcc -std=gnu11 -O2 -Wall -Wextra -Werror -c -o build/xm23_fast.o $<
 	ar rcs $@ build/xm23_fast.o
 
-# rt proves again only what has changed, so it is asked each time.
-target/staticlib/lib%.a: FORCE
-	rt staticlib $*
+# A file of a crate that is newer, or one that has come or gone: rt is asked, and proves what has changed.
+SOURCES := crates.txt $(shell find crates ! -path '*/must-fail*')
 
-target/bin/%: FORCE
-	rt check $*
+target/staticlib/lib%.a: $(SOURCES)
+	@scripts/prove.py archive $*
 
-FORCE:
+target/bin/%: $(SOURCES)
+	@scripts/prove.py program $*

@@ -16,6 +16,7 @@
 
 /* An open machine: the input as it was read, of which record and memory are advanced, and how far it has come. */
 struct machine {
+    const char *name;
     uint8_t input[MOST];
     size_t length;
     uint32_t steps;
@@ -36,6 +37,7 @@ static struct machine *open_machine(const char *name)
         perror(name);
         exit(1);
     }
+    m->name = name;
     m->length = fread(m->input, 1, sizeof m->input, file);
     fclose(file);
     if (m->length < HEAD)
@@ -90,6 +92,7 @@ static void print_line(const struct machine *m)
     int i;
     if (m->refusal) {
         printf("R%u\n", m->refusal);
+        fprintf(stderr, "%s: refused: %s\n", m->name, xm23_refusal_text(m->refusal));
         return;
     }
     printf("%u %u", m->reason, (unsigned)m->steps);

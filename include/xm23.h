@@ -20,11 +20,12 @@
 extern "C" {
 #endif
 
-/* ---- version */
+/* ---- version: of this header, as one number; xm23_version gives that of the library */
 
 #define XM23_VERSION_MAJOR 0
-#define XM23_VERSION_MINOR 2
+#define XM23_VERSION_MINOR 3
 #define XM23_VERSION_PATCH 0
+#define XM23_VERSION (XM23_VERSION_MAJOR * 65536 + XM23_VERSION_MINOR * 256 + XM23_VERSION_PATCH)
 
 /* ---- sizes and limits */
 
@@ -61,26 +62,34 @@ extern "C" {
 #define XM23_EVENT_DATA 5   /* one byte */
 #define XM23_EVENT_ZERO 6   /* two bytes, both 0 */
 
-/* ---- refusals, in the order of 01's numbers */
+/* ---- refusals: 01's numbers; xm23_refusal_text has the sentence of each */
 
-/* Nothing was refused. */
 #define XM23_ACCEPTED 0
-/* The memory is not 65,536 bytes. */
 #define XM23_REFUSED_MEMORY 1
-/* n is above 1,000,000, or the record's step count and n together are above 4,294,967,295. */
 #define XM23_REFUSED_STEPS 2
-/* The state record is not 32 bytes. */
 #define XM23_REFUSED_RECORD 3
-/* A bit or byte of the state record that is always 0 is not, or its halted mark is above 1. */
 #define XM23_REFUSED_RECORD_BITS 4
-/* The events are not a multiple of 8 bytes, or more than 4,096 records. */
 #define XM23_REFUSED_EVENTS 5
-/* An event's device is above 7, or its bytes 6-7 are not 0. */
 #define XM23_REFUSED_EVENT_FIELDS 6
-/* An event's step is below that of the event before it. */
 #define XM23_REFUSED_EVENT_ORDER 7
-/* The instruction to encode is "illegal", or has a field that its format cannot hold. */
 #define XM23_REFUSED_INSTRUCTION 8
+
+/* What a refusal says, in the papers' words. Every number gives a text, which is there for good and never NULL. */
+static inline const char *xm23_refusal_text(unsigned refusal)
+{
+    switch (refusal) {
+    case XM23_ACCEPTED: return "accepted";
+    case XM23_REFUSED_MEMORY: return "memory is not 65,536 bytes";
+    case XM23_REFUSED_STEPS: return "n is above 1,000,000, or step count + n above 4,294,967,295";
+    case XM23_REFUSED_RECORD: return "the state record is not 32 bytes";
+    case XM23_REFUSED_RECORD_BITS: return "a zero bit or byte of the state record is not zero, or halted is above 1";
+    case XM23_REFUSED_EVENTS: return "the events are not a multiple of 8 bytes, or above 4,096 records";
+    case XM23_REFUSED_EVENT_FIELDS: return "an event's device is above 7, or its bytes 6-7 are not zero";
+    case XM23_REFUSED_EVENT_ORDER: return "an event's step is below the one before it";
+    case XM23_REFUSED_INSTRUCTION: return "an instruction to encode is illegal, or has a field its format cannot hold";
+    default: return "no refusal has this number";
+    }
+}
 
 /* ---- parts of a reply, for every call that can refuse */
 
@@ -191,6 +200,15 @@ extern "C" {
 #define XM23_CEX_FL 15 /* always false */
 
 /* ---- calls */
+
+/*
+ * The version of the library.
+ *
+ * result   XM23_VERSION of the header that it was made with: major in bits 31-16, minor in 15-8, patch in 7-0.
+ * refusals none.
+ * defined  crates/xm23/specs/Api.antt, versionNumber.
+ */
+uint32_t xm23_version(void);
 
 /*
  * Decodes a word.

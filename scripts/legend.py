@@ -2,16 +2,7 @@
 """Reads the line of print_state and prints it again with what each field is: print_state < INPUT | legend.py."""
 import sys
 
-REFUSALS = [
-    "memory is not 65,536 bytes",
-    "n is above 1,000,000, or step count + n above 4,294,967,295",
-    "the state record is not 32 bytes",
-    "a zero bit or byte of the state record is not zero, or halted is above 1",
-    "the events are not a multiple of 8 bytes, or above 4,096 records",
-    "an event's device is above 7, or its bytes 6-7 are not zero",
-    "an event's step is below the one before it",
-]
-
+from refusals import sentence
 
 def named(bits, names):
     """The names of the bits that are set."""
@@ -22,7 +13,7 @@ def legend(line):
     """A row for each field: its name, the field as printed, what it says."""
     fields = line.split()
     if len(fields) == 1:
-        return [("refusal", line[1:], REFUSALS[int(line[1:]) - 1])]
+        return [("refusal", line[1:], sentence(int(line[1:])))]
     reason, steps, *words = fields
     psw, cex, lines = (int(word, 16) for word in words[8:])
     rows = [("reason", reason, "halted" if reason == "1" else "all steps are done"), ("steps", steps, "done")]

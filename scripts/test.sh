@@ -97,6 +97,7 @@ report() {
 
 part 'what the trace refuses' count_line python3 -B scripts/trace_test.py
 part 'trace to 01' count_line python3 -B scripts/trace.py
+part 'sentences of the refusals' count_line python3 -B scripts/refusals.py
 part 'layout of proofs and code' count_status rt fmt --check
 part 'proofs and must-fail edits' count_line rt ci
 part 'static library xm23' count_status rt staticlib xm23

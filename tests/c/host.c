@@ -1,6 +1,7 @@
 /* Calls every function of xm23.h, accepted and refused, and prints how many checks passed. C99 and C++. */
 
 #include <inttypes.h>
+#include <limits.h>
 #include <stdio.h>
 #include <string.h>
 
@@ -79,6 +80,34 @@ static void refused_instructions(void)
     refused("unused byte", made(XM23_FORMAT_SWPB, 0, 1, 0, 0, 0));
     refused("offset where there is none", made(XM23_FORMAT_SXT, 0, 0, 0, 0, 0) + XM23_PUT_OFFSET(1));
     refused("all ones", UINT64_MAX);
+}
+
+/* The library is of the header's version. */
+static void version(void)
+{
+    same("version", xm23_version(), XM23_VERSION);
+    same("major", xm23_version() >> 16, XM23_VERSION_MAJOR);
+    same("minor", xm23_version() >> 8 & 0xFF, XM23_VERSION_MINOR);
+    same("patch", xm23_version() & 0xFF, XM23_VERSION_PATCH);
+}
+
+/* Every refusal has a sentence of its own; scripts/refusals.py holds the manuals to them. */
+static void sentences(void)
+{
+    static const unsigned refusals[] = {
+        XM23_ACCEPTED,           XM23_REFUSED_MEMORY,      XM23_REFUSED_STEPS,
+        XM23_REFUSED_RECORD,     XM23_REFUSED_RECORD_BITS, XM23_REFUSED_EVENTS,
+        XM23_REFUSED_EVENT_FIELDS, XM23_REFUSED_EVENT_ORDER, XM23_REFUSED_INSTRUCTION,
+    };
+    const char *const none = xm23_refusal_text(0xFF);
+    size_t i, j;
+    for (i = 0; i < sizeof refusals / sizeof *refusals; i++) {
+        const char *const text = xm23_refusal_text(refusals[i]);
+        same("a sentence", strcmp(text, none) != 0, 1);
+        for (j = 0; j < i; j++)
+            same("a sentence of its own", strcmp(text, xm23_refusal_text(refusals[j])) != 0, 1);
+    }
+    same("no refusal", (uint64_t)strcmp(xm23_refusal_text(UINT_MAX), none), 0);
 }
 
 /* The macros take a reply apart. */
@@ -286,6 +315,8 @@ static void nothing_lent(void)
 
 int main(void)
 {
+    version();
+    sentences();
     accepted_instructions();
     refused_instructions();
     parts();

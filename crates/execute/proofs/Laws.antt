@@ -40,20 +40,19 @@ effect-parts c r p x a i = record { core = record { regs = r i; psw = p i; cex =
 -- ---- the arms of `execute`
 
 -- a form executed, and the instruction that has it
-pub arm : {r : Effect} {c : Core} {i j : Instr} → i ≡ j → r ≡ effectOf c j → r ≡ effectOf c i
-arm {c = c} e f = f ∙ sym (ap (effectOf c) e)
+pub arm : (c : Core) {r : Effect} {i j : Instr} → i ≡ j → r ≡ effectOf c j → r ≡ effectOf c i
+arm c e f = f ∙ sym (ap (effectOf c) e)
 
 -- what asks and does nothing else
-pub arm-asks : {l : List ℕ} {p x : ℕ} {d : Executed} {a : Access} {i j : Instr} → i ≡ j
-    → (d .psw ≡ p) × (d .cex ≡ x) × (d .access ≡ a) → effect (coreOf l p x) a ≡ effectOf (coreOf l p x) j
-    → effectWith l d ≡ effectOf (coreOf l p x) i
-arm-asks e q f = arm e (effect-parts _ refl (q .0) (q .1) (q .2) ∙ f)
+pub arm-asks : (c : Core) {d : Executed} {a : Access} {i j : Instr} → i ≡ j → (d .psw ≡ c .psw) × (d .cex ≡ c .cex) × (d .access ≡ a)
+    → effect c a ≡ effectOf c j → effectWith (c .regs) d ≡ effectOf c i
+arm-asks c e q f = arm c e (effect-parts c refl (q .0) (q .1) (q .2) ∙ f)
 
 -- an operation on one register, its number read
-pub arm-one : {l : List ℕ} {p x op wb dst : ℕ} {r : Effect} {o : Op} {i : Instr} → i ≡ Instr.Unary op wb dst → o ≡ unaryOf op
+pub arm-one : (l : List ℕ) (p x op wb dst : ℕ) {r : Effect} {o : Op} {i : Instr} → i ≡ Instr.Unary op wb dst → o ≡ unaryOf op
     → r ≡ plainly (operated (coreOf l p x) dst (aluOf o (widthOf (eqb wb 1)) (getD l dst 0) 0 p)) → r ≡ effectOf (coreOf l p x) i
 unfolding effectOf
-arm-one {l = l} {p = p} {x = x} {wb = wb} {dst = dst} e h f =
+arm-one l p x op wb dst e h f =
     f
     ∙ ap (λ (o : Op). plainly (operated (coreOf l p x) dst (aluOf o (widthOf (eqb wb 1)) (getD l dst 0) 0 p))) h
     ∙ sym (ap (effectOf (coreOf l p x)) e)

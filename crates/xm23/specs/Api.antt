@@ -1,5 +1,5 @@
 -- The definitions that the exported calls promise, gathered from the crates below. Assumes nothing.
-
+use Prim.Native.Nat.{ℕ, _+_, _*_}
 -- xm23_decode replies numberOf (decodeOf word): the number of the instruction that the word means. [003 14]
 pub use Rattle.isa.specs.Decode.{decodeOf}
 pub use Rattle.isa_number.specs.Number.{numberOf}
@@ -10,3 +10,7 @@ pub use Rattle.isa_number.specs.Reply.{encodeNumber, replyOf, refusalNumber}
 -- [01 Who can be turned back; 01 Resumption]
 pub use Rattle.machine.specs.Call.{Closing, runCallOf}
 pub use Rattle.resume.specs.Resumption.{Resumption}
+
+-- xm23_version replies versionNumber: major, minor and patch, which are those of the header.
+abbrev pub versionNumber : ℕ
+versionNumber = 0 * 65536 + 3 * 256 + 0

@@ -3,11 +3,20 @@
 // The definitions that the replies equal are gathered in specs/Api.antt.
 ghost use mathlib.Core.Path.{_≡_};
 ghost use Rattle.xm23.specs.Api.{decodeOf, numberOf, encodeNumber, runCallOf, Resumption};
+ghost use Rattle.xm23.specs.Api.{versionNumber};
 use isa::Encoded;
 use isa::decode;
 use isa::encode;
 use isa_number::from_number;
 use isa_number::number;
+
+// The version of the library: major in bits 31-16, minor in 15-8, patch in 7-0.
+#[no_mangle]
+pub extern "C" fn xm23_version() -> u32
+    ensures reply { λ r. ⌜ r ≡ versionNumber ⌝ }
+{
+    0x000300
+}
 
 // The number of the instruction that a word means; that of the illegal one is 0.
 #[no_mangle]

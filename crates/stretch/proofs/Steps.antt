@@ -1,6 +1,6 @@
 -- One step and a stretch of them. Where PC is even, SLP clear, no CEX block open and no line above the priority, a step is its
 -- instruction's step; asleep with no line above the priority, nothing changes but the count. Assumes nothing.
-use Prim.Native.Nat.{ℕ, zero, suc, _+_, _-_, _*_, _/_, _%_, _<_, _≤_}
+use Prim.Native.Nat.{ℕ, zero, suc, _+_, _-_, _*_, _/_, _%_, _≤_}
 use native.Mathlib.Omega.{arith}
 use native.Mathlib.Numerals.{add-one}
 use mathlib.Core.Bool.{Bool, true, false, not, _&&_, _||_, and-false, false≢true}
@@ -27,7 +27,6 @@ use Rattle.machine.specs.Effect.{effectOf}
 use Rattle.machine.specs.Step as step
 use Rattle.machine.specs.Step.{Plan, Interrupt, planned, chosen, returns?, interruptOf, advanced, granted, executed, instructionOf}
 use Rattle.machine.specs.Step.{planOf, perform, finished}
-use Rattle.machine.specs.Run.{ran, runOf}
 use Rattle.machine.specs.Uneventful.{uneventful?, Uneventful}
 use Rattle.machine_laws.proofs.Cases.{and-left, and-right, le-of, lt-of, eq-of, not-lt}
 use Rattle.machine_laws.proofs.Plans.{plan-live}

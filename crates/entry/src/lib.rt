@@ -154,7 +154,11 @@ pub fn enter(regs: &mut [u16; 8], mem: &mut [u8], psw: u16, cex: u16, v: u8, fau
     let start = vector_pc(mem, v);
     let sp = push_frame(regs, mem, psw, cex);
     set_three(regs, 0xFFFF, sp, start);
-    entered_psw(status, word::current_priority(psw), fault | word::faulted(psw))
+    entered_psw(
+        status,
+        word::current_priority(psw),
+        fault | word::faulted(psw),
+    )
 }
 
 // A chained entry by vector v, which pushes nothing: the PSW after it. CEX is then clear.

@@ -31,8 +31,16 @@ pub struct WordAddr(pub u16);
 // register, a store of a value, a fault, or a trap to a vector.
 pub enum Access {
     Nothing,
-    Load { byte: bool, at: ByteAddr, dst: u8 },
-    Store { byte: bool, at: ByteAddr, value: u16 },
+    Load {
+        byte: bool,
+        at: ByteAddr,
+        dst: u8,
+    },
+    Store {
+        byte: bool,
+        at: ByteAddr,
+        value: u16,
+    },
     Fault(u8),
     Trap(u8),
 }

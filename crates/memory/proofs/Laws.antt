@@ -140,9 +140,9 @@ module _ (m : List ℕ) {l : List ℕ} (w v : ℕ) where
       l ≡ commit (byteWrites n (a + 1) (highByte v)) n → l ≡ commit (storeWrites false m (2 * w) v) m
   store-two {n} {a} b e f =
       word-at (
-        f
-        ∙ ap (λ (x : List ℕ). commit (byteWrites x (a + 1) (highByte v)) x) e
-        ∙ ap (λ (i : ℕ). commit (byteWrites (commit (byteWrites m i (lowByte v)) m) (i + 1) (highByte v)) (commit (byteWrites m i (lowByte v)) m)) b
+      f
+      ∙ ap (λ (x : List ℕ). commit (byteWrites x (a + 1) (highByte v)) x) e
+      ∙ ap (λ (i : ℕ). commit (byteWrites (commit (byteWrites m i (lowByte v)) m) (i + 1) (highByte v)) (commit (byteWrites m i (lowByte v)) m)) b
       )
 
   -- above the devices

@@ -8,9 +8,9 @@ ghost use Rattle.machine.specs.Record.{fourAt};
 ghost use Rattle.machine.specs.Events.{eventAt, eventCount};
 ghost use Rattle.machine.specs.Refusal.{recordFits, eventsFit, verdictOf, refusalNumber};
 ghost use Rattle.machine.specs.Refusal.{eventFits, eventsFitBelow, inOrder, inOrderBelow};
-use machine::Verdict;
 use little_endian::four_at;
 use little_endian::two_at;
+use machine::Verdict;
 
 // Rule 4: the bits and bytes of a record that are zero, and a halted mark of 0 or 1.
 fn record_fits(r: &[u8]) -> bool

@@ -137,11 +137,12 @@ fn instruction(regs: &mut [u16; 8], mem: &[u8], psw: u16, cex: u16) -> Planned
         };
     }
     let pc = regs[7];
+    let left = lower(cex);
     if pc % 2 == 1 {
         return faulted(regs, psw, cex, pc, cex, 9);
     }
-    let left = lower(cex);
-    regs[7] = std::num::wrapping_add_u16(pc, 2);
+    let next = std::num::wrapping_add_u16(pc, 2);
+    regs[7] = next;
     if skips(cex) {
         return Planned {
             psw,

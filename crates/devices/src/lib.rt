@@ -5,7 +5,6 @@ ghost use Prim.Native.Nat.{ℕ, _+_, _*_, _^_, _<_, _≤_};
 ghost use lib.ListN.{length};
 ghost use Rattle.machine.specs.State.{Core};
 ghost use Rattle.machine.specs.Memory.{commit};
-ghost use Rattle.machine.specs.Record.{twoAt};
 ghost use Rattle.machine.specs.Events.{eventAt, eventCount, eventsOf};
 ghost use Rattle.machine.specs.Devices.{eventStatus, raised, fallen, waiting};
 ghost use Rattle.machine.specs.Devices.{eventWrites, eventOn, deliverAt};
@@ -92,21 +91,12 @@ fn event_on(mem: &mut [u8], lines: u8, device: u8, byte: u8) -> u8
     lines
 }
 
-// The number in two bytes from byte i on.
-fn two_at(events: &[u8], i: usize) -> u16
-    requires { do ⌜ i + 2 ≤ (← ⟦events.len()⟧) ⌝ }
-    ensures { λ r. ⌜ r ≡ twoAt (now (events .entry)) i ⌝ }
-{
-    events[i] as u16 + 256 * events[i + 1] as u16
-}
-
 // The step of record k.
 pub fn step_at(events: &[u8], k: usize) -> u32
     requires { do ⌜ 8 * k + 8 ≤ (← ⟦events.len()⟧) ⌝ }
     ensures { λ r. ⌜ r ≡ eventAt (now (events .entry)) k .step ⌝ }
 {
-    let i = 8 * k;
-    two_at(events, i) as u32 + 65536 * two_at(events, i + 2) as u32
+    little_endian::four_at(events, 8 * k)
 }
 
 // Applies the events due at step `count`, from record `next` on; earlier ones are passed over.

@@ -88,11 +88,11 @@ vectored-law c m l v q s p a r flt e f g h =
 
 -- an entry that pushes, its SP as the frame left it
 pub entered-law :
-    (c : Core) (m l : List ℕ) (v s p a r : ℕ) (fault flt : Bool) → p ≡ vectorPsw m v → a ≡ vectorPc m v → s ≡ pushed c →
-    l ≡ set (set (set (c .regs) 5 0xFFFF) 6 s) 7 a → flt ≡ fault || faulted? (c .psw) →
-    r ≡ enteredPsw p (current (c .psw)) flt → coreOf l r 0 ≡ entered c m v fault
-entered-law c m l v s p a r fault flt e f d g b h =
-    vectored-law c m l v (current (c .psw)) s p a r flt e f g h ∙ (λ i. vectored c m v (current (c .psw)) (b i) (d i))
+    (c : Core) (m l : List ℕ) (v s p a q r : ℕ) (fault flt : Bool) → p ≡ vectorPsw m v → a ≡ vectorPc m v → s ≡ pushed c →
+    l ≡ set (set (set (c .regs) 5 0xFFFF) 6 s) 7 a → q ≡ current (c .psw) → flt ≡ faulted? (c .psw) →
+    r ≡ enteredPsw p q (fault || flt) → coreOf l r 0 ≡ entered c m v fault
+entered-law c m l v s p a q r fault flt e f d g k b h =
+    vectored-law c m l v q s p a r (fault || flt) e f g h ∙ (λ i. vectored c m v (k i) (fault || b i) (d i))
 
 -- a return: the four words at SP, each address a sum that wraps
 pub pulled-law :

@@ -7,17 +7,8 @@ ghost use Rattle.machine.specs.Memory.{wordAt, wordWrites, commit};
 ghost use Rattle.machine.specs.Entry.{vectorPsw, vectorPc, priority, better, best};
 ghost use Rattle.machine.specs.Entry.{enteredPsw, pushed, pushes, pulled};
 ghost use Rattle.machine.specs.Step.{entered, chained};
+ghost use Rattle.entry.specs.Lines.{lineAbove};
 use machine::ByteAddr;
-use machine::WordAddr;
-
-// A machine without its registers.
-pub struct Rest {
-    pub psw: u16,
-    pub cex: u16,
-    pub lines: u8,
-    pub halted: bool,
-    pub count: u32,
-}
 
 // A pulled PSW and CEX state.
 pub struct Pulled {
@@ -25,19 +16,27 @@ pub struct Pulled {
     pub cex: u16,
 }
 
+// The word at an address, bit 0 dropped.
+fn word_at(mem: &[u8], a: u16) -> u16
+    requires { ⌜ length (now mem) ≡ 65536 ⌝ }
+    ensures { λ r. ⌜ r ≡ wordAt (now (mem .entry)) a ⌝ }
+{
+    memory::read_word(mem, memory::word_of(ByteAddr(a)))
+}
+
 // The two words of vector v.
 fn vector_psw(mem: &[u8], v: u8) -> u16
     requires { ⌜ (length (now mem) ≡ 65536) × (v < 16) ⌝ }
     ensures { λ r. ⌜ r ≡ vectorPsw (now (mem .entry)) v ⌝ }
 {
-    memory::read_word(mem, WordAddr(0x7FE0 + 2 * v as u16))
+    word_at(mem, 0xFFC0 + 4 * v as u16)
 }
 
 fn vector_pc(mem: &[u8], v: u8) -> u16
     requires { ⌜ (length (now mem) ≡ 65536) × (v < 16) ⌝ }
     ensures { λ r. ⌜ r ≡ vectorPc (now (mem .entry)) v ⌝ }
 {
-    memory::read_word(mem, WordAddr(0x7FE1 + 2 * v as u16))
+    word_at(mem, 0xFFC0 + 4 * v as u16 + 2)
 }
 
 // The priority of vector v.
@@ -45,7 +44,7 @@ pub fn priority_of(mem: &[u8], v: u8) -> u16
     requires { ⌜ (length (now mem) ≡ 65536) × (v < 16) ⌝ }
     ensures { λ r. ⌜ r ≡ priority (now (mem .entry)) v ⌝ }
 {
-    vector_psw(mem, v) / 32 % 8
+    word::current_priority(vector_psw(mem, v))
 }
 
 // The better of line d and the best e of those after it.
@@ -75,6 +74,31 @@ pub fn best_line(mem: &[u8], lines: u8) -> u8
         }
     }
     e
+}
+
+// The best waiting line if its priority is above `level`, else 8.
+pub fn best_above(mem: &[u8], lines: u8, level: u16) -> u8
+    requires { ⌜ length (now mem) ≡ 65536 ⌝ }
+    ensures { λ r. ⌜ (r ≡ lineAbove (now (mem .entry)) lines level) × (r ≤ 8) ⌝ }
+{
+    let d = best_line(mem, lines);
+    if d < 8 {
+        if level < priority_of(mem, d) {
+            return d;
+        }
+    }
+    8
+}
+
+// The same, asked at every step; no vector is read where no line waits.
+pub fn line_above(mem: &[u8], lines: u8, level: u16) -> u8
+    requires { ⌜ length (now mem) ≡ 65536 ⌝ }
+    ensures { λ r. ⌜ (r ≡ lineAbove (now (mem .entry)) lines level) × (r ≤ 8) ⌝ }
+{
+    if lines == 0 {
+        return 8;
+    }
+    best_above(mem, lines, level)
 }
 
 // The PSW of an entry, from the vector's word.
@@ -130,7 +154,11 @@ pub fn enter(regs: &mut [u16; 8], mem: &mut [u8], psw: u16, cex: u16, v: u8, fau
     let start = vector_pc(mem, v);
     let sp = push_frame(regs, mem, psw, cex);
     set_three(regs, 0xFFFF, sp, start);
-    entered_psw(status, psw / 32 % 8, fault | (psw / 256 % 2 == 1))
+    entered_psw(
+        status,
+        word::current_priority(psw),
+        fault | word::faulted(psw),
+    )
 }
 
 // A chained entry by vector v, which pushes nothing: the PSW after it. CEX is then clear.
@@ -143,15 +171,7 @@ pub fn chain(regs: &mut [u16; 8], mem: &[u8], psw: u16, v: u8) -> u16
     let pc = vector_pc(mem, v);
     let sp = regs[6];
     set_three(regs, 0xFFFF, sp, pc);
-    entered_psw(p, psw / 8192 % 8, psw / 256 % 2 == 1)
-}
-
-// The word at an address, bit 0 dropped.
-fn word_at(mem: &[u8], a: u16) -> u16
-    requires { ⌜ length (now mem) ≡ 65536 ⌝ }
-    ensures { λ r. ⌜ r ≡ wordAt (now (mem .entry)) a ⌝ }
-{
-    memory::read_word(mem, memory::word_of(ByteAddr(a)))
+    entered_psw(p, word::previous_priority(psw), word::faulted(psw))
 }
 
 // A return that pulls.

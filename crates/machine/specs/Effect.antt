@@ -18,6 +18,7 @@ use Rattle.alu.specs.declared.Outcome.{Outcome}
 use Rattle.alu.specs.Alu.{aluOf}
 use Rattle.isa.specs.declared.Instr.{Instr}
 use Rattle.isa.specs.declared.Instr.the-variants as i
+use Rattle.machine.specs.declared.ByteAddr.{ByteAddr}
 use Rattle.machine.specs.declared.Access.{Access}
 use Rattle.machine.specs.declared.Access.the-variants.{Nothing, Load, Store, Fault, Trap}
 use Rattle.machine.specs.State.{Core, reg, pc, wrap, down, moved, doubled, withPsw, withCex, put}
@@ -34,6 +35,10 @@ effect c a = record { core = c; access = a }
 -- nothing is asked
 abbrev pub plainly : Core → Effect
 plainly c = effect c Nothing
+
+-- the number a as a byte's address. [01 State and memory]
+abbrev pub byteAddr : ℕ → ByteAddr
+byteAddr a = record { 0 = a }
 
 -- W/B: 0 word, 1 byte. [003 14]
 abbrev pub byte? : ℕ → Bool
@@ -138,9 +143,9 @@ effectOf c (i.SetCc f) = plainly (withPsw c (setFlags (c .psw) (allowedFlags (c 
 effectOf c (i.ClrCc f) = plainly (withPsw c (clearFlags (c .psw) f))
 effectOf c (i.Cex n t f) = plainly (withCex c (loadedCex n t f (c .psw)))
 effectOf c (i.Ld prpo dec inc wb src dst) =
-    effect (adjust c src dec inc wb) (Load (byte? wb) (indexed c src prpo dec inc wb) dst)
+    effect (adjust c src dec inc wb) (Load (byte? wb) (byteAddr (indexed c src prpo dec inc wb)) dst)
 effectOf c (i.St prpo dec inc wb src dst) =
-    effect (adjust c dst dec inc wb) (Store (byte? wb) (indexed c dst prpo dec inc wb) (reg c src))
+    effect (adjust c dst dec inc wb) (Store (byte? wb) (byteAddr (indexed c dst prpo dec inc wb)) (reg c src))
 effectOf c (i.MovImm op b dst) = plainly (put c dst (immediateOf op b (reg c dst)))
-effectOf c (i.Ldr off wb src dst) = effect c (Load (byte? wb) (moved (reg c src) off) dst)
-effectOf c (i.Str off wb src dst) = effect c (Store (byte? wb) (moved (reg c dst) off) (reg c src))
+effectOf c (i.Ldr off wb src dst) = effect c (Load (byte? wb) (byteAddr (moved (reg c src) off)) dst)
+effectOf c (i.Str off wb src dst) = effect c (Store (byte? wb) (byteAddr (moved (reg c dst) off)) (reg c src))

@@ -1,4 +1,5 @@
 pub mod State
+pub mod Rest
 pub mod Memory
 pub mod Record
 pub mod Events
@@ -8,5 +9,6 @@ pub mod Entry
 pub mod Effect
 pub mod Step
 pub mod Run
+pub mod Uneventful
 pub mod Refusal
 pub mod Call

@@ -10,6 +10,8 @@ use Rattle.word.specs.Psw.{asleep?, faulted?, current, previous}
 use Rattle.isa.specs.Decode.{decodeOf}
 use Rattle.machine.specs.declared.Access.{Access}
 use Rattle.machine.specs.declared.Access.the-variants.{Nothing, Load, Store, Fault, Trap}
+use Rattle.machine.specs.declared.Act.{Act}
+use Rattle.machine.specs.declared.Act.the-variants as act
 use Rattle.machine.specs.State.{Core, State, sp, pc, wrap}
 use Rattle.machine.specs.Memory.{wordAt, Write, commit, valueAt}
 use Rattle.machine.specs.Events.{Event}
@@ -17,21 +19,6 @@ use Rattle.machine.specs.Devices.{fallen, deliver, loadWrites, storeWrit
 use Rattle.machine.specs.Cex.{skips?, lowered}
 use Rattle.machine.specs.Entry.{priority, best, above, vectored, pushed, pushes, pulled}
 use Rattle.machine.specs.Effect.{Effect, effectOf, loaded}
-
--- What a step does. A halted machine takes no step. [01 One step, in order]
-pub data Act : Type 0 where
-  stopped : Act
-  pull : Act
-  chain : (d : ℕ) → Act
-  accept : (d : ℕ) → Act
-  sleep : Act
-  fault : (v : ℕ) → Act
-  halt : Act
-  skip : Act
-  trap : (v : ℕ) → Act
-  plain : Act
-  loads : (byte : Bool) (a d : ℕ) → Act
-  stores : (byte : Bool) (a v : ℕ) → Act
 
 -- the act, and the core that it starts from
 pub record Plan : Type 0 where
@@ -66,17 +53,17 @@ advanced c = record { regs = set (c .regs) 7 (wrap (pc c + 2)); psw = c .psw; ce
 
 -- A fault v from the core c; with FLT set it halts and leaves the core as it was before the step. [01 Faults]
 abbrev pub faulting : (before c : Core) → ℕ → Plan
-faulting before c v = cond (faulted? (before .psw)) (planned before halt) (planned c (fault v))
+faulting before c v = cond (faulted? (before .psw)) (planned before act.Halt) (planned c (act.Fault v))
 
 -- What an instruction asks for, granted: SVC to a vector whose priority is not above the current one is fault 10. A
 -- faulting instruction changes nothing besides its CEX count and PC. [01 Faults]
 unfoldable pub granted : (before x : Core) → Access → List ℕ → Plan
-granted c x Nothing m = planned x plain
-granted c x (Load byte a d) m = planned x (loads byte a d)
-granted c x (Store byte a v) m = planned x (stores byte a v)
+granted c x Nothing m = planned x act.Plain
+granted c x (Load byte a d) m = planned x (act.Loads byte a d)
+granted c x (Store byte a v) m = planned x (act.Stores byte a v)
 granted c x (Fault v) m = faulting c (advanced c) v
 granted c x (Trap v) m =
-    cond (ltb (current (c .psw)) (priority m v)) (planned x (trap v)) (faulting c (advanced c) 10)
+    cond (ltb (current (c .psw)) (priority m v)) (planned x (act.Trap v)) (faulting c (advanced c) 10)
 
 abbrev pub executed : Core → Effect → List ℕ → Plan
 executed c e m = granted c (e .core) (e .access) m
@@ -84,21 +71,21 @@ executed c e m = granted c (e .core) (e .access) m
 -- Points 4 to 7: asleep, odd PC, a CEX block that skips, else fetch, decode, execute. [01 One step, in order, 4 to 7]
 unfoldable pub instructionOf : Core → List ℕ → Plan
 instructionOf c m =
-    cond (asleep? (c .psw)) (planned c sleep)
+    cond (asleep? (c .psw)) (planned c act.Sleep)
     (cond (eqb (pc c % 2) 1) (faulting c c 9)
-    (cond (skips? (c .cex)) (planned (advanced c) skip)
+    (cond (skips? (c .cex)) (planned (advanced c) act.Skip)
     (executed c (effectOf (advanced c) (decodeOf (wordAt m (pc c)))) m)))
 
 abbrev pub chosen : Interrupt → Core → Plan → Plan
-chosen pulls c p = planned c pull
-chosen (chains d) c p = planned c (chain d)
-chosen (accepts d) c p = planned c (accept d)
+chosen pulls c p = planned c act.Pull
+chosen (chains d) c p = planned c (act.Chain d)
+chosen (accepts d) c p = planned c (act.Accept d)
 chosen nothing c p = p
 
 -- the plan of a state whose due events are applied
 unfoldable pub planOf : State → Plan
 planOf s =
-    cond (s .halted) (planned (s .core) stopped)
+    cond (s .halted) (planned (s .core) act.Stopped)
     (chosen (interruptOf (s .core) (s .lines) (s .mem)) (s .core) (instructionOf (s .core) (s .mem)))
 
 -- what a step leaves: core, lines, halted mark, and the bytes that it writes, in order
@@ -122,18 +109,18 @@ chained c m v = vectored c m v (previous (c .psw)) (faulted? (c .psw)) (sp c)
 
 -- "An accepted or chained line falls." [01 Entry; 01 Return; 01 Faults; 01 Devices]
 unfoldable pub perform : Act → Core → (lines : ℕ) → List ℕ → Outcome
-perform stopped c l m = record { core = c; lines = l; halted = true; writes = [] }
-perform pull c l m = outcome (pulled c m) l []
-perform (chain d) c l m = outcome (chained c m d) (fallen l d) []
-perform (accept d) c l m = outcome (entered c m d false) (fallen l d) (pushes c)
-perform sleep c l m = outcome c l []
-perform (fault v) c l m = outcome (entered c m v true) l (pushes c)
-perform halt c l m = record { core = c; lines = l; halted = true; writes = [] }
-perform skip c l m = outcome c l []
-perform (trap v) c l m = outcome (entered c m v false) l (pushes c)
-perform plain c l m = outcome c l []
-perform (loads byte a d) c l m = outcome (loaded c byte d (valueAt byte m a)) l (loadWrites byte m a)
-perform (stores byte a v) c l m = outcome c l (storeWrites byte m a v)
+perform act.Stopped c l m = record { core = c; lines = l; halted = true; writes = [] }
+perform act.Pull c l m = outcome (pulled c m) l []
+perform (act.Chain d) c l m = outcome (chained c m d) (fallen l d) []
+perform (act.Accept d) c l m = outcome (entered c m d false) (fallen l d) (pushes c)
+perform act.Sleep c l m = outcome c l []
+perform (act.Fault v) c l m = outcome (entered c m v true) l (pushes c)
+perform act.Halt c l m = record { core = c; lines = l; halted = true; writes = [] }
+perform act.Skip c l m = outcome c l []
+perform (act.Trap v) c l m = outcome (entered c m v false) l (pushes c)
+perform act.Plain c l m = outcome c l []
+perform (act.Loads byte a d) c l m = outcome (loaded c byte d (valueAt byte m (a .0))) l (loadWrites byte m (a .0))
+perform (act.Stores byte a v) c l m = outcome c l (storeWrites byte m (a .0) v)
 
 -- the outcome of the step that begins in s, its due events applied
 abbrev pub outcomeOf : State → Outcome

@@ -13,6 +13,15 @@ pub struct Machine {
     pub count: u32,
 }
 
+// A machine without its registers, where those are lent.
+pub struct Rest {
+    pub psw: u16,
+    pub cex: u16,
+    pub lines: u8,
+    pub halted: bool,
+    pub count: u32,
+}
+
 // A byte's place in memory, and a word's: word w is bytes 2 * w and 2 * w + 1.
 pub struct ByteAddr(pub u16);
 
@@ -22,8 +31,16 @@ pub struct WordAddr(pub u16);
 // register, a store of a value, a fault, or a trap to a vector.
 pub enum Access {
     Nothing,
-    Load { byte: bool, at: u16, dst: u8 },
-    Store { byte: bool, at: u16, value: u16 },
+    Load {
+        byte: bool,
+        at: ByteAddr,
+        dst: u8,
+    },
+    Store {
+        byte: bool,
+        at: ByteAddr,
+        value: u16,
+    },
     Fault(u8),
     Trap(u8),
 }
@@ -45,4 +62,29 @@ pub enum Verdict {
     EventFields,
     EventOrder,
     EventTwins,
+}
+
+// What a step does. A halted machine takes none. A line or a vector is named by its number; a load
+// and a store carry their address, a store its value.
+pub enum Act {
+    Stopped,
+    Pull,
+    Chain(u8),
+    Accept(u8),
+    Sleep,
+    Fault(u8),
+    Halt,
+    Skip,
+    Trap(u8),
+    Plain,
+    Loads {
+        byte: bool,
+        at: ByteAddr,
+        dst: u8,
+    },
+    Stores {
+        byte: bool,
+        at: ByteAddr,
+        value: u16,
+    },
 }

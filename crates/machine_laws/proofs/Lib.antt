@@ -4,8 +4,10 @@ pub mod Effects
 pub mod Loads
 pub mod Plans
 pub mod Runs
+pub mod Uneventful
 pub mod Steps
 pub mod Writes
 pub mod Twins
+pub mod Vectors
 pub mod Records
 pub mod Calls

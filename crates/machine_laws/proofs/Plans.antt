@@ -10,15 +10,16 @@ use Rattle.machine.specs.State.{Core, State, pc}
 use Rattle.machine.specs.Memory.{wordAt}
 use Rattle.machine.specs.Cex.{skips?}
 use Rattle.machine.specs.Effect.{effectOf}
+use Rattle.machine.specs.declared.Act.the-variants as act
 use Rattle.machine.specs.Step
 use Rattle.machine.specs.Step.{Plan, Interrupt, planned, interruptOf, advanced, faulting, executed, instructionOf, chosen, planOf}
 use Rattle.machine_laws.proofs.Cases.{bool-cases}
 
 -- points 4 to 7
 pub instruction-cases : (c : Core) (m : List ℕ) (R : Plan → Type 0)
-    → (asleep? (c .psw) ≡ true → R (planned c Step.sleep))
+    → (asleep? (c .psw) ≡ true → R (planned c act.Sleep))
     → (asleep? (c .psw) ≡ false → eqb (pc c % 2) 1 ≡ true → R (faulting c c 9))
-    → (asleep? (c .psw) ≡ false → eqb (pc c % 2) 1 ≡ false → skips? (c .cex) ≡ true → R (planned (advanced c) Step.skip))
+    → (asleep? (c .psw) ≡ false → eqb (pc c % 2) 1 ≡ false → skips? (c .cex) ≡ true → R (planned (advanced c) act.Skip))
     → (asleep? (c .psw) ≡ false → eqb (pc c % 2) 1 ≡ false → skips? (c .cex) ≡ false
     → R (executed c (effectOf (advanced c) (decodeOf (wordAt m (pc c)))) m))
     → R (instructionOf c m)
@@ -33,9 +34,9 @@ instruction-cases c m R sleeps odd skip runs =
     (λ q₂. rw (q, q₁, q₂) (runs q q₁ q₂))))
 
 by-interrupt : (i : Interrupt) (c : Core) (p : Plan) (R : Plan → Type 0)
-    → (i ≡ Step.pulls → R (planned c Step.pull))
-    → ((d : ℕ) → i ≡ Step.chains d → R (planned c (Step.chain d)))
-    → ((d : ℕ) → i ≡ Step.accepts d → R (planned c (Step.accept d)))
+    → (i ≡ Step.pulls → R (planned c act.Pull))
+    → ((d : ℕ) → i ≡ Step.chains d → R (planned c (act.Chain d)))
+    → ((d : ℕ) → i ≡ Step.accepts d → R (planned c (act.Accept d)))
     → (i ≡ Step.nothing → R p)
     → R (chosen i c p)
 by-interrupt Step.pulls c p R f g h k = f refl
@@ -45,10 +46,10 @@ by-interrupt Step.nothing c p R f g h k = k refl
 
 -- a halted machine, then points 2 and 3, then the rest
 pub plan-cases : (s : State) (R : Plan → Type 0)
-    → (s .halted ≡ true → R (planned (s .core) Step.stopped))
-    → (s .halted ≡ false → interruptOf (s .core) (s .lines) (s .mem) ≡ Step.pulls → R (planned (s .core) Step.pull))
-    → ((d : ℕ) → s .halted ≡ false → interruptOf (s .core) (s .lines) (s .mem) ≡ Step.chains d → R (planned (s .core) (Step.chain d)))
-    → ((d : ℕ) → s .halted ≡ false → interruptOf (s .core) (s .lines) (s .mem) ≡ Step.accepts d → R (planned (s .core) (Step.accept d)))
+    → (s .halted ≡ true → R (planned (s .core) act.Stopped))
+    → (s .halted ≡ false → interruptOf (s .core) (s .lines) (s .mem) ≡ Step.pulls → R (planned (s .core) act.Pull))
+    → ((d : ℕ) → s .halted ≡ false → interruptOf (s .core) (s .lines) (s .mem) ≡ Step.chains d → R (planned (s .core) (act.Chain d)))
+    → ((d : ℕ) → s .halted ≡ false → interruptOf (s .core) (s .lines) (s .mem) ≡ Step.accepts d → R (planned (s .core) (act.Accept d)))
     → (s .halted ≡ false → interruptOf (s .core) (s .lines) (s .mem) ≡ Step.nothing → R (instructionOf (s .core) (s .mem)))
     → R (planOf s)
 unfolding planOf
@@ -56,8 +57,8 @@ plan-cases s R halts pulls chains accepts runs =
     let i = interruptOf (s .core) (s .lines) (s .mem) in
     let p = instructionOf (s .core) (s .mem) in
     bool-cases (s .halted)
-    (λ q. subst (λ b. R (cond b (planned (s .core) Step.stopped) (chosen i (s .core) p))) (sym q) (halts q))
-    (λ q. subst (λ b. R (cond b (planned (s .core) Step.stopped) (chosen i (s .core) p))) (sym q)
+    (λ q. subst (λ b. R (cond b (planned (s .core) act.Stopped) (chosen i (s .core) p))) (sym q) (halts q))
+    (λ q. subst (λ b. R (cond b (planned (s .core) act.Stopped) (chosen i (s .core) p))) (sym q)
     (by-interrupt i (s .core) p R (pulls q) (λ d. chains d q) (λ d. accepts d q) (runs q)))
 
 -- the plan of a machine that is not halted, and that of a halted one
@@ -66,10 +67,10 @@ pub plan-live : (s : State) → s .halted ≡ false
 unfolding planOf
 plan-live s h =
     let p = chosen (interruptOf (s .core) (s .lines) (s .mem)) (s .core) (instructionOf (s .core) (s .mem)) in
-    ap (λ b. cond b (planned (s .core) Step.stopped) p) h
+    ap (λ b. cond b (planned (s .core) act.Stopped) p) h
 
-pub plan-halted : (s : State) → s .halted ≡ true → planOf s ≡ planned (s .core) Step.stopped
+pub plan-halted : (s : State) → s .halted ≡ true → planOf s ≡ planned (s .core) act.Stopped
 unfolding planOf
 plan-halted s h =
     let p = chosen (interruptOf (s .core) (s .lines) (s .mem)) (s .core) (instructionOf (s .core) (s .mem)) in
-    ap (λ b. cond b (planned (s .core) Step.stopped) p) h
+    ap (λ b. cond b (planned (s .core) act.Stopped) p) h

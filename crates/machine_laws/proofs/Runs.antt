@@ -1,6 +1,7 @@
 -- The run, one step more and after a halt. Assumes nothing.
 use Prim.Native.Nat.{ℕ, zero, suc, _+_, _≤_}
 use native.Mathlib.Nat.{add-suc, add-zero}
+use native.Mathlib.Numerals.{add-one}
 use native.Mathlib.Omega.{arith}
 use mathlib.Core.Bool.{true, false, cond, true≢false}
 use mathlib.Core.List.{List}
@@ -103,3 +104,15 @@ run-append ev s k (suc j) =
     ∙ ap (λ x. ran (stepOf ev (x .state)) (suc (x .steps))) prev
     ∙ ap (λ x. ran (stepOf ev (r .state)) x) (sym (add-suc (runOf ev s k .steps) (r .steps)))
     ∙ sym (ap (λ x. ran (x .state) (runOf ev s k .steps + x .steps)) (run-next ev t j h)))
+
+-- one turn of a run: the events of a step, and then the step
+pub run-turn :
+    (ev : List Event) (s₀ s t u : State) (k : ℕ) → ran s k ≡ runOf ev s₀ k → s .halted ≡ false → t ≡ deliver ev s → u ≡ finished t →
+    ran u (k + 1) ≡ runOf ev s₀ (k + 1)
+run-turn ev s₀ s t u k e h p q =
+    let r = sym (ap (λ x. x .state) e) in
+    let f : stepOf ev s ≡ u = step-live ev s h ∙ ap finished (sym p) ∙ sym q in
+    let g = run-next ev s₀ k (ap (λ x. x .halted) r ∙ h) in
+    let w : runOf ev s₀ (suc k) ≡ ran u (suc k) =
+    g ∙ ap (λ x. ran (stepOf ev (x .state)) (suc (x .steps))) (sym e) ∙ ap (λ x. ran x (suc k)) f in
+    rw (add-one k) (sym w)

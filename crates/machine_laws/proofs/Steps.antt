@@ -20,8 +20,10 @@ use Rattle.machine.specs.Devices.{statusOf, device?, status?, ie?, input?, dba?
 use Rattle.machine.specs.Devices.{deliver, loadWrites, byteWrites, storeWrites}
 use Rattle.machine.specs.Entry.{priority, best, above, vectorPsw, vectorPc, vectored, enteredPsw, pushed, pushes, pulled, pulledPsw}
 use Rattle.machine.specs.Effect.{effectOf}
+use Rattle.machine.specs.declared.Act.the-variants as act
 use Rattle.machine.specs.Step
-use Rattle.machine.specs.Step.{Act, Plan, Interrupt, interruptOf, returns?, advanced, faulting, granted, instructionOf, planOf, perform}
+use Rattle.machine.specs.declared.Act.{Act}
+use Rattle.machine.specs.Step.{Plan, Interrupt, interruptOf, returns?, advanced, faulting, granted, instructionOf, planOf, perform}
 use Rattle.machine.specs.Step.{entered, outcomeOf, finished, stepOf}
 use Rattle.machine.specs.Run.{runOf}
 use Rattle.machine_laws.specs.Bounds.{Each, Bytes, TidyCore, Tidy, AccessFits, ActFits, EventFits}
@@ -244,33 +246,33 @@ value-word m a false h = word-lt m a h
 
 pub perform-tidy : (a : Act) (c : Core) (l : ℕ) (m : List ℕ) → TidyCore c → Bytes m → TidyCore (perform a c l m .core)
 unfolding perform
-perform-tidy Step.stopped c l m t h = t
-perform-tidy Step.pull c l m t h = pulled-tidy c m t h
-perform-tidy (Step.chain d) c l m t h = vectored-tidy c m d (previous (c .psw)) (faulted? (c .psw)) (sp c) t h (omega arith) (t .words 6)
-perform-tidy (Step.accept d) c l m t h = entered-tidy c m d false t h
-perform-tidy Step.sleep c l m t h = t
-perform-tidy (Step.fault v) c l m t h = entered-tidy c m v true t h
-perform-tidy Step.halt c l m t h = t
-perform-tidy Step.skip c l m t h = t
-perform-tidy (Step.trap v) c l m t h = entered-tidy c m v false t h
-perform-tidy Step.plain c l m t h = t
-perform-tidy (Step.loads byte a d) c l m t h = loaded-tidy c byte d (valueAt byte m a) t (value-byte m a byte h) (value-word m a byte h)
-perform-tidy (Step.stores byte a v) c l m t h = t
+perform-tidy act.Stopped c l m t h = t
+perform-tidy act.Pull c l m t h = pulled-tidy c m t h
+perform-tidy (act.Chain d) c l m t h = vectored-tidy c m d (previous (c .psw)) (faulted? (c .psw)) (sp c) t h (omega arith) (t .words 6)
+perform-tidy (act.Accept d) c l m t h = entered-tidy c m d false t h
+perform-tidy act.Sleep c l m t h = t
+perform-tidy (act.Fault v) c l m t h = entered-tidy c m v true t h
+perform-tidy act.Halt c l m t h = t
+perform-tidy act.Skip c l m t h = t
+perform-tidy (act.Trap v) c l m t h = entered-tidy c m v false t h
+perform-tidy act.Plain c l m t h = t
+perform-tidy (act.Loads byte a d) c l m t h = loaded-tidy c byte d (valueAt byte m (a .0)) t (value-byte m (a .0) byte h) (value-word m (a .0) byte h)
+perform-tidy (act.Stores byte a v) c l m t h = t
 
 pub perform-lines : (a : Act) (c : Core) (l : ℕ) (m : List ℕ) → ActFits a → l < 256 → perform a c l m .lines < 256
 unfolding perform
-perform-lines Step.stopped c l m f h = h
-perform-lines Step.pull c l m f h = h
-perform-lines (Step.chain d) c l m f h = put-lt d l false 8 f h
-perform-lines (Step.accept d) c l m f h = put-lt d l false 8 f h
-perform-lines Step.sleep c l m f h = h
-perform-lines (Step.fault v) c l m f h = h
-perform-lines Step.halt c l m f h = h
-perform-lines Step.skip c l m f h = h
-perform-lines (Step.trap v) c l m f h = h
-perform-lines Step.plain c l m f h = h
-perform-lines (Step.loads byte a d) c l m f h = h
-perform-lines (Step.stores byte a v) c l m f h = h
+perform-lines act.Stopped c l m f h = h
+perform-lines act.Pull c l m f h = h
+perform-lines (act.Chain d) c l m f h = put-lt d l false 8 f h
+perform-lines (act.Accept d) c l m f h = put-lt d l false 8 f h
+perform-lines act.Sleep c l m f h = h
+perform-lines (act.Fault v) c l m f h = h
+perform-lines act.Halt c l m f h = h
+perform-lines act.Skip c l m f h = h
+perform-lines (act.Trap v) c l m f h = h
+perform-lines act.Plain c l m f h = h
+perform-lines (act.Loads byte a d) c l m f h = h
+perform-lines (act.Stores byte a v) c l m f h = h
 
 push-values : (c : Core) → ByteValues (pushes c)
 unfolding pushes
@@ -305,18 +307,18 @@ store-values false m a v h =
 
 pub perform-values : (a : Act) (c : Core) (l : ℕ) (m : List ℕ) → Bytes m → Each (λ w. w .value < 256) (perform a c l m .writes)
 unfolding perform
-perform-values Step.stopped c l m h = tt
-perform-values Step.pull c l m h = tt
-perform-values (Step.chain d) c l m h = tt
-perform-values (Step.accept d) c l m h = push-values c
-perform-values Step.sleep c l m h = tt
-perform-values (Step.fault v) c l m h = push-values c
-perform-values Step.halt c l m h = tt
-perform-values Step.skip c l m h = tt
-perform-values (Step.trap v) c l m h = push-values c
-perform-values Step.plain c l m h = tt
-perform-values (Step.loads byte a d) c l m h = load-values byte m a h
-perform-values (Step.stores byte a v) c l m h = store-values byte m a v h
+perform-values act.Stopped c l m h = tt
+perform-values act.Pull c l m h = tt
+perform-values (act.Chain d) c l m h = tt
+perform-values (act.Accept d) c l m h = push-values c
+perform-values act.Sleep c l m h = tt
+perform-values (act.Fault v) c l m h = push-values c
+perform-values act.Halt c l m h = tt
+perform-values act.Skip c l m h = tt
+perform-values (act.Trap v) c l m h = push-values c
+perform-values act.Plain c l m h = tt
+perform-values (act.Loads byte a d) c l m h = load-values byte m (a .0) h
+perform-values (act.Stores byte a v) c l m h = store-values byte m (a .0) v h
 
 pub finished-tidy : (s : State) → Tidy s → Tidy (finished s)
 finished-tidy s t =

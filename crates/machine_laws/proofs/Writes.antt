@@ -13,8 +13,9 @@ use Rattle.machine.specs.Events.{Event}
 use Rattle.machine.specs.Devices.{statusOf, device?, status?, input?, ena?, eventWrites, eventOn, deliverAt, deliver, loadWrites}
 use Rattle.machine.specs.Devices.{byteWrites, storeWrites}
 use Rattle.machine.specs.Entry.{pushes}
-use Rattle.machine.specs.Step.{Act, perform, outcomeOf, stepOf}
-use Rattle.machine.specs.Step.{stopped, pull, chain, accept, sleep, fault, halt, skip, trap, plain, loads, stores}
+use Rattle.machine.specs.declared.Act.{Act}
+use Rattle.machine.specs.Step.{perform, outcomeOf, stepOf}
+use Rattle.machine.specs.declared.Act.the-variants as act
 use Rattle.machine_laws.specs.Bounds.{Each, EventFits, TidyCore, Among, Pushed, MayWrite}
 use Rattle.machine_laws.proofs.Cases.{bool-cases, eq-of, lt-of, ge-of, not-eq, and-left}
 use Rattle.machine_laws.proofs.Memory.{unwritten, writes-append}
@@ -153,18 +154,18 @@ push-written c b h e = push-places (sp c) h b (written-place (pushes c) b e)
 pub perform-writes : (a : Act) (c : Core) (l : ℕ) (m : List ℕ) (b : ℕ) → TidyCore c → writes? (perform a c l m .writes) b ≡ true
     → MayWrite a c b
 unfolding perform writes?
-perform-writes stopped c l m b t e = false≢true e
-perform-writes pull c l m b t e = false≢true e
-perform-writes (chain d) c l m b t e = false≢true e
-perform-writes (accept d) c l m b t e = push-written c b (t .words 6) e
-perform-writes sleep c l m b t e = false≢true e
-perform-writes (fault v) c l m b t e = push-written c b (t .words 6) e
-perform-writes halt c l m b t e = false≢true e
-perform-writes skip c l m b t e = false≢true e
-perform-writes (trap v) c l m b t e = push-written c b (t .words 6) e
-perform-writes plain c l m b t e = false≢true e
-perform-writes (loads byte a d) c l m b t e = in-devices (loadWrites byte m a) b (load-devices byte m a) e
-perform-writes (stores byte a v) c l m b t e = store-written byte m a v b e
+perform-writes act.Stopped c l m b t e = false≢true e
+perform-writes act.Pull c l m b t e = false≢true e
+perform-writes (act.Chain d) c l m b t e = false≢true e
+perform-writes (act.Accept d) c l m b t e = push-written c b (t .words 6) e
+perform-writes act.Sleep c l m b t e = false≢true e
+perform-writes (act.Fault v) c l m b t e = push-written c b (t .words 6) e
+perform-writes act.Halt c l m b t e = false≢true e
+perform-writes act.Skip c l m b t e = false≢true e
+perform-writes (act.Trap v) c l m b t e = push-written c b (t .words 6) e
+perform-writes act.Plain c l m b t e = false≢true e
+perform-writes (act.Loads byte a d) c l m b t e = in-devices (loadWrites byte m (a .0)) b (load-devices byte m (a .0)) e
+perform-writes (act.Stores byte a v) c l m b t e = store-written byte m (a .0) v b e
 
 -- a byte that the step does not write and that is no device register stays
 pub step-byte : (ev : List Event) (s : State) (a : ℕ) → Each EventFits ev → 16 ≤ a → a < length (s .mem)

@@ -12,7 +12,8 @@ use Rattle.machine.specs.State.{Core, State, reg, wrap}
 use Rattle.machine.specs.Memory.{byteAt, even, span}
 use Rattle.machine.specs.Events.{Event}
 use Rattle.machine.specs.Entry.{pushed}
-use Rattle.machine.specs.Step.{Act, stopped, pull, chain, accept, sleep, fault, halt, skip, trap, plain, loads, stores}
+use Rattle.machine.specs.declared.Act.{Act}
+use Rattle.machine.specs.declared.Act.the-variants as act
 
 -- Every element has the property. [01 State and memory]
 abbrev pub Each {ℓ} : {A : Type ℓ} → (A → Type 0) → List A → Type 0
@@ -50,25 +51,25 @@ Quits (Trap v) = Unit {0}
 -- [01 State and memory]
 abbrev pub AccessFits : Access → Type 0
 AccessFits Nothing = Unit {0}
-AccessFits (Load byte a d) = (a < 65536) × (d < 8)
-AccessFits (Store byte a v) = (a < 65536) × (v < 65536)
+AccessFits (Load byte a d) = (a .0 < 65536) × (d < 8)
+AccessFits (Store byte a v) = (a .0 < 65536) × (v < 65536)
 AccessFits (Fault v) = v < 16
 AccessFits (Trap v) = v < 16
 
 -- The same of an act, in which a line is one of the eight devices'. [01 State and memory]
 abbrev pub ActFits : Act → Type 0
-ActFits stopped = Unit {0}
-ActFits pull = Unit {0}
-ActFits (chain d) = d < 8
-ActFits (accept d) = d < 8
-ActFits sleep = Unit {0}
-ActFits (fault v) = v < 16
-ActFits halt = Unit {0}
-ActFits skip = Unit {0}
-ActFits (trap v) = v < 16
-ActFits plain = Unit {0}
-ActFits (loads byte a d) = (a < 65536) × (d < 8)
-ActFits (stores byte a v) = (a < 65536) × (v < 65536)
+ActFits act.Stopped = Unit {0}
+ActFits act.Pull = Unit {0}
+ActFits (act.Chain d) = d < 8
+ActFits (act.Accept d) = d < 8
+ActFits act.Sleep = Unit {0}
+ActFits (act.Fault v) = v < 16
+ActFits act.Halt = Unit {0}
+ActFits act.Skip = Unit {0}
+ActFits (act.Trap v) = v < 16
+ActFits act.Plain = Unit {0}
+ActFits (act.Loads byte a d) = (a .0 < 65536) × (d < 8)
+ActFits (act.Stores byte a v) = (a .0 < 65536) × (v < 65536)
 
 -- An event is a device's, and brings a byte. [01 State and memory]
 abbrev pub EventFits : Event → Type 0
@@ -86,15 +87,15 @@ Pushed c b = (i : ℕ) × ((i < 8) × (b ≡ wrap (even (pushed c) + i)))
 -- The bytes that an act from the core c may write: a push its frame's, a store its own and device registers, a load
 -- device registers, every other act none. [01 Devices; 01 Resumption]
 abbrev pub MayWrite : Act → Core → ℕ → Type 0
-MayWrite stopped c b = ⊥
-MayWrite pull c b = ⊥
-MayWrite (chain d) c b = ⊥
-MayWrite (accept d) c b = Pushed c b
-MayWrite sleep c b = ⊥
-MayWrite (fault v) c b = Pushed c b
-MayWrite halt c b = ⊥
-MayWrite skip c b = ⊥
-MayWrite (trap v) c b = Pushed c b
-MayWrite plain c b = ⊥
-MayWrite (loads byte a d) c b = b < 16
-MayWrite (stores byte a v) c b = Among b (span byte a) ⊎ (b < 16)
+MayWrite act.Stopped c b = ⊥
+MayWrite act.Pull c b = ⊥
+MayWrite (act.Chain d) c b = ⊥
+MayWrite (act.Accept d) c b = Pushed c b
+MayWrite act.Sleep c b = ⊥
+MayWrite (act.Fault v) c b = Pushed c b
+MayWrite act.Halt c b = ⊥
+MayWrite act.Skip c b = ⊥
+MayWrite (act.Trap v) c b = Pushed c b
+MayWrite act.Plain c b = ⊥
+MayWrite (act.Loads byte a d) c b = b < 16
+MayWrite (act.Stores byte a v) c b = Among b (span byte (a .0)) ⊎ (b < 16)

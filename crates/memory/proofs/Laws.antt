@@ -11,7 +11,7 @@ use lib.ListN.{set}
 use borrow.Author.Tests.{lt-ltb, le-ltb, eq-eqb, ne-eqb}
 use Rattle.word.specs.Psw.{putBit, bitOf}
 use Rattle.word.proofs.Laws.{bit-back}
-use Rattle.machine.specs.Memory.{byteAt, even, lowByte, highByte, Write, commit, valueAt}
+use Rattle.machine.specs.Memory.{firstByte, byteAt, even, lowByte, highByte, Write, commit, valueAt}
 use Rattle.machine.specs.Devices.{clearedStatus, storedStatus, loadWrites, byteWrites, storeWrites}
 
 -- ---- status bytes, as the code works them
@@ -84,8 +84,9 @@ pub load-value : (m : List ℕ) {r : ℕ} (w a : ℕ) → w ≡ a / 2 → r ≡ 
 load-value m w a e s = s ∙ ap (λ (x : ℕ). byteAt m (2 * x) + 256 * byteAt m (2 * x + 1)) e
 
 -- a word's load is that of its first byte, as far as memory goes
-pub load-word : (m l : List ℕ) (w a : ℕ) → w ≡ a / 2 → l ≡ commit (loadWrites true m (2 * w)) m → l ≡ commit (loadWrites false m a) m
-load-word m l w a e s = s ∙ ap (λ (x : ℕ). commit (loadWrites true m (2 * x)) m) e
+pub load-word :
+    (m l : List ℕ) (w b a : ℕ) → w ≡ a / 2 → b ≡ firstByte w → l ≡ commit (loadWrites true m b) m → l ≡ commit (loadWrites false m a) m
+load-word m l w b a e f s = s ∙ ap (λ (x : ℕ). commit (loadWrites true m x) m) (f ∙ ap firstByte e)
 
 -- ---- stores
 
@@ -135,15 +136,20 @@ module _ (m : List ℕ) {l : List ℕ} (w v : ℕ) where
       e ∙ ap (λ (x : ℕ). two-stored m x v) b ∙ word-stored m (2 * w) v
 
   pub store-two :
-      {n : List ℕ} → n ≡ commit (byteWrites m (2 * w) (lowByte v)) m →
-      l ≡ commit (byteWrites n (2 * w + 1) (highByte v)) n → l ≡ commit (storeWrites false m (2 * w) v) m
-  store-two e f = word-at (f ∙ ap (λ (x : List ℕ). commit (byteWrites x (2 * w + 1) (highByte v)) x) e)
+      {n : List ℕ} {a : ℕ} → a ≡ firstByte w → n ≡ commit (byteWrites m a (lowByte v)) m →
+      l ≡ commit (byteWrites n (a + 1) (highByte v)) n → l ≡ commit (storeWrites false m (2 * w) v) m
+  store-two {n} {a} b e f =
+      word-at (
+      f
+      ∙ ap (λ (x : List ℕ). commit (byteWrites x (a + 1) (highByte v)) x) e
+      ∙ ap (λ (i : ℕ). commit (byteWrites (commit (byteWrites m i (lowByte v)) m) (i + 1) (highByte v)) (commit (byteWrites m i (lowByte v)) m)) b
+      )
 
   -- above the devices
   pub store-above :
       8 ≤ w → l ≡ set (set m (2 * w) (lowByte v)) (2 * w + 1) (highByte v) → l ≡ commit (storeWrites false m (2 * w) v) m
   store-above h e =
-      store-two
+      store-two {a = 2 * w} refl
       (store-plain m (2 * w) (lowByte v) (omega arith))
       (e ∙ store-plain (set m (2 * w) (lowByte v)) (2 * w + 1) (highByte v) (omega arith))
 

@@ -21,6 +21,14 @@ pub fn word_of(a: ByteAddr) -> WordAddr
     WordAddr(a.0 / 2)
 }
 
+// The first byte of a word: the one place where a word address becomes a byte address.
+pub fn byte_of(w: WordAddr) -> ByteAddr
+    requires { ⌜ w .0 < 32768 ⌝ }
+    ensures { λ r. ⌜ r .0 ≡ firstByte (w .0) ⌝ }
+{
+    ByteAddr(2 * w.0)
+}
+
 // The byte at an address.
 pub fn read_byte(mem: &[u8], a: ByteAddr) -> u8
     requires { ⌜ length (now mem) ≡ 65536 ⌝ }
@@ -36,7 +44,7 @@ pub fn read_word(mem: &[u8], w: WordAddr) -> u16
     ensures { λ r. ⌜ r ≡ byteAt (now (mem .entry)) (firstByte (w .0))
         + 256 * byteAt (now (mem .entry)) (firstByte (w .0) + 1) ⌝ }
 {
-    let i = 2 * w.0 as usize;
+    let i = byte_of(w).0 as usize;
     mem[i] as u16 + 256 * mem[i + 1] as u16
 }
 
@@ -55,7 +63,7 @@ pub fn write_word(mem: &mut [u8], w: WordAddr, v: u16)
         ≡ set (set (now (mem .entry)) (firstByte (w .0)) (lowByte v))
         (firstByte (w .0) + 1) (highByte v) ⌝ }
 {
-    let i = 2 * w.0 as usize;
+    let i = byte_of(w).0 as usize;
     mem[i] = (v % 256) as u8;
     mem[i + 1] = (v / 256 % 256) as u8;
 }
@@ -111,7 +119,7 @@ pub fn load(mem: &mut [u8], byte: bool, a: ByteAddr) -> u16
     }
     let w = word_of(a);
     let v = read_word(mem, w);
-    touch(mem, ByteAddr(2 * w.0));
+    touch(mem, byte_of(w));
     v
 }
 
@@ -156,8 +164,9 @@ fn store_word(mem: &mut [u8], w: WordAddr, v: u16)
         write_word(mem, w, v);
         return;
     }
-    store_byte(mem, ByteAddr(2 * w.0), (v % 256) as u8);
-    store_byte(mem, ByteAddr(2 * w.0 + 1), (v / 256 % 256) as u8);
+    let a = byte_of(w).0;
+    store_byte(mem, ByteAddr(a), (v % 256) as u8);
+    store_byte(mem, ByteAddr(a + 1), (v / 256 % 256) as u8);
 }
 
 // A store by an instruction: the low byte of v, or all of it to the word that the byte lies in.

@@ -227,7 +227,7 @@ pub fn allowed_flags(psw: u16, f: u16) -> u16
     requires { ⌜ f < 32 ⌝ }
     ensures { λ r. ⌜ (r ≡ allowedFlags psw f) × (r < 32) ⌝ }
 {
-    if psw / 32 % 8 == 7 {
+    if word::current_priority(psw) == 7 {
         return f / 16 * 16 + f % 8;
     }
     f

@@ -12,9 +12,9 @@ ghost use Rattle.machine.specs.Refusal.{eventFits, eventsFitBelow, inOrder, inO
 ghost use Rattle.machine.specs.Refusal.{twinsBelow};
 ghost use Rattle.devices.specs.Cursor.{Ordered};
 use devices::step_at;
+use little_endian::four_at;
+use little_endian::two_at;
 use machine::Verdict;
-use state_record::four_at;
-use state_record::two_at;
 
 // Rule 4: the bits and bytes of a record that are zero, and a halted mark of 0 or 1.
 fn record_fits(r: &[u8]) -> bool

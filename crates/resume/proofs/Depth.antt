@@ -24,9 +24,10 @@ use Rattle.machine.specs.Record.{stateIn}
 use Rattle.machine.specs.Events.{Event, eventsOf}
 use Rattle.machine.specs.Entry.{vectorPsw, priority, best, above, vectored, enteredPsw, pulled, pulledPsw}
 use Rattle.machine.specs.Effect.{effectOf}
-use Rattle.machine.specs.Step.{Act, Interrupt, pulls, chains, accepts, nothing, interruptOf, returns?, advanced, granted}
+use Rattle.machine.specs.declared.Act.{Act}
+use Rattle.machine.specs.Step.{Interrupt, pulls, chains, accepts, nothing, interruptOf, returns?, advanced, granted}
 use Rattle.machine.specs.Step.{instructionOf, planOf, perform, outcomeOf, finished}
-use Rattle.machine.specs.Step.{stopped, pull, chain, accept, sleep, fault, halt, skip, trap, plain, loads, stores}
+use Rattle.machine.specs.declared.Act.the-variants as acts
 use Rattle.machine_laws.specs.Bounds.{Each, Tidy, EventFits}
 use Rattle.machine_laws.specs.Passed.{Passed}
 use Rattle.machine_laws.proofs.Cases.{bool-cases, lt-of, ge-of, and-right}
@@ -101,32 +102,32 @@ interrupt-above c l m =
 
 -- the same of the act
 abbrev Higher : (p q : ℕ) (m : List ℕ) → Act → Type 0
-Higher p q m stopped = Unit {0}
-Higher p q m pull = Unit {0}
-Higher p q m (chain d) = q < priority m d
-Higher p q m (accept d) = p < priority m d
-Higher p q m sleep = Unit {0}
-Higher p q m (fault v) = Unit {0}
-Higher p q m halt = Unit {0}
-Higher p q m skip = Unit {0}
-Higher p q m (trap v) = Unit {0}
-Higher p q m plain = Unit {0}
-Higher p q m (loads byte a d) = Unit {0}
-Higher p q m (stores byte a v) = Unit {0}
+Higher p q m acts.Stopped = Unit {0}
+Higher p q m acts.Pull = Unit {0}
+Higher p q m (acts.Chain d) = q < priority m d
+Higher p q m (acts.Accept d) = p < priority m d
+Higher p q m acts.Sleep = Unit {0}
+Higher p q m (acts.Fault v) = Unit {0}
+Higher p q m acts.Halt = Unit {0}
+Higher p q m acts.Skip = Unit {0}
+Higher p q m (acts.Trap v) = Unit {0}
+Higher p q m acts.Plain = Unit {0}
+Higher p q m (acts.Loads byte a d) = Unit {0}
+Higher p q m (acts.Stores byte a v) = Unit {0}
 
 steady-higher : (p q : ℕ) (m : List ℕ) (a : Act) → Steady a → Higher p q m a
-steady-higher p q m stopped s = tt
-steady-higher p q m pull s = tt
-steady-higher p q m (chain d) s = absurd s
-steady-higher p q m (accept d) s = absurd s
-steady-higher p q m sleep s = tt
-steady-higher p q m (fault v) s = tt
-steady-higher p q m halt s = tt
-steady-higher p q m skip s = tt
-steady-higher p q m (trap v) s = tt
-steady-higher p q m plain s = tt
-steady-higher p q m (loads byte a d) s = tt
-steady-higher p q m (stores byte a v) s = tt
+steady-higher p q m acts.Stopped s = tt
+steady-higher p q m acts.Pull s = tt
+steady-higher p q m (acts.Chain d) s = absurd s
+steady-higher p q m (acts.Accept d) s = absurd s
+steady-higher p q m acts.Sleep s = tt
+steady-higher p q m (acts.Fault v) s = tt
+steady-higher p q m acts.Halt s = tt
+steady-higher p q m acts.Skip s = tt
+steady-higher p q m (acts.Trap v) s = tt
+steady-higher p q m acts.Plain s = tt
+steady-higher p q m (acts.Loads byte a d) s = tt
+steady-higher p q m (acts.Stores byte a v) s = tt
 
 plan-higher : (s : State) → Faultless (planOf s .act)
     → Higher (current (s .core .psw)) (previous (s .core .psw)) (s .mem) (planOf s .act)
@@ -196,18 +197,18 @@ plan-priorities s =
 perform-steady : (a : Act) → Steady a → svc? a ≡ false → (c : Core) (l : ℕ) (m : List ℕ)
     → perform a c l m .core .psw ≡ c .psw
 unfolding perform
-perform-steady stopped s u c l m = absurd s
-perform-steady pull s u c l m = absurd s
-perform-steady (chain d) s u c l m = absurd s
-perform-steady (accept d) s u c l m = absurd s
-perform-steady sleep s u c l m = refl
-perform-steady (fault v) s u c l m = absurd s
-perform-steady halt s u c l m = absurd s
-perform-steady skip s u c l m = refl
-perform-steady (trap v) s u c l m = absurd (true≢false u)
-perform-steady plain s u c l m = refl
-perform-steady (loads byte a d) s u c l m = refl
-perform-steady (stores byte a v) s u c l m = refl
+perform-steady acts.Stopped s u c l m = absurd s
+perform-steady acts.Pull s u c l m = absurd s
+perform-steady (acts.Chain d) s u c l m = absurd s
+perform-steady (acts.Accept d) s u c l m = absurd s
+perform-steady acts.Sleep s u c l m = refl
+perform-steady (acts.Fault v) s u c l m = absurd s
+perform-steady acts.Halt s u c l m = absurd s
+perform-steady acts.Skip s u c l m = refl
+perform-steady (acts.Trap v) s u c l m = absurd (true≢false u)
+perform-steady acts.Plain s u c l m = refl
+perform-steady (acts.Loads byte a d) s u c l m = refl
+perform-steady (acts.Stores byte a v) s u c l m = refl
 
 -- ---- the invariant
 
@@ -306,7 +307,7 @@ module _ (memory r events : List ℕ) (n : ℕ) (P : DepthPremises memory r even
     halted-deep : after ev s k .halted ≡ true → Deep p (after ev s (suc k) .core .psw) (frames ev s (suc k))
     unfolding frames
     halted-deep h =
-        let a : act ev s k ≡ stopped =
+        let a : act ev s k ≡ acts.Stopped =
         ap (λ x. x .act) (plan-halted (due ev s k) (deliver-halted (after ev s k .count) ev (after ev s k) ∙ h)) in
         let t : after ev s (suc k) ≡ after ev s k = run-step ev s k ∙ step-halted ev (after ev s k) h in
         subst (λ x. Deep p (after ev s (suc k) .core .psw) (framesAfter x (after ev s (suc k)) (frames ev s k))) (sym a)
@@ -337,13 +338,13 @@ module _ (memory r events : List ℕ) (n : ℕ) (P : DepthPremises memory r even
           (plan-higher (due ev s k) faultless)
 
       -- an entry
-      accepted-deep : (d : ℕ) → act ev s k ≡ accept d
+      accepted-deep : (d : ℕ) → act ev s k ≡ acts.Accept d
           → Deep p (finished (due ev s k) .core .psw) (frame (after ev s (suc k)) false ∷ frames ev s k)
       unfolding perform vectored
       accepted-deep d q =
           let c = due ev s k .core in
           let m = due ev s k .mem in
-          let o = outcome-is (accept d) q (λ h. h) in
+          let o = outcome-is (acts.Accept d) q (λ h. h) in
           let w-is : finished (due ev s k) .core .psw ≡ enteredPsw (vectorPsw m d) (current (c .psw)) (false || faulted? (c .psw)) =
           ap (λ x. x .core .psw) o in
           let pr = entered-priorities (vectorPsw m d) (current (c .psw)) (false || faulted? (c .psw)) (omega arith) in
@@ -353,7 +354,7 @@ module _ (memory r events : List ℕ) (n : ℕ) (P : DepthPremises memory r even
           (ap (λ t. t .mem) next-is ∙ ap (λ x. commit (x .writes) m) o) in
           let saved-is : savedPsw (after ev s (suc k)) ≡ c .psw =
           ap (λ x. wordAt (after ev s (suc k) .mem) (wrap (x + 2))) (sv .stack) ∙ sv .psw-word in
-          let up : current (c .psw) < priority m d = higher (accept d) q in
+          let up : current (c .psw) < priority m d = higher (acts.Accept d) q in
           let bound : p + length (frames ev s k) ≤ current (c .psw) = deep-bound p (c .psw) (frames ev s k) due-deep in
           rw w-is (
             rw (pr .0) (omega arith),
@@ -363,29 +364,29 @@ module _ (memory r events : List ℕ) (n : ℕ) (P : DepthPremises memory r even
           )
 
       -- a chained entry
-      chained-deep : (d : ℕ) (f : Frame) (fs : List Frame) → act ev s k ≡ chain d → frames ev s k ≡ f ∷ fs
+      chained-deep : (d : ℕ) (f : Frame) (fs : List Frame) → act ev s k ≡ acts.Chain d → frames ev s k ≡ f ∷ fs
           → Deep p (finished (due ev s k) .core .psw) (f ∷ fs)
       unfolding perform vectored
       chained-deep d f fs q o =
           let c = due ev s k .core in
           let m = due ev s k .mem in
           let w-is : finished (due ev s k) .core .psw ≡ enteredPsw (vectorPsw m d) (previous (c .psw)) (faulted? (c .psw)) =
-          ap (λ x. x .core .psw) (outcome-is (chain d) q (λ h. h)) in
+          ap (λ x. x .core .psw) (outcome-is (acts.Chain d) q (λ h. h)) in
           let pr = entered-priorities (vectorPsw m d) (previous (c .psw)) (faulted? (c .psw)) (omega arith) in
           let old : Deep p (c .psw) (f ∷ fs) = deep-at (f ∷ fs) o in
-          let up : previous (c .psw) < priority m d = higher (chain d) q in
+          let up : previous (c .psw) < priority m d = higher (acts.Chain d) q in
           let bound : p + length fs ≤ current (savedPsw (f .held)) = deep-bound p _ fs (old .3) in
           let same : previous (c .psw) ≡ current (savedPsw (f .held)) = old .1 in
           rw w-is (rw (pr .0) (omega arith), pr .1 ∙ same, old .2, old .3)
 
       -- a return that pulls
-      pulled-deep : (f : Frame) (fs : List Frame) → act ev s k ≡ pull → frames ev s k ≡ f ∷ fs
+      pulled-deep : (f : Frame) (fs : List Frame) → act ev s k ≡ acts.Pull → frames ev s k ≡ f ∷ fs
           → Deep p (finished (due ev s k) .core .psw) fs
       unfolding perform pulled
       pulled-deep f fs q o =
           let old : Deep p (due ev s k .core .psw) (f ∷ fs) = deep-at (f ∷ fs) o in
           let w-is : finished (due ev s k) .core .psw ≡ pulledPsw (savedPsw (f .held)) =
-          ap (λ x. x .core .psw) (outcome-is pull q (λ h. h))
+          ap (λ x. x .core .psw) (outcome-is acts.Pull q (λ h. h))
           ∙ ap pulledPsw (found-word (f .held) (due ev s k) (P .found k f fs below q o) (old .2) 2 (omega arith) (lit< tt)) in
           rw w-is (deep-same p _ (savedPsw (f .held)) fs (pulled-priorities (savedPsw (f .held))) (old .3))
 
@@ -418,24 +419,24 @@ module _ (memory r events : List ℕ) (n : ℕ) (P : DepthPremises memory r even
 
       deep-after : (a : Act) → act ev s k ≡ a → (fs : List Frame) → frames ev s k ≡ fs → Calm a fs
           → Deep p (after ev s (suc k) .core .psw) (framesAfter a (after ev s (suc k)) fs)
-      deep-after stopped q fs o c = absurd (plan-moves (due ev s k) due-live faultless q)
-      deep-after pull q [] o c = absurd (true≢false c)
-      deep-after pull q (f ∷ fs) o c = onto fs (pulled-deep f fs q o)
-      deep-after (chain d) q [] o c = absurd (true≢false c)
-      deep-after (chain d) q (f ∷ fs) o c =
+      deep-after acts.Stopped q fs o c = absurd (plan-moves (due ev s k) due-live faultless q)
+      deep-after acts.Pull q [] o c = absurd (true≢false c)
+      deep-after acts.Pull q (f ∷ fs) o c = onto fs (pulled-deep f fs q o)
+      deep-after (acts.Chain d) q [] o c = absurd (true≢false c)
+      deep-after (acts.Chain d) q (f ∷ fs) o c =
           subst (Deep p (after ev s (suc k) .core .psw)) (sym (devices-chained (after ev s (suc k)) (f ∷ fs) (devices (f ∷ fs) o)))
           (onto (f ∷ fs) (chained-deep d f fs q o))
-      deep-after (accept d) q fs o c =
+      deep-after (acts.Accept d) q fs o c =
           subst (λ l. Deep p (after ev s (suc k) .core .psw) (frame (after ev s (suc k)) false ∷ l)) o
           (onto (frame (after ev s (suc k)) false ∷ frames ev s k) (accepted-deep d q))
-      deep-after sleep q fs o c = steady-next sleep q fs o tt refl
-      deep-after (fault v) q fs o c = absurd c
-      deep-after halt q fs o c = absurd c
-      deep-after skip q fs o c = steady-next skip q fs o tt refl
-      deep-after (trap v) q fs o c = absurd (true≢false (sym (ap svc? q) ∙ P .no-svc k below))
-      deep-after plain q fs o c = steady-next plain q fs o tt refl
-      deep-after (loads byte a d) q fs o c = steady-next (loads byte a d) q fs o tt refl
-      deep-after (stores byte a v) q fs o c = steady-next (stores byte a v) q fs o tt refl
+      deep-after acts.Sleep q fs o c = steady-next acts.Sleep q fs o tt refl
+      deep-after (acts.Fault v) q fs o c = absurd c
+      deep-after acts.Halt q fs o c = absurd c
+      deep-after acts.Skip q fs o c = steady-next acts.Skip q fs o tt refl
+      deep-after (acts.Trap v) q fs o c = absurd (true≢false (sym (ap svc? q) ∙ P .no-svc k below))
+      deep-after acts.Plain q fs o c = steady-next acts.Plain q fs o tt refl
+      deep-after (acts.Loads byte a d) q fs o c = steady-next (acts.Loads byte a d) q fs o tt refl
+      deep-after (acts.Stores byte a v) q fs o c = steady-next (acts.Stores byte a v) q fs o tt refl
 
       live-deep : Deep p (after ev s (suc k) .core .psw) (frames ev s (suc k))
       unfolding frames

@@ -6,7 +6,8 @@ use mathlib.Core.Path.{_≡_, refl, sym, subst}
 use native.Mathlib.Omega.{arith}
 use Rattle.machine.specs.State.{State}
 use Rattle.machine.specs.Events.{Event}
-use Rattle.machine.specs.Step.{Act, stopped, pull, chain, accept, sleep, fault, halt, skip, trap, plain, loads, stores}
+use Rattle.machine.specs.declared.Act.{Act}
+use Rattle.machine.specs.declared.Act.the-variants as acts
 use Rattle.machine_laws.specs.Bounds.{Each}
 use Rattle.resume.specs.Frames.{Frame, frame, none?, own?, older, chained, framesAfter, svc?, after, act, frames}
 
@@ -29,18 +30,18 @@ devices-chained t (f ∷ fs) h =
     subst (λ g. chained t (g ∷ fs) ≡ g ∷ fs) (λ i. frame (f .held) (sym (h .0) i)) refl
 
 devices-after : (a : Act) (t : State) (fs : List Frame) → svc? a ≡ false → Devices fs → Devices (framesAfter a t fs)
-devices-after stopped t fs u h = h
-devices-after pull t fs u h = devices-older fs h
-devices-after (chain d) t fs u h = subst Devices (sym (devices-chained t fs h)) h
-devices-after (accept d) t fs u h = (refl, h)
-devices-after sleep t fs u h = h
-devices-after (fault v) t fs u h = (refl, h)
-devices-after halt t fs u h = h
-devices-after skip t fs u h = h
-devices-after (trap v) t fs u h = absurd (true≢false u)
-devices-after plain t fs u h = h
-devices-after (loads byte a d) t fs u h = h
-devices-after (stores byte a v) t fs u h = h
+devices-after acts.Stopped t fs u h = h
+devices-after acts.Pull t fs u h = devices-older fs h
+devices-after (acts.Chain d) t fs u h = subst Devices (sym (devices-chained t fs h)) h
+devices-after (acts.Accept d) t fs u h = (refl, h)
+devices-after acts.Sleep t fs u h = h
+devices-after (acts.Fault v) t fs u h = (refl, h)
+devices-after acts.Halt t fs u h = h
+devices-after acts.Skip t fs u h = h
+devices-after (acts.Trap v) t fs u h = absurd (true≢false u)
+devices-after acts.Plain t fs u h = h
+devices-after (acts.Loads byte a d) t fs u h = h
+devices-after (acts.Stores byte a v) t fs u h = h
 
 pub frames-devices : (ev : List Event) (s : State) (n : ℕ) → ((k : ℕ) → k < n → svc? (act ev s k) ≡ false) → (k : ℕ) → k ≤ n
     → Devices (frames ev s k)

@@ -14,7 +14,8 @@ use Rattle.machine.specs.Events.{eventAt}
 use Rattle.machine.specs.Devices.{deliver, deliverAt}
 use Rattle.machine.specs.Entry.{bestFrom}
 use Rattle.machine.specs.Effect.{effectOf, loaded}
-use Rattle.machine.specs.Step.{Act, pull, chain, accept, plain, loads, stores}
+use Rattle.machine.specs.declared.Act.{Act}
+use Rattle.machine.specs.declared.Act.the-variants as acts
 use Rattle.machine.specs.Step.{outcome, advanced, granted, interruptOf, perform}
 use Rattle.machine.specs.Run.{runOf}
 use Rattle.machine.specs.Refusal.{verdictOf, recordFits, eventFits, eventsFitBelow, inOrder, inOrderBelow, eventBelow, twinsBelow}
@@ -87,9 +88,10 @@ outer-found =
 
 -- ---- what the steps do, in order
 
-pub acts-are : (act ev s 0 ≡ stores false 512 7) × (act ev s 1 ≡ accept 1) × (act ev s 2 ≡ plain) × (act ev s 3 ≡ accept 2)
-    × (act ev s 4 ≡ plain) × (act ev s 5 ≡ chain 3) × (act ev s 6 ≡ plain) × (act ev s 7 ≡ pull) × (act ev s 8 ≡ plain)
-    × (act ev s 9 ≡ pull) × (act ev s 10 ≡ loads false 512 2)
+pub acts-are : (act ev s 0 ≡ acts.Stores false (record { 0 = 512 }) 7) × (act ev s 1 ≡ acts.Accept 1) × (act ev s 2 ≡ acts.Plain)
+    × (act ev s 3 ≡ acts.Accept 2) × (act ev s 4 ≡ acts.Plain) × (act ev s 5 ≡ acts.Chain 3) × (act ev s 6 ≡ acts.Plain)
+    × (act ev s 7 ≡ acts.Pull) × (act ev s 8 ≡ acts.Plain) × (act ev s 9 ≡ acts.Pull)
+    × (act ev s 10 ≡ acts.Loads false (record { 0 = 512 }) 2)
 acts-are = (
   act-is ev s row0,
   act-is ev s row1,
@@ -107,7 +109,7 @@ acts-are = (
 -- ---- the close
 
 loaded-is : (ws : List Write) → over ws 512 0 + 256 * over ws 513 0 ≡ 7
-    → perform (loads false 512 2) ca 0 (commit ws zeros) ≡ outcome cb 0 []
+    → perform (acts.Loads false (record { 0 = 512 }) 2) ca 0 (commit ws zeros) ≡ outcome cb 0 []
 unfolding perform
 loaded-is ws h = ap (λ v. outcome (loaded ca false 2 v) 0 []) (word-is ws 512 (lit< tt) ∙ h)
 
@@ -175,7 +177,7 @@ free-start : after [] s 0 ≡ known c0 0 1 program
 unfolding stateIn
 free-start = ap (λ x. x .state) (run-zero [] s)
 
-free0 : Row [] s 0 (known c0 0 1 program) (known c0 0 1 program) c1 (stores false 512 7) [] 0 (λ x. false)
+free0 : Row [] s 0 (known c0 0 1 program) (known c0 0 1 program) c1 (acts.Stores false (record { 0 = 512 }) 7) [] 0 (λ x. false)
 unfolding frames applicationSteps foreign? deliverAt bestFrom interruptOf over effectOf advanced decodeOf granted
 free0 =
     record {
@@ -187,12 +189,12 @@ free0 =
       foreign-is = λ x. refl;
     }
 
-free1 : Row [] s 1 (known c1 0 2 stored) (known c1 0 2 stored) ca (loads false 512 2) [] 1 own
+free1 : Row [] s 1 (known c1 0 2 stored) (known c1 0 2 stored) ca (acts.Loads false (record { 0 = 512 }) 2) [] 1 own
 unfolding perform deliverAt bestFrom interruptOf over effectOf advanced decodeOf granted
 free1 =
     next-row [] s program free0 refl (outcome c1 0 (write 512 7 ∷ write 513 0 ∷ []))
     refl
-    refl (known c1 0 2 stored) ca (loads false 512 2)
+    refl (known c1 0 2 stored) ca (acts.Loads false (record { 0 = 512 }) 2)
     refl
     (fetch-plan (known c1 0 2 stored) 0x580A refl refl refl refl refl (word-is stored 258 (lit< tt)))
 

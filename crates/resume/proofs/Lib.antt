@@ -14,3 +14,4 @@ pub mod Untrapped
 pub mod Depth
 pub mod Rows
 pub mod Example
+pub mod Resumption

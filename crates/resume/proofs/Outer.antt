@@ -5,7 +5,8 @@ use mathlib.Core.List.{List, [], _∷_}
 use mathlib.Core.Path.{_≡_, refl, sym, ap, subst, _∙_}
 use Rattle.machine.specs.State.{Core, State}
 use Rattle.machine.specs.Entry.{pulled}
-use Rattle.machine.specs.Step.{Act, stopped, pull, chain, accept, sleep, fault, halt, skip, trap, plain, loads, stores}
+use Rattle.machine.specs.declared.Act.{Act}
+use Rattle.machine.specs.declared.Act.the-variants as acts
 use Rattle.machine_laws.specs.Bounds.{TidyCore}
 use Rattle.machine_laws.proofs.Cases.{bool-cases, and-right}
 use Rattle.resume.specs.Frames.{Frame, frame, own?, none?, older, chained, framesAfter, acceptsNone?, Calm, NoChain}
@@ -15,18 +16,18 @@ use Rattle.resume.proofs.Steady.{Steady}
 
 -- an instruction accepts no line and chains none
 pub steady-accepts-none : (a : Act) → Steady a → acceptsNone? a ≡ true
-steady-accepts-none stopped s = absurd s
-steady-accepts-none pull s = absurd s
-steady-accepts-none (chain d) s = absurd s
-steady-accepts-none (accept d) s = absurd s
-steady-accepts-none sleep s = refl
-steady-accepts-none (fault v) s = absurd s
-steady-accepts-none halt s = absurd s
-steady-accepts-none skip s = refl
-steady-accepts-none (trap v) s = refl
-steady-accepts-none plain s = refl
-steady-accepts-none (loads byte a d) s = refl
-steady-accepts-none (stores byte a v) s = refl
+steady-accepts-none acts.Stopped s = absurd s
+steady-accepts-none acts.Pull s = absurd s
+steady-accepts-none (acts.Chain d) s = absurd s
+steady-accepts-none (acts.Accept d) s = absurd s
+steady-accepts-none acts.Sleep s = refl
+steady-accepts-none (acts.Fault v) s = absurd s
+steady-accepts-none acts.Halt s = absurd s
+steady-accepts-none acts.Skip s = refl
+steady-accepts-none (acts.Trap v) s = refl
+steady-accepts-none acts.Plain s = refl
+steady-accepts-none (acts.Loads byte a d) s = refl
+steady-accepts-none (acts.Stores byte a v) s = refl
 
 pub steady-no-chain : (a : Act) → Steady a → NoChain a
 steady-no-chain a s d e = subst Steady e s
@@ -38,18 +39,18 @@ older-own (f ∷ fs) o = and-right (f .own) (own? fs) o
 
 pub frames-own : (a : Act) (t : State) (fs : List Frame) → acceptsNone? a ≡ true → NoChain a → Calm a fs → own? fs ≡ true
     → own? (framesAfter a t fs) ≡ true
-frames-own stopped t fs h c k o = o
-frames-own pull t fs h c k o = older-own fs o
-frames-own (chain d) t fs h c k o = absurd (c d refl)
-frames-own (accept d) t fs h c k o = absurd (false≢true h)
-frames-own sleep t fs h c k o = o
-frames-own (fault v) t fs h c k o = absurd k
-frames-own halt t fs h c k o = o
-frames-own skip t fs h c k o = o
-frames-own (trap v) t fs h c k o = ap (λ b. b && b) o
-frames-own plain t fs h c k o = o
-frames-own (loads byte a d) t fs h c k o = o
-frames-own (stores byte a v) t fs h c k o = o
+frames-own acts.Stopped t fs h c k o = o
+frames-own acts.Pull t fs h c k o = older-own fs o
+frames-own (acts.Chain d) t fs h c k o = absurd (c d refl)
+frames-own (acts.Accept d) t fs h c k o = absurd (false≢true h)
+frames-own acts.Sleep t fs h c k o = o
+frames-own (acts.Fault v) t fs h c k o = absurd k
+frames-own acts.Halt t fs h c k o = o
+frames-own acts.Skip t fs h c k o = o
+frames-own (acts.Trap v) t fs h c k o = ap (λ b. b && b) o
+frames-own acts.Plain t fs h c k o = o
+frames-own (acts.Loads byte a d) t fs h c k o = o
+frames-own (acts.Stores byte a v) t fs h c k o = o
 
 -- of a device frame with none below it: it is a device's
 pub newest-device : (f : Frame) (fs : List Frame) → f .own && own? fs ≡ false → own? fs ≡ true → f .own ≡ false
@@ -67,19 +68,19 @@ device-some : (fs : List Frame) → own? fs ≡ false → none? fs ≡ false
 device-some [] h = h
 device-some (f ∷ fs) h = refl
 
-pub leaves-none : (a : Act) (t : State) (fs : List Frame) → own? fs ≡ false → own? (framesAfter a t fs) ≡ true → a ≡ pull
-leaves-none stopped t fs o h = absurd (true≢false (sym h ∙ o))
-leaves-none pull t fs o h = refl
-leaves-none (chain d) t fs o h = absurd (true≢false (sym h ∙ chained-device t fs (device-some fs o)))
-leaves-none (accept d) t fs o h = absurd (false≢true h)
-leaves-none sleep t fs o h = absurd (true≢false (sym h ∙ o))
-leaves-none (fault v) t fs o h = absurd (false≢true h)
-leaves-none halt t fs o h = absurd (true≢false (sym h ∙ o))
-leaves-none skip t fs o h = absurd (true≢false (sym h ∙ o))
-leaves-none (trap v) t fs o h = absurd (true≢false (sym h ∙ ap (λ b. b && b) o))
-leaves-none plain t fs o h = absurd (true≢false (sym h ∙ o))
-leaves-none (loads byte a d) t fs o h = absurd (true≢false (sym h ∙ o))
-leaves-none (stores byte a v) t fs o h = absurd (true≢false (sym h ∙ o))
+pub leaves-none : (a : Act) (t : State) (fs : List Frame) → own? fs ≡ false → own? (framesAfter a t fs) ≡ true → a ≡ acts.Pull
+leaves-none acts.Stopped t fs o h = absurd (true≢false (sym h ∙ o))
+leaves-none acts.Pull t fs o h = refl
+leaves-none (acts.Chain d) t fs o h = absurd (true≢false (sym h ∙ chained-device t fs (device-some fs o)))
+leaves-none (acts.Accept d) t fs o h = absurd (false≢true h)
+leaves-none acts.Sleep t fs o h = absurd (true≢false (sym h ∙ o))
+leaves-none (acts.Fault v) t fs o h = absurd (false≢true h)
+leaves-none acts.Halt t fs o h = absurd (true≢false (sym h ∙ o))
+leaves-none acts.Skip t fs o h = absurd (true≢false (sym h ∙ o))
+leaves-none (acts.Trap v) t fs o h = absurd (true≢false (sym h ∙ ap (λ b. b && b) o))
+leaves-none acts.Plain t fs o h = absurd (true≢false (sym h ∙ o))
+leaves-none (acts.Loads byte a d) t fs o h = absurd (true≢false (sym h ∙ o))
+leaves-none (acts.Stores byte a v) t fs o h = absurd (true≢false (sym h ∙ o))
 
 -- ---- the outermost device frame
 

@@ -15,9 +15,10 @@ use Rattle.machine.specs.Record.{stateIn}
 use Rattle.machine.specs.Events.{Event, eventsOf}
 use Rattle.machine.specs.Devices.{device?, deliver, deliverAt}
 use Rattle.machine.specs.Entry.{pulled}
-use Rattle.machine.specs.Step.{Act, Interrupt, pulls, chains, accepts, nothing, interruptOf, instructionOf, chosen, planned, planOf}
+use Rattle.machine.specs.declared.Act.{Act}
+use Rattle.machine.specs.Step.{Interrupt, pulls, chains, accepts, nothing, interruptOf, instructionOf, chosen, planned, planOf}
 use Rattle.machine.specs.Step.{perform, outcomeOf, finished}
-use Rattle.machine.specs.Step.{stopped, pull, chain, accept, sleep, fault, halt, skip, trap, plain, loads, stores}
+use Rattle.machine.specs.declared.Act.the-variants as acts
 use Rattle.machine.specs.Run.{runOf}
 use Rattle.machine_laws.specs.Bounds.{Each, Tidy, EventFits}
 use Rattle.machine_laws.specs.Passed.{Passed}
@@ -276,7 +277,7 @@ module _ (memory r events : List ℕ) (n : ℕ) (P : WiderPremises memory r even
       -- A return, pulled or chained.
       module _ (a : Act) (p-is : planOf (due ev s k) ≡ planned (due ev s k .core) a) (h : acceptsNone? a ≡ true)
           (returns : Returns? (interruptOf (due ev s k .core) (due ev s k .lines) (due ev s k .mem)))
-          (loads : readsOf a (due ev s k .core) ≡ frameSpan (sp (due ev s k .core)))
+          (read : readsOf a (due ev s k .core) ≡ frameSpan (sp (due ev s k .core)))
           (none : perform a (due ev s k .core) (due ev s k .lines) (due ev s k .mem) .writes ≡ []) where
         act-is : act ev s k ≡ a
         act-is = ap (λ p. p .act) p-is
@@ -286,7 +287,7 @@ module _ (memory r events : List ℕ) (n : ℕ) (P : WiderPremises memory r even
 
         return-reads : Each (λ b. (device? b ≡ false) × (foreign? ev s k b ≡ false)) (frameSpan (sp (due ev s k .core)))
         return-reads =
-            subst (Each (λ b. (device? b ≡ false) × (foreign? ev s k b ≡ false))) (ap (λ x. readsOf x (due ev s k .core)) act-is ∙ loads)
+            subst (Each (λ b. (device? b ≡ false) × (foreign? ev s k b ≡ false))) (ap (λ x. readsOf x (due ev s k .core)) act-is ∙ read)
             (P .reads-own k below return-mine)
 
         free-pulled : Pulled (due ev s k) (free ev s k)
@@ -323,16 +324,16 @@ module _ (memory r events : List ℕ) (n : ℕ) (P : WiderPremises memory r even
       unfolding perform
       pull-step e =
           let p-is = plan-is pulls e in
-          let a-is = act-is pull p-is refl (returns-as pulls e tt) refl refl in
-          let o : own? (frames ev s (suc k)) ≡ true = ap own? (frames-next pull a-is) ∙ older-own (frames ev s k) own in
-          return-step pull p-is refl (returns-as pulls e tt) refl refl (λ q. ap (λ o. o .core) (outcome-is pull p-is))
+          let a-is = act-is acts.Pull p-is refl (returns-as pulls e tt) refl refl in
+          let o : own? (frames ev s (suc k)) ≡ true = ap own? (frames-next acts.Pull a-is) ∙ older-own (frames ev s k) own in
+          return-step acts.Pull p-is refl (returns-as pulls e tt) refl refl (λ q. ap (λ o. o .core) (outcome-is acts.Pull p-is))
           (λ q. absurd (true≢false (sym o ∙ q)))
 
       -- The chained entry leaves what the pull is to find, and the application's core in it.
       chain-holds : (d : ℕ) → inter ≡ chains d → Holds (after ev s (suc k)) (pulled (due ev s k .core) (due ev s k .mem))
       unfolding perform
       chain-holds d e =
-          let o-is = outcome-is (chain d) (plan-is (chains d) e) in
+          let o-is = outcome-is (acts.Chain d) (plan-is (chains d) e) in
           let c = due ev s k .core in
           record {
             tidy = after-tidy (suc k) .core;
@@ -348,16 +349,16 @@ module _ (memory r events : List ℕ) (n : ℕ) (P : WiderPremises memory r even
       unfolding perform
       chain-step d e =
           let p-is = plan-is (chains d) e in
-          let a-is = act-is (chain d) p-is refl (returns-as (chains d) e tt) refl refl in
+          let a-is = act-is (acts.Chain d) p-is refl (returns-as (chains d) e tt) refl refl in
           let some : none? (frames ev s k) ≡ false = subst (λ a. Calm a (frames ev s k)) a-is (P .calm k below) in
           list-cases (frames ev s k)
           (λ q. absurd (true≢false (sym (ap none? q) ∙ some)))
           (λ f fs q.
           let o : f .own && own? fs ≡ true = sym (ap own? q) ∙ own in
           let is : frames ev s (suc k) ≡ frame (after ev s (suc k)) false ∷ fs =
-          frames-next (chain d) a-is ∙ ap (chained (after ev s (suc k))) q
+          frames-next (acts.Chain d) a-is ∙ ap (chained (after ev s (suc k))) q
           ∙ ap (λ b. cond b (frame (after ev s (suc k)) false) f ∷ fs) (and-left (f .own) (own? fs) o) in
-          return-step (chain d) p-is refl (returns-as (chains d) e tt) refl refl
+          return-step (acts.Chain d) p-is refl (returns-as (chains d) e tt) refl refl
           (λ z. absurd (false≢true (sym (ap own? is) ∙ z)))
           (λ z. subst (Outer (pulled (due ev s k .core) (due ev s k .mem))) (sym is)
           (outer-in (pulled (due ev s k .core) (due ev s k .mem)) (frame (after ev s (suc k)) false) fs (and-right (f .own) (own? fs) o)
@@ -367,7 +368,7 @@ module _ (memory r events : List ℕ) (n : ℕ) (P : WiderPremises memory r even
       entry-holds : (d : ℕ) → inter ≡ accepts d → Holds (after ev s (suc k)) (free ev s k .core)
       unfolding perform
       entry-holds d e =
-          let o-is = outcome-is (accept d) (plan-is (accepts d) e) in
+          let o-is = outcome-is (acts.Accept d) (plan-is (accepts d) e) in
           let c = due ev s k .core in
           let sv : Saved (after ev s (suc k)) (free ev s k .core) =
           subst (Saved (after ev s (suc k))) core-is
@@ -384,8 +385,8 @@ module _ (memory r events : List ℕ) (n : ℕ) (P : WiderPremises memory r even
 
       entry-step : (d : ℕ) → inter ≡ accepts d → Sim ev s (suc k)
       entry-step d e =
-          let a-is : act ev s k ≡ accept d = ap (λ p. p .act) (plan-is (accepts d) e) in
-          let is = frames-next (accept d) a-is in
+          let a-is : act ev s k ≡ acts.Accept d = ap (λ p. p .act) (plan-is (accepts d) e) in
+          let is = frames-next (acts.Accept d) a-is in
           other-step (rw (own, ap acceptsNone? a-is) refl)
           (λ z. absurd (false≢true (sym (ap own? is) ∙ z)))
           (λ z. subst (Outer (free ev s k .core)) (sym is)
@@ -399,24 +400,25 @@ module _ (memory r events : List ℕ) (n : ℕ) (P : WiderPremises memory r even
       unfolding perform
       same-act mine u =
           interrupt-cases inter
-          (λ e. free-pulled pull (plan-is pulls e) refl (returns-as pulls e tt) refl refl .act ∙ sym (ap (λ p. p .act) (plan-is pulls e)))
+          (λ e. free-pulled acts.Pull (plan-is pulls e) refl (returns-as pulls e tt) refl refl .act
+          ∙ sym (ap (λ p. p .act) (plan-is pulls e)))
           (λ d e. absurd (u d (ap (λ p. p .act) (plan-is (chains d) e))))
           (λ d e. absurd (true≢false (sym mine ∙ rw (own, ap (λ p. acceptsNone? (p .act)) (plan-is (accepts d) e)) refl)))
           (λ e. both e .act)
 
-      same-return : (d : ℕ) → act ev s k ≡ chain d → planOf (free ev s k) .act ≡ pull
+      same-return : (d : ℕ) → act ev s k ≡ acts.Chain d → planOf (free ev s k) .act ≡ acts.Pull
       unfolding perform
       same-return d q =
           interrupt-cases inter
-          (λ e. free-pulled pull (plan-is pulls e) refl (returns-as pulls e tt) refl refl .act)
-          (λ x e. free-pulled (chain x) (plan-is (chains x) e) refl (returns-as (chains x) e tt) refl refl .act)
+          (λ e. free-pulled acts.Pull (plan-is pulls e) refl (returns-as pulls e tt) refl refl .act)
+          (λ x e. free-pulled (acts.Chain x) (plan-is (chains x) e) refl (returns-as (chains x) e tt) refl refl .act)
           (λ x e. absurd (false≢true (sym (ap (λ p. acceptsNone? (p .act)) (plan-is (accepts x) e)) ∙ ap acceptsNone? q)))
           (λ e. absurd (steady-no-chain (act ev s k) (steady e) d q))
 
     -- With a device frame open.
     module _ (device : own? (frames ev s k) ≡ false) where
       -- a return that closes the outermost device frame
-      closing : (f : Frame) (fs : List Frame) → frames ev s k ≡ f ∷ fs → act ev s k ≡ pull → f .own ≡ false
+      closing : (f : Frame) (fs : List Frame) → frames ev s k ≡ f ∷ fs → act ev s k ≡ acts.Pull → f .own ≡ false
           → Holds (f .held) (free ev s k .core)
           → finished (due ev s k) .core ≡ free ev s k .core
       unfolding perform
@@ -439,7 +441,7 @@ module _ (memory r events : List ℕ) (n : ℕ) (P : WiderPremises memory r even
       unfolding Next
       same = ((λ z. absurd (false≢true (sym device ∙ z))), S .outer)
 
-      pulled-next : act ev s k ≡ pull → Next (older (frames ev s k))
+      pulled-next : act ev s k ≡ acts.Pull → Next (older (frames ev s k))
       unfolding Next
       pulled-next a =
           list-cases (frames ev s k)
@@ -473,18 +475,18 @@ module _ (memory r events : List ℕ) (n : ℕ) (P : WiderPremises memory r even
           ))))
 
       inside : (a : Act) → act ev s k ≡ a → Calm a (frames ev s k) → Next (framesAfter a (after ev s (suc k)) (frames ev s k))
-      inside stopped q c = same
-      inside pull q c = pulled-next q
-      inside (chain d) q c = chained-next
-      inside (accept d) q c = opened (frame (after ev s (suc k)) false) refl
-      inside sleep q c = same
-      inside (fault v) q c = absurd c
-      inside halt q c = absurd c
-      inside skip q c = same
-      inside (trap v) q c = opened (frame (after ev s (suc k)) (own? (frames ev s k))) (rw device refl)
-      inside plain q c = same
-      inside (loads byte a d) q c = same
-      inside (stores byte a v) q c = same
+      inside acts.Stopped q c = same
+      inside acts.Pull q c = pulled-next q
+      inside (acts.Chain d) q c = chained-next
+      inside (acts.Accept d) q c = opened (frame (after ev s (suc k)) false) refl
+      inside acts.Sleep q c = same
+      inside (acts.Fault v) q c = absurd c
+      inside acts.Halt q c = absurd c
+      inside acts.Skip q c = same
+      inside (acts.Trap v) q c = opened (frame (after ev s (suc k)) (own? (frames ev s k))) (rw device refl)
+      inside acts.Plain q c = same
+      inside (acts.Loads byte a d) q c = same
+      inside (acts.Stores byte a v) q c = same
 
       device-step : Sim ev s (suc k)
       unfolding Next
@@ -519,7 +521,7 @@ module _ (memory r events : List ℕ) (n : ℕ) (P : WiderPremises memory r even
     at : ℕ
     since : k ≤ at
     within : at < n
-    pulls-at : act ev s at ≡ pull
+    pulls-at : act ev s at ≡ acts.Pull
     device-until : (i : ℕ) → k ≤ i → i ≤ at → own? (frames ev s i) ≡ false
     own-after : own? (frames ev s (suc at)) ≡ true
     uncounted : applicationSteps ev s (suc at) ≡ applicationSteps ev s k
@@ -560,10 +562,10 @@ module _ (memory r events : List ℕ) (n : ℕ) (P : WiderPremises memory r even
         uncounted = u .uncounted ∙ device-uncounted k o;
       })
 
-  module _ (k d : ℕ) (h : k < n) (mine : application? ev s k ≡ true) (c : act ev s k ≡ chain d) where
+  module _ (k d : ℕ) (h : k < n) (mine : application? ev s k ≡ true) (c : act ev s k ≡ acts.Chain d) where
     chained-open : own? (frames ev s (suc k)) ≡ false
     chained-open =
-        ap own? (frames-next k h (sim k (omega arith)) (chain d) c)
+        ap own? (frames-next k h (sim k (omega arith)) (acts.Chain d) c)
         ∙ chained-device (after ev s (suc k)) (frames ev s k) (subst (λ a. Calm a (frames ev s k)) c (P .calm k h))
 
     counted-once : applicationSteps ev s (suc k) ≡ suc (applicationSteps ev s k)

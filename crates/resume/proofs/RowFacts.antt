@@ -12,7 +12,8 @@ use Rattle.machine.specs.Memory.{Write, commit, even}
 use Rattle.machine.specs.Events.{Event}
 use Rattle.machine.specs.Devices.{device?}
 use Rattle.machine.specs.Entry.{frameByte}
-use Rattle.machine.specs.Step.{Act, stopped, pull, chain, accept, sleep, fault, halt, skip, trap, plain, loads, stores}
+use Rattle.machine.specs.declared.Act.{Act}
+use Rattle.machine.specs.declared.Act.the-variants as acts
 use Rattle.machine_laws.specs.Bounds.{Each, Bytes}
 use Rattle.machine_laws.proofs.Cases.{bool-cases, eq-of, neq-of, lt-of, and-left, and-right}
 use Rattle.machine_laws.proofs.Memory.{over}
@@ -81,18 +82,18 @@ frame-found ws vs x h u i k =
 -- ---- what a row says of its step
 
 abbrev pub pull? : Act → Bool
-pull? stopped = false
-pull? pull = true
-pull? (chain d) = false
-pull? (accept d) = false
-pull? sleep = false
-pull? (fault v) = false
-pull? halt = false
-pull? skip = false
-pull? (trap v) = false
-pull? plain = false
-pull? (loads byte a d) = false
-pull? (stores byte a v) = false
+pull? acts.Stopped = false
+pull? acts.Pull = true
+pull? (acts.Chain d) = false
+pull? (acts.Accept d) = false
+pull? acts.Sleep = false
+pull? (acts.Fault v) = false
+pull? acts.Halt = false
+pull? acts.Skip = false
+pull? (acts.Trap v) = false
+pull? acts.Plain = false
+pull? (acts.Loads byte a d) = false
+pull? (acts.Stores byte a v) = false
 
 abbrev newest : Frame → List Frame → Frame
 newest f [] = f
@@ -104,7 +105,7 @@ module _ (ev : List Event) (s : State) where
 
   abbrev pub Restored : ℕ → Type 0
   Restored k =
-      (f : Frame) (fs : List Frame) → act ev s k ≡ pull → frames ev s k ≡ f ∷ fs → f .own ≡ false → Found (f .held) (due ev s k)
+      (f : Frame) (fs : List Frame) → act ev s k ≡ acts.Pull → frames ev s k ≡ f ∷ fs → f .own ≡ false → Found (f .held) (due ev s k)
 
   abbrev pub Awake : ℕ → Type 0
   Awake k = application? ev s k ≡ true → asleep? (after ev s (suc k) .core .psw) ≡ false

@@ -18,7 +18,7 @@ use Rattle.machine.specs.Devices.{deliver, deliverAt, fallen}
 use Rattle.machine.specs.Entry.{bestFrom, enteredPsw, pushes}
 use Rattle.machine.specs.Effect.{effectOf, binaryOf}
 use Rattle.machine.specs.Step.{planned, planOf, outcome, interruptOf, pulls, chains, accepts, advanced, granted, perform}
-use Rattle.machine.specs.Step.{pull, chain, accept, plain, loads, stores}
+use Rattle.machine.specs.declared.Act.the-variants as acts
 use Rattle.machine_laws.proofs.Memory.{over}
 use Rattle.machine_laws.proofs.Runs.{run-zero}
 use Rattle.resume.specs.Frames.{Frame, frame, after, frames, applicationSteps, foreign?}
@@ -115,7 +115,7 @@ start-is : after ev s 0 ≡ known c0 0 1 program
 unfolding stateIn
 start-is = ap (λ x. x .state) (run-zero ev s)
 
-pub row0 : Row ev s 0 (known c0 0 1 program) (known c0 0 1 program) c1 (stores false 512 7) [] 0 (λ x. false)
+pub row0 : Row ev s 0 (known c0 0 1 program) (known c0 0 1 program) c1 (acts.Stores false (record { 0 = 512 }) 7) [] 0 (λ x. false)
 unfolding frames applicationSteps foreign? deliverAt eventsFrom eventAt bestFrom interruptOf over effectOf advanced decodeOf granted
 row0 =
     record {
@@ -127,107 +127,107 @@ row0 =
       foreign-is = λ x. refl;
     }
 
-pub row1 : Row ev s 1 (known c1 0 2 stored) (known c1 2 2 risen) c1 (accept 1) [] 1 own
+pub row1 : Row ev s 1 (known c1 0 2 stored) (known c1 2 2 risen) c1 (acts.Accept 1) [] 1 own
 unfolding perform writes? deliverAt eventsFrom eventAt bestFrom interruptOf over
 row1 =
     next-row ev s program row0 refl (outcome c1 0 (write 512 7 ∷ write 513 0 ∷ []))
     refl
-    refl (known c1 2 2 risen) c1 (accept 1)
+    refl (known c1 2 2 risen) c1 (acts.Accept 1)
     (event-known (record { step = 2; device = 1; byte = 9 }) c1 0 2 stored 19 (lit< tt) refl refl)
     (interrupt-plan (known c1 2 2 risen) (accepts 1) refl
     (interrupt-is c1 2 1 2 (commit risen zeros) refl (ap current (word-is risen 65476 (lit< tt)))))
 
 -- CMP R0,R0 in the first handler
-compare-plan : planOf (known c2 0 3 entered) ≡ planned c3 plain
+compare-plan : planOf (known c2 0 3 entered) ≡ planned c3 acts.Plain
 unfolding bestFrom interruptOf over effectOf advanced decodeOf granted aluOf addWithCarry overflowOf widthOf binaryOf
 compare-plan = fetch-plan (known c2 0 3 entered) 0x4500 refl refl refl refl refl (word-is entered 320 (lit< tt))
 
-pub row2 : Row ev s 2 (known c2 0 3 entered) (known c2 0 3 entered) c3 plain (outerFrame ∷ []) 1 entryBytes
+pub row2 : Row ev s 2 (known c2 0 3 entered) (known c2 0 3 entered) c3 acts.Plain (outerFrame ∷ []) 1 entryBytes
 unfolding perform writes? deliverAt eventsFrom eventAt bestFrom interruptOf over enteredPsw pushes
 row2 =
     next-row ev s risen row1 refl (outcome c2 0 firstPush)
     (ap (λ x. outcome x (fallen 2 1) (pushes c1))
     (vectored-is c1 (commit risen zeros) 1 0 false 1016 64 320 (word-is risen 65476 (lit< tt)) (word-is risen 65478 (lit< tt))))
-    refl (known c2 0 3 entered) c3 plain
+    refl (known c2 0 3 entered) c3 acts.Plain
     refl
     compare-plan
 
-pub row3 : Row ev s 3 (known c3 0 4 entered) (known c3 4 4 nested) c3 (accept 2) (outerFrame ∷ []) 1 entryBytes
+pub row3 : Row ev s 3 (known c3 0 4 entered) (known c3 4 4 nested) c3 (acts.Accept 2) (outerFrame ∷ []) 1 entryBytes
 unfolding perform writes? deliverAt eventsFrom eventAt bestFrom interruptOf over
 row3 =
     next-row ev s entered row2 refl (outcome c3 0 [])
     refl
-    refl (known c3 4 4 nested) c3 (accept 2)
+    refl (known c3 4 4 nested) c3 (acts.Accept 2)
     (event-known (record { step = 4; device = 2; byte = 0 }) c3 0 4 entered 17 (lit< tt) refl refl)
     (interrupt-plan (known c3 4 4 nested) (accepts 2) refl
     (interrupt-is c3 4 2 5 (commit nested zeros) refl (ap current (word-is nested 65480 (lit< tt)))))
 
-pub row4 : Row ev s 4 (known c4 0 5 deeper) (known c4 0 5 deeper) c5 plain (innerFrame ∷ outerFrame ∷ []) 1 nestedBytes
+pub row4 : Row ev s 4 (known c4 0 5 deeper) (known c4 0 5 deeper) c5 acts.Plain (innerFrame ∷ outerFrame ∷ []) 1 nestedBytes
 unfolding perform deliverAt eventsFrom eventAt bestFrom interruptOf over effectOf advanced decodeOf granted enteredPsw pushes widthOf
 row4 =
     next-row ev s nested row3 refl (outcome c4 0 secondPush)
     (ap (λ x. outcome x (fallen 4 2) (pushes c3))
     (vectored-is c3 (commit nested zeros) 2 2 false 1008 160 352 (word-is nested 65480 (lit< tt)) (word-is nested 65482 (lit< tt))))
-    refl (known c4 0 5 deeper) c5 plain
+    refl (known c4 0 5 deeper) c5 acts.Plain
     refl
     (fetch-plan (known c4 0 5 deeper) 0x4C2F refl refl refl refl refl (word-is deeper 352 (lit< tt)))
 
-pub row5 : Row ev s 5 (known c5 0 6 deeper) (known c5 8 6 waiting) c5 (chain 3) (innerFrame ∷ outerFrame ∷ []) 1 nestedBytes
+pub row5 : Row ev s 5 (known c5 0 6 deeper) (known c5 8 6 waiting) c5 (acts.Chain 3) (innerFrame ∷ outerFrame ∷ []) 1 nestedBytes
 unfolding perform writes? deliverAt eventsFrom eventAt bestFrom interruptOf over
 row5 =
     next-row ev s deeper row4 refl (outcome c5 0 [])
     refl
-    refl (known c5 8 6 waiting) c5 (chain 3)
+    refl (known c5 8 6 waiting) c5 (acts.Chain 3)
     (event-known (record { step = 6; device = 3; byte = 0 }) c5 0 6 deeper 17 (lit< tt) refl refl)
     (interrupt-plan (known c5 8 6 waiting) (chains 3) refl
     (interrupt-is c5 8 3 4 (commit waiting zeros) refl (ap current (word-is waiting 65484 (lit< tt)))))
 
-pub row6 : Row ev s 6 (known c6 0 7 waiting) (known c6 0 7 waiting) c7 plain (innerFrame ∷ outerFrame ∷ []) 1 nestedBytes
+pub row6 : Row ev s 6 (known c6 0 7 waiting) (known c6 0 7 waiting) c7 acts.Plain (innerFrame ∷ outerFrame ∷ []) 1 nestedBytes
 unfolding perform writes? deliverAt eventsFrom eventAt bestFrom interruptOf over effectOf advanced decodeOf granted enteredPsw widthOf
 row6 =
     next-row ev s waiting row5 refl (outcome c6 0 [])
     (ap (λ x. outcome x (fallen 8 3) [])
     (vectored-is c5 (commit waiting zeros) 3 2 false 1008 128 384 (word-is waiting 65484 (lit< tt)) (word-is waiting 65486 (lit< tt))))
-    refl (known c6 0 7 waiting) c7 plain
+    refl (known c6 0 7 waiting) c7 acts.Plain
     refl
     (fetch-plan (known c6 0 7 waiting) 0x4C2F refl refl refl refl refl (word-is waiting 384 (lit< tt)))
 
-pub row7 : Row ev s 7 (known c7 0 8 waiting) (known c7 0 8 waiting) c7 pull (innerFrame ∷ outerFrame ∷ []) 1 nestedBytes
+pub row7 : Row ev s 7 (known c7 0 8 waiting) (known c7 0 8 waiting) c7 acts.Pull (innerFrame ∷ outerFrame ∷ []) 1 nestedBytes
 unfolding perform writes? deliverAt eventsFrom eventAt bestFrom interruptOf over
 row7 =
     next-row ev s waiting row6 refl (outcome c7 0 [])
     refl
-    refl (known c7 0 8 waiting) c7 pull
+    refl (known c7 0 8 waiting) c7 acts.Pull
     refl
     (interrupt-plan (known c7 0 8 waiting) pulls refl refl)
 
-pub row8 : Row ev s 8 (known c3 0 9 waiting) (known c3 0 9 waiting) c9 plain (outerFrame ∷ []) 1 nestedBytes
+pub row8 : Row ev s 8 (known c3 0 9 waiting) (known c3 0 9 waiting) c9 acts.Plain (outerFrame ∷ []) 1 nestedBytes
 unfolding perform writes? deliverAt eventsFrom eventAt bestFrom interruptOf over effectOf advanced decodeOf granted widthOf
 row8 =
     next-row ev s waiting row7 refl (outcome c3 0 [])
     (ap (λ x. outcome x 0 [])
     (pulled-is c7 (commit waiting zeros) 0 67 65535 322 (word-is waiting 1008 (lit< tt)) (word-is waiting 1010 (lit< tt))
     (word-is waiting 1012 (lit< tt)) (word-is waiting 1014 (lit< tt))))
-    refl (known c3 0 9 waiting) c9 plain
+    refl (known c3 0 9 waiting) c9 acts.Plain
     refl
     (fetch-plan (known c3 0 9 waiting) 0x4C2F refl refl refl refl refl (word-is waiting 322 (lit< tt)))
 
-pub row9 : Row ev s 9 (known c9 0 10 waiting) (known c9 0 10 waiting) c9 pull (outerFrame ∷ []) 1 nestedBytes
+pub row9 : Row ev s 9 (known c9 0 10 waiting) (known c9 0 10 waiting) c9 acts.Pull (outerFrame ∷ []) 1 nestedBytes
 unfolding perform writes? deliverAt eventsFrom eventAt bestFrom interruptOf over
 row9 =
     next-row ev s waiting row8 refl (outcome c9 0 [])
     refl
-    refl (known c9 0 10 waiting) c9 pull
+    refl (known c9 0 10 waiting) c9 acts.Pull
     refl
     (interrupt-plan (known c9 0 10 waiting) pulls refl refl)
 
-pub row10 : Row ev s 10 (known c1 0 11 waiting) (known c1 0 11 waiting) ca (loads false 512 2) [] 1 nestedBytes
+pub row10 : Row ev s 10 (known c1 0 11 waiting) (known c1 0 11 waiting) ca (acts.Loads false (record { 0 = 512 }) 2) [] 1 nestedBytes
 unfolding perform writes? deliverAt eventsFrom eventAt bestFrom interruptOf over effectOf advanced decodeOf granted
 row10 =
     next-row ev s waiting row9 refl (outcome c1 0 [])
     (ap (λ x. outcome x 0 [])
     (pulled-is c9 (commit waiting zeros) 0 0 5 258 (word-is waiting 1016 (lit< tt)) (word-is waiting 1018 (lit< tt))
     (word-is waiting 1020 (lit< tt)) (word-is waiting 1022 (lit< tt))))
-    refl (known c1 0 11 waiting) ca (loads false 512 2)
+    refl (known c1 0 11 waiting) ca (acts.Loads false (record { 0 = 512 }) 2)
     refl
     (fetch-plan (known c1 0 11 waiting) 0x580A refl refl refl refl refl (word-is waiting 258 (lit< tt)))

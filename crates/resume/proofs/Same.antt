@@ -15,9 +15,10 @@ use Rattle.machine.specs.Memory.{byteAt, wordAt, even, span, valueAt}
 use Rattle.machine.specs.Cex.{skips?}
 use Rattle.machine.specs.Entry.{best, bestFrom, above, vectorPsw, vectorPc, vectored, enteredPsw, pushed, pushes}
 use Rattle.machine.specs.Effect.{effectOf, loaded}
-use Rattle.machine.specs.Step.{Act, Interrupt, Outcome, pulls, chains, accepts, nothing, interruptOf, returns?, advanced, faulting, granted}
+use Rattle.machine.specs.declared.Act.{Act}
+use Rattle.machine.specs.Step.{Interrupt, Outcome, pulls, chains, accepts, nothing, interruptOf, returns?, advanced, faulting, granted}
 use Rattle.machine.specs.Step.{planned, instructionOf, perform}
-use Rattle.machine.specs.Step.{stopped, pull, chain, accept, sleep, fault, halt, skip, trap, plain, loads, stores}
+use Rattle.machine.specs.declared.Act.the-variants as acts
 use Rattle.machine_laws.specs.Bounds.{Each}
 use Rattle.machine_laws.proofs.Cases.{bool-cases}
 use Rattle.resume.specs.Frames.{readsOf}
@@ -76,7 +77,7 @@ module _ (c x : Core) (m : List ℕ) where
   granted-same m′ (Trap v) h r =
       let r₁ = subst (λ b. Each (λ b. byteAt m b ≡ byteAt m′ b) (readsOf b c)) (trap-granted c x m v h) r in
       let w : vectorPsw m′ v ≡ vectorPsw m v = λ i. sym (r₁ .0) i + 256 * sym (r₁ .1 .0) i in
-      ap (λ p. cond (ltb (current (c .psw)) (current p)) (planned x (trap v)) (faulting c (advanced c) 10)) w
+      ap (λ p. cond (ltb (current (c .psw)) (current p)) (planned x (acts.Trap v)) (faulting c (advanced c) 10)) w
 
   -- an instruction without a fault fetches
   granted-fetch : (P : ℕ → Type 0) (a : Access) → Faultless (granted c x a m .act) → Each P (readsOf (granted c x a m .act) c)
@@ -131,15 +132,15 @@ vectored-same c m m′ v q b s e f =
 pub perform-same : (a : Act) → Steady a → (c₀ c : Core) (l : ℕ) (m m′ : List ℕ) → Each (λ b. byteAt m b ≡ byteAt m′ b) (readsOf a c₀)
     → Same (perform a c l m) (perform a c 0 m′)
 unfolding perform
-perform-same stopped s c₀ c l m m′ r = absurd s
-perform-same pull s c₀ c l m m′ r = absurd s
-perform-same (chain d) s c₀ c l m m′ r = absurd s
-perform-same (accept d) s c₀ c l m m′ r = absurd s
-perform-same sleep s c₀ c l m m′ r = record { core = refl; alone-live = refl; no-lines = refl; writes = same-refl [] }
-perform-same (fault v) s c₀ c l m m′ r = absurd s
-perform-same halt s c₀ c l m m′ r = absurd s
-perform-same skip s c₀ c l m m′ r = record { core = refl; alone-live = refl; no-lines = refl; writes = same-refl [] }
-perform-same (trap v) s c₀ c l m m′ r =
+perform-same acts.Stopped s c₀ c l m m′ r = absurd s
+perform-same acts.Pull s c₀ c l m m′ r = absurd s
+perform-same (acts.Chain d) s c₀ c l m m′ r = absurd s
+perform-same (acts.Accept d) s c₀ c l m m′ r = absurd s
+perform-same acts.Sleep s c₀ c l m m′ r = record { core = refl; alone-live = refl; no-lines = refl; writes = same-refl [] }
+perform-same (acts.Fault v) s c₀ c l m m′ r = absurd s
+perform-same acts.Halt s c₀ c l m m′ r = absurd s
+perform-same acts.Skip s c₀ c l m m′ r = record { core = refl; alone-live = refl; no-lines = refl; writes = same-refl [] }
+perform-same (acts.Trap v) s c₀ c l m m′ r =
     let e : vectorPsw m v ≡ vectorPsw m′ v = λ i. r .0 i + 256 * r .1 .0 i in
     let f : vectorPc m v ≡ vectorPc m′ v = λ i. r .1 .1 .0 i + 256 * r .1 .1 .1 .0 i in
     record {
@@ -148,13 +149,13 @@ perform-same (trap v) s c₀ c l m m′ r =
       no-lines = refl;
       writes = same-refl (pushes c);
     }
-perform-same plain s c₀ c l m m′ r = record { core = refl; alone-live = refl; no-lines = refl; writes = same-refl [] }
-perform-same (loads byte a d) s c₀ c l m m′ r =
+perform-same acts.Plain s c₀ c l m m′ r = record { core = refl; alone-live = refl; no-lines = refl; writes = same-refl [] }
+perform-same (acts.Loads byte a d) s c₀ c l m m′ r =
     record {
-      core = ap (loaded c byte d) (value-same byte m m′ a (r .1 .1));
+      core = ap (loaded c byte d) (value-same byte m m′ (a .0) (r .1 .1));
       alone-live = refl;
       no-lines = refl;
-      writes = load-same byte m m′ a;
+      writes = load-same byte m m′ (a .0);
     }
-perform-same (stores byte a v) s c₀ c l m m′ r =
-    record { core = refl; alone-live = refl; no-lines = refl; writes = store-same byte m m′ a v }
+perform-same (acts.Stores byte a v) s c₀ c l m m′ r =
+    record { core = refl; alone-live = refl; no-lines = refl; writes = store-same byte m m′ (a .0) v }

@@ -13,63 +13,64 @@ use Rattle.machine.specs.State.{Core, State, pc}
 use Rattle.machine.specs.Memory.{wordAt}
 use Rattle.machine.specs.Entry.{priority}
 use Rattle.machine.specs.Effect.{effectOf}
-use Rattle.machine.specs.Step.{Act, advanced, faulting, granted, instructionOf, planOf, perform, finished}
-use Rattle.machine.specs.Step.{stopped, pull, chain, accept, sleep, fault, halt, skip, trap, plain, loads, stores}
+use Rattle.machine.specs.declared.Act.{Act}
+use Rattle.machine.specs.Step.{advanced, faulting, granted, instructionOf, planOf, perform, finished}
+use Rattle.machine.specs.declared.Act.the-variants as acts
 use Rattle.machine_laws.proofs.Cases.{bool-cases}
 use Rattle.machine_laws.proofs.Plans.{instruction-cases, plan-cases}
 use Rattle.resume.specs.Frames.{Frame, Calm}
 
 -- The acts that are no fault.
 abbrev pub Faultless : Act → Type 0
-Faultless stopped = Unit {0}
-Faultless pull = Unit {0}
-Faultless (chain d) = Unit {0}
-Faultless (accept d) = Unit {0}
-Faultless sleep = Unit {0}
-Faultless (fault v) = ⊥
-Faultless halt = ⊥
-Faultless skip = Unit {0}
-Faultless (trap v) = Unit {0}
-Faultless plain = Unit {0}
-Faultless (loads byte a d) = Unit {0}
-Faultless (stores byte a v) = Unit {0}
+Faultless acts.Stopped = Unit {0}
+Faultless acts.Pull = Unit {0}
+Faultless (acts.Chain d) = Unit {0}
+Faultless (acts.Accept d) = Unit {0}
+Faultless acts.Sleep = Unit {0}
+Faultless (acts.Fault v) = ⊥
+Faultless acts.Halt = ⊥
+Faultless acts.Skip = Unit {0}
+Faultless (acts.Trap v) = Unit {0}
+Faultless acts.Plain = Unit {0}
+Faultless (acts.Loads byte a d) = Unit {0}
+Faultless (acts.Stores byte a v) = Unit {0}
 
 -- a step that the premises let in is no fault
 pub calm-faultless : (a : Act) (fs : List Frame) → Calm a fs → Faultless a
-calm-faultless stopped fs c = tt
-calm-faultless pull fs c = tt
-calm-faultless (chain d) fs c = tt
-calm-faultless (accept d) fs c = tt
-calm-faultless sleep fs c = tt
-calm-faultless (fault v) fs c = c
-calm-faultless halt fs c = c
-calm-faultless skip fs c = tt
-calm-faultless (trap v) fs c = tt
-calm-faultless plain fs c = tt
-calm-faultless (loads byte a d) fs c = tt
-calm-faultless (stores byte a v) fs c = tt
+calm-faultless acts.Stopped fs c = tt
+calm-faultless acts.Pull fs c = tt
+calm-faultless (acts.Chain d) fs c = tt
+calm-faultless (acts.Accept d) fs c = tt
+calm-faultless acts.Sleep fs c = tt
+calm-faultless (acts.Fault v) fs c = c
+calm-faultless acts.Halt fs c = c
+calm-faultless acts.Skip fs c = tt
+calm-faultless (acts.Trap v) fs c = tt
+calm-faultless acts.Plain fs c = tt
+calm-faultless (acts.Loads byte a d) fs c = tt
+calm-faultless (acts.Stores byte a v) fs c = tt
 
 -- The acts of an instruction that is no fault.
 abbrev pub Steady : Act → Type 0
-Steady stopped = ⊥
-Steady pull = ⊥
-Steady (chain d) = ⊥
-Steady (accept d) = ⊥
-Steady sleep = Unit {0}
-Steady (fault v) = ⊥
-Steady halt = ⊥
-Steady skip = Unit {0}
-Steady (trap v) = Unit {0}
-Steady plain = Unit {0}
-Steady (loads byte a d) = Unit {0}
-Steady (stores byte a v) = Unit {0}
+Steady acts.Stopped = ⊥
+Steady acts.Pull = ⊥
+Steady (acts.Chain d) = ⊥
+Steady (acts.Accept d) = ⊥
+Steady acts.Sleep = Unit {0}
+Steady (acts.Fault v) = ⊥
+Steady acts.Halt = ⊥
+Steady acts.Skip = Unit {0}
+Steady (acts.Trap v) = Unit {0}
+Steady acts.Plain = Unit {0}
+Steady (acts.Loads byte a d) = Unit {0}
+Steady (acts.Stores byte a v) = Unit {0}
 
 pub faulting-faults : (c x : Core) (v : ℕ) → Faultless (faulting c x v .act) → ⊥
 faulting-faults c x v h = bool-cases (faulted? (c .psw)) (λ q. rw q at h) (λ q. rw q at h)
 
 module _ (c x : Core) (m : List ℕ) where
   -- SVC without a fault is a trap
-  pub trap-granted : (v : ℕ) → Faultless (granted c x (Trap v) m .act) → granted c x (Trap v) m .act ≡ trap v
+  pub trap-granted : (v : ℕ) → Faultless (granted c x (Trap v) m .act) → granted c x (Trap v) m .act ≡ acts.Trap v
   unfolding granted
   trap-granted v h =
       bool-cases (ltb (current (c .psw)) (priority m v))
@@ -94,43 +95,43 @@ instruction-steady c m =
     (λ q r o h. granted-steady c (e .core) m (e .access) h)
 
 -- A step without a fault of a machine that is not halted does not halt it.
-perform-live : (a : Act) (c : Core) (l : ℕ) (m : List ℕ) → Faultless a → (a ≡ stopped → ⊥) → perform a c l m .halted ≡ false
+perform-live : (a : Act) (c : Core) (l : ℕ) (m : List ℕ) → Faultless a → (a ≡ acts.Stopped → ⊥) → perform a c l m .halted ≡ false
 unfolding perform
-perform-live stopped c l m h u = absurd (u refl)
-perform-live pull c l m h u = refl
-perform-live (chain d) c l m h u = refl
-perform-live (accept d) c l m h u = refl
-perform-live sleep c l m h u = refl
-perform-live (fault v) c l m h u = refl
-perform-live halt c l m h u = absurd h
-perform-live skip c l m h u = refl
-perform-live (trap v) c l m h u = refl
-perform-live plain c l m h u = refl
-perform-live (loads byte a d) c l m h u = refl
-perform-live (stores byte a v) c l m h u = refl
+perform-live acts.Stopped c l m h u = absurd (u refl)
+perform-live acts.Pull c l m h u = refl
+perform-live (acts.Chain d) c l m h u = refl
+perform-live (acts.Accept d) c l m h u = refl
+perform-live acts.Sleep c l m h u = refl
+perform-live (acts.Fault v) c l m h u = refl
+perform-live acts.Halt c l m h u = absurd h
+perform-live acts.Skip c l m h u = refl
+perform-live (acts.Trap v) c l m h u = refl
+perform-live acts.Plain c l m h u = refl
+perform-live (acts.Loads byte a d) c l m h u = refl
+perform-live (acts.Stores byte a v) c l m h u = refl
 
 -- A step without a fault that is no instruction's starts from the state's own core; and such a machine is not stopped.
 Stopped? : Act → Type 0
-Stopped? stopped = Unit {0}
-Stopped? pull = ⊥
-Stopped? (chain d) = ⊥
-Stopped? (accept d) = ⊥
-Stopped? sleep = ⊥
-Stopped? (fault v) = ⊥
-Stopped? halt = ⊥
-Stopped? skip = ⊥
-Stopped? (trap v) = ⊥
-Stopped? plain = ⊥
-Stopped? (loads byte a d) = ⊥
-Stopped? (stores byte a v) = ⊥
+Stopped? acts.Stopped = Unit {0}
+Stopped? acts.Pull = ⊥
+Stopped? (acts.Chain d) = ⊥
+Stopped? (acts.Accept d) = ⊥
+Stopped? acts.Sleep = ⊥
+Stopped? (acts.Fault v) = ⊥
+Stopped? acts.Halt = ⊥
+Stopped? acts.Skip = ⊥
+Stopped? (acts.Trap v) = ⊥
+Stopped? acts.Plain = ⊥
+Stopped? (acts.Loads byte a d) = ⊥
+Stopped? (acts.Stores byte a v) = ⊥
 
-steady-moves : (a : Act) → Steady a → a ≡ stopped → ⊥
+steady-moves : (a : Act) → Steady a → a ≡ acts.Stopped → ⊥
 steady-moves a s e = subst Steady e s
 
-pub plan-moves : (s : State) → s .halted ≡ false → Faultless (planOf s .act) → planOf s .act ≡ stopped → ⊥
+pub plan-moves : (s : State) → s .halted ≡ false → Faultless (planOf s .act) → planOf s .act ≡ acts.Stopped → ⊥
 unfolding Stopped?
 plan-moves s live =
-    plan-cases s (λ p. Faultless (p .act) → p .act ≡ stopped → ⊥)
+    plan-cases s (λ p. Faultless (p .act) → p .act ≡ acts.Stopped → ⊥)
     (λ h c e. true≢false (sym h ∙ live))
     (λ h q c e. subst Stopped? (sym e) tt)
     (λ d h q c e. subst Stopped? (sym e) tt)

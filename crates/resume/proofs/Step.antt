@@ -12,7 +12,7 @@ use Rattle.machine.specs.Devices.{device?}
 use Rattle.machine.specs.Entry.{frameByte, pulled}
 use Rattle.machine.specs.Step.{Plan, Interrupt, pulls, nothing, interruptOf, instructionOf, chosen, planOf, perform}
 use Rattle.machine.specs.Step.{planned, outcome, outcomeOf, finished}
-use Rattle.machine.specs.Step.{pull}
+use Rattle.machine.specs.declared.Act.the-variants as acts
 use Rattle.machine_laws.specs.Bounds.{Each, TidyCore}
 use Rattle.machine_laws.proofs.Cases.{bool-cases, lt-of, ge-of}
 use Rattle.machine_laws.proofs.Memory.{commit-at}
@@ -51,7 +51,7 @@ pub record Together (d f : State) (g : ℕ → Bool) : Type 0 where
 
 -- A return in d, pulled or chained, is pulled in f.
 pub record Pulled (d f : State) : Type 0 where
-  pub act : planOf f .act ≡ pull
+  pub act : planOf f .act ≡ acts.Pull
   pub left : outcomeOf f ≡ outcome (pulled (d .core) (d .mem)) 0 []
 
 -- the plan of both; it stands above the section, so that no statement below carries the section's proofs
@@ -124,7 +124,7 @@ module _ (d f : State) (g : ℕ → Bool) (size : length (d .mem) ≡ 65536) (al
   -- A return of the application, pulled or chained: the run with no events pulls.
   module _ (returns : Returns? (interruptOf (d .core) (d .lines) (d .mem))) (tidy : TidyCore (f .core)) (eight : length (d .core .regs) ≡ 8)
       (reads : Each (λ a. (device? a ≡ false) × (g a ≡ false)) (frameSpan (sp (d .core)))) where
-    alone-pulls : planOf f ≡ planned (d .core) pull
+    alone-pulls : planOf f ≡ planned (d .core) acts.Pull
     alone-pulls = alone-is pulls (returning (d .core) (d .lines) (d .mem) (f .mem) returns)
 
     frame-same : (i : ℕ) → i < 8 → frameByte (d .mem) (sp (d .core)) i ≡ frameByte (f .mem) (sp (d .core)) i

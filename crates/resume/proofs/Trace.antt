@@ -16,8 +16,10 @@ use Rattle.machine.specs.Devices.{statusOf, ena?, ie?, raised, eventWrites, eve
 use Rattle.machine.specs.Cex.{skips?}
 use Rattle.machine.specs.Entry.{best, priority, vectored, enteredPsw, vectorPsw, vectorPc, pulled, pulledPsw, pulledCex}
 use Rattle.machine.specs.Effect.{effectOf}
-use Rattle.machine.specs.Step.{Act, Outcome, planned, Interrupt, pulls, chains, accepts, nothing, interruptOf, returns?, advanced, executed}
-use Rattle.machine.specs.Step.{sleep, skip, faulting}
+use Rattle.machine.specs.declared.Act.{Act}
+use Rattle.machine.specs.Step.{Outcome, planned, Interrupt, pulls, chains, accepts, nothing, interruptOf, returns?, advanced, executed}
+use Rattle.machine.specs.declared.Act.the-variants as acts
+use Rattle.machine.specs.Step.{faulting}
 use Rattle.machine.specs.Step.{instructionOf, chosen, planOf, perform, outcomeOf, closed, finished}
 use Rattle.machine_laws.proofs.Memory.{over, commit-at, commit-append}
 use Rattle.machine_laws.proofs.Plans.{plan-live}
@@ -57,10 +59,10 @@ fetch-plan s w live quiet awake even whole fetched =
     let e = executed c (effectOf (advanced c) (decodeOf (wordAt m (pc c)))) m in
     plan-live s live
     ∙ ap (λ i. chosen i c (instructionOf c m)) quiet
-    ∙ ap (λ b. cond b (planned c sleep)
-    (cond (eqb (pc c % 2) 1) (faulting c c 9) (cond (skips? (c .cex)) (planned (advanced c) skip) e))) awake
-    ∙ ap (λ b. cond b (faulting c c 9) (cond (skips? (c .cex)) (planned (advanced c) skip) e)) even
-    ∙ ap (λ b. cond b (planned (advanced c) skip) e) whole
+    ∙ ap (λ b. cond b (planned c acts.Sleep)
+    (cond (eqb (pc c % 2) 1) (faulting c c 9) (cond (skips? (c .cex)) (planned (advanced c) acts.Skip) e))) awake
+    ∙ ap (λ b. cond b (faulting c c 9) (cond (skips? (c .cex)) (planned (advanced c) acts.Skip) e)) even
+    ∙ ap (λ b. cond b (planned (advanced c) acts.Skip) e) whole
     ∙ ap (λ x. executed c (effectOf (advanced c) (decodeOf x)) m) fetched
 
 -- a return or an acceptance, by the best line and its priority

@@ -14,7 +14,7 @@ use Rattle.machine.specs.Events.{eventAt}
 use Rattle.machine.specs.Devices.{deliver, deliverAt}
 use Rattle.machine.specs.Entry.{bestFrom, enteredPsw, pushes}
 use Rattle.machine.specs.Effect.{effectOf}
-use Rattle.machine.specs.Step.{pull, chain, accept, trap, plain, loads, stores}
+use Rattle.machine.specs.declared.Act.the-variants as acts
 use Rattle.machine.specs.Step.{outcome, pulls, advanced, granted, interruptOf, perform}
 use Rattle.machine.specs.Run.{runOf}
 use Rattle.machine.specs.Refusal.{verdictOf, recordFits, eventFits, eventsFitBelow, inOrder, inOrderBelow, eventBelow, twinsBelow}
@@ -67,9 +67,11 @@ start-lines = refl
 
 -- ---- what the steps do, in order, and whose frames are open
 
-pub acts-are : (act ev s 0 ≡ trap 10) × (act ev s 1 ≡ stores false 512 7) × (act ev s 2 ≡ trap 11) × (act ev s 3 ≡ accept 1)
-    × (act ev s 4 ≡ plain) × (act ev s 5 ≡ pull) × (act ev s 6 ≡ loads false 512 2) × (act ev s 7 ≡ plain) × (act ev s 8 ≡ chain 2)
-    × (act ev s 9 ≡ plain) × (act ev s 10 ≡ pull) × (act ev s 11 ≡ plain) × (act ev s 12 ≡ pull) × (act ev s 13 ≡ loads false 512 3)
+pub acts-are : (act ev s 0 ≡ acts.Trap 10) × (act ev s 1 ≡ acts.Stores false (record { 0 = 512 }) 7) × (act ev s 2 ≡ acts.Trap 11)
+    × (act ev s 3 ≡ acts.Accept 1) × (act ev s 4 ≡ acts.Plain) × (act ev s 5 ≡ acts.Pull)
+    × (act ev s 6 ≡ acts.Loads false (record { 0 = 512 }) 2) × (act ev s 7 ≡ acts.Plain) × (act ev s 8 ≡ acts.Chain 2)
+    × (act ev s 9 ≡ acts.Plain) × (act ev s 10 ≡ acts.Pull) × (act ev s 11 ≡ acts.Plain) × (act ev s 12 ≡ acts.Pull)
+    × (act ev s 13 ≡ acts.Loads false (record { 0 = 512 }) 3)
 acts-are = (
   act-is ev s row0,
   act-is ev s row1,
@@ -186,7 +188,7 @@ free-start : after [] s 0 ≡ known c0 0 1 program
 unfolding stateIn
 free-start = ap (λ x. x .state) (run-zero [] s)
 
-free0 : Row [] s 0 (known c0 0 1 program) (known c0 0 1 program) c0′ (trap 10) [] 0 (λ x. false)
+free0 : Row [] s 0 (known c0 0 1 program) (known c0 0 1 program) c0′ (acts.Trap 10) [] 0 (λ x. false)
 unfolding frames applicationSteps foreign? deliverAt over
 free0 =
     record {
@@ -198,87 +200,87 @@ free0 =
       foreign-is = λ x. refl;
     }
 
-free1 : Row [] s 1 (known c1 0 2 trapped) (known c1 0 2 trapped) c2 (stores false 512 7) (trapFrame ∷ []) 1 g1
+free1 : Row [] s 1 (known c1 0 2 trapped) (known c1 0 2 trapped) c2 (acts.Stores false (record { 0 = 512 }) 7) (trapFrame ∷ []) 1 g1
 unfolding perform writes? deliverAt bestFrom interruptOf over effectOf advanced decodeOf granted enteredPsw pushes
 free1 =
     next-row [] s program free0 refl (outcome c1 0 trapPush)
     (ap (λ x. outcome x 0 (pushes c0′))
     (vectored-is c0′ (commit program zeros) 10 0 false 1016 32 320 (word-is program 65512 (lit< tt)) (word-is program 65514 (lit< tt))))
-    refl (known c1 0 2 trapped) c2 (stores false 512 7)
+    refl (known c1 0 2 trapped) c2 (acts.Stores false (record { 0 = 512 }) 7)
     refl
     (fetch-plan (known c1 0 2 trapped) 0x5C01 refl refl refl refl refl (word-is trapped 320 (lit< tt)))
 
-free2 : Row [] s 2 (known c2 0 3 stored) (known c2 0 3 stored) c2′ (trap 11) (trapFrame ∷ []) 2 g2
+free2 : Row [] s 2 (known c2 0 3 stored) (known c2 0 3 stored) c2′ (acts.Trap 11) (trapFrame ∷ []) 2 g2
 unfolding perform writes? deliverAt bestFrom interruptOf over
 free2 =
     next-row [] s trapped free1 refl (outcome c2 0 word)
     refl
-    refl (known c2 0 3 stored) c2′ (trap 11)
+    refl (known c2 0 3 stored) c2′ (acts.Trap 11)
     refl
     (nested-plan stored refl refl)
 
-free3 : Row [] s 3 (known c3 0 4 nested) (known c3 0 4 nested) c6 (loads false 512 2) both 3 g3
+free3 : Row [] s 3 (known c3 0 4 nested) (known c3 0 4 nested) c6 (acts.Loads false (record { 0 = 512 }) 2) both 3 g3
 unfolding perform writes? deliverAt bestFrom interruptOf over effectOf advanced decodeOf granted enteredPsw pushes
 free3 =
     next-row [] s stored free2 refl (outcome c3 0 nestedPush)
     (ap (λ x. outcome x 0 (pushes c2′))
     (vectored-is c2′ (commit stored zeros) 11 1 false 1008 64 336 (word-is stored 65516 (lit< tt)) (word-is stored 65518 (lit< tt))))
-    refl (known c3 0 4 nested) c6 (loads false 512 2)
+    refl (known c3 0 4 nested) c6 (acts.Loads false (record { 0 = 512 }) 2)
     refl
     (fetch-plan (known c3 0 4 nested) 0x580A refl refl refl refl refl (word-is nested 336 (lit< tt)))
 
-free4 : Row [] s 4 (known c7 0 5 nested) (known c7 0 5 nested) c8 plain both 4 g3
+free4 : Row [] s 4 (known c7 0 5 nested) (known c7 0 5 nested) c8 acts.Plain both 4 g3
 unfolding perform writes? deliverAt bestFrom interruptOf over effectOf advanced decodeOf granted widthOf
 free4 =
     next-row [] s nested free3 refl (outcome c7 0 [])
     (loaded-is nested c6 2 refl)
-    refl (known c7 0 5 nested) c8 plain
+    refl (known c7 0 5 nested) c8 acts.Plain
     refl
     (fetch-plan (known c7 0 5 nested) 0x4C2F refl refl refl refl refl (word-is nested 338 (lit< tt)))
 
-free5 : Row [] s 5 (known c8 0 6 nested) (known c8 0 6 nested) c8 pull both 5 g3
+free5 : Row [] s 5 (known c8 0 6 nested) (known c8 0 6 nested) c8 acts.Pull both 5 g3
 unfolding perform writes? deliverAt bestFrom interruptOf over
 free5 =
     next-row [] s nested free4 refl (outcome c8 0 [])
     refl
-    refl (known c8 0 6 nested) c8 pull
+    refl (known c8 0 6 nested) c8 acts.Pull
     refl
     (interrupt-plan (known c8 0 6 nested) pulls refl refl)
 
-free6 : Row [] s 6 (known c11 0 7 nested) (known c11 0 7 nested) c12 plain (trapFrame ∷ []) 6 g3
+free6 : Row [] s 6 (known c11 0 7 nested) (known c11 0 7 nested) c12 acts.Plain (trapFrame ∷ []) 6 g3
 unfolding perform writes? deliverAt bestFrom interruptOf over effectOf advanced decodeOf granted widthOf
 free6 =
     next-row [] s nested free5 refl (outcome c11 0 [])
     (ap (λ x. outcome x 0 [])
     (pulled-is c8 (commit nested zeros) 0 32 65535 324 (word-is nested 1008 (lit< tt)) (word-is nested 1010 (lit< tt))
     (word-is nested 1012 (lit< tt)) (word-is nested 1014 (lit< tt))))
-    refl (known c11 0 7 nested) c12 plain
+    refl (known c11 0 7 nested) c12 acts.Plain
     refl
     (fetch-plan (known c11 0 7 nested) 0x4C2F refl refl refl refl refl (word-is nested 324 (lit< tt)))
 
-free7 : Row [] s 7 (known c12 0 8 nested) (known c12 0 8 nested) c12 pull (trapFrame ∷ []) 7 g3
+free7 : Row [] s 7 (known c12 0 8 nested) (known c12 0 8 nested) c12 acts.Pull (trapFrame ∷ []) 7 g3
 unfolding perform writes? deliverAt bestFrom interruptOf over
 free7 =
     next-row [] s nested free6 refl (outcome c12 0 [])
     refl
-    refl (known c12 0 8 nested) c12 pull
+    refl (known c12 0 8 nested) c12 acts.Pull
     refl
     (interrupt-plan (known c12 0 8 nested) pulls refl refl)
 
-free8 : Row [] s 8 (known c13 0 9 nested) (known c13 0 9 nested) c14 (loads false 512 3) [] 8 g3
+free8 : Row [] s 8 (known c13 0 9 nested) (known c13 0 9 nested) c14 (acts.Loads false (record { 0 = 512 }) 3) [] 8 g3
 unfolding perform writes? deliverAt bestFrom interruptOf over effectOf advanced decodeOf granted
 free8 =
     next-row [] s nested free7 refl (outcome c13 0 [])
     (ap (λ x. outcome x 0 [])
     (pulled-is c12 (commit nested zeros) 0 0 5 258 (word-is nested 1016 (lit< tt)) (word-is nested 1018 (lit< tt))
     (word-is nested 1020 (lit< tt)) (word-is nested 1022 (lit< tt))))
-    refl (known c13 0 9 nested) c14 (loads false 512 3)
+    refl (known c13 0 9 nested) c14 (acts.Loads false (record { 0 = 512 }) 3)
     refl
     (fetch-plan (known c13 0 9 nested) 0x580B refl refl refl refl refl (word-is nested 258 (lit< tt)))
 
-pub free-acts-are : (act [] s 0 ≡ trap 10) × (act [] s 1 ≡ stores false 512 7) × (act [] s 2 ≡ trap 11)
-    × (act [] s 3 ≡ loads false 512 2) × (act [] s 4 ≡ plain) × (act [] s 5 ≡ pull) × (act [] s 6 ≡ plain) × (act [] s 7 ≡ pull)
-    × (act [] s 8 ≡ loads false 512 3)
+pub free-acts-are : (act [] s 0 ≡ acts.Trap 10) × (act [] s 1 ≡ acts.Stores false (record { 0 = 512 }) 7) × (act [] s 2 ≡ acts.Trap 11)
+    × (act [] s 3 ≡ acts.Loads false (record { 0 = 512 }) 2) × (act [] s 4 ≡ acts.Plain) × (act [] s 5 ≡ acts.Pull)
+    × (act [] s 6 ≡ acts.Plain) × (act [] s 7 ≡ acts.Pull) × (act [] s 8 ≡ acts.Loads false (record { 0 = 512 }) 3)
 free-acts-are = (
   act-is [] s free0,
   act-is [] s free1,

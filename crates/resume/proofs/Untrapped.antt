@@ -10,8 +10,9 @@ use Rattle.machine.specs.Memory.{byteAt, writes?}
 use Rattle.machine.specs.Record.{stateIn}
 use Rattle.machine.specs.Events.{Event, eventsOf}
 use Rattle.machine.specs.Run.{runOf}
-use Rattle.machine.specs.Step.{Act, outcomeOf}
-use Rattle.machine.specs.Step.{stopped, pull, chain, accept, sleep, fault, halt, skip, trap, plain, loads, stores}
+use Rattle.machine.specs.declared.Act.{Act}
+use Rattle.machine.specs.Step.{outcomeOf}
+use Rattle.machine.specs.declared.Act.the-variants as acts
 use Rattle.machine_laws.specs.Bounds.{Each}
 use Rattle.machine_laws.proofs.Cases.{list-cases}
 use Rattle.resume.specs.Frames.{acceptsNone?, ownWrites?, Calm, svc?, NoChain, instructionReads, readsOf, due, act, frames}
@@ -24,33 +25,33 @@ use Rattle.resume.proofs.Resume.{resumes}
 
 -- with no frame open there is no return: nothing more is read than an instruction reads
 calm-reads : (a : Act) (c : Core) → Calm a [] → svc? a ≡ false → readsOf a c ≡ instructionReads a c
-calm-reads stopped c h u = refl
-calm-reads pull c h u = absurd (true≢false h)
-calm-reads (chain d) c h u = absurd (true≢false h)
-calm-reads (accept d) c h u = refl
-calm-reads sleep c h u = refl
-calm-reads (fault v) c h u = refl
-calm-reads halt c h u = refl
-calm-reads skip c h u = refl
-calm-reads (trap v) c h u = absurd (true≢false u)
-calm-reads plain c h u = refl
-calm-reads (loads byte a d) c h u = refl
-calm-reads (stores byte a v) c h u = refl
+calm-reads acts.Stopped c h u = refl
+calm-reads acts.Pull c h u = absurd (true≢false h)
+calm-reads (acts.Chain d) c h u = absurd (true≢false h)
+calm-reads (acts.Accept d) c h u = refl
+calm-reads acts.Sleep c h u = refl
+calm-reads (acts.Fault v) c h u = refl
+calm-reads acts.Halt c h u = refl
+calm-reads acts.Skip c h u = refl
+calm-reads (acts.Trap v) c h u = absurd (true≢false u)
+calm-reads acts.Plain c h u = refl
+calm-reads (acts.Loads byte a d) c h u = refl
+calm-reads (acts.Stores byte a v) c h u = refl
 
 -- and what such a step writes is the application's, unless it accepts a line
 unframed-writes : (a : Act) → svc? a ≡ false → ownWrites? a [] ≡ acceptsNone? a
-unframed-writes stopped u = refl
-unframed-writes pull u = refl
-unframed-writes (chain d) u = refl
-unframed-writes (accept d) u = refl
-unframed-writes sleep u = refl
-unframed-writes (fault v) u = refl
-unframed-writes halt u = refl
-unframed-writes skip u = refl
-unframed-writes (trap v) u = absurd (true≢false u)
-unframed-writes plain u = refl
-unframed-writes (loads byte a d) u = refl
-unframed-writes (stores byte a v) u = refl
+unframed-writes acts.Stopped u = refl
+unframed-writes acts.Pull u = refl
+unframed-writes (acts.Chain d) u = refl
+unframed-writes (acts.Accept d) u = refl
+unframed-writes acts.Sleep u = refl
+unframed-writes (acts.Fault v) u = refl
+unframed-writes acts.Halt u = refl
+unframed-writes acts.Skip u = refl
+unframed-writes (acts.Trap v) u = absurd (true≢false u)
+unframed-writes acts.Plain u = refl
+unframed-writes (acts.Loads byte a d) u = refl
+unframed-writes (acts.Stores byte a v) u = refl
 
 -- ---- a run of n steps with no SVC
 

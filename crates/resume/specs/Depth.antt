@@ -15,7 +15,8 @@ use Rattle.machine.specs.State.{State, pc}
 use Rattle.machine.specs.Memory.{wordAt}
 use Rattle.machine.specs.Record.{stateIn}
 use Rattle.machine.specs.Events.{Event, eventsOf}
-use Rattle.machine.specs.Step.{Act, stopped, pull, chain, accept, sleep, fault, halt, skip, trap, plain, loads, stores}
+use Rattle.machine.specs.declared.Act.{Act}
+use Rattle.machine.specs.declared.Act.the-variants as acts
 use Rattle.machine.specs.Step.{planOf}
 use Rattle.resume.specs.Frames.{Start, Frame, FrameFound, Calm, svc?, none?, after, due, act, frames}
 
@@ -43,18 +44,18 @@ setPri? (i.Str off wb src dst) = false
 
 -- The step executes an instruction that is neither skipped nor a fault nor SVC. [01 One step, in order, 7]
 abbrev pub executes? : Act → Bool
-executes? stopped = false
-executes? pull = false
-executes? (chain d) = false
-executes? (accept d) = false
-executes? sleep = false
-executes? (fault v) = false
-executes? halt = false
-executes? skip = false
-executes? (trap v) = false
-executes? plain = true
-executes? (loads byte a d) = true
-executes? (stores byte a v) = true
+executes? acts.Stopped = false
+executes? acts.Pull = false
+executes? (acts.Chain d) = false
+executes? (acts.Accept d) = false
+executes? acts.Sleep = false
+executes? (acts.Fault v) = false
+executes? acts.Halt = false
+executes? acts.Skip = false
+executes? (acts.Trap v) = false
+executes? acts.Plain = true
+executes? (acts.Loads byte a d) = true
+executes? (acts.Stores byte a v) = true
 
 -- The step that acts in s executes a SETPRI. [01 Depth]
 abbrev pub setsPriority? : State → Bool
@@ -90,7 +91,8 @@ module _ (memory r events : List ℕ) where
     -- "no SETPRI in a handler"
     pub no-setpri : (k : ℕ) → k < n → none? (frames list start k) ≡ false → setsPriority? (due list start k) ≡ false
     -- "each pull finding SP and frame as entry left them"
-    pub found : (k : ℕ) (f : Frame) (fs : List Frame) → k < n → act list start k ≡ pull → frames list start k ≡ f ∷ fs
+    pub found : (k : ℕ) (f : Frame) (fs : List Frame) → k < n → act list start k ≡ acts.Pull
+        → frames list start k ≡ f ∷ fs
         → FrameFound (f .held) (due list start k)
 
   -- "at most 7 − p frames are open together". [01 Depth]

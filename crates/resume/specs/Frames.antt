@@ -13,7 +13,8 @@ use Rattle.machine.specs.Memory.{writes?, even, span}
 use Rattle.machine.specs.Events.{Event}
 use Rattle.machine.specs.Devices.{deliver}
 use Rattle.machine.specs.Entry.{frameByte}
-use Rattle.machine.specs.Step.{Act, stopped, pull, chain, accept, sleep, fault, halt, skip, trap, plain, loads, stores}
+use Rattle.machine.specs.declared.Act.{Act}
+use Rattle.machine.specs.declared.Act.the-variants as acts
 use Rattle.machine.specs.Step.{planOf, outcomeOf}
 use Rattle.machine.specs.Run.{runOf}
 use Rattle.machine.specs.Refusal.{verdictOf}
@@ -63,84 +64,84 @@ chained t (f ∷ fs) = cond (f .own) (frame t false) f ∷ fs
 -- "An entry that pushes opens a frame; a return that pulls closes the newest open one. A chained entry keeps its frame
 -- open." The frames after a step that leaves the state t, newest first. [01 Depth; 02 §13]
 abbrev pub framesAfter : Act → State → List Frame → List Frame
-framesAfter stopped t fs = fs
-framesAfter pull t fs = older fs
-framesAfter (chain d) t fs = chained t fs
-framesAfter (accept d) t fs = frame t false ∷ fs
-framesAfter sleep t fs = fs
-framesAfter (fault v) t fs = frame t false ∷ fs
-framesAfter halt t fs = fs
-framesAfter skip t fs = fs
-framesAfter (trap v) t fs = frame t (own? fs) ∷ fs
-framesAfter plain t fs = fs
-framesAfter (loads byte a d) t fs = fs
-framesAfter (stores byte a v) t fs = fs
+framesAfter acts.Stopped t fs = fs
+framesAfter acts.Pull t fs = older fs
+framesAfter (acts.Chain d) t fs = chained t fs
+framesAfter (acts.Accept d) t fs = frame t false ∷ fs
+framesAfter acts.Sleep t fs = fs
+framesAfter (acts.Fault v) t fs = frame t false ∷ fs
+framesAfter acts.Halt t fs = fs
+framesAfter acts.Skip t fs = fs
+framesAfter (acts.Trap v) t fs = frame t (own? fs) ∷ fs
+framesAfter acts.Plain t fs = fs
+framesAfter (acts.Loads byte a d) t fs = fs
+framesAfter (acts.Stores byte a v) t fs = fs
 
 -- A step is taken, and it accepts no line. [01 Depth]
 abbrev pub acceptsNone? : Act → Bool
-acceptsNone? stopped = false
-acceptsNone? pull = true
-acceptsNone? (chain d) = true
-acceptsNone? (accept d) = false
-acceptsNone? sleep = true
-acceptsNone? (fault v) = true
-acceptsNone? halt = true
-acceptsNone? skip = true
-acceptsNone? (trap v) = true
-acceptsNone? plain = true
-acceptsNone? (loads byte a d) = true
-acceptsNone? (stores byte a v) = true
+acceptsNone? acts.Stopped = false
+acceptsNone? acts.Pull = true
+acceptsNone? (acts.Chain d) = true
+acceptsNone? (acts.Accept d) = false
+acceptsNone? acts.Sleep = true
+acceptsNone? (acts.Fault v) = true
+acceptsNone? acts.Halt = true
+acceptsNone? acts.Skip = true
+acceptsNone? (acts.Trap v) = true
+acceptsNone? acts.Plain = true
+acceptsNone? (acts.Loads byte a d) = true
+acceptsNone? (acts.Stores byte a v) = true
 
 -- "free of faults .. and returns with no frame open": of returns of either kind, pulling or chaining.
 -- [01 Depth; 01 Resumption]
 abbrev pub Calm : Act → List Frame → Type 0
-Calm stopped fs = Unit {0}
-Calm pull fs = none? fs ≡ false
-Calm (chain d) fs = none? fs ≡ false
-Calm (accept d) fs = Unit {0}
-Calm sleep fs = Unit {0}
-Calm (fault v) fs = ⊥
-Calm halt fs = ⊥
-Calm skip fs = Unit {0}
-Calm (trap v) fs = Unit {0}
-Calm plain fs = Unit {0}
-Calm (loads byte a d) fs = Unit {0}
-Calm (stores byte a v) fs = Unit {0}
+Calm acts.Stopped fs = Unit {0}
+Calm acts.Pull fs = none? fs ≡ false
+Calm (acts.Chain d) fs = none? fs ≡ false
+Calm (acts.Accept d) fs = Unit {0}
+Calm acts.Sleep fs = Unit {0}
+Calm (acts.Fault v) fs = ⊥
+Calm acts.Halt fs = ⊥
+Calm acts.Skip fs = Unit {0}
+Calm (acts.Trap v) fs = Unit {0}
+Calm acts.Plain fs = Unit {0}
+Calm (acts.Loads byte a d) fs = Unit {0}
+Calm (acts.Stores byte a v) fs = Unit {0}
 
 -- The step is an SVC, granted. [01 Depth; 01 Resumption]
 abbrev pub svc? : Act → Bool
-svc? stopped = false
-svc? pull = false
-svc? (chain d) = false
-svc? (accept d) = false
-svc? sleep = false
-svc? (fault v) = false
-svc? halt = false
-svc? skip = false
-svc? (trap v) = true
-svc? plain = false
-svc? (loads byte a d) = false
-svc? (stores byte a v) = false
+svc? acts.Stopped = false
+svc? acts.Pull = false
+svc? (acts.Chain d) = false
+svc? (acts.Accept d) = false
+svc? acts.Sleep = false
+svc? (acts.Fault v) = false
+svc? acts.Halt = false
+svc? acts.Skip = false
+svc? (acts.Trap v) = true
+svc? acts.Plain = false
+svc? (acts.Loads byte a d) = false
+svc? (acts.Stores byte a v) = false
 
 -- The act chains no line. [01 Return]
 abbrev pub NoChain : Act → Type 0
-NoChain a = (d : ℕ) → a ≡ chain d → ⊥
+NoChain a = (d : ℕ) → a ≡ acts.Chain d → ⊥
 
 -- The bytes that an instruction from the core c fetches and loads: point 7 fetches the word at PC, LD and LDR load each
 -- byte that they touch; a skipped word is not fetched. Faults, of which the run is free, are left out. [01 Resumption]
 abbrev pub instructionReads : Act → Core → List ℕ
-instructionReads stopped c = []
-instructionReads pull c = []
-instructionReads (chain d) c = []
-instructionReads (accept d) c = []
-instructionReads sleep c = []
-instructionReads (fault v) c = []
-instructionReads halt c = []
-instructionReads skip c = []
-instructionReads (trap v) c = span false (pc c)
-instructionReads plain c = span false (pc c)
-instructionReads (loads byte a d) c = span false (pc c) ++ span byte a
-instructionReads (stores byte a v) c = span false (pc c)
+instructionReads acts.Stopped c = []
+instructionReads acts.Pull c = []
+instructionReads (acts.Chain d) c = []
+instructionReads (acts.Accept d) c = []
+instructionReads acts.Sleep c = []
+instructionReads (acts.Fault v) c = []
+instructionReads acts.Halt c = []
+instructionReads acts.Skip c = []
+instructionReads (acts.Trap v) c = span false (pc c)
+instructionReads acts.Plain c = span false (pc c)
+instructionReads (acts.Loads byte a d) c = span false (pc c) ++ span byte (a .0)
+instructionReads (acts.Stores byte a v) c = span false (pc c)
 
 -- The four bytes of vector v. [01 Entry]
 abbrev pub vectorSpan : ℕ → List ℕ
@@ -156,18 +157,18 @@ frameSpan s =
 -- "SVC counts as loading its vector, and its return as loading the eight bytes it pulls, wherever SP then stands", the
 -- return that is chained too: "the chaining step counts as the application's return". [02 §13]
 abbrev pub trapReads : Act → Core → List ℕ
-trapReads stopped c = []
-trapReads pull c = frameSpan (sp c)
-trapReads (chain d) c = frameSpan (sp c)
-trapReads (accept d) c = []
-trapReads sleep c = []
-trapReads (fault v) c = []
-trapReads halt c = []
-trapReads skip c = []
-trapReads (trap v) c = vectorSpan v
-trapReads plain c = []
-trapReads (loads byte a d) c = []
-trapReads (stores byte a v) c = []
+trapReads acts.Stopped c = []
+trapReads acts.Pull c = frameSpan (sp c)
+trapReads (acts.Chain d) c = frameSpan (sp c)
+trapReads (acts.Accept d) c = []
+trapReads acts.Sleep c = []
+trapReads (acts.Fault v) c = []
+trapReads acts.Halt c = []
+trapReads acts.Skip c = []
+trapReads (acts.Trap v) c = vectorSpan v
+trapReads acts.Plain c = []
+trapReads (acts.Loads byte a d) c = []
+trapReads (acts.Stores byte a v) c = []
 
 -- All bytes that a step of the application from the core c loads or fetches. [01 Resumption; 02 §13]
 abbrev pub readsOf : Act → Core → List ℕ

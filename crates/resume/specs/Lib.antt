@@ -5,3 +5,4 @@ pub mod Untrapped
 pub mod Depth
 pub mod Example
 pub mod TrapExample
+pub mod Resumption

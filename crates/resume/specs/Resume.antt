@@ -13,7 +13,7 @@ use Rattle.machine.specs.Memory.{byteAt}
 use Rattle.machine.specs.Record.{stateIn}
 use Rattle.machine.specs.Events.{Event, eventsOf}
 use Rattle.machine.specs.Devices.{device?}
-use Rattle.machine.specs.Step.{pull, chain}
+use Rattle.machine.specs.declared.Act.the-variants as acts
 use Rattle.machine.specs.Run.{runOf}
 use Rattle.machine_laws.specs.Bounds.{Each}
 use Rattle.resume.specs.Frames.{Start, Frame, FrameFound, Calm, svc?, NoChain, own?, readsOf, after, due, act}
@@ -53,7 +53,7 @@ module _ (memory r events : List ℕ) where
     -- "handlers need restore nothing", but "A device handler chained onto an SVC frame must leave R0 to R4, SP and the
     -- eight bytes that the return was about to pull as it found them": such a frame is a device's from the chaining on,
     -- and holds what the chained handler found
-    pub restored : (k : ℕ) (f : Frame) (fs : List Frame) → k < n → act list start k ≡ pull
+    pub restored : (k : ℕ) (f : Frame) (fs : List Frame) → k < n → act list start k ≡ acts.Pull
         → frames list start k ≡ f ∷ fs
         → f .own ≡ false
         → Found (f .held) (due list start k)
@@ -86,7 +86,7 @@ module _ (memory r events : List ℕ) where
     pub at : ℕ
     pub later : k < at
     pub within : at < n
-    pub pulls : act list start at ≡ pull
+    pub pulls : act list start at ≡ acts.Pull
     -- "from the chaining to the pull the frame counts as a device's"
     pub device-until : (i : ℕ) → k < i → i ≤ at → own? (frames list start i) ≡ false
     pub own-after : own? (frames list start (suc at)) ≡ true
@@ -101,7 +101,7 @@ module _ (memory r events : List ℕ) where
     -- "after its last": after each of them, the last among these, but for a chaining step
     pub after-step : (k : ℕ) → k < n → application? list start k ≡ true → NoChain (act list start k) → Agree (suc k)
     -- of which "its outcome read after the pull"
-    pub after-chaining : (k d : ℕ) → k < n → application? list start k ≡ true → act list start k ≡ chain d
+    pub after-chaining : (k d : ℕ) → k < n → application? list start k ≡ true → act list start k ≡ acts.Chain d
         → ReadAfterPull n k
     -- "and at the run's close"
     pub at-close : Agree n
@@ -109,5 +109,5 @@ module _ (memory r events : List ℕ) where
     pub same-steps : (k : ℕ) → k < n → application? list start k ≡ true → NoChain (act list start k)
         → act [] start (applicationSteps list start k) ≡ act list start k
     -- .. and pulls where the application's return is chained
-    pub same-return : (k d : ℕ) → k < n → application? list start k ≡ true → act list start k ≡ chain d
-        → act [] start (applicationSteps list start k) ≡ pull
+    pub same-return : (k d : ℕ) → k < n → application? list start k ≡ true → act list start k ≡ acts.Chain d
+        → act [] start (applicationSteps list start k) ≡ acts.Pull

@@ -13,7 +13,8 @@ use Rattle.machine.specs.Memory.{byteAt, writes?}
 use Rattle.machine.specs.Record.{stateIn}
 use Rattle.machine.specs.Events.{Event, eventsOf}
 use Rattle.machine.specs.Devices.{device?}
-use Rattle.machine.specs.Step.{pull, outcomeOf}
+use Rattle.machine.specs.declared.Act.the-variants as acts
+use Rattle.machine.specs.Step.{outcomeOf}
 use Rattle.machine.specs.Run.{runOf}
 use Rattle.machine_laws.specs.Bounds.{Each}
 use Rattle.resume.specs.Frames.{Start, Frame, Calm, svc?, none?, acceptsNone?, instructionReads, after, due}
@@ -60,7 +61,7 @@ module _ (memory r events : List ℕ) where
     -- "let every frame be closed"
     pub closed : frames list start n ≡ []
     -- "its closing return finding R0 to R4, SP and the frame's bytes as entry left them"
-    pub restored : (k : ℕ) (f : Frame) (fs : List Frame) → k < n → act list start k ≡ pull
+    pub restored : (k : ℕ) (f : Frame) (fs : List Frame) → k < n → act list start k ≡ acts.Pull
         → frames list start k ≡ f ∷ fs
         → Found (f .held) (due list start k)
     -- "let the application never set SLP"

@@ -11,7 +11,7 @@ use Rattle.machine.specs.State.{State}
 use Rattle.machine.specs.Record.{stateIn}
 use Rattle.machine.specs.Events.{Event, eventsOf}
 use Rattle.machine.specs.Devices.{device?}
-use Rattle.machine.specs.Step.{pull}
+use Rattle.machine.specs.declared.Act.the-variants as acts
 use Rattle.machine_laws.specs.Bounds.{Each}
 use Rattle.resume.specs.Frames.{Start, Frame, Calm, own?, readsOf, after, due, act, frames, application?}
 use Rattle.resume.specs.Frames.{foreign?}
@@ -35,7 +35,7 @@ module _ (memory r events : List ℕ) where
     pub calm : (k : ℕ) → k < n → Calm (act list start k) (frames list start k)
     -- only the devices' frames need be closed
     pub devices-closed : own? (frames list start n) ≡ true
-    pub restored : (k : ℕ) (f : Frame) (fs : List Frame) → k < n → act list start k ≡ pull
+    pub restored : (k : ℕ) (f : Frame) (fs : List Frame) → k < n → act list start k ≡ acts.Pull
         → frames list start k ≡ f ∷ fs
         → f .own ≡ false
         → Found (f .held) (due list start k)

@@ -1,29 +1,24 @@
--- A run as its loop goes: steps with no event due, the stretch after a step, one turn, and the two ways in which it ends.
+-- A run as its loop goes: steps with no event due, a stretch, one step, and the two ways in which it ends.
 -- Assumes nothing.
-use Prim.Native.Nat.{ℕ, _+_, _-_, _/_, _%_, _<_, _≤_}
-use mathlib.Core.Bool.{Bool, true, false, not, _&&_, _||_}
+use Prim.Native.Nat.{ℕ, _+_, _-_, _<_, _≤_}
+use mathlib.Core.Bool.{Bool, true, false, _||_}
 use mathlib.Core.List.{List}
 use mathlib.Core.Path.{_≡_, sym, ap, _∙_}
 use native.Mathlib.Omega.{arith}
 use lib.Dec.{eqb}
-use lib.ListN.{getD}
 use mathlib.Mathlib.Data.Bool.Basic.{or-eq-false-eq-eq-false-and-eq-false}
-use borrow.Author.Tests.{lt-ltb, not-true, not-false}
-use Rattle.machine.specs.State.{State, coreOf}
+use borrow.Author.Tests.{lt-ltb, eqb-false}
+use Rattle.machine.specs.State.{State}
 use Rattle.machine.specs.Events.{Event, eventAt, eventCount, eventsOf}
 use Rattle.machine.specs.Devices.{deliver}
 use Rattle.machine.specs.Step.{finished}
 use Rattle.machine.specs.Run.{ran, runOf}
-use Rattle.machine_laws.proofs.Cases.{and-left, and-right, eq-of}
-use Rattle.machine_laws.proofs.Runs.{run-zero, run-stays, run-append}
-use Rattle.devices.specs.Cursor.{Ordered, stateFrom}
+use Rattle.machine_laws.proofs.Cases.{bool-cases, eq-of}
+use Rattle.machine_laws.proofs.Runs.{run-zero, run-stays, run-append, run-turn}
+use Rattle.devices.specs.Cursor.{Ordered}
 use Rattle.devices.proofs.Laws.{behind-later, index-quiet}
-use Rattle.entry.specs.declared.Rest.{Rest}
-use Rattle.entry.specs.Rest.{stateWith}
-use Rattle.quiet_memory.specs.Served.{quietState}
-use Rattle.quiet.specs.Stretch.{Undisturbed}
-use Rattle.quiet.proofs.Laws.{Reaches, Asleep, withCount, run-turn, sleep-run}
-use Rattle.run.specs.Due.{dueOf, Awaits, Quiet}
+use Rattle.stretch.specs.Stretch.{Undisturbed}
+use Rattle.run.specs.Due.{dueOf, Awaits}
 
 due-in : (b : List ℕ) (k : ℕ) → k < eventCount b → dueOf b k ≡ eventAt b k .step
 unfolding dueOf
@@ -41,69 +36,25 @@ module _ (b : List ℕ) (next due k : ℕ) (a : Awaits b next due k) where
   undisturbed o j h l s =
       index-quiet b j next s o (awaits-later j h .0) (λ q. let e : due ≡ eventAt b next .step = a .1 ∙ due-in b next q in omega arith)
 
--- ---- the stretch after a step
-
-pub tests-quiet :
-    (regs : List ℕ) (t : Rest) → t .halted || not (eqb (t .lines) 0) || not (eqb (t .cex) 0) ≡ false →
-    eqb (getD regs 7 0 % 2) 0 && not (eqb (t .psw / 8 % 2) 1) ≡ true → Quiet regs t
-tests-quiet regs t e f =
-    let p = or-eq-false-eq-eq-false-and-eq-false _ _ .0 e in
-    let q = or-eq-false-eq-eq-false-and-eq-false _ _ .0 (p .0) in
-    let even = eqb (getD regs 7 0 % 2) 0 in
-    let awake = not (eqb (t .psw / 8 % 2) 1) in (
-      q .0,
-      eq-of (not-false _ (q .1)),
-      eq-of (not-false _ (p .1)),
-      (eq-of (and-left even awake f), not-true _ (and-right even awake f)),
-    )
-
-pub stretch-none : (ev : List Event) (s : State) (n : ℕ) → ran s (n - n) ≡ runOf ev s (n - n)
-stretch-none ev s n = let e : n - n ≡ 0 = omega arith in rw e (sym (run-zero ev s))
-
-pub tests-asleep :
-    (regs m : List ℕ) (t : Rest) → t .halted || not (eqb (t .lines) 0) || not (eqb (t .psw / 8 % 2) 1) ≡ false → Asleep (stateWith regs t m)
-tests-asleep regs m t e =
-    let p = or-eq-false-eq-eq-false-and-eq-false _ _ .0 e in
-    let q = or-eq-false-eq-eq-false-and-eq-false _ _ .0 (p .0) in
-    (q .0, eq-of (not-false _ (q .1)), not-false _ (p .1))
-
-pub stretch-asleep :
-    (ev : List Event) (s : State) (due j : ℕ) → Asleep s → j ≤ due - s .count → Undisturbed ev (s .count) due →
-    ran (withCount s (s .count + j)) (s .count + j - s .count) ≡ runOf ev s (s .count + j - s .count)
-stretch-asleep ev s due j a h u =
-    let n = s .count in
-    let e : n + j - n ≡ j = omega arith in
-    rw e (sleep-run ev s j a (λ i b c. u i b (omega arith)))
-
-pub stretch-done :
-    (regs m regs₁ m₁ : List ℕ) (t : Rest) (due psw j : ℕ) (ev : List Event) → Quiet regs t → j ≤ due - t .count →
-    Reaches regs (t .psw) m regs₁ psw m₁ j → Undisturbed ev (t .count) due →
-    ran (quietState regs₁ psw 0 (t .count + j) m₁) (t .count + j - t .count) ≡ runOf ev (stateWith regs t m) (t .count + j - t .count)
-stretch-done regs m regs₁ m₁ t due psw j ev q h f u =
-    let n = t .count in
-    let e : n + j - n ≡ j = omega arith in
-    let s : quietState regs (t .psw) 0 n m ≡ stateWith regs t m =
-    λ i. stateFrom (coreOf regs (t .psw) (sym (q .2) i)) (sym (q .1) i) (sym (q .0) i) n m in
-    rw e (f ev n (λ i a b. u i a (omega arith)) ∙ ap (λ x. runOf ev x j) s)
-
 -- ---- a run
 
 module _ (ev : List Event) (s₀ : State) where
   pub run-start : ran s₀ 0 ≡ runOf ev s₀ 0
   run-start = sym (run-zero ev s₀)
 
-  -- one turn: the events of a step, the step, and a stretch of j more
-  pub run-turns :
-      (s t u v : State) (k j : ℕ) → ran s k ≡ runOf ev s₀ k → s .halted ≡ false → t ≡ deliver ev s → u ≡ finished t →
-      ran v j ≡ runOf ev u j → ran v (k + (1 + j)) ≡ runOf ev s₀ (k + (1 + j))
-  run-turns s t u v k j e h p q r =
-      let w = run-turn ev s₀ s t u k e h p q in
-      let a : k + (1 + j) ≡ k + 1 + j = omega arith in
-      rw a
-      (sym
-      (run-append ev s₀ (k + 1) j
-      ∙ ap (λ x. ran (runOf ev (x .state) j .state) (x .steps + runOf ev (x .state) j .steps)) (sym w)
-      ∙ ap (λ x. ran (x .state) (k + 1 + x .steps)) (sym r)))
+  -- a stretch of j steps, from a state that the run reaches
+  pub run-on : (s v : State) (k j : ℕ) → ran s k ≡ runOf ev s₀ k → ran v j ≡ runOf ev s j → ran v (k + j) ≡ runOf ev s₀ (k + j)
+  run-on s v k j e r =
+      sym
+      (run-append ev s₀ k j
+      ∙ ap (λ x. ran (runOf ev (x .state) j .state) (x .steps + runOf ev (x .state) j .steps)) (sym e)
+      ∙ ap (λ x. ran (x .state) (k + x .steps)) (sym r))
+
+  -- one step: its events, and then what they begin
+  pub run-step :
+      (s t u : State) (k : ℕ) → ran s k ≡ runOf ev s₀ k → s .halted ≡ false → t ≡ deliver ev s → u ≡ finished t →
+      ran u (k + 1) ≡ runOf ev s₀ (k + 1)
+  run-step s t u k e h p q = run-turn ev s₀ s t u k e h p q
 
   -- all steps done, and halted before that
   pub run-full : (s : State) (k n : ℕ) → ran s k ≡ runOf ev s₀ k → k ≤ n → n ≤ k → ran s k ≡ runOf ev s₀ n
@@ -113,3 +64,14 @@ module _ (ev : List Event) (s₀ : State) where
   run-stopped s k n e h l =
       let q : k + (n - k) ≡ n = omega arith in
       e ∙ sym (run-stays ev s₀ k (n - k) (sym (ap (λ x. x .state .halted) e) ∙ l)) ∙ ap (runOf ev s₀) q
+
+  -- a turn breaks off after its stretch
+  pub run-left : (s : State) (k n : ℕ) → ran s k ≡ runOf ev s₀ k → k ≤ n → (s .halted || eqb k n) ≡ true → ran s k ≡ runOf ev s₀ n
+  run-left s k n e h l =
+      bool-cases (s .halted)
+      (λ q. run-stopped s k n e h q)
+      (λ q. let f = eq-of (sym (ap (λ (b : Bool). b || eqb k n) q) ∙ l) in e ∙ ap (runOf ev s₀) f)
+
+-- or goes on
+pub goes-on : (h : Bool) (k n : ℕ) → (h || eqb k n) ≡ false → (h ≡ false) × (k ≡ n → ⊥)
+goes-on h k n e = let p = or-eq-false-eq-eq-false-and-eq-false h (eqb k n) .0 e in (p .0, eqb-false k n (p .1))

@@ -1,15 +1,12 @@
--- The step of the next event, so that a step before it looks at no event (document 01, "One step, in order", 1), and
--- the machines whose steps look at nothing but their instruction.
+-- The step of the next event, so that a step before it looks at no event (document 01, "One step, in order", 1).
 -- Assumes nothing.
 use Prim.Native.Nat.{ℕ}
-use mathlib.Core.Bool.{false, cond}
+use mathlib.Core.Bool.{cond}
 use mathlib.Core.List.{List}
 use mathlib.Core.Path.{_≡_}
 use lib.Dec.{ltb}
 use Rattle.machine.specs.Events.{eventAt, eventCount}
 use Rattle.devices.specs.Cursor.{Behind}
-use Rattle.entry.specs.declared.Rest.{Rest}
-use Rattle.quiet_registers.specs.Quiet.{Steady}
 
 -- the step of record k, past every step where there is none. [01 One step, in order, 1]
 unfoldable pub dueOf : List ℕ → ℕ → ℕ
@@ -18,7 +15,3 @@ dueOf b k = cond (ltb k (eventCount b)) (eventAt b k .step) 4294967296
 -- Before step k: `next` is the first record that is not behind, and `due` its step. [01 One step, in order, 1]
 abbrev pub Awaits : List ℕ → (next due k : ℕ) → Type 0
 Awaits b next due k = Behind b next k × (due ≡ dueOf b next)
-
--- Not halted, no line waiting, no CEX block open, PC even and SLP clear. [01 One step, in order, 2 to 6]
-abbrev pub Quiet : List ℕ → Rest → Type 0
-Quiet regs t = (t .halted ≡ false) × (t .lines ≡ 0) × (t .cex ≡ 0) × Steady regs (t .psw)

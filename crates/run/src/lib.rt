@@ -2,22 +2,21 @@
 ghost use mathlib.Core.Path.{_≡_};
 ghost use mathlib.Core.Bool.{Bool, true, cond};
 ghost use mathlib.Core.List.{List};
-ghost use Prim.Native.Nat.{ℕ, _+_, _-_, _≤_};
+ghost use Prim.Native.Nat.{ℕ, _+_, _≤_};
 ghost use lib.ListN.{length};
 ghost use Rattle.machine.specs.declared.Reason.the-variants.{Done, Halted};
 ghost use Rattle.machine.specs.State.{Core, stateOf};
-ghost use Rattle.machine.specs.Events.{Event, eventsOf, eventCount};
+ghost use Rattle.machine.specs.Events.{eventsOf, eventCount};
 ghost use Rattle.machine.specs.Devices.{deliverAt};
 ghost use Rattle.machine.specs.Refusal.{eventsFitBelow};
 ghost use Rattle.machine.specs.Run.{ran, runOf, reasonOf, reasonNumber};
 ghost use Rattle.machine.specs.Call.{runCallOf};
 ghost use Rattle.devices.specs.Cursor.{Ordered, stateFrom};
-ghost use Rattle.entry.specs.Rest.{stateWith};
-ghost use Rattle.quiet.specs.Stretch.{Undisturbed};
-ghost use Rattle.run.specs.Due.{dueOf, Awaits, Quiet};
-use entry::Rest;
+ghost use Rattle.machine.specs.Rest.{stateWith};
+ghost use Rattle.run.specs.Due.{dueOf, Awaits};
 use machine::Machine;
 use machine::Reason;
+use machine::Rest;
 
 // The step of record k, past every step where there is none.
 fn due_at(events: &[u8], k: usize) -> u64
@@ -65,73 +64,6 @@ fn deliver_due(
     }
 }
 
-// How many steps may pass before the next event is due, at most `left`.
-fn until(count: u32, due: u64, left: u32) -> u32
-    ensures { λ r. ⌜ (r ≤ left) × (r ≤ due - count) ⌝ }
-{
-    let c = count as u64;
-    if due <= c {
-        return 0;
-    }
-    if due - c < left as u64 {
-        return (due - c) as u32;
-    }
-    left
-}
-
-// Is it quiet: not halted, awake, PC even, no CEX block open, no line waiting?
-fn is_quiet(regs: &[u16; 8], t: Rest) -> bool
-    ensures { λ r. ⌜ (r ≡ true → Quiet (now (regs .entry)) t) ⌝ }
-{
-    if t.halted | (t.lines != 0) | (t.cex != 0) {
-        return false;
-    }
-    (regs[7] % 2 == 0) & (t.psw / 8 % 2 != 1)
-}
-
-// Asleep with no line waiting, a step changes nothing but the count: all steps before the next
-// event pass at once, at most `left`. Any other machine stays as it is.
-fn sleep_on(t: Rest, due: u64, left: u32) -> Rest
-    requires { ⌜ t .count + left ≤ 4294967295 ⌝ }
-    ensures state { λ r. ⌜ ((regs mem : List ℕ) (ev : List Event) → Undisturbed ev (t .count) due →
-        ran (stateWith regs r mem) (r .count - t .count)
-        ≡ runOf ev (stateWith regs t mem) (r .count - t .count)) ⌝ }
-    ensures count { λ r. ⌜ (t .count ≤ r .count) × (r .count ≤ t .count + left) ⌝ }
-{
-    if t.halted | (t.lines != 0) | (t.psw / 8 % 2 != 1) {
-        return t;
-    }
-    Rest {
-        psw: t.psw,
-        cex: t.cex,
-        lines: t.lines,
-        halted: t.halted,
-        count: t.count + until(t.count, due, left),
-    }
-}
-
-// After a step: the quiet steps that follow it, or those slept through, at most `left` and none
-// where an event is due.
-fn stretch(regs: &mut [u16; 8], mem: &mut [u8], t: Rest, due: u64, left: u32) -> Rest
-    requires { ⌜ (length (now mem) ≡ 65536) × (t .count + left ≤ 4294967295) ⌝ }
-    ensures state { λ r. ⌜ ((ev : List Event) → Undisturbed ev (t .count) due →
-        ran (stateWith (now (regs .exit)) r (now (mem .exit))) (r .count - t .count)
-        ≡ runOf ev (stateWith (now (regs .entry)) t (now (mem .entry))) (r .count - t .count)) ⌝ }
-    ensures count { λ r. ⌜ (t .count ≤ r .count) × (r .count ≤ t .count + left) ⌝ }
-{
-    if !is_quiet(regs, t) {
-        return sleep_on(t, due, left);
-    }
-    let q = quiet::quiet_run(regs, mem, t.psw, until(t.count, due, left));
-    Rest {
-        psw: q.psw,
-        cex: 0,
-        lines: 0,
-        halted: false,
-        count: t.count + q.steps,
-    }
-}
-
 // Why a run ended.
 fn reason_of(halted: bool) -> Reason
     ensures { λ r. ⌜ r ≡ cond halted Halted Done ⌝ }
@@ -164,7 +96,7 @@ fn put_together(regs: [u16; 8], t: Rest) -> Machine
 }
 
 // A run of n steps, fewer if the machine halts. The machine is taken apart where the loop begins
-// and put together where it ends. Each turn is one step and the quiet steps that follow it.
+// and put together where it ends. Each turn is a stretch, which may be empty, and then one step.
 pub fn run(m: Machine, memory: &mut [u8], events: &[u8], n: u32) -> Ran
     requires { ⌜ (length (now memory) ≡ 65536) × (m .count + n ≤ 4294967295)
         × Ordered (now events) × (eventsFitBelow (now events) (eventCount (now events)) ≡ true) ⌝ }
@@ -186,17 +118,19 @@ pub fn run(m: Machine, memory: &mut [u8], events: &[u8], n: u32) -> Ran
     let mut due = due_at(events, 0);
     let mut done: u32 = 0;
     while done < n {
-        if t.halted {
+        let before = t.count;
+        t = stretch::stretch(&mut regs, memory, t, due, n - done);
+        done += t.count - before;
+        if t.halted | (done == n) {
             break;
         }
         let d = deliver_due(memory, events, next, due, t.count, t.lines);
         next = d.next;
         due = d.due;
         t.lines = d.lines;
-        t = step::step_due(&mut regs, memory, t);
-        let before = t.count;
-        t = stretch(&mut regs, memory, t, due, n - done - 1);
-        done += 1 + (t.count - before);
+        let p = step::plan(&mut regs, memory, t);
+        t = step::perform(&mut regs, memory, t.lines, t.count, p);
+        done += 1;
     }
     Ran {
         machine: put_together(regs, t),

@@ -35,7 +35,7 @@ pub fn verdict(input: &[u8]) -> Verdict
     if input.len() < 65572 {
         return Verdict::MemoryLength;
     }
-    let n = state_record::four_at(input, 0) as u64;
+    let n = little_endian::four_at(input, 0) as u64;
     let state = part(input, 4, 36);
     let memory = part(input, 36, 65572);
     let events = part(input, 65572, input.len());

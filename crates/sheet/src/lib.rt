@@ -18,7 +18,7 @@ fn put_run(input: &[u8], memory: &mut [u8], out: &mut [u8]) -> usize
     ensures fits { λ r. ⌜ r ≤ 64 ⌝ }
 {
     cut::copy(cut::part(input, 36, 65572), memory);
-    let n = state_record::four_at(input, 0);
+    let n = little_endian::four_at(input, 0);
     let m = state_record::read_record(cut::part(input, 4, 36));
     let events = cut::part(input, 65572, input.len());
     let done = run::run(m, memory, events, n);

@@ -1,16 +1,12 @@
 -- The parts of the state record as they are written, one after the other (document 01, "State and memory").
 -- Assumes nothing.
-use Prim.Native.Nat.{ℕ, _+_}
+use Prim.Native.Nat.{ℕ}
 use mathlib.Core.Bool.{Bool}
 use mathlib.Core.List.{List, [], _∷_}
 use mir.Val.{boolByte}
-use lib.ListN.{getD, set}
+use lib.ListN.{getD}
 use Rattle.machine.specs.Memory.{lowByte, highByte}
 use Rattle.machine.specs.Record.{countByte}
-
--- a number's two bytes stored at byte i. [01 State and memory]
-abbrev pub twoPut : List ℕ → (i v : ℕ) → List ℕ
-twoPut b i v = set (set b i (lowByte v)) (i + 1) (highByte v)
 
 -- a number's two bytes, before the rest. [01 State and memory]
 abbrev pub two : ℕ → List ℕ → List ℕ

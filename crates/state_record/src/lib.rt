@@ -1,28 +1,17 @@
-// The 32-byte state record, read and written; and numbers in two and four bytes of a buffer.
+// The 32-byte state record, read and written.
 ghost use mathlib.Core.Path.{_≡_};
 ghost use mathlib.Core.List.{List};
-ghost use Prim.Native.Nat.{ℕ, _+_, _<_};
+ghost use Prim.Native.Nat.{ℕ};
 ghost use lib.ListN.{length};
 ghost use lib.Seq.{sets};
 ghost use Rattle.machine.specs.State.{stateOf};
-ghost use Rattle.machine.specs.Record.{twoAt, fourAt, stateIn, recordOf};
-ghost use Rattle.state_record.specs.Bytes.{twoPut, registerBytes, statusBytes, countBytes};
+ghost use Rattle.machine.specs.Record.{stateIn, recordOf};
+ghost use Rattle.state_record.specs.Bytes.{registerBytes, statusBytes, countBytes};
+use little_endian::four_at;
+use little_endian::put_four;
+use little_endian::put_two;
+use little_endian::two_at;
 use machine::Machine;
-
-// The number in two bytes of a buffer, and in four, from byte i on.
-pub fn two_at(b: &[u8], i: usize) -> u16
-    requires { ⌜ i + 1 < length (now b) ⌝ }
-    ensures { λ x. ⌜ x ≡ twoAt (now (b .entry)) i ⌝ }
-{
-    b[i] as u16 + 256 * b[i + 1] as u16
-}
-
-pub fn four_at(b: &[u8], i: usize) -> u32
-    requires { ⌜ i + 3 < length (now b) ⌝ }
-    ensures { λ x. ⌜ x ≡ fourAt (now (b .entry)) i ⌝ }
-{
-    two_at(b, i) as u32 + 65536 * two_at(b, i + 2) as u32
-}
 
 // The machine that a record of 32 bytes holds. Bytes 26-31 are not looked at, nor is byte 21 beyond
 // being 1.
@@ -48,15 +37,6 @@ pub fn read_record(r: &[u8]) -> Machine
         halted: r[21] == 1,
         count: four_at(r, 22),
     }
-}
-
-// The two bytes of v at byte i.
-fn put_two(b: &mut [u8], i: usize, v: u16)
-    requires { ⌜ i + 1 < length (now b) ⌝ }
-    ensures { λ x. ⌜ now (b .exit) ≡ twoPut (now (b .entry)) i v ⌝ }
-{
-    b[i] = (v % 256) as u8;
-    b[i + 1] = (v / 256) as u8;
 }
 
 // Bytes 0-15, the registers; 16-21, from PSW to the halted mark; 22-31, the step count and zeros.
@@ -88,8 +68,7 @@ fn put_count(r: &mut [u8], count: u32)
     requires { ⌜ length (now r) ≡ 32 ⌝ }
     ensures { λ x. ⌜ now (r .exit) ≡ sets (now (r .entry)) 22 (countBytes count) ⌝ }
 {
-    put_two(r, 22, (count % 65536) as u16);
-    put_two(r, 24, (count / 65536) as u16);
+    put_four(r, 22, count);
     put_two(r, 26, 0);
     put_two(r, 28, 0);
     put_two(r, 30, 0);

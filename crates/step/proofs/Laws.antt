@@ -1,130 +1,266 @@
--- What the code of a step leaves, over plain cores, lists and numbers: each law takes what the code's calls give, in
--- their order. l is the lines, n the count, m the memory before the step. Assumes nothing.
-use Prim.Native.Nat.{ℕ, _+_, _<_, _≤_}
+-- What the code of a plan and of its performance leaves, over plain cores, lists and numbers: each law takes what the
+-- code's calls give, in their order. l is the lines, n the count, m the memory. Assumes nothing.
+use Prim.Native.Nat.{ℕ, _+_, _*_, _/_, _%_, _<_, _≤_}
 use native.Mathlib.Omega.{arith}
-use mathlib.Core.Bool.{Bool, true, false, cond, _&&_, and-false}
+use mathlib.Core.Bool.{Bool, true, false, cond, not, _&&_}
 use mathlib.Core.List.{List}
 use mathlib.Core.Path.{_≡_, refl, sym, ap, subst, _∙_}
-use lib.Dec.{ltb}
-use borrow.Author.Tests.{lt-ltb, le-ltb, ltb-true}
-use Rattle.word.specs.Psw.{current, previous}
-use Rattle.machine.specs.State.{Core, State}
-use Rattle.machine.specs.Memory.{commit}
+use lib.Dec.{eqb, ltb}
+use lib.ListN.{getD, set}
+use lib.Seq.{set-set, set-getD}
+use borrow.Author.Tests.{eq-eqb, ne-eqb, lt-ltb, le-ltb}
+use Rattle.word.specs.Psw.{asleep?, faulted?, current, previous}
+use Rattle.isa.specs.declared.Instr.{Instr}
+use Rattle.isa.specs.declared.Instr.the-variants as i
+use Rattle.isa.specs.Fields.{Fields}
+use Rattle.isa.specs.Decode.{decodeOf}
+use Rattle.isa.proofs.Laws.{decode-fields}
+use Rattle.machine.specs.declared.ByteAddr.{ByteAddr}
+use Rattle.machine.specs.declared.Access.{Access}
+use Rattle.machine.specs.declared.Access.the-variants as asks
+use Rattle.machine.specs.declared.Act.{Act}
+use Rattle.machine.specs.declared.Act.the-variants as act
+use Rattle.machine.specs.State.{Core, State, coreOf, pc, wrap}
+use Rattle.machine.specs.Memory.{byteAt, wordAt, firstByte, commit, valueAt}
 use Rattle.machine.specs.Events.{Event}
-use Rattle.machine.specs.Devices.{fallen, deliver}
+use Rattle.machine.specs.Devices.{fallen, deliver, loadWrites, storeWrites}
+use Rattle.machine.specs.Cex.{skips?, lowered}
 use Rattle.machine.specs.Entry.{priority, bestFrom, best, above, pushes, pulled}
+use Rattle.machine.specs.Effect.{Effect, effectOf, loaded}
 use Rattle.machine.specs.Step as step
-use Rattle.machine.specs.Step.{Plan, Interrupt, planned, chosen, returns?, interruptOf, instructionOf}
-use Rattle.machine.specs.Step.{entered, chained, perform, finished, stepOf}
+use Rattle.machine.specs.Step.{Plan, Interrupt, planned, chosen, returns?, interruptOf, advanced, faulting, granted, executed, instructionOf, planOf}
+use Rattle.machine.specs.Step.{outcome, entered, chained, perform, closed, finished, stepOf}
+use Rattle.machine_laws.specs.Bounds.{Quits}
 use Rattle.machine_laws.proofs.Cases.{bool-cases, and-left, and-both}
-use Rattle.machine_laws.proofs.Plans.{plan-live}
+use Rattle.machine_laws.proofs.Effects.{effect-fault-core}
+use Rattle.machine_laws.proofs.Plans.{plan-live, instruction-cases}
 use Rattle.machine_laws.proofs.Runs.{step-live}
 use Rattle.devices.specs.Cursor.{stateFrom}
-use Rattle.instruction.specs.Closed.{closedBy}
-use Rattle.step.specs.Interrupt.{lineAbove, leaving}
+use Rattle.step.specs.Planned.{Asked, Within}
+use Rattle.entry.specs.Lines.{lineAbove}
+use Rattle.entry.proofs.Lines.{line-is, line-isnt}
+use Rattle.step.specs.Interrupt.{leaving}
 
--- ---- the line above a priority
+-- ---- faults and traps
 
-best-quiet : (m : List ℕ) → best 0 m ≡ 8
-unfolding bestFrom
-best-quiet m = refl
+module _ (b c : Core) (v : ℕ) {f : Bool} (ef : f ≡ faulted? (b .psw)) where
+  pub fault-halts : f ≡ true → planned b act.Halt ≡ faulting b c v
+  fault-halts h = ap (λ (x : Bool). cond x (planned b act.Halt) (planned c (act.Fault v))) (sym h ∙ ef)
 
-module _ (m : List ℕ) (l p : ℕ) where
-  line-none : best l m ≡ 8 → 8 ≡ lineAbove m l p
-  line-none e = ap (λ (d : ℕ). cond (above m d p) d 8) (sym e)
+  pub fault-enters : f ≡ false → planned c (act.Fault v) ≡ faulting b c v
+  fault-enters h = ap (λ (x : Bool). cond x (planned b act.Halt) (planned c (act.Fault v))) (sym h ∙ ef)
 
-  pub line-quiet : l ≡ 0 → 8 ≡ lineAbove m l p
-  line-quiet e = line-none (ap (λ (x : ℕ). best x m) e ∙ best-quiet m)
+-- the core from before the instruction, its PC put back
+restored :
+    (b x : Core) (p q r : ℕ) → b .psw ≡ p → b .cex ≡ q → getD (b .regs) 7 0 ≡ r → x ≡ advanced b → coreOf (set (x .regs) 7 r) p q ≡ b
+unfolding advanced
+restored b x p q r ep eq er ex =
+    let g : set (x .regs) 7 r ≡ b .regs =
+    ap (λ (c : Core). set (c .regs) 7 r) ex ∙ set-set (b .regs) 7 (wrap (pc b + 2)) r
+    ∙ ap (set (b .regs) 7) (sym er) ∙ set-getD (b .regs) 7 0 in
+    λ i. coreOf (g i) (sym ep i) (sym eq i)
 
-  pub line-absent : (d : ℕ) → d ≡ best l m → 8 ≤ d → d ≤ 8 → 8 ≡ lineAbove m l p
-  line-absent d e h k =
-      let z : d ≡ 8 = omega arith in
-      line-none (sym e ∙ z)
+advanced-of : (b x : Core) (p : ℕ) → b .psw ≡ p → x ≡ advanced b → coreOf (x .regs) p (x .cex) ≡ advanced b
+unfolding advanced
+advanced-of b x p ep ex = (λ i. coreOf (ex i .regs) (sym ep i) (ex i .cex))
 
-  pub line-found : (d q : ℕ) → d ≡ best l m → d < 8 → q ≡ priority m d → p < q → d ≡ lineAbove m l p
-  line-found d q e h f g =
-      let a : above m d p ≡ true = and-both (lt-ltb d 8 h) (lt-ltb p (priority m d) (subst (λ (x : ℕ). p < x) f g)) in
-      ap (λ (b : Bool). cond b d 8) (sym a) ∙ ap (λ (x : ℕ). cond (above m x p) x 8) e
+-- ---- what is granted
 
-  pub line-low : (d q : ℕ) → d ≡ best l m → q ≡ priority m d → q ≤ p → 8 ≡ lineAbove m l p
-  line-low d q e f g =
-      let z = le-ltb p (priority m d) (subst (λ (x : ℕ). x ≤ p) f g) in
-      let a : above m d p ≡ false = ap (λ (b : Bool). ltb d 8 && b) z ∙ and-false (ltb d 8) in
-      ap (λ (b : Bool). cond b d 8) (sym a) ∙ ap (λ (x : ℕ). cond (above m x p) x 8) e
+module _ (b x : Core) (a : Access) (m : List ℕ) where
+  pub granted-nothing : a ≡ asks.Nothing → planned x act.Plain ≡ granted b x a m
+  unfolding granted
+  granted-nothing e = ap (λ (y : Access). granted b x y m) (sym e)
 
-  -- what the answer says of the best line
-  pub line-is : (d : ℕ) → d ≡ lineAbove m l p → d < 8 → (above m (best l m) p ≡ true) × (best l m ≡ d)
-  line-is d e h =
-      bool-cases (above m (best l m) p)
-      (λ t. (t, sym (e ∙ ap (λ (b : Bool). cond b (best l m) 8) t)))
-      (λ f. let z : d ≡ 8 = e ∙ ap (λ (b : Bool). cond b (best l m) 8) f in let w : ⊥ = omega arith in absurd w)
+  pub granted-load : (byte : Bool) (at : ByteAddr) (d : ℕ) → a ≡ asks.Load byte at d → planned x (act.Loads byte at d) ≡ granted b x a m
+  unfolding granted
+  granted-load byte at d e = ap (λ (y : Access). granted b x y m) (sym e)
 
-  pub line-isnt : (d : ℕ) → d ≡ lineAbove m l p → 8 ≤ d → above m (best l m) p ≡ false
-  line-isnt d e h =
-      bool-cases (above m (best l m) p)
-      (λ t. let z : d ≡ best l m = e ∙ ap (λ (b : Bool). cond b (best l m) 8) t in
-      let k = ltb-true (best l m) 8 (and-left _ _ t) in let w : ⊥ = omega arith in absurd w)
-      (λ f. f)
+  pub granted-store : (byte : Bool) (at : ByteAddr) (v : ℕ) → a ≡ asks.Store byte at v → planned x (act.Stores byte at v) ≡ granted b x a m
+  unfolding granted
+  granted-store byte at v e = ap (λ (y : Access). granted b x y m) (sym e)
 
--- ---- entries and returns
+  module _ (p q r : ℕ) (ep : b .psw ≡ p) (eq : b .cex ≡ q) (er : getD (b .regs) 7 0 ≡ r) (quits : Quits a → x ≡ advanced b) where
+    pub granted-fault :
+        {t : Plan} (v : ℕ) → a ≡ asks.Fault v →
+        t ≡ faulting (coreOf (set (x .regs) 7 r) p q) (coreOf (x .regs) p (x .cex)) v → t ≡ granted b x a m
+    unfolding granted
+    granted-fault v e f =
+        let ex : x ≡ advanced b = quits (subst Quits (sym e) tt) in
+        f ∙ (λ i. faulting (restored b x p q r ep eq er ex i) (advanced-of b x p ep ex i) v)
+        ∙ ap (λ (y : Access). granted b x y m) (sym e)
 
-pub accept-law :
-    (c x : Core) (f l n d : ℕ) (m k : List ℕ) → x ≡ entered c m d false → k ≡ commit (pushes c) m → f ≡ fallen l d →
-    stateFrom x f false (n + 1) k ≡ closedBy (planned c (step.accept d)) l n m
-unfolding perform
-accept-law c x f l n d m k ex ek ef = λ i. stateFrom (ex i) (ef i) false (n + 1) (ek i)
+    module _ (v c k : ℕ) (e : a ≡ asks.Trap v) (ec : c ≡ current p) (ek : k ≡ priority m v) where
+      -- the test of SVC, as the definition has it
+      tested : (o : Bool) → ltb c k ≡ o → ltb (current (b .psw)) (priority m v) ≡ o
+      tested o h = (λ i. ltb (current (ep i)) (sym ek i)) ∙ ap (λ (y : ℕ). ltb y k) (sym ec) ∙ h
 
-module _ (c x : Core) (l n d : ℕ) (m : List ℕ) (e : d ≡ lineAbove m l (previous (c .psw))) (p : Plan) where
-  pub leave-chains :
-      (f : ℕ) → d < 8 → x ≡ chained c m d → f ≡ fallen l d →
-      stateFrom x f false (n + 1) m ≡ closedBy (chosen (leaving c l m) c p) l n m
-  unfolding perform commit
-  leave-chains f h ex ef =
+      pub granted-trap : c < k → planned x (act.Trap v) ≡ granted b x a m
+      unfolding granted
+      granted-trap h =
+          ap (λ (y : Bool). cond y (planned x (act.Trap v)) (faulting b (advanced b) 10)) (sym (tested true (lt-ltb _ _ h)))
+          ∙ ap (λ (y : Access). granted b x y m) (sym e)
+
+      pub granted-low :
+          {t : Plan} → k ≤ c → t ≡ faulting (coreOf (set (x .regs) 7 r) p q) (coreOf (x .regs) p (x .cex)) 10 → t ≡ granted b x a m
+      unfolding granted
+      granted-low h w =
+          let ex : x ≡ advanced b = quits (subst Quits (sym e) tt) in
+          w ∙ (λ i. faulting (restored b x p q r ep eq er ex i) (advanced-of b x p ep ex i) 10)
+          ∙ ap (λ (y : Bool). cond y (planned x (act.Trap v)) (faulting b (advanced b) 10)) (sym (tested false (le-ltb _ _ h)))
+          ∙ ap (λ (y : Access). granted b x y m) (sym e)
+
+-- ---- an instruction
+
+-- the effect of the word that PC names, PC past it and its count lowered
+pub fetched :
+    (regs m : List ℕ) (psw cex k w q y : ℕ) (e : Effect) → k ≡ getD regs 7 0 / 2 →
+    w ≡ byteAt m (firstByte k) + 256 * byteAt m (firstByte k + 1) → q ≡ wrap (getD regs 7 0 + 2) → y ≡ lowered cex →
+    e ≡ effectOf (coreOf (set regs 7 q) psw y) (decodeOf w) →
+    e ≡ effectOf (advanced (coreOf regs psw cex)) (decodeOf (wordAt m (getD regs 7 0)))
+unfolding advanced
+fetched regs m psw cex k w q y e ek ew eq ey ee =
+    let w′ : w ≡ wordAt m (getD regs 7 0) = ew ∙ ap (λ (x : ℕ). byteAt m (firstByte x) + 256 * byteAt m (firstByte x + 1)) ek in
+    ee ∙ (λ j. effectOf (coreOf (set regs 7 (eq j)) psw (ey j)) (ap decodeOf w′ j))
+
+pub fetched-quits : (c : Core) (n : Instr) (e : Effect) → e ≡ effectOf c n → Quits (e .access) → e .core ≡ c
+fetched-quits c n e h q = ap (λ (x : Effect). x .core) h ∙ effect-fault-core c n (subst (λ (x : Effect). Quits (x .access)) h q)
+
+-- both counts of a CEX state at once
+pub no-true : (x : ℕ) → x % 64 ≡ 0 → x / 8 % 8 ≡ 0
+no-true x h = omega arith
+
+pub no-false : (x : ℕ) → x % 64 ≡ 0 → x % 8 ≡ 0
+no-false x h = omega arith
+
+pub some-false : (x : ℕ) → (x % 64 ≡ 0 → ⊥) → x / 8 % 8 ≡ 0 → x % 8 ≡ 0 → ⊥
+some-false x h t f = h (omega arith)
+
+pub skip-law :
+    (regs : List ℕ) (psw cex q y : ℕ) → q ≡ wrap (getD regs 7 0 + 2) → y ≡ lowered cex →
+    planned (coreOf (set regs 7 q) psw y) act.Skip ≡ planned (advanced (coreOf regs psw cex)) act.Skip
+unfolding advanced
+skip-law regs psw cex q y e f = λ i. planned (coreOf (set regs 7 (e i)) psw (f i)) act.Skip
+
+module _ (c : Core) (m : List ℕ) where
+  pub instruction-asleep : asleep? (c .psw) ≡ true → instructionOf c m ≡ planned c act.Sleep
+  unfolding instructionOf
+  instruction-asleep h = rw h refl
+
+  pub instruction-odd : asleep? (c .psw) ≡ false → pc c % 2 ≡ 1 → instructionOf c m ≡ faulting c c 9
+  unfolding instructionOf
+  instruction-odd h o = rw (h, eq-eqb _ _ o) refl
+
+  pub instruction-skips :
+      asleep? (c .psw) ≡ false → (pc c % 2 ≡ 1 → ⊥) → skips? (c .cex) ≡ true → instructionOf c m ≡ planned (advanced c) act.Skip
+  unfolding instructionOf
+  instruction-skips h o k = rw (h, ne-eqb _ _ o, k) refl
+
+  pub instruction-runs :
+      asleep? (c .psw) ≡ false → (pc c % 2 ≡ 1 → ⊥) → skips? (c .cex) ≡ false →
+      instructionOf c m ≡ executed c (effectOf (advanced c) (decodeOf (wordAt m (pc c)))) m
+  unfolding instructionOf
+  instruction-runs h o k = rw (h, ne-eqb _ _ o, k) refl
+
+-- ---- a return, and points 2 to 7
+
+module _ (c : Core) (l d q : ℕ) (m : List ℕ) (eq : q ≡ previous (c .psw)) (ed : d ≡ lineAbove m l q) (p : Plan) where
+  e : d ≡ lineAbove m l (previous (c .psw))
+  e = ed ∙ ap (lineAbove m l) eq
+
+  pub leave-chains : d < 8 → planned c (act.Chain d) ≡ chosen (leaving c l m) c p
+  leave-chains h =
       let k = line-is m l (previous (c .psw)) d e h in
-      (λ i. stateFrom (ex i) (ef i) false (n + 1) m)
-      ∙ ap (λ (y : ℕ). closedBy (planned c (step.chain y)) l n m) (sym (k .1))
-      ∙ ap (λ (b : Bool). closedBy (chosen (cond b (step.chains (best l m)) step.pulls) c p) l n m) (sym (k .0))
+      ap (λ (y : ℕ). planned c (act.Chain y)) (sym (k .1))
+      ∙ ap (λ (b : Bool). chosen (cond b (step.chains (best l m)) step.pulls) c p) (sym (k .0))
 
-  pub leave-pulls : 8 ≤ d → x ≡ pulled c m → stateFrom x l false (n + 1) m ≡ closedBy (chosen (leaving c l m) c p) l n m
-  unfolding perform commit
-  leave-pulls h ex =
-      let z = line-isnt m l (previous (c .psw)) d e h in
-      ap (λ (y : Core). stateFrom y l false (n + 1) m) ex
-      ∙ ap (λ (b : Bool). closedBy (chosen (cond b (step.chains (best l m)) step.pulls) c p) l n m) (sym z)
+  pub leave-pulls : 8 ≤ d → planned c act.Pull ≡ chosen (leaving c l m) c p
+  leave-pulls h =
+      ap (λ (b : Bool). chosen (cond b (step.chains (best l m)) step.pulls) c p) (sym (line-isnt m l (previous (c .psw)) d e h))
 
--- ---- points 2 to 7
-
-module _ (u : State) (live : u .halted ≡ false) {t : State} where
+module _ (u : State) (live : u .halted ≡ false) {t : Plan} where
   due : (j : Interrupt) → interruptOf (u .core) (u .lines) (u .mem) ≡ j
-      → t ≡ closedBy (chosen j (u .core) (instructionOf (u .core) (u .mem))) (u .lines) (u .count) (u .mem) → t ≡ finished u
+      → t ≡ chosen j (u .core) (instructionOf (u .core) (u .mem)) → t ≡ planOf u
   due j e f =
       f
-      ∙ ap (λ (y : Interrupt). closedBy (chosen y (u .core) (instructionOf (u .core) (u .mem))) (u .lines) (u .count) (u .mem)) (sym e)
-      ∙ ap (λ (p : Plan). closedBy p (u .lines) (u .count) (u .mem)) (sym (plan-live u live))
+      ∙ ap (λ (y : Interrupt). chosen y (u .core) (instructionOf (u .core) (u .mem))) (sym e)
+      ∙ sym (plan-live u live)
 
   pub due-leaves :
-      returns? (u .core) ≡ true
-      → ((p : Plan) → t ≡ closedBy (chosen (leaving (u .core) (u .lines) (u .mem)) (u .core) p) (u .lines) (u .count) (u .mem))
-      → t ≡ finished u
+      returns? (u .core) ≡ true → ((p : Plan) → t ≡ chosen (leaving (u .core) (u .lines) (u .mem)) (u .core) p) → t ≡ planOf u
   unfolding interruptOf
   due-leaves r f = due (leaving (u .core) (u .lines) (u .mem)) (rw r refl) (f (instructionOf (u .core) (u .mem)))
 
   pub due-accepts :
-      (d : ℕ) → returns? (u .core) ≡ false → d ≡ lineAbove (u .mem) (u .lines) (current (u .core .psw)) → d < 8
-      → t ≡ closedBy (planned (u .core) (step.accept d)) (u .lines) (u .count) (u .mem) → t ≡ finished u
+      (d q : ℕ) → returns? (u .core) ≡ false → q ≡ current (u .core .psw) → d ≡ lineAbove (u .mem) (u .lines) q → d < 8
+      → t ≡ planned (u .core) (act.Accept d) → t ≡ planOf u
   unfolding interruptOf
-  due-accepts d r e h f =
-      let k = line-is (u .mem) (u .lines) (current (u .core .psw)) d e h in
+  due-accepts d q r eq e h f =
+      let k = line-is (u .mem) (u .lines) (current (u .core .psw)) d (e ∙ ap (lineAbove (u .mem) (u .lines)) eq) h in
       due (step.accepts d) (rw (r, k .0) (ap step.accepts (k .1))) f
 
   pub due-runs :
-      (d : ℕ) → returns? (u .core) ≡ false → d ≡ lineAbove (u .mem) (u .lines) (current (u .core .psw)) → 8 ≤ d
-      → t ≡ closedBy (instructionOf (u .core) (u .mem)) (u .lines) (u .count) (u .mem) → t ≡ finished u
+      (d q : ℕ) → returns? (u .core) ≡ false → q ≡ current (u .core .psw) → d ≡ lineAbove (u .mem) (u .lines) q → 8 ≤ d
+      → t ≡ instructionOf (u .core) (u .mem) → t ≡ planOf u
   unfolding interruptOf
-  due-runs d r e h f =
-      due step.nothing (rw (r, line-isnt (u .mem) (u .lines) (current (u .core .psw)) d e h) refl) f
+  due-runs d q r eq e h f =
+      let k = line-isnt (u .mem) (u .lines) (current (u .core .psw)) d (e ∙ ap (lineAbove (u .mem) (u .lines)) eq) h in
+      due step.nothing (rw (r, k) refl) f
+
+-- the test of a return
+pub returns-is : (c : Core) {a b : Bool} → a ≡ asleep? (c .psw) → not a && eqb (pc c) 0xFFFF ≡ b → returns? c ≡ b
+returns-is c ea h = ap (λ (x : Bool). not x && eqb (pc c) 0xFFFF) (sym ea) ∙ h
 
 -- ---- the whole step
 
 pub step-law : (ev : List Event) (s u v : State) → s .halted ≡ false → u ≡ deliver ev s → v ≡ finished u → v ≡ stepOf ev s
 step-law ev s u v h e f = f ∙ ap finished e ∙ sym (step-live ev s h)
+
+-- ---- the numbers of an act
+
+pub effect-within : (c : Core) (n : Instr) → Fields n → Asked (effectOf c n .access)
+unfolding effectOf
+effect-within c i.Illegal f = omega arith
+effect-within c (i.Bl off) f = tt
+effect-within c (i.Branch n off) f = tt
+effect-within c (i.Alu op rc wb src dst) f = tt
+effect-within c (i.Mov wb src dst) f = tt
+effect-within c (i.Swap src dst _) f = tt
+effect-within c (i.Unary op wb dst) f = tt
+effect-within c (i.Swpb dst _) f = tt
+effect-within c (i.Sxt dst _) f = tt
+effect-within c (i.SetPri level) f = bool-cases (ltb (current (c .psw)) level) (λ e. rw e (omega arith)) (λ e. rw e tt)
+effect-within c (i.Svc v) f = f
+effect-within c (i.SetCc g) f = tt
+effect-within c (i.ClrCc g) f = tt
+effect-within c (i.Cex n t g) f = tt
+effect-within c (i.Ld prpo dec inc wb src dst) f = f .5
+effect-within c (i.St prpo dec inc wb src dst) f = tt
+effect-within c (i.MovImm op b dst) f = tt
+effect-within c (i.Ldr off wb src dst) f = f .3
+effect-within c (i.Str off wb src dst) f = tt
+
+faulting-within : (b c : Core) (v : ℕ) → v < 16 → Within (faulting b c v .act)
+faulting-within b c v h = bool-cases (faulted? (b .psw)) (λ e. rw e tt) (λ e. rw e h)
+
+granted-within : (b x : Core) (a : Access) (m : List ℕ) → Asked a → Within (granted b x a m .act)
+unfolding granted
+granted-within b x asks.Nothing m h = tt
+granted-within b x (asks.Load byte at d) m h = h
+granted-within b x (asks.Store byte at v) m h = tt
+granted-within b x (asks.Fault v) m h = faulting-within b (advanced b) v h
+granted-within b x (asks.Trap v) m h =
+    bool-cases (ltb (current (b .psw)) (priority m v)) (λ e. rw e h) (λ e. rw e (faulting-within b (advanced b) 10 (omega arith)))
+
+pub instruction-within : (c : Core) (m : List ℕ) → Within (instructionOf c m .act)
+instruction-within c m =
+    instruction-cases c m (λ (p : Plan). Within (p .act))
+    (λ e. tt)
+    (λ e f. faulting-within c c 9 (omega arith))
+    (λ e f g. tt)
+    (λ e f g. granted-within c _ _ m (effect-within _ _ (decode-fields _)))
+
+-- ---- an act done
+
+pub performed :
+    {t : State} (a b : Act) (c : Core) (l n : ℕ) (m : List ℕ) → a ≡ b → t ≡ closed (perform b c l m) n m → t ≡ closed (perform a c l m) n m
+performed a b c l n m e f = f ∙ ap (λ (y : Act). closed (perform y c l m) n m) (sym e)

@@ -1,105 +1,275 @@
-// One step of the machine: the seven points of document 01, "One step, in order". `step_due` is
-// points 2 to 7 over registers and memory lent; `step` is the whole step of a machine by value.
+// One step in two halves, as the definitions have it: the plan says what the step does and has
+// written no memory; its performance does it. Registers and memory are lent.
 ghost use mathlib.Core.Path.{_≡_};
 ghost use mathlib.Core.Bool.{true, false};
-ghost use Prim.Native.Nat.{_+_, _<_, _≤_};
-ghost use lib.ListN.{length};
-ghost use Rattle.machine.specs.State.{stateOf};
+ghost use mathlib.Core.List.{List};
+ghost use Prim.Native.Nat.{ℕ, _+_, _<_, _≤_};
+ghost use lib.ListN.{length, getD, set};
+ghost use Rattle.machine.specs.State.{Core, coreOf, stateOf};
+ghost use Rattle.machine.specs.Memory.{commit, valueAt};
+ghost use Rattle.machine.specs.Devices.{fallen, loadWrites};
+ghost use Rattle.machine.specs.Cex.{skips?, lowered};
+ghost use Rattle.machine.specs.Entry.{pushes, pulled};
+ghost use Rattle.machine.specs.Effect.{loaded};
 ghost use Rattle.machine.specs.Events.{eventsOf, eventCount};
 ghost use Rattle.machine.specs.Refusal.{eventsFitBelow};
-ghost use Rattle.machine.specs.Step.{Plan, planned, accept, chosen, finished, stepOf};
+ghost use Rattle.machine.specs.Step.{Plan, advanced, faulting, granted, instructionOf, chosen, planOf};
+ghost use Rattle.machine.specs.Step.{outcome, entered, chained, perform, closed, stepOf};
+ghost use Rattle.machine_laws.specs.Bounds.{Quits};
 ghost use Rattle.devices.specs.Cursor.{Behind, Ordered};
-ghost use Rattle.entry.specs.Rest.{coreWith, stateWith};
-ghost use Rattle.instruction.specs.Closed.{closedBy};
-ghost use Rattle.step.specs.Interrupt.{lineAbove, leaving};
-use entry::Rest;
+ghost use Rattle.machine.specs.Rest.{coreWith, stateWith};
+ghost use Rattle.step.specs.Planned.{planWith, Asked, Within};
+ghost use Rattle.step.specs.Interrupt.{leaving};
+use execute::Executed;
+use machine::Access;
+use machine::Act;
+use machine::ByteAddr;
 use machine::Machine;
+use machine::Rest;
 
-// The best waiting line if its priority is above `level`, else 8.
-fn best_above(mem: &[u8], lines: u8, level: u16) -> u8
-    requires { ⌜ length (now mem) ≡ 65536 ⌝ }
-    ensures { λ r. ⌜ (r ≡ lineAbove (now (mem .entry)) lines level) × (r ≤ 8) ⌝ }
-{
-    let d = entry::best_line(mem, lines);
-    if d < 8 {
-        if level < entry::priority_of(mem, d) {
-            return d;
-        }
-    }
-    8
+// What a step does, and the PSW and the CEX state that it starts from. The registers that it starts
+// from are those lent to `plan`.
+pub struct Planned {
+    pub psw: u16,
+    pub cex: u16,
+    pub act: Act,
 }
 
-// The same, asked at every step; no vector is read where no line waits.
-fn line_above(mem: &[u8], lines: u8, level: u16) -> u8
-    requires { ⌜ length (now mem) ≡ 65536 ⌝ }
-    ensures { λ r. ⌜ (r ≡ lineAbove (now (mem .entry)) lines level) × (r ≤ 8) ⌝ }
+// A fault v. With FLT set the machine halts, PC and CEX state as they were before the step; else
+// the CEX state is `left`.
+fn faulted(regs: &mut [u16; 8], psw: u16, cex: u16, pc: u16, left: u16, v: u8) -> Planned
+    ensures { λ r. ⌜ planWith (now (regs .exit)) r ≡
+        faulting (coreOf (set (now (regs .entry)) 7 pc) psw cex)
+        (coreOf (now (regs .entry)) psw left) v ⌝ }
 {
-    if lines == 0 {
-        return 8;
-    }
-    best_above(mem, lines, level)
-}
-
-// The line of device d accepted: an entry that pushes, and the line falls.
-fn accept(regs: &mut [u16; 8], mem: &mut [u8], t: Rest, d: u8) -> Rest
-    requires { ⌜ (length (now mem) ≡ 65536) × (d < 8) × (t .count < 4294967295) ⌝ }
-    ensures { λ r. ⌜ stateWith (now (regs .exit)) r (now (mem .exit)) ≡
-        closedBy (planned (coreWith (now (regs .entry)) t) (accept d)) (t .lines) (t .count)
-        (now (mem .entry)) ⌝ }
-{
-    let psw = entry::enter(regs, mem, t.psw, t.cex, d, false);
-    Rest {
-        psw,
-        cex: 0,
-        lines: devices::fall(t.lines, d),
-        halted: false,
-        count: t.count + 1,
-    }
-}
-
-// Point 2, a return: a line above the previous priority is chained and falls, else the newest frame
-// is pulled.
-fn leave(regs: &mut [u16; 8], mem: &[u8], t: Rest) -> Rest
-    requires { ⌜ (length (now mem) ≡ 65536) × (t .count < 4294967295) ⌝ }
-    ensures { λ r. ⌜ ((p : Plan) → stateWith (now (regs .exit)) r (now (mem .entry)) ≡
-        closedBy (chosen (leaving (coreWith (now (regs .entry)) t) (t .lines) (now (mem .entry)))
-        (coreWith (now (regs .entry)) t) p) (t .lines) (t .count) (now (mem .entry))) ⌝ }
-{
-    let d = best_above(mem, t.lines, t.psw / 8192 % 8);
-    if d < 8 {
-        let psw = entry::chain(regs, mem, t.psw, d);
-        return Rest {
+    if word::faulted(psw) {
+        regs[7] = pc;
+        return Planned {
             psw,
-            cex: 0,
-            lines: devices::fall(t.lines, d),
-            halted: false,
-            count: t.count + 1,
+            cex,
+            act: Act::Halt,
         };
     }
-    let f = entry::pull(regs, mem);
-    Rest {
-        psw: f.psw,
-        cex: f.cex,
-        lines: t.lines,
-        halted: false,
-        count: t.count + 1,
+    Planned {
+        psw,
+        cex: left,
+        act: Act::Fault(v),
     }
 }
 
-// Points 2 to 7 of a machine that is not halted, its due events applied.
-pub fn step_due(regs: &mut [u16; 8], mem: &mut [u8], t: Rest) -> Rest
-    requires { ⌜ (length (now mem) ≡ 65536) × (t .count < 4294967295) × (t .halted ≡ false) ⌝ }
-    ensures { λ r. ⌜ stateWith (now (regs .exit)) r (now (mem .exit)) ≡
-        finished (stateWith (now (regs .entry)) t (now (mem .entry))) ⌝ }
+// What an instruction asked for, granted. `psw`, `cex` and `pc` are from before the step, `d` and
+// the registers are as the instruction left them.
+fn grant(regs: &mut [u16; 8], mem: &[u8], psw: u16, cex: u16, pc: u16, d: Executed) -> Planned
+    requires { ⌜ (length (now mem) ≡ 65536) × Asked (d .access) ⌝ }
+    ensures { λ r. ⌜ ((b : Core) → b .psw ≡ psw → b .cex ≡ cex → getD (b .regs) 7 0 ≡ pc →
+        (Quits (d .access) → coreOf (now (regs .entry)) (d .psw) (d .cex) ≡ advanced b) →
+        planWith (now (regs .exit)) r ≡
+        granted b (coreOf (now (regs .entry)) (d .psw) (d .cex)) (d .access) (now (mem .entry))) ⌝ }
 {
-    if (t.psw / 8 % 2 != 1) & (regs[7] == 0xFFFF) {
-        return leave(regs, mem, t);
+    let a = d.access;
+    match a {
+        Access::Nothing => Planned {
+            psw: d.psw,
+            cex: d.cex,
+            act: Act::Plain,
+        },
+        Access::Load { byte, at, dst } => Planned {
+            psw: d.psw,
+            cex: d.cex,
+            act: Act::Loads { byte, at, dst },
+        },
+        Access::Store { byte, at, value } => Planned {
+            psw: d.psw,
+            cex: d.cex,
+            act: Act::Stores { byte, at, value },
+        },
+        Access::Fault(v) => faulted(regs, psw, cex, pc, d.cex, v),
+        Access::Trap(v) => {
+            if word::current_priority(psw) < entry::priority_of(mem, v) {
+                return Planned {
+                    psw: d.psw,
+                    cex: d.cex,
+                    act: Act::Trap(v),
+                };
+            }
+            faulted(regs, psw, cex, pc, d.cex, 10)
+        }
     }
-    let d = line_above(mem, t.lines, t.psw / 32 % 8);
+}
+
+// Does a CEX block skip the next instruction?
+fn skips(cex: u16) -> bool
+    ensures { λ r. ⌜ r ≡ skips? cex ⌝ }
+{
+    if cex % 64 == 0 {
+        return false;
+    }
+    if cex / 8 % 8 == 0 {
+        return (0 < cex % 8) & (cex / 64 % 2 == 1);
+    }
+    cex / 64 % 2 != 1
+}
+
+// The CEX state with the count of the next instruction lowered.
+fn lower(cex: u16) -> u16
+    ensures { λ r. ⌜ r ≡ lowered cex ⌝ }
+{
+    if cex % 64 == 0 {
+        return cex;
+    }
+    if cex / 8 % 8 == 0 {
+        return cex - 1;
+    }
+    cex - 8
+}
+
+// Points 4 to 7: asleep, an odd PC, a CEX block that skips, else fetch, decode, execute.
+fn instruction(regs: &mut [u16; 8], mem: &[u8], psw: u16, cex: u16) -> Planned
+    requires { ⌜ length (now mem) ≡ 65536 ⌝ }
+    ensures { λ r. ⌜ planWith (now (regs .exit)) r ≡
+        instructionOf (coreOf (now (regs .entry)) psw cex) (now (mem .entry)) ⌝ }
+{
+    if word::asleep(psw) {
+        return Planned {
+            psw,
+            cex,
+            act: Act::Sleep,
+        };
+    }
+    let pc = regs[7];
+    let left = lower(cex);
+    if pc % 2 == 1 {
+        return faulted(regs, psw, cex, pc, cex, 9);
+    }
+    let next = std::num::wrapping_add_u16(pc, 2);
+    regs[7] = next;
+    if skips(cex) {
+        return Planned {
+            psw,
+            cex: left,
+            act: Act::Skip,
+        };
+    }
+    let w = memory::read_word(mem, memory::word_of(ByteAddr(pc)));
+    let d = execute::execute(regs, psw, left, isa::decode(w));
+    grant(regs, mem, psw, cex, pc, d)
+}
+
+// Point 2, a return: a line above the previous priority is chained, else the frame is pulled.
+fn leave(mem: &[u8], lines: u8, psw: u16, cex: u16) -> Planned
+    requires { ⌜ length (now mem) ≡ 65536 ⌝ }
+    ensures plan { λ r. ⌜ ((regs : List ℕ) (p : Plan) → planWith regs r ≡
+        chosen (leaving (coreOf regs psw cex) lines (now (mem .entry))) (coreOf regs psw cex) p) ⌝ }
+    ensures within { λ r. ⌜ Within (r .act) ⌝ }
+{
+    let d = entry::best_above(mem, lines, word::previous_priority(psw));
     if d < 8 {
-        return accept(regs, mem, t, d);
+        return Planned {
+            psw,
+            cex,
+            act: Act::Chain(d),
+        };
     }
-    instruction::instruction(regs, mem, t)
+    Planned {
+        psw,
+        cex,
+        act: Act::Pull,
+    }
+}
+
+// Points 2 to 7 of a machine that is not halted, its due events applied: what its step does. Memory
+// is only read; the registers become those that the act starts from.
+pub fn plan(regs: &mut [u16; 8], mem: &[u8], t: Rest) -> Planned
+    requires { ⌜ (length (now mem) ≡ 65536) × (t .halted ≡ false) ⌝ }
+    ensures plan { λ r. ⌜ planWith (now (regs .exit)) r ≡
+        planOf (stateWith (now (regs .entry)) t (now (mem .entry))) ⌝ }
+    ensures within { λ r. ⌜ Within (r .act) ⌝ }
+{
+    if !word::asleep(t.psw) & (regs[7] == 0xFFFF) {
+        return leave(mem, t.lines, t.psw, t.cex);
+    }
+    let d = entry::line_above(mem, t.lines, word::current_priority(t.psw));
+    if d < 8 {
+        return Planned {
+            psw: t.psw,
+            cex: t.cex,
+            act: Act::Accept(d),
+        };
+    }
+    instruction(regs, mem, t.psw, t.cex)
+}
+
+// A load into register dst: the value is written last, and a byte keeps the high byte. The CEX
+// state after it.
+fn load(regs: &mut [u16; 8], mem: &mut [u8], cex: u16, byte: bool, at: ByteAddr, dst: u8) -> u16
+    requires { ⌜ (length (now mem) ≡ 65536) × (dst < 8) ⌝ }
+    ensures core { λ r. ⌜ ((psw : ℕ) → coreOf (now (regs .exit)) psw r ≡
+        loaded (coreOf (now (regs .entry)) psw cex) byte dst (valueAt byte (now (mem .entry)) (at .0))) ⌝ }
+    ensures memory { λ r. ⌜ now (mem .exit) ≡
+        commit (loadWrites byte (now (mem .entry)) (at .0)) (now (mem .entry)) ⌝ }
+{
+    let v = memory::load(mem, byte, at);
+    let w = word::with_low(byte, operands::get(regs, dst), v);
+    operands::put(regs, cex, dst, w)
+}
+
+// The machine that a step leaves: the count has gained 1.
+fn after(psw: u16, cex: u16, lines: u8, halted: bool, count: u32) -> Rest
+    requires { ⌜ count < 4294967295 ⌝ }
+    ensures { λ r. ⌜ r ≡ record { psw = psw; cex = cex; lines = lines; halted = halted; count = count + 1 } ⌝ }
+{
+    Rest {
+        psw,
+        cex,
+        lines,
+        halted,
+        count: count + 1,
+    }
+}
+
+// The act of a plan done: what the step leaves. `lines` and `count` are from before the act.
+pub fn perform(regs: &mut [u16; 8], mem: &mut [u8], lines: u8, count: u32, p: Planned) -> Rest
+    requires { ⌜ (length (now mem) ≡ 65536) × (count < 4294967295) × Within (p .act) ⌝ }
+    ensures { λ r. ⌜ stateWith (now (regs .exit)) r (now (mem .exit)) ≡
+        closed (perform (p .act) (coreOf (now (regs .entry)) (p .psw) (p .cex)) lines
+        (now (mem .entry))) count (now (mem .entry)) ⌝ }
+{
+    let a = p.act;
+    match a {
+        Act::Stopped => after(p.psw, p.cex, lines, true, count),
+        Act::Pull => {
+            let f = entry::pull(regs, mem);
+            after(f.psw, f.cex, lines, false, count)
+        }
+        Act::Chain(d) => {
+            let psw = entry::chain(regs, mem, p.psw, d);
+            after(psw, 0, devices::fall(lines, d), false, count)
+        }
+        Act::Accept(d) => {
+            let psw = entry::enter(regs, mem, p.psw, p.cex, d, false);
+            after(psw, 0, devices::fall(lines, d), false, count)
+        }
+        Act::Sleep => after(p.psw, p.cex, lines, false, count),
+        Act::Fault(v) => {
+            let psw = entry::enter(regs, mem, p.psw, p.cex, v, true);
+            after(psw, 0, lines, false, count)
+        }
+        Act::Halt => after(p.psw, p.cex, lines, true, count),
+        Act::Skip => after(p.psw, p.cex, lines, false, count),
+        Act::Trap(v) => {
+            let psw = entry::enter(regs, mem, p.psw, p.cex, v, false);
+            after(psw, 0, lines, false, count)
+        }
+        Act::Plain => after(p.psw, p.cex, lines, false, count),
+        Act::Loads { byte, at, dst } => {
+            let cex = load(regs, mem, p.cex, byte, at, dst);
+            after(p.psw, cex, lines, false, count)
+        }
+        Act::Stores { byte, at, value } => {
+            memory::store(mem, byte, at, value);
+            after(p.psw, p.cex, lines, false, count)
+        }
+    }
 }
 
 // The machine and the index of the first record not yet due, after one step.
@@ -129,7 +299,8 @@ pub fn step(m: Machine, memory: &mut [u8], events: &[u8], next: usize) -> Steppe
         count: m.count,
     };
     let mut regs = m.regs;
-    let x = step_due(&mut regs, memory, t);
+    let p = plan(&mut regs, memory, t);
+    let x = perform(&mut regs, memory, due.lines, m.count, p);
     Stepped {
         machine: Machine {
             regs,

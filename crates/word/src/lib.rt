@@ -4,7 +4,7 @@ ghost use mathlib.Core.Path.{_≡_};
 ghost use Prim.Native.Nat.{_+_, _-_, _^_, _<_, _≤_};
 ghost use lib.Signed.{mag};
 ghost use Rattle.word.specs.Width.{widthOf, bit, low, withLow, turned};
-ghost use Rattle.word.specs.Psw.{putBit};
+ghost use Rattle.word.specs.Psw.{putBit, asleep?, faulted?, current, previous};
 ghost use Rattle.word.specs.Offset.{signedOf, bitsOf};
 
 // All bits of the width set.
@@ -49,6 +49,33 @@ pub fn with_low(byte: bool, x: u16, v: u16) -> u16
     ensures { λ r. ⌜ r ≡ withLow (widthOf byte) x v ⌝ }
 {
     if byte { x / 256 * 256 + v } else { v }
+}
+
+// Is SLP set?
+pub fn asleep(psw: u16) -> bool
+    ensures { λ r. ⌜ r ≡ asleep? psw ⌝ }
+{
+    psw / 8 % 2 == 1
+}
+
+// Is FLT set?
+pub fn faulted(psw: u16) -> bool
+    ensures { λ r. ⌜ r ≡ faulted? psw ⌝ }
+{
+    psw / 256 % 2 == 1
+}
+
+// The current priority, and the previous one.
+pub fn current_priority(psw: u16) -> u16
+    ensures { λ r. ⌜ (r ≡ current psw) × (r < 8) ⌝ }
+{
+    psw / 32 % 8
+}
+
+pub fn previous_priority(psw: u16) -> u16
+    ensures { λ r. ⌜ (r ≡ previous psw) × (r < 8) ⌝ }
+{
+    psw / 8192 % 8
 }
 
 // The PSW with b for C; its other bits stay.

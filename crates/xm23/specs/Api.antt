@@ -13,7 +13,7 @@ pub use Rattle.isa_ranges.specs.Ranges.{firstOf, lastOf, rangeReply}
 -- xm23_run replies and leaves what runCallOf gives for its buffers and n; Resumption is demand 3 of that call, across
 -- the application's own traps. [01 Who can be turned back; 01 Resumption; 02 §13]
 pub use Rattle.machine.specs.Call.{Closing, runCallOf}
-pub use Rattle.resume_call.specs.Resumption.{Resumption}
+pub use Rattle.resume.specs.Resumption.{Resumption}
 -- xm23_load_srec and xm23_write_srec reply and leave what loadCallOf and writeCallOf give; Restores is what 02 promises
 -- of the text written. [02 §2]
 pub use Rattle.srec_call.specs.Call.{Loaded, loadCallOf, Written, writeCallOf}

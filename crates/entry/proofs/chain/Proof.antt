@@ -1,6 +1,8 @@
 use borrow.Author.Needs.{needs}
 use denote.Ref.{now}
-use Rattle.machine.specs.State.{coreOf}
+use mathlib.Core.Path.{_∙_}
+use Rattle.machine.specs.State.{coreOf, sp}
+use Rattle.machine.specs.Entry.{vectored}
 use Rattle.entry.proofs.Laws.{vectored-law}
 use Rattle.entry.proofs.chain.Statement.{statement}
 use Rattle.entry.proofs.chain.Tie as tie
@@ -17,17 +19,25 @@ element-copy-out-sp c = search needs
 set-three-requires : tie.Need-set-three-requires
 set-three-requires c κs = search needs
 
+previous-priority-requires : tie.Need-previous-priority-requires
+previous-priority-requires c κs = search needs
+
+faulted-requires : tie.Need-faulted-requires
+faulted-requires c κs = search needs
+
 entered-psw-requires : tie.Need-entered-psw-requires
 entered-psw-requires c κs = search needs
 
 returns : tie.Need-returns
 returns c =
-    let a = c .before .before .before .before .before .before .before .args in
-    λ x. vectored-law (coreOf (now (a .regs)) (a .psw) x) (now (a .mem)) _ (a .v) _ _ _ _ _ _
-    (c .before .before .before .before .before .vector-psw .ensures)
-    (c .before .before .before .before .vector-pc .ensures)
-    (c .before .set-three .ensures)
-    (c .entered-psw .ensures)
+    let s = c .before .before .before in
+    let a = s .before .before .before .before .before .before .args in
+    let prev = c .before .before .previous-priority .ensures .0 in
+    let flt = c .before .faulted .ensures in λ x.
+    let k = coreOf (now (a .regs)) (a .psw) x in
+    vectored-law k (now (a .mem)) _ (a .v) _ _ _ _ _ _ (s .before .before .before .before .vector-psw .ensures)
+    (s .before .before .before .vector-pc .ensures) (s .set-three .ensures) (c .entered-psw .ensures)
+    ∙ (λ i. vectored k (now (a .mem)) (a .v) (prev i) (flt i) (sp k))
 
 pub chain-spec : {M : Type 1} → statement M
 chain-spec =
@@ -37,5 +47,7 @@ chain-spec =
     vector-pc-requires
     element-copy-out-sp
     set-three-requires
+    previous-priority-requires
+    faulted-requires
     entered-psw-requires
     returns)

@@ -28,8 +28,8 @@ word-of-requires c κs = search needs
 read-word-requires : tie.Need-read-word-requires
 read-word-requires c κs = search needs
 
-mul-t18 : tie.Need-mul-t18
-mul-t18 c = search needs
+byte-of-requires : tie.Need-byte-of-requires
+byte-of-requires c κs = search needs
 
 touch-requires-2 : tie.Need-touch-requires-2
 touch-requires-2 c κs = search needs
@@ -43,7 +43,7 @@ returns-2 c =
     let w = c .before .before .before .before .before .before .before .word-of .ensures .0 in
     let v = c .before .before .before .before .before .read-word .ensures in
     rw (c .before .before .before .before .before .before .before .before .if1 .left)
-    (load-value m _ _ w v, load-word m _ _ _ w (c .before .before .touch2 .ensures))
+    (load-value m _ _ w v, load-word m _ _ _ _ w (c .before .before .before .byte-of .ensures) (c .before .before .touch2 .ensures))
 
 pub load-spec : {M : Type 1} → statement M
 load-spec =
@@ -56,7 +56,7 @@ load-spec =
     returns
     word-of-requires
     read-word-requires
-    mul-t18
+    byte-of-requires
     touch-requires-2
     same-length-2
     returns-2)

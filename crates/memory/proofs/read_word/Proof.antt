@@ -1,21 +1,24 @@
 -- `memory::read_word` meets its contract. Assumes nothing.
-use Prim.Native.Nat.{_+_, _*_}
+use Prim.Native.Nat.{ℕ, _+_, _*_}
+use mathlib.Core.Path.{ap}
 use native.Mathlib.Omega.{arith}
+use denote.Ref.{now}
+use Rattle.machine.specs.Memory.{byteAt}
 use borrow.Author.Needs.{needs}
 use Rattle.memory.proofs.read_word.Statement.{statement}
 use Rattle.memory.proofs.read_word.Tie as tie
 
+byte-of-requires : tie.Need-byte-of-requires
+byte-of-requires c κs = search needs
+
 cast-i : tie.Need-cast-i
 cast-i c = search needs
-
-mul-i : tie.Need-mul-i
-mul-i c = search needs
 
 shared-slice-read-result : tie.Need-shared-slice-read-result
 shared-slice-read-result c = search needs
 
 cast-result : tie.Need-cast-result
-cast-result c = omega (arith, c .shared-slice-known .given (2 * c .before .before .args .w .0))
+cast-result c = omega (arith, c .shared-slice-known2 .given (c .before .before .byte-of .result .0))
 
 add-result : tie.Need-add-result
 add-result c = search needs
@@ -24,25 +27,27 @@ shared-slice-read-result-2 : tie.Need-shared-slice-read-result-2
 shared-slice-read-result-2 c = search needs
 
 cast-result-2 : tie.Need-cast-result-2
-cast-result-2 c = omega (arith, c .shared-slice-known2 .given (2 * c .before .before .before .args .w .0 + 1))
+cast-result-2 c = omega (arith, c .shared-slice-known3 .given (c .before .before .before .byte-of .result .0 + 1))
 
 mul-result : tie.Need-mul-result
-mul-result c = omega (arith, c .shared-slice-known2 .given (2 * c .before .before .before .args .w .0 + 1))
+mul-result c = omega (arith, c .shared-slice-known3 .given (c .before .before .before .byte-of .result .0 + 1))
 
 add-result-2 : tie.Need-add-result-2
 add-result-2 c =
-    let i = 2 * c .before .before .before .args .w .0 in
-    omega (arith, c .before .shared-slice-known .given i, c .shared-slice-known2 .given (i + 1))
+    let i = c .before .before .before .byte-of .result .0 in
+    omega (arith, c .before .shared-slice-known2 .given i, c .shared-slice-known3 .given (i + 1))
 
 returns : tie.Need-returns
-returns c = search needs
+returns c =
+    let m = now (c .before .before .before .before .before .args .mem) in
+    ap (λ (i : ℕ). byteAt m i + 256 * byteAt m (i + 1)) (c .before .before .before .byte-of .ensures)
 
 pub read-word-spec : {M : Type 1} → statement M
 read-word-spec =
     tie.close
     (tie.spec
+    byte-of-requires
     cast-i
-    mul-i
     shared-slice-read-result
     cast-result
     add-result

@@ -1,6 +1,6 @@
 -- `memory::store_word` meets its contract. Assumes nothing.
-use Rattle.memory.proofs.Laws.{store-above, store-two}
 use denote.Ref.{now}
+use Rattle.memory.proofs.Laws.{store-above, store-two}
 use borrow.Author.Needs.{needs}
 use Rattle.memory.proofs.store_word.Statement.{statement}
 use Rattle.memory.proofs.store_word.Tie as tie
@@ -17,17 +17,14 @@ returns c =
     let i = c .before .before .before .before .if1 .taken in
     store-above (now (s .args .mem)) (s .args .w .0) (s .args .v) i (c .before .before .write-word .ensures)
 
-mul-t11 : tie.Need-mul-t11
-mul-t11 c = search needs
+byte-of-requires : tie.Need-byte-of-requires
+byte-of-requires c κs = search needs
 
 cast-store-byte : tie.Need-cast-store-byte
 cast-store-byte c = search needs
 
 store-byte-requires : tie.Need-store-byte-requires
 store-byte-requires c κs = search needs
-
-mul-t11-2 : tie.Need-mul-t11-2
-mul-t11-2 c = search needs
 
 add-t13 : tie.Need-add-t13
 add-t13 c = search needs
@@ -43,9 +40,10 @@ same-length-2 c = search needs
 
 returns-2 : tie.Need-returns-2
 returns-2 c =
-    let s = c .before .before .before .before .before .before .before .before .before .before .before .before .before in
-    let e = c .before .before .before .before .before .before .before .store-byte .ensures in
-    store-two (now (s .args .mem)) (s .args .w .0) (s .args .v) e (c .before .before .store-byte2 .ensures)
+    let s = c .before .before .before .before .before .before .before .before .before .before .before .before in
+    let a = c .before .before .before .before .before .before .before .before .byte-of .ensures in
+    let e = c .before .before .before .before .before .before .store-byte .ensures in
+    store-two (now (s .args .mem)) (s .args .w .0) (s .args .v) a e (c .before .before .store-byte2 .ensures)
 
 pub store-word-spec : {M : Type 1} → statement M
 store-word-spec =
@@ -54,10 +52,9 @@ store-word-spec =
     write-word-requires
     same-length
     returns
-    mul-t11
+    byte-of-requires
     cast-store-byte
     store-byte-requires
-    mul-t11-2
     add-t13
     cast-store-byte-2
     store-byte-requires-2

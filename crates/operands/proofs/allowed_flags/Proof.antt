@@ -1,9 +1,12 @@
 -- `operands::allowed_flags` meets its contract. Assumes nothing.
-use mathlib.Core.Path.{refl}
+use mathlib.Core.Path.{refl, sym, _∙_}
 use borrow.Author.Tests.{eq-eqb, ne-eqb}
 use borrow.Author.Needs.{needs}
 use Rattle.operands.proofs.allowed_flags.Statement.{statement}
 use Rattle.operands.proofs.allowed_flags.Tie as tie
+
+current-priority-requires : tie.Need-current-priority-requires
+current-priority-requires c κs = search needs
 
 mul-result : tie.Need-mul-result
 mul-result c = search needs
@@ -12,10 +15,10 @@ add-result : tie.Need-add-result
 add-result c = search needs
 
 returns : tie.Need-returns
-returns c = rw (eq-eqb _ _ (c .if1 .taken)) (refl, search needs)
+returns c = rw (eq-eqb _ _ (sym (c .before .current-priority .ensures .0) ∙ c .if1 .taken)) (refl, search needs)
 
 returns-2 : tie.Need-returns-2
-returns-2 c = rw (ne-eqb _ _ (c .if1 .left)) (refl, search needs)
+returns-2 c = rw (ne-eqb _ _ (λ h. c .if1 .left (c .before .current-priority .ensures .0 ∙ h))) (refl, search needs)
 
 pub allowed-flags-spec : {M : Type 1} → statement M
-allowed-flags-spec = tie.close (tie.spec mul-result add-result returns returns-2)
+allowed-flags-spec = tie.close (tie.spec current-priority-requires mul-result add-result returns returns-2)

@@ -8,10 +8,11 @@ use denote.Ref.{now}
 use lib.ListN.{length}
 use Rattle.machine.specs.State.{State, stateOf}
 use Rattle.machine.specs.Events.{eventsOf}
+use Rattle.machine.specs.Step.{Plan, perform, closed}
 use Rattle.machine.specs.Run.{ran, runOf, reasonOf}
-use Rattle.entry.specs.Rest.{stateWith}
+use Rattle.machine.specs.Rest.{stateWith}
 use Rattle.run.specs.Due.{Awaits}
-use Rattle.run.proofs.Laws.{awaits-first, awaits-later, undisturbed, run-start, run-turns, run-full, run-stopped}
+use Rattle.run.proofs.Laws.{awaits-first, awaits-later, undisturbed, run-start, run-on, run-step, run-full, run-left, goes-on}
 use Rattle.run.proofs.run.Statement.{statement}
 use Rattle.run.proofs.run.Tie as tie
 
@@ -32,66 +33,93 @@ due-at-requires c κs = tt
 loop-holds : tie.Need-loop-holds Inv-loop μ-loop
 loop-holds c = (omega arith, refl, omega arith, awaits-first _ _ _ (c .due-at .ensures), run-start _ _)
 
-deliver-due-requires : tie.Need-deliver-due-requires Inv-loop μ-loop
-deliver-due-requires c κs =
-    let s = c .before .before .before .before .before .before .before .before in
-    (omega arith, c .before .before .before .loop .inv .3, s .pre .2, s .pre .3)
-
-step-due-requires : tie.Need-step-due-requires Inv-loop μ-loop
-step-due-requires c κs =
-    let f = c .before .before .before .before .before .before in
-    (omega arith, omega arith, f .if1 .left)
-
 sub-stretch : tie.Need-sub-stretch Inv-loop μ-loop
 sub-stretch c = omega arith
 
-sub-stretch-2 : tie.Need-sub-stretch-2 Inv-loop μ-loop
-sub-stretch-2 c = omega arith
-
 stretch-requires : tie.Need-stretch-requires Inv-loop μ-loop
 stretch-requires c κs =
-    let p = c .before .before .before .before .step-due in
-    let l = c .before .before .before .before .before .before .before .before .before .before .before .before .before in
+    let l = c .before .before .before in
     let s = l .before .before .before .before .before .pre in
-    let k : p .result .count ≡ l .loop .t .count + 1 = ap (λ (x : State). x .count) (p .ensures) in
-    (omega (arith, s .0), omega (arith, s .1))
+    (omega (arith, s .0), omega (arith, s .1, l .loop .inv .2))
 
 sub-done : tie.Need-sub-done Inv-loop μ-loop
 sub-done c = omega arith
 
 add-done : tie.Need-add-done Inv-loop μ-loop
 add-done c =
-    let f = c .before .before .before .stretch .ensures .1 in
-    let d = c .before .before .before .before .before .before .before .before .before .before .before .before .before in
-    omega (arith, d .before .before .before .loop-test, d .before .before .before .before .loop .inv .0)
+    let f = c .before .before .before .stretch .ensures .1 .1 in
+    let l = c .before .before .before .before .before .before .before in
+    omega (arith, f, l .loop .inv .0)
+
+deliver-due-requires : tie.Need-deliver-due-requires Inv-loop μ-loop
+deliver-due-requires c κs =
+    let l = c .before .before .before .before .before .before .before .before .before .before in
+    let s = l .before .before .before .before .before .pre in
+    (omega arith, awaits-later _ _ _ _ (l .loop .inv .3) _ (omega arith), s .2, s .3)
+
+plan-requires : tie.Need-plan-requires Inv-loop μ-loop
+plan-requires c κs =
+    let d = c .before .before .before .before .before .before in
+    let f = d .before .before .before .before .before .stretch .result in
+    let l = d .before .before .before .before .before .before .before .before .before in
+    let s = l .before .before .before .before .before in
+    (omega (arith, s .pre .0), goes-on (f .halted) (l .loop .done + (f .count - l .loop .t .count)) (s .args .n) (d .if1 .left) .0)
+
+perform-requires : tie.Need-perform-requires Inv-loop μ-loop
+perform-requires c κs =
+    let d = c .before .before .before .before .before .before .before .before .before in
+    let l = d .before .before .before .before .before .before .before .before .before in
+    let f = d .before .before .before .before .before .stretch in
+    let k = l .loop .done + (f .result .count - l .loop .t .count) in
+    let more = goes-on (f .result .halted) k (l .before .before .before .before .before .args .n) (d .if1 .left) .1 in
+    let s = l .before .before .before .before .before in (
+      plan-requires (c .before .before .before) κs .0,
+      omega (arith, more, f .ensures .1 .1, l .loop .inv .0, l .loop .inv .2, s .pre .1),
+      c .before .before .plan .ensures .1,
+    )
 
 add-done-2 : tie.Need-add-done-2 Inv-loop μ-loop
 add-done-2 c =
-    let f = c .before .before .before .stretch .ensures .1 in
-    let d = c .before .before .before .before .before .before .before .before .before .before .before .before .before in
-    let s = d .before .before .before .before .before .before .before .before .before .pre in
-    omega (arith, d .before .before .before .loop-test, d .before .before .before .before .loop .inv .0, s .1)
+    let d = c .before .before .before .before .before .before .before .before .before .before .before .before in
+    let l = d .before .before .before .before .before .before .before .before .before in
+    let f = d .before .before .before .before .before .stretch in
+    let k = l .loop .done + (f .result .count - l .loop .t .count) in
+    let more = goes-on (f .result .halted) k (l .before .before .before .before .before .args .n) (d .if1 .left) .1 in
+    omega (arith, more, f .ensures .1 .1, l .loop .inv .0)
 
 loop-less : tie.Need-loop-less Inv-loop μ-loop
-loop-less c = omega arith
+loop-less c =
+    let d = c .before .before .before .before .before .before .before .before .before .before .before .before in
+    let l = d .before .before .before .before .before .before .before .before .before in
+    let f = d .before .before .before .before .before .stretch in
+    let k = l .loop .done + (f .result .count - l .loop .t .count) in
+    let more = goes-on (f .result .halted) k (l .before .before .before .before .before .args .n) (d .if1 .left) .1 in
+    omega (arith, more, f .ensures .1 .1, l .loop .inv .0)
 
 loop-again : tie.Need-loop-again Inv-loop μ-loop
 loop-again c =
-    let f = c .before .before .before .stretch in
-    let p = c .before .before .before .before .before .before .before .before .step-due in
-    let d = c .before .before .before .before .before .before .before .before .before .before .before .before .before in
-    let l = d .before .before .before .before .loop in
-    let s = d .before .before .before .before .before .before .before .before .before in
+    let p = c .before .before .perform in
+    let q = c .before .before .before .before .before .plan in
+    let g = c .before .before .before .before .before .before .before .before .before .before in
+    let d = g .deliver-due in
+    let i = g .before .before .if1 .left in
+    let f = g .before .before .before .before .before .before .before .stretch in
+    let l = g .before .before .before .before .before .before .before .before .before .before .before in
+    let s = l .before .before .before .before .before in
     let b = now (s .args .events) in
-    let a = d .deliver-due .result in
-    let k : p .result .count ≡ l .t .count + 1 = ap (λ (x : State). x .count) (p .ensures) in
-    let w = awaits-later b (a .next) (a .due) _ (d .deliver-due .ensures .1) in (
+    let a = l .loop .inv in
+    let m = d .last .0 in
+    let n = f .result .count in
+    let k : p .result .count ≡ n + 1 = ap (λ (x : State). x .count) (p .ensures) in
+    let u = undisturbed b (l .loop .next) (l .loop .due) (l .loop .t .count) (a .3) (s .pre .2) in
+    let r = run-on (eventsOf b) _ _ _ _ _ (a .4) (f .ensures .0 (eventsOf b) u) in
+    let on = goes-on (f .result .halted) (l .loop .done + (n - l .loop .t .count)) (s .args .n) i in (
+      omega (arith, on .1, f .ensures .1 .1, a .0),
       omega arith,
-      omega arith,
-      omega arith,
-      w _ (omega arith),
-      run-turns _ _ _ _ _ _ _ _ (l .inv .4) (d .before .before .if1 .left) (d .deliver-due .ensures .0 _ _) (p .ensures)
-          (f .ensures .0 (eventsOf b) (undisturbed b (a .next) (a .due) _ (w _ (omega arith)) (s .pre .2))),
+      omega (arith, k, f .ensures .1 .1, a .2),
+      awaits-later b (d .result .next) (d .result .due) (n + 1) (d .ensures .1) _ (omega (arith, k)),
+      run-step (eventsOf b) _ _ _ _ _ r (on .0) (d .ensures .0 _ _)
+          (p .ensures ∙ ap (λ (x : Plan). closed (perform (x .act) (x .core) (d .result .lines) m) n m) (q .ensures .0)),
     )
 
 put-together-requires : tie.Need-put-together-requires Inv-loop μ-loop
@@ -101,21 +129,36 @@ reason-of-requires : tie.Need-reason-of-requires Inv-loop μ-loop
 reason-of-requires c κs = tt
 
 same-length : tie.Need-same-length Inv-loop μ-loop
-same-length c = omega arith
+same-length c =
+    let l = c .before .before .before in
+    let e : length (c .before .before .loop-test .memory) ≡ length (l .loop .memory) =
+    ⊎-elim (λ w. ap length (w .1)) (λ w. ap length (w .9) ∙ omega arith) (c .before .before .loop-test .came) in
+    omega (arith, e, l .loop .inv .1)
 
 returns : tie.Need-returns Inv-loop μ-loop
 returns c =
     let l = c .before .before .before .loop in
-    let a = c .before .before .before .before .before .before .before .before .args in
+    let x = c .before .before .loop-test in
+    let s = c .before .before .before .before .before .before .before .before in
+    let a = s .args in
     let ev = eventsOf (now (a .events)) in
-    let s = stateOf (a .m) (now (a .memory)) in
-    let e : ran (stateWith (l .regs) (l .t) (l .memory)) (l .done) ≡ runOf ev s (a .n) =
+    let s₀ = stateOf (a .m) (now (a .memory)) in
+    let e : (ran (stateWith (x .regs) (x .t) (x .memory)) (x .done) ≡ runOf ev s₀ (a .n)) × (x .done ≤ a .n) =
     ⊎-elim
-    (λ w. run-full ev s _ _ _ (l .inv .4) (l .inv .0) (w .left))
-    (λ w. run-stopped ev s _ _ _ (l .inv .4) (l .inv .0) (w .1 .taken))
-    (c .before .before .loop-test .came) in
-    let p = c .before .put-together .ensures (l .memory) in
-    (ap (λ x. ran x (l .done)) p ∙ e, (c .reason-of .ensures ∙ ap reasonOf e, l .inv .0))
+    (λ w. (
+      (λ i. ran (stateWith (w .2 i) (w .3 i) (w .1 i)) (w .4 i)) ∙ run-full ev s₀ _ _ _ (l .inv .4) (l .inv .0) (w .0 .left),
+      omega (arith, w .4, l .inv .0),
+    ))
+    (λ w.
+    let u = undisturbed (now (a .events)) (l .next) (l .due) (l .t .count) (l .inv .3) (s .pre .2) in
+    let r = run-on ev s₀ _ _ _ _ (l .inv .4) (w .3 .ensures .0 ev u) in
+    let h = w .3 .ensures .1 .1 in (
+      (λ i. ran (stateWith (w .10 i) (w .11 i) (w .9 i)) (w .12 i)) ∙ run-left ev s₀ _ _ _ r (omega (arith, h, l .inv .0)) (w .8 .taken),
+      omega (arith, w .12, h, l .inv .0),
+    ))
+    (x .came) in
+    let p = c .before .put-together .ensures (x .memory) in
+    (ap (λ y. ran y (x .done)) p ∙ e .0, (c .reason-of .ensures ∙ ap reasonOf (e .0), e .1))
 
 pub run-spec : {M : Type 1} → statement M
 run-spec =
@@ -125,13 +168,13 @@ run-spec =
     μ-loop
     due-at-requires
     loop-holds
-    deliver-due-requires
-    step-due-requires
     sub-stretch
-    sub-stretch-2
     stretch-requires
     sub-done
     add-done
+    deliver-due-requires
+    plan-requires
+    perform-requires
     add-done-2
     loop-less
     loop-again

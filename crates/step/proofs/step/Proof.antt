@@ -1,12 +1,13 @@
-use native.Mathlib.Omega.{arith}
-use mathlib.Core.Path.{sym, ap, _∙_}
-use borrow.Author.Needs.{needs}
-use denote.Ref.{now}
-use Rattle.devices.specs.Cursor.{stateFrom}
-use Rattle.machine.specs.State.{stateOf, coreOf}
-use Rattle.machine.specs.Events.{eventsOf}
-use Rattle.machine_laws.proofs.Runs.{step-halted}
 use Rattle.step.proofs.Laws.{step-law}
+use Rattle.machine_laws.proofs.Runs.{step-halted}
+use Rattle.machine.specs.Step.{Plan, closed, perform}
+use Rattle.machine.specs.Events.{eventsOf}
+use Rattle.machine.specs.State.{stateOf, coreOf}
+use Rattle.devices.specs.Cursor.{stateFrom}
+use denote.Ref.{now}
+use mathlib.Core.Path.{sym, ap, _∙_}
+use native.Mathlib.Omega.{arith}
+use borrow.Author.Needs.{needs}
 use Rattle.step.proofs.step.Statement.{statement}
 use Rattle.step.proofs.step.Tie as tie
 
@@ -21,24 +22,30 @@ returns c =
 deliver-requires : tie.Need-deliver-requires
 deliver-requires c κs = search needs
 
-step-due-requires : tie.Need-step-due-requires
-step-due-requires c κs = search needs
+plan-requires : tie.Need-plan-requires
+plan-requires c κs = search needs
+
+perform-requires : tie.Need-perform-requires
+perform-requires c κs = search needs
 
 same-length : tie.Need-same-length
 same-length c = search needs
 
 returns-2 : tie.Need-returns-2
 returns-2 c =
-    let d = c .before .before .before .before .before .before .before .before in
-    let a = d .before .before .before .before .before .args in
-    let live = d .before .before .if1 .left in
+    let a = c .before .before .before .before .before .before .before .before .before .before .before .before .before .before .before .before .args in
+    let d = c .before .before .before .before .before .before .before .before .before .before .before .deliver in
+    let live = c .before .before .before .before .before .before .before .before .before .before .before .before .before .if1 .left in
     let x = coreOf (a .m .regs) (a .m .psw) (a .m .cex) in
-    let e = ap (λ h. stateFrom x (d .deliver .result .lines) h (a .m .count) (d .deliver .last .0)) (sym live) in (
+    let e = ap (λ h. stateFrom x (d .result .lines) h (a .m .count) (d .last .0)) (sym live) in (
       step-law (eventsOf (now (a .events))) (stateOf (a .m) (now (a .memory))) _ _ live
-          (e ∙ d .deliver .ensures .0 x (a .m .halted))
-          (c .before .before .step-due .ensures),
-      d .deliver .ensures .1,
+          (e ∙ d .ensures .0 x (a .m .halted))
+          (c .before .before .perform .ensures
+          ∙ ap (λ (q : Plan). closed (perform (q .act) (q .core) (d .result .lines) (d .last .0)) (a .m .count) (d .last .0)) (c .before .before .before .before .before .plan .ensures .0)),
+      d .ensures .1,
     )
 
 pub step-spec : {M : Type 1} → statement M
-step-spec = tie.close (tie.spec returns deliver-requires step-due-requires same-length returns-2)
+step-spec =
+    tie.close
+    (tie.spec returns deliver-requires plan-requires perform-requires same-length returns-2)

@@ -1,7 +1,7 @@
 -- The reply and both buffers are `run_call`'s; demand 3 of the call follows from the two buffers' equations.
 use borrow.Author.Needs.{needs}
 use denote.Ref.{now}
-use Rattle.resume_call.proofs.Resumption.{call-resumes}
+use Rattle.resume.proofs.Resumption.{call-resumes}
 use Rattle.xm23.proofs.xm23_run.Statement.{statement}
 use Rattle.xm23.proofs.xm23_run.Tie as tie
 

@@ -1,0 +1,31 @@
+-- `execute::load_indexed` meets its contract. Assumes nothing.
+use denote.Ref.{now}
+use borrow.Author.Needs.{needs}
+use Rattle.execute.proofs.Laws.{loading}
+use Rattle.execute.proofs.load_indexed.Statement.{statement}
+use Rattle.execute.proofs.load_indexed.Tie as tie
+
+get-requires : tie.Need-get-requires
+get-requires c κs = search needs
+
+adjusted-by-requires : tie.Need-adjusted-by-requires
+adjusted-by-requires c κs = search needs
+
+address-requires : tie.Need-address-requires
+address-requires c κs = search needs
+
+adjust-index-requires : tie.Need-adjust-index-requires
+adjust-index-requires c κs = search needs
+
+returns : tie.Need-returns
+returns c =
+    let d = c .before .before .before .before in
+    let start = d .before .before in
+    loading (now (start .args .regs)) _ _ _ _ (start .args .prpo) (start .args .dec) (start .args .inc) (start .args .wb) _
+    (d .get .ensures) (c .before .before .before .adjusted-by .ensures) (c .before .before .address .ensures)
+    (c .adjust-index .ensures) _
+
+pub load-indexed-spec : {M : Type 1} → statement M
+load-indexed-spec =
+    tie.close
+    (tie.spec get-requires adjusted-by-requires address-requires adjust-index-requires returns)

@@ -1,0 +1,40 @@
+-- `execute::store_indexed` meets its contract. Assumes nothing.
+use denote.Ref.{now}
+use borrow.Author.Needs.{needs}
+use Rattle.execute.proofs.Laws.{storing}
+use Rattle.execute.proofs.store_indexed.Statement.{statement}
+use Rattle.execute.proofs.store_indexed.Tie as tie
+
+get-requires : tie.Need-get-requires
+get-requires c κs = search needs
+
+get-requires-2 : tie.Need-get-requires-2
+get-requires-2 c κs = search needs
+
+adjusted-by-requires : tie.Need-adjusted-by-requires
+adjusted-by-requires c κs = search needs
+
+address-requires : tie.Need-address-requires
+address-requires c κs = search needs
+
+adjust-index-requires : tie.Need-adjust-index-requires
+adjust-index-requires c κs = search needs
+
+returns : tie.Need-returns
+returns c =
+    let d = c .before .before .before .before in
+    let start = d .before .before .before .before in
+    storing (now (start .args .regs)) _ _ _ _ (start .args .prpo) (start .args .dec) (start .args .inc) (start .args .wb) _
+    (d .get2 .ensures) (c .before .before .before .adjusted-by .ensures) (c .before .before .address .ensures)
+    (c .adjust-index .ensures) _ (d .before .before .get .ensures)
+
+pub store-indexed-spec : {M : Type 1} → statement M
+store-indexed-spec =
+    tie.close
+    (tie.spec
+    get-requires
+    get-requires-2
+    adjusted-by-requires
+    address-requires
+    adjust-index-requires
+    returns)

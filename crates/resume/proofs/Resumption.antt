@@ -1,0 +1,36 @@
+-- A call that leaves what `runCallOf` gives keeps demand 3. Assumes nothing.
+use Prim.Native.Nat.{ℕ, suc}
+use mathlib.Core.List.{List}
+use mathlib.Core.Path.{_≡_, ap, _∙_}
+use Rattle.machine.specs.State.{State}
+use Rattle.machine.specs.Memory.{byteAt}
+use Rattle.machine.specs.Record.{stateIn}
+use Rattle.machine.specs.Events.{eventsOf}
+use Rattle.machine.specs.Run.{runOf}
+use Rattle.machine.specs.Call.{Closing, runCallOf}
+use Rattle.machine_laws.proofs.Calls.{accepted-call, left-state}
+use Rattle.resume.specs.Resume.{Premises}
+use Rattle.resume.proofs.Resume.{resumes}
+use Rattle.resume.specs.Resumption.{CallResumes, Resumption}
+
+-- demand 3 of a call whose exit memory and record are those of `runCallOf`
+pub call-resumes : (memory r events : List ℕ) (n : ℕ) (memory′ r′ : List ℕ) → memory′ ≡ runCallOf memory r events n .memory
+    → r′ ≡ runCallOf memory r events n .state → Resumption memory r events n memory′ r′
+call-resumes memory r events n memory′ r′ em er P =
+    let s = resumes memory r events n P in
+    let a = P .accepted in
+    let left : stateIn r′ memory′ ≡ runOf (eventsOf events) (stateIn r memory) n .state =
+    (λ i. stateIn (er i) (em i)) ∙ left-state memory r events n (a .accepted) (a .memory-bytes) (a .record-bytes) (a .event-bytes) in
+    let kept = em ∙ ap (λ c. c .memory) (accepted-call memory r events n (a .accepted)) in
+    record {
+      before-step = s .before-step;
+      after-step = s .after-step;
+      after-chaining = s .after-chaining;
+      at-close =
+          record {
+            core = ap (λ t. t .core) left ∙ s .at-close .core;
+            bytes = λ b h d f. ap (λ m. byteAt m b) kept ∙ s .at-close .bytes b h d f;
+          };
+      same-steps = s .same-steps;
+      same-return = s .same-return;
+    }

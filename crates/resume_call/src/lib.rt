@@ -1,1 +1,0 @@
-// Resumption at one run call: statement in specs/, proof in proofs/. There is no code here.

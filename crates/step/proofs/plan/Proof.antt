@@ -1,0 +1,52 @@
+-- `step::plan` meets its contract. Assumes nothing.
+use mathlib.Core.Path.{refl, sym, subst}
+use denote.Ref.{now}
+use borrow.Author.Needs.{needs}
+use Rattle.machine.specs.Rest.{coreWith, stateWith}
+use Rattle.machine.specs.Step.{Plan}
+use Rattle.step.specs.Planned.{Within}
+use Rattle.step.proofs.Laws.{returns-is, due-leaves, due-accepts, due-runs, instruction-within}
+use Rattle.step.proofs.plan.Statement.{statement}
+use Rattle.step.proofs.plan.Tie as tie
+
+returns : tie.Need-returns
+returns c =
+    let s = c .before .before .before .before .before in
+    let a = s .args in
+    let r = returns-is (coreWith (now (a .regs)) (a .t)) (c .before .before .before .asleep .ensures) (c .before .if1 .taken) in
+    (due-leaves (stateWith (now (a .regs)) (a .t) (now (a .mem))) (s .pre .1) r (c .leave .ensures .0 (now (a .regs))), c .leave .ensures .1)
+
+returns-2 : tie.Need-returns-2
+returns-2 c =
+    let s = c .before .before .before .before .before .before .before in
+    let a = s .args in
+    let r = returns-is (coreWith (now (a .regs)) (a .t)) (c .before .before .before .before .before .asleep .ensures) (c .before .before .before .if1 .left) in
+    let d = c .before .line-above .ensures .0 in
+    let q = c .before .before .current-priority .ensures .0 in
+    (due-accepts (stateWith (now (a .regs)) (a .t) (now (a .mem))) (s .pre .1) _ _ r q d (c .if2 .taken) refl, c .if2 .taken)
+
+returns-3 : tie.Need-returns-3
+returns-3 c =
+    let s = c .before .before .before .before .before .before .before .before .before in
+    let a = s .args in
+    let r = returns-is (coreWith (now (a .regs)) (a .t)) (c .before .before .before .before .before .before .before .asleep .ensures) (c .before .before .before .before .before .if1 .left) in
+    let d = c .before .before .before .line-above .ensures .0 in
+    let q = c .before .before .before .before .current-priority .ensures .0 in
+    let e = c .instruction .ensures in (
+      due-runs (stateWith (now (a .regs)) (a .t) (now (a .mem))) (s .pre .1) _ _ r q d (c .before .before .if2 .left) e,
+      subst (λ (p : Plan). Within (p .act)) (sym e) (instruction-within _ _),
+    )
+
+pub plan-spec : {M : Type 1} → statement M
+plan-spec =
+    tie.close
+    (tie.spec
+    (λ c κs. search needs)
+    (λ c. search needs)
+    (λ c κs. search needs)
+    returns
+    (λ c κs. search needs)
+    (λ c κs. search needs)
+    returns-2
+    (λ c κs. search needs)
+    returns-3)

@@ -1,0 +1,40 @@
+-- `stretch_registers::add_words` meets its contract. Assumes nothing.
+use mathlib.Core.Path.{refl}
+use mathlib.Core.Logic.{inl, inr}
+use denote.Ref.{now}
+use native.Mathlib.Omega.{arith}
+use Rattle.alu.specs.declared.Op.the-variants.{Add}
+use Rattle.alu.specs.Alu.{aluOf}
+use Rattle.machine.specs.Effect.{binaryOf}
+use Rattle.stretch_registers.proofs.Laws.{computing}
+use borrow.Author.Needs.{needs}
+use Rattle.stretch_registers.proofs.add_words.Statement.{statement}
+use Rattle.stretch_registers.proofs.add_words.Tie as tie
+
+cast-dst : tie.Need-cast-dst
+cast-dst c = search needs
+
+returns : tie.Need-returns
+returns c = inl (refl, refl)
+
+get-requires : tie.Need-get-requires
+get-requires c κs = search needs
+
+add-into-requires : tie.Need-add-into-requires
+add-into-requires c κs = search needs
+
+write-requires : tie.Need-write-requires
+write-requires c κs = search needs
+
+returns-2 : tie.Need-returns-2
+unfolding binaryOf aluOf
+returns-2 c =
+    let d = c .before .before .before in
+    let start = d .before .before .before in
+    inr (computing (now (start .args .regs)) _ _ _ _ _ _ Add 0 (omega arith) (start .pre .0 .2) refl (start .pre .0 .3)
+    (d .get .ensures) (start .pre .1) (c .before .add-into .ensures)
+    refl (omega arith) _ (c .write .ensures))
+
+pub add-words-spec : {M : Type 1} → statement M
+add-words-spec =
+    tie.close (tie.spec cast-dst returns get-requires add-into-requires write-requires returns-2)

@@ -1,0 +1,43 @@
+-- `stretch_registers::and_words` meets its contract. Assumes nothing.
+use mathlib.Core.Path.{refl}
+use mathlib.Core.Logic.{inl, inr}
+use denote.Ref.{now}
+use native.Mathlib.Omega.{arith}
+use lib.Bits.{and-lt}
+use Rattle.word.specs.Width.{widthOf}
+use Rattle.alu.specs.declared.Op.the-variants.{And}
+use Rattle.machine.specs.Effect.{binaryOf}
+use Rattle.stretch_registers.proofs.Laws.{computing, and-words}
+use borrow.Author.Needs.{needs}
+use Rattle.stretch_registers.proofs.and_words.Statement.{statement}
+use Rattle.stretch_registers.proofs.and_words.Tie as tie
+
+cast-dst : tie.Need-cast-dst
+cast-dst c = search needs
+
+returns : tie.Need-returns
+returns c = inl (refl, refl)
+
+get-requires : tie.Need-get-requires
+get-requires c κs = search needs
+
+logic-into-requires : tie.Need-logic-into-requires
+unfolding widthOf
+logic-into-requires c κs =
+    and-lt 16 (c .before .get .result) (c .before .before .before .before .args .s) (omega arith) (omega arith)
+
+write-requires : tie.Need-write-requires
+write-requires c κs = search needs
+
+returns-2 : tie.Need-returns-2
+unfolding binaryOf
+returns-2 c =
+    let d = c .before .before .before in
+    let start = d .before .before .before in
+    inr (computing (now (start .args .regs)) _ _ _ _ _ _ And 7 (omega arith) (start .pre .0 .2) refl (start .pre .0 .3)
+    (d .get .ensures) (start .pre .1) (and-words _ _ _ (omega arith) (omega arith) (c .before .logic-into .ensures))
+    refl (omega arith) _ (c .write .ensures))
+
+pub and-words-spec : {M : Type 1} → statement M
+and-words-spec =
+    tie.close (tie.spec cast-dst returns get-requires logic-into-requires write-requires returns-2)

@@ -135,7 +135,8 @@ module _ (l l′ : List ℕ) (p x y prpo dec inc wb i : ℕ) {a b at : ℕ} (ha 
   unfolding effectOf
   loading dst = λ j. record { core = core j; access = Load (eqb wb 1) (byteAddr (address j)) dst }
 
-  pub storing : (src : ℕ) {v : ℕ} → v ≡ getD l src 0 → effectWith l′ (record { psw = p; cex = y; access = Store (eqb wb 1) (byteAddr at) v })
+  pub storing : (src : ℕ) {v : ℕ} → v ≡ getD l src 0
+      → effectWith l′ (record { psw = p; cex = y; access = Store (eqb wb 1) (byteAddr at) v })
       ≡ effectOf (coreOf l p x) (Instr.St prpo dec inc wb src i)
   unfolding effectOf
   storing src h = λ j. record { core = core j; access = Store (eqb wb 1) (byteAddr (address j)) (h j) }

@@ -142,7 +142,7 @@ module _ (m : List ℕ) {l : List ℕ} (w v : ℕ) where
       word-at (
       f
       ∙ ap (λ (x : List ℕ). commit (byteWrites x (a + 1) (highByte v)) x) e
-      ∙ ap (λ (i : ℕ). commit (byteWrites (commit (byteWrites m i (lowByte v)) m) (i + 1) (highByte v)) (commit (byteWrites m i (lowByte v)) m)) b
+      ∙ ap (λ (i : ℕ). let k = commit (byteWrites m i (lowByte v)) m in commit (byteWrites k (i + 1) (highByte v)) k) b
       )
 
   -- above the devices

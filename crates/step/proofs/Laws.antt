@@ -28,7 +28,8 @@ use Rattle.machine.specs.Cex.{skips?, lowered}
 use Rattle.machine.specs.Entry.{priority, bestFrom, best, above, pushes, pulled}
 use Rattle.machine.specs.Effect.{Effect, effectOf, loaded}
 use Rattle.machine.specs.Step as step
-use Rattle.machine.specs.Step.{Plan, Interrupt, planned, chosen, returns?, interruptOf, advanced, faulting, granted, executed, instructionOf, planOf}
+use Rattle.machine.specs.Step.{Plan, Interrupt, planned, chosen, returns?, interruptOf, advanced, faulting, granted, executed}
+use Rattle.machine.specs.Step.{instructionOf, planOf}
 use Rattle.machine.specs.Step.{outcome, entered, chained, perform, closed, finished, stepOf}
 use Rattle.machine_laws.specs.Bounds.{Quits}
 use Rattle.machine_laws.proofs.Cases.{bool-cases, and-left, and-both}

@@ -5,26 +5,11 @@ use borrow.Author.Needs.{needs}
 use Rattle.devices.proofs.event_on.Statement.{statement}
 use Rattle.devices.proofs.event_on.Tie as tie
 
-mul-i : tie.Need-mul-i
-mul-i c = search needs
-
-slice-read-t : tie.Need-slice-read-t
-slice-read-t c = search needs
-
 returns : tie.Need-returns
 returns c =
     λ core h k n.
     let s = c .before .before .before in
     event-off (now (s .args .mem)) (s .args .device) (s .args .byte) (s .args .lines) core h k n (c .if1 .taken)
-
-receive-requires : tie.Need-receive-requires
-receive-requires c κs = search needs
-
-raise-requires : tie.Need-raise-requires
-raise-requires c κs = search needs
-
-same-length : tie.Need-same-length
-same-length c = search needs
 
 returns-2 : tie.Need-returns-2
 returns-2 c =
@@ -34,9 +19,6 @@ returns-2 c =
     let wrote = c .before .before .before .before .receive .ensures k in
     event-raises (now (s .args .mem)) (s .args .device) (s .args .byte) (s .args .lines) core h k n
     ena wrote (c .before .if2 .taken) (c .raise .ensures)
-
-same-length-2 : tie.Need-same-length-2
-same-length-2 c = search needs
 
 returns-3 : tie.Need-returns-3
 returns-3 c =
@@ -50,12 +32,12 @@ pub event-on-spec : {M : Type 1} → statement M
 event-on-spec =
     tie.close
     (tie.spec
-    mul-i
-    slice-read-t
+    (λ c. search needs)
+    (λ c. search needs)
     returns
-    receive-requires
-    raise-requires
-    same-length
+    (λ c κs. search needs)
+    (λ c κs. search needs)
+    (λ c. search needs)
     returns-2
-    same-length-2
+    (λ c. search needs)
     returns-3)

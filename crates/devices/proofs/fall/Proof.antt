@@ -5,11 +5,8 @@ use borrow.Author.Needs.{needs}
 use Rattle.devices.proofs.fall.Statement.{statement}
 use Rattle.devices.proofs.fall.Tie as tie
 
-line-bit-requires : tie.Need-line-bit-requires
-line-bit-requires c κs = search needs
-
 returns : tie.Need-returns
 returns c = rw (c .line-bit .ensures) (and-all-but (c .before .args .d) (c .before .args .lines) (c .before .pre) (omega arith))
 
 pub fall-spec : {M : Type 1} → statement M
-fall-spec = tie.close (tie.spec line-bit-requires returns)
+fall-spec = tie.close (tie.spec (λ c κs. search needs) returns)

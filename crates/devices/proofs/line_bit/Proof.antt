@@ -4,11 +4,8 @@ use borrow.Author.Needs.{needs}
 use Rattle.devices.proofs.line_bit.Statement.{statement}
 use Rattle.devices.proofs.line_bit.Tie as tie
 
-shl-result : tie.Need-shl-result
-shl-result c = search needs
-
 returns : tie.Need-returns
 returns c = one-shifted (c .args .d) (c .pre)
 
 pub line-bit-spec : {M : Type 1} → statement M
-line-bit-spec = tie.close (tie.spec shl-result returns)
+line-bit-spec = tie.close (tie.spec (λ c. search needs) returns)

@@ -4,11 +4,8 @@ use borrow.Author.Needs.{needs}
 use Rattle.devices.proofs.raise.Statement.{statement}
 use Rattle.devices.proofs.raise.Tie as tie
 
-line-bit-requires : tie.Need-line-bit-requires
-line-bit-requires c κs = search needs
-
 returns : tie.Need-returns
 returns c = rw (c .line-bit .ensures) (or-bit (c .before .args .d) (c .before .args .lines))
 
 pub raise-spec : {M : Type 1} → statement M
-raise-spec = tie.close (tie.spec line-bit-requires returns)
+raise-spec = tie.close (tie.spec (λ c κs. search needs) returns)

@@ -9,18 +9,6 @@ use borrow.Author.Needs.{needs}
 use Rattle.devices.proofs.receive.Statement.{statement}
 use Rattle.devices.proofs.receive.Tie as tie
 
-mul-i : tie.Need-mul-i
-mul-i c = search needs
-
-add-mem : tie.Need-add-mem
-add-mem c = search needs
-
-slice-write-mem : tie.Need-slice-write-mem
-slice-write-mem c = search needs
-
-event-status-requires : tie.Need-event-status-requires
-event-status-requires c κs = search needs
-
 slice-write-mem-2 : tie.Need-slice-write-mem-2
 slice-write-mem-2 c =
     let kept : length (c .before .if1 .mem) ≡ length (now (c .before .before .before .args .mem)) =
@@ -48,10 +36,10 @@ pub receive-spec : {M : Type 1} → statement M
 receive-spec =
     tie.close
     (tie.spec
-    mul-i
-    add-mem
-    slice-write-mem
-    event-status-requires
+    (λ c. search needs)
+    (λ c. search needs)
+    (λ c. search needs)
+    (λ c κs. search needs)
     slice-write-mem-2
     same-length
     returns)

@@ -5,12 +5,6 @@ use Rattle.entry.proofs.Lines.{line-absent, line-found, line-low}
 use Rattle.entry.proofs.best_above.Statement.{statement}
 use Rattle.entry.proofs.best_above.Tie as tie
 
-best-line-requires : tie.Need-best-line-requires
-best-line-requires c κs = search needs
-
-priority-of-requires : tie.Need-priority-of-requires
-priority-of-requires c κs = search needs
-
 returns : tie.Need-returns
 returns c =
     let a = c .before .before .before .before .before .args in
@@ -31,4 +25,5 @@ returns-3 c =
     (line-absent (now (a .mem)) (a .lines) (a .level) _ (b .0) (c .if1 .left) (b .1), omega arith)
 
 pub best-above-spec : {M : Type 1} → statement M
-best-above-spec = tie.close (tie.spec best-line-requires priority-of-requires returns returns-2 returns-3)
+best-above-spec =
+    tie.close (tie.spec (λ c κs. search needs) (λ c κs. search needs) returns returns-2 returns-3)

@@ -17,18 +17,6 @@ abbrev μ-loop : tie.MeasureT-loop
 loop-holds : tie.Need-loop-holds Inv-loop μ-loop
 loop-holds c = (omega arith, omega arith, sym (best-none 8 _ _))
 
-sub-d : tie.Need-sub-d Inv-loop μ-loop
-sub-d c = search needs
-
-waits-requires : tie.Need-waits-requires Inv-loop μ-loop
-waits-requires c κs = search needs
-
-better-of-requires : tie.Need-better-of-requires Inv-loop μ-loop
-better-of-requires c κs = search needs
-
-loop-less : tie.Need-loop-less Inv-loop μ-loop
-loop-less c = search needs
-
 loop-again : tie.Need-loop-again Inv-loop μ-loop
 loop-again c =
     let b = c .before .before .before .before in
@@ -37,9 +25,6 @@ loop-again c =
     let w = sym (c .before .before .waits .ensures) ∙ c .before .if1 .taken in
     let turn = best-turn (l .d) (a .lines) (a .mem .now) (c .before .before .before .loop-test .taken) (l .inv .0) in
     (omega arith, omega arith, c .better-of .ensures .0 ∙ sym (rw (w, sym (l .inv .2)) at turn))
-
-loop-less-2 : tie.Need-loop-less-2 Inv-loop μ-loop
-loop-less-2 c = search needs
 
 loop-again-2 : tie.Need-loop-again-2 Inv-loop μ-loop
 loop-again-2 c =
@@ -63,11 +48,11 @@ best-line-spec =
     Inv-loop
     μ-loop
     loop-holds
-    sub-d
-    waits-requires
-    better-of-requires
-    loop-less
+    (λ c. search needs)
+    (λ c κs. search needs)
+    (λ c κs. search needs)
+    (λ c. search needs)
     loop-again
-    loop-less-2
+    (λ c. search needs)
     loop-again-2
     returns)

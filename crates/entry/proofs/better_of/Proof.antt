@@ -4,12 +4,6 @@ use borrow.Author.Needs.{needs}
 use Rattle.entry.proofs.better_of.Statement.{statement}
 use Rattle.entry.proofs.better_of.Tie as tie
 
-priority-of-requires : tie.Need-priority-of-requires
-priority-of-requires c κs = search needs
-
-priority-of-requires-2 : tie.Need-priority-of-requires-2
-priority-of-requires-2 c κs = search needs
-
 returns : tie.Need-returns
 returns c =
     let t = lt-ltb _ _ (c .before .before .before .if1 .taken) in
@@ -25,4 +19,4 @@ returns-3 c = (simp (le-ltb _ _ (c .if1 .left)), omega arith)
 
 pub better-of-spec : {M : Type 1} → statement M
 better-of-spec =
-    tie.close (tie.spec priority-of-requires priority-of-requires-2 returns returns-2 returns-3)
+    tie.close (tie.spec (λ c κs. search needs) (λ c κs. search needs) returns returns-2 returns-3)

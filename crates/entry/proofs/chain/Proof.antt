@@ -7,27 +7,6 @@ use Rattle.entry.proofs.Laws.{vectored-law}
 use Rattle.entry.proofs.chain.Statement.{statement}
 use Rattle.entry.proofs.chain.Tie as tie
 
-vector-psw-requires : tie.Need-vector-psw-requires
-vector-psw-requires c κs = search needs
-
-vector-pc-requires : tie.Need-vector-pc-requires
-vector-pc-requires c κs = search needs
-
-element-copy-out-sp : tie.Need-element-copy-out-sp
-element-copy-out-sp c = search needs
-
-set-three-requires : tie.Need-set-three-requires
-set-three-requires c κs = search needs
-
-previous-priority-requires : tie.Need-previous-priority-requires
-previous-priority-requires c κs = search needs
-
-faulted-requires : tie.Need-faulted-requires
-faulted-requires c κs = search needs
-
-entered-psw-requires : tie.Need-entered-psw-requires
-entered-psw-requires c κs = search needs
-
 returns : tie.Need-returns
 returns c =
     let s = c .before .before .before in
@@ -43,11 +22,11 @@ pub chain-spec : {M : Type 1} → statement M
 chain-spec =
     tie.close
     (tie.spec
-    vector-psw-requires
-    vector-pc-requires
-    element-copy-out-sp
-    set-three-requires
-    previous-priority-requires
-    faulted-requires
-    entered-psw-requires
+    (λ c κs. search needs)
+    (λ c κs. search needs)
+    (λ c. search needs)
+    (λ c κs. search needs)
+    (λ c κs. search needs)
+    (λ c κs. search needs)
+    (λ c κs. search needs)
     returns)

@@ -5,30 +5,6 @@ use Rattle.entry.proofs.Laws.{frame-law}
 use Rattle.entry.proofs.push_frame.Statement.{statement}
 use Rattle.entry.proofs.push_frame.Tie as tie
 
-element-copy-out-push : tie.Need-element-copy-out-push
-element-copy-out-push c = search needs
-
-element-copy-out-push-2 : tie.Need-element-copy-out-push-2
-element-copy-out-push-2 c = search needs
-
-push-requires : tie.Need-push-requires
-push-requires c κs = search needs
-
-element-copy-out-push-3 : tie.Need-element-copy-out-push-3
-element-copy-out-push-3 c = search needs
-
-push-requires-2 : tie.Need-push-requires-2
-push-requires-2 c κs = search needs
-
-push-requires-3 : tie.Need-push-requires-3
-push-requires-3 c κs = search needs
-
-push-requires-4 : tie.Need-push-requires-4
-push-requires-4 c κs = search needs
-
-same-length : tie.Need-same-length
-same-length c = search needs
-
 returns : tie.Need-returns
 returns c =
     let b = c .before .before .before .before .before .before .before .before .before .before in
@@ -44,12 +20,12 @@ pub push-frame-spec : {M : Type 1} → statement M
 push-frame-spec =
     tie.close
     (tie.spec
-    element-copy-out-push
-    element-copy-out-push-2
-    push-requires
-    element-copy-out-push-3
-    push-requires-2
-    push-requires-3
-    push-requires-4
-    same-length
+    (λ c. search needs)
+    (λ c. search needs)
+    (λ c κs. search needs)
+    (λ c. search needs)
+    (λ c κs. search needs)
+    (λ c κs. search needs)
+    (λ c κs. search needs)
+    (λ c. search needs)
     returns)

@@ -7,21 +7,6 @@ use Rattle.execute.proofs.Laws.{linked}
 use Rattle.execute.proofs.bl.Statement.{statement}
 use Rattle.execute.proofs.bl.Tie as tie
 
-get-requires : tie.Need-get-requires
-get-requires c κs = search needs
-
-put-requires : tie.Need-put-requires
-put-requires c κs = search needs
-
-branch-target-requires : tie.Need-branch-target-requires
-branch-target-requires c κs = search needs
-
-put-requires-2 : tie.Need-put-requires-2
-put-requires-2 c κs = search needs
-
-asks-nothing-requires : tie.Need-asks-nothing-requires
-asks-nothing-requires c κs = search needs
-
 returns : tie.Need-returns
 returns c =
     let d = c .before .before .before .before in
@@ -34,9 +19,9 @@ pub bl-spec : {M : Type 1} → statement M
 bl-spec =
     tie.close
     (tie.spec
-    get-requires
-    put-requires
-    branch-target-requires
-    put-requires-2
-    asks-nothing-requires
+    (λ c κs. search needs)
+    (λ c κs. search needs)
+    (λ c κs. search needs)
+    (λ c κs. search needs)
+    (λ c κs. search needs)
     returns)

@@ -5,18 +5,6 @@ use Rattle.execute.proofs.Laws.{loading}
 use Rattle.execute.proofs.load_indexed.Statement.{statement}
 use Rattle.execute.proofs.load_indexed.Tie as tie
 
-get-requires : tie.Need-get-requires
-get-requires c κs = search needs
-
-adjusted-by-requires : tie.Need-adjusted-by-requires
-adjusted-by-requires c κs = search needs
-
-address-requires : tie.Need-address-requires
-address-requires c κs = search needs
-
-adjust-index-requires : tie.Need-adjust-index-requires
-adjust-index-requires c κs = search needs
-
 returns : tie.Need-returns
 returns c =
     let d = c .before .before .before .before in
@@ -28,4 +16,9 @@ returns c =
 pub load-indexed-spec : {M : Type 1} → statement M
 load-indexed-spec =
     tie.close
-    (tie.spec get-requires adjusted-by-requires address-requires adjust-index-requires returns)
+    (tie.spec
+    (λ c κs. search needs)
+    (λ c κs. search needs)
+    (λ c κs. search needs)
+    (λ c κs. search needs)
+    returns)

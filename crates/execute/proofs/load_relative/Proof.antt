@@ -6,15 +6,9 @@ use Rattle.machine.specs.Effect.{effectOf}
 use Rattle.execute.proofs.load_relative.Statement.{statement}
 use Rattle.execute.proofs.load_relative.Tie as tie
 
-get-requires : tie.Need-get-requires
-get-requires c κs = search needs
-
-offset-from-requires : tie.Need-offset-from-requires
-offset-from-requires c κs = search needs
-
 returns : tie.Need-returns
 unfolding effectOf
 returns c = let t = rw (toZ-ofZ w16 _ (c .before .before .fits .off)) at (c .offset-from .ensures) in rw (t, c .before .get .ensures)
 
 pub load-relative-spec : {M : Type 1} → statement M
-load-relative-spec = tie.close (tie.spec get-requires offset-from-requires returns)
+load-relative-spec = tie.close (tie.spec (λ c κs. search needs) (λ c κs. search needs) returns)

@@ -5,18 +5,6 @@ use Rattle.execute.proofs.Laws.{single}
 use Rattle.execute.proofs.one_operand.Statement.{statement}
 use Rattle.execute.proofs.one_operand.Tie as tie
 
-get-requires : tie.Need-get-requires
-get-requires c κs = search needs
-
-alu-requires : tie.Need-alu-requires
-alu-requires c κs = search needs
-
-put-requires : tie.Need-put-requires
-put-requires c κs = search needs
-
-asks-nothing-requires : tie.Need-asks-nothing-requires
-asks-nothing-requires c κs = search needs
-
 returns : tie.Need-returns
 returns c =
     let d = c .before .before .before .before in
@@ -26,4 +14,10 @@ returns c =
 
 pub one-operand-spec : {M : Type 1} → statement M
 one-operand-spec =
-    tie.close (tie.spec get-requires alu-requires put-requires asks-nothing-requires returns)
+    tie.close
+    (tie.spec
+    (λ c κs. search needs)
+    (λ c κs. search needs)
+    (λ c κs. search needs)
+    (λ c κs. search needs)
+    returns)

@@ -5,21 +5,6 @@ use Rattle.execute.proofs.Laws.{storing}
 use Rattle.execute.proofs.store_indexed.Statement.{statement}
 use Rattle.execute.proofs.store_indexed.Tie as tie
 
-get-requires : tie.Need-get-requires
-get-requires c κs = search needs
-
-get-requires-2 : tie.Need-get-requires-2
-get-requires-2 c κs = search needs
-
-adjusted-by-requires : tie.Need-adjusted-by-requires
-adjusted-by-requires c κs = search needs
-
-address-requires : tie.Need-address-requires
-address-requires c κs = search needs
-
-adjust-index-requires : tie.Need-adjust-index-requires
-adjust-index-requires c κs = search needs
-
 returns : tie.Need-returns
 returns c =
     let d = c .before .before .before .before in
@@ -32,9 +17,9 @@ pub store-indexed-spec : {M : Type 1} → statement M
 store-indexed-spec =
     tie.close
     (tie.spec
-    get-requires
-    get-requires-2
-    adjusted-by-requires
-    address-requires
-    adjust-index-requires
+    (λ c κs. search needs)
+    (λ c κs. search needs)
+    (λ c κs. search needs)
+    (λ c κs. search needs)
+    (λ c κs. search needs)
     returns)

@@ -6,15 +6,6 @@ use Rattle.machine.specs.Effect.{effectOf}
 use Rattle.execute.proofs.store_relative.Statement.{statement}
 use Rattle.execute.proofs.store_relative.Tie as tie
 
-get-requires : tie.Need-get-requires
-get-requires c κs = search needs
-
-offset-from-requires : tie.Need-offset-from-requires
-offset-from-requires c κs = search needs
-
-get-requires-2 : tie.Need-get-requires-2
-get-requires-2 c κs = search needs
-
 returns : tie.Need-returns
 unfolding effectOf
 returns c =
@@ -22,4 +13,10 @@ returns c =
     rw (t, c .before .before .get .ensures, c .get2 .ensures)
 
 pub store-relative-spec : {M : Type 1} → statement M
-store-relative-spec = tie.close (tie.spec get-requires offset-from-requires get-requires-2 returns)
+store-relative-spec =
+    tie.close
+    (tie.spec
+    (λ c κs. search needs)
+    (λ c κs. search needs)
+    (λ c κs. search needs)
+    returns)

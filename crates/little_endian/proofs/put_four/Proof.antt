@@ -6,30 +6,20 @@ use Rattle.little_endian.specs.Bytes.{twoPut}
 use Rattle.little_endian.proofs.put_four.Statement.{statement}
 use Rattle.little_endian.proofs.put_four.Tie as tie
 
-cast-put-two : tie.Need-cast-put-two
-cast-put-two c = search needs
-
-put-two-requires : tie.Need-put-two-requires
-put-two-requires c κs = search needs
-
-add-put-two : tie.Need-add-put-two
-add-put-two c = search needs
-
-cast-put-two-2 : tie.Need-cast-put-two-2
-cast-put-two-2 c = search needs
-
-put-two-requires-2 : tie.Need-put-two-requires-2
-put-two-requires-2 c κs = search needs
-
-same-length : tie.Need-same-length
-same-length c = search needs
-
 returns : tie.Need-returns
 returns c =
     let a = c .before .before .before .before .before .before .before .before .before .args in
-    c .before .before .put-two2 .ensures ∙ ap (λ (b : List ℕ). twoPut b (a .i + 2) (a .v / 65536)) (c .before .before .before .before .before .before .put-two .ensures)
+    let low = c .before .before .before .before .before .before .put-two .ensures in
+    c .before .before .put-two2 .ensures ∙ ap (λ (b : List ℕ). twoPut b (a .i + 2) (a .v / 65536)) low
 
 pub put-four-spec : {M : Type 1} → statement M
 put-four-spec =
     tie.close
-    (tie.spec cast-put-two put-two-requires add-put-two cast-put-two-2 put-two-requires-2 same-length returns)
+    (tie.spec
+    (λ c. search needs)
+    (λ c κs. search needs)
+    (λ c. search needs)
+    (λ c. search needs)
+    (λ c κs. search needs)
+    (λ c. search needs)
+    returns)

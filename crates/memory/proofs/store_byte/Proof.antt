@@ -6,21 +6,6 @@ use borrow.Author.Needs.{needs}
 use Rattle.memory.proofs.store_byte.Statement.{statement}
 use Rattle.memory.proofs.store_byte.Tie as tie
 
-store-device-requires : tie.Need-store-device-requires
-store-device-requires c κs = search needs
-
-same-length : tie.Need-same-length
-same-length c = search needs
-
-returns : tie.Need-returns
-returns c = search needs
-
-write-byte-requires : tie.Need-write-byte-requires
-write-byte-requires c κs = search needs
-
-same-length-2 : tie.Need-same-length-2
-same-length-2 c = search needs
-
 returns-2 : tie.Need-returns-2
 returns-2 c =
     let s = c .before .before .before .before .before .before .before in
@@ -31,9 +16,9 @@ pub store-byte-spec : {M : Type 1} → statement M
 store-byte-spec =
     tie.close
     (tie.spec
-    store-device-requires
-    same-length
-    returns
-    write-byte-requires
-    same-length-2
+    (λ c κs. search needs)
+    (λ c. search needs)
+    (λ c. search needs)
+    (λ c κs. search needs)
+    (λ c. search needs)
     returns-2)

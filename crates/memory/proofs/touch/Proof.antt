@@ -5,21 +5,6 @@ use borrow.Author.Needs.{needs}
 use Rattle.memory.proofs.touch.Statement.{statement}
 use Rattle.memory.proofs.touch.Tie as tie
 
-cast-i : tie.Need-cast-i
-cast-i c = search needs
-
-slice-read-cleared-status : tie.Need-slice-read-cleared-status
-slice-read-cleared-status c = search needs
-
-cleared-status-requires : tie.Need-cleared-status-requires
-cleared-status-requires c κs = search needs
-
-slice-write-mem : tie.Need-slice-write-mem
-slice-write-mem c = search needs
-
-same-length : tie.Need-same-length
-same-length c = search needs
-
 returns : tie.Need-returns
 returns c =
     let s = c .before .before .before .before .before .before in
@@ -36,11 +21,11 @@ pub touch-spec : {M : Type 1} → statement M
 touch-spec =
     tie.close
     (tie.spec
-    cast-i
-    slice-read-cleared-status
-    cleared-status-requires
-    slice-write-mem
-    same-length
+    (λ c. search needs)
+    (λ c. search needs)
+    (λ c κs. search needs)
+    (λ c. search needs)
+    (λ c. search needs)
     returns
     returns-2
     returns-3)

@@ -48,7 +48,8 @@ step-requires c κs =
     let g = f .before .before .before .before .before .before .before .before .before .before in
     let p = call-passed _ _ _ _ _ _ (f .before .before .verdict .ensures) (f .before .refusal-number .ensures .0) (f .if1 .left) in
     let k = LL.owed T.the-type T′.the-laws (g .args .m) _ (g .good .0) .1 .1 .1 .1 .1 .0 .1 in
-    let h = count-fits (stateOf (g .args .m) []) _ _ _ _ p (f .before .before .before .before .before .before .write-record .ensures []) k in (
+    let w = f .before .before .before .before .before .before .write-record .ensures [] in
+    let h = count-fits (stateOf (g .args .m) []) _ _ _ _ p w k in (
       p .memory-size,
       omega arith,
       (omega arith, λ j l. absurd (omega arith)),
@@ -69,13 +70,15 @@ cast-reply-2 c = search needs
 
 mul-reply-2 : tie.Need-mul-reply-2
 mul-reply-2 c =
-    let h = bit-le (not (c .before .before .before .before .before .before .before .before .before .before .before .before .before .before .before .before .before .args .m .halted)) in
+    let s = c .before .before .before .before .before .before .before .before .before .before .before .before .before .before .before .before .before in
+    let h = bit-le (not (s .args .m .halted)) in
     omega arith
 
 add-reply : tie.Need-add-reply
 add-reply c =
     let h = bit-le (c .before .before .before .before .before .step .result .machine .halted) in
-    let k = bit-le (not (c .before .before .before .before .before .before .before .before .before .before .before .before .before .before .before .before .before .args .m .halted)) in
+    let s = c .before .before .before .before .before .before .before .before .before .before .before .before .before .before .before .before .before in
+    let k = bit-le (not (s .args .m .halted)) in
     omega arith
 
 same-length-2 : tie.Need-same-length-2

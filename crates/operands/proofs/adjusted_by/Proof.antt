@@ -8,19 +8,10 @@ use Rattle.operands.proofs.adjusted_by.Tie as tie
 returns : tie.Need-returns
 returns c = rw (eq-eqb _ _ (c .if1 .taken))
 
-step-size-requires : tie.Need-step-size-requires
-step-size-requires c κs = search needs
-
-wrapping-add-u16-requires : tie.Need-wrapping-add-u16-requires
-wrapping-add-u16-requires c κs = search needs
-
 returns-2 : tie.Need-returns-2
 returns-2 c =
     rw (ne-eqb _ _ (c .before .before .before .if1 .left), eq-eqb _ _ (c .before .if2 .taken), ← c .before .before .step-size .ensures .0)
     (c .wrapping-add-u16 .ensures)
-
-wrapping-sub-u16-requires : tie.Need-wrapping-sub-u16-requires
-wrapping-sub-u16-requires c κs = search needs
 
 returns-3 : tie.Need-returns-3
 returns-3 c =
@@ -32,8 +23,8 @@ adjusted-by-spec =
     tie.close
     (tie.spec
     returns
-    step-size-requires
-    wrapping-add-u16-requires
+    (λ c κs. search needs)
+    (λ c κs. search needs)
     returns-2
-    wrapping-sub-u16-requires
+    (λ c κs. search needs)
     returns-3)

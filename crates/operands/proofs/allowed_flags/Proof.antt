@@ -5,15 +5,6 @@ use borrow.Author.Needs.{needs}
 use Rattle.operands.proofs.allowed_flags.Statement.{statement}
 use Rattle.operands.proofs.allowed_flags.Tie as tie
 
-current-priority-requires : tie.Need-current-priority-requires
-current-priority-requires c κs = search needs
-
-mul-result : tie.Need-mul-result
-mul-result c = search needs
-
-add-result : tie.Need-add-result
-add-result c = search needs
-
 returns : tie.Need-returns
 returns c = rw (eq-eqb _ _ (sym (c .before .current-priority .ensures .0) ∙ c .if1 .taken)) (refl, search needs)
 
@@ -21,4 +12,11 @@ returns-2 : tie.Need-returns-2
 returns-2 c = rw (ne-eqb _ _ (λ h. c .if1 .left (c .before .current-priority .ensures .0 ∙ h))) (refl, search needs)
 
 pub allowed-flags-spec : {M : Type 1} → statement M
-allowed-flags-spec = tie.close (tie.spec current-priority-requires mul-result add-result returns returns-2)
+allowed-flags-spec =
+    tie.close
+    (tie.spec
+    (λ c κs. search needs)
+    (λ c. search needs)
+    (λ c. search needs)
+    returns
+    returns-2)

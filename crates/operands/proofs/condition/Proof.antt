@@ -7,18 +7,6 @@ use Rattle.operands.proofs.Laws.{past}
 use Rattle.operands.proofs.condition.Statement.{statement}
 use Rattle.operands.proofs.condition.Tie as tie
 
-at-least-requires : tie.Need-at-least-requires
-at-least-requires c κs = search needs
-
-at-least-requires-2 : tie.Need-at-least-requires-2
-at-least-requires-2 c κs = search needs
-
-at-least-requires-3 : tie.Need-at-least-requires-3
-at-least-requires-3 c κs = search needs
-
-at-least-requires-4 : tie.Need-at-least-requires-4
-at-least-requires-4 c κs = search needs
-
 returns : tie.Need-returns
 unfolding conditionOf
 returns c = rw (c .match .keys1)
@@ -87,10 +75,10 @@ pub condition-spec : {M : Type 1} → statement M
 condition-spec =
     tie.close
     (tie.spec
-    at-least-requires
-    at-least-requires-2
-    at-least-requires-3
-    at-least-requires-4
+    (λ c κs. search needs)
+    (λ c κs. search needs)
+    (λ c κs. search needs)
+    (λ c κs. search needs)
     returns
     returns-2
     returns-3

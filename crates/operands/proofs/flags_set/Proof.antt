@@ -6,14 +6,8 @@ use borrow.Author.Needs.{needs}
 use Rattle.operands.proofs.flags_set.Statement.{statement}
 use Rattle.operands.proofs.flags_set.Tie as tie
 
-mul-result : tie.Need-mul-result
-mul-result c = search needs
-
 add-result : tie.Need-add-result
 add-result c = let h = or-lt 5 (c .args .psw % 32) (c .args .f) (omega arith) (c .pre) in omega arith
 
-returns : tie.Need-returns
-returns c = search needs
-
 pub flags-set-spec : {M : Type 1} → statement M
-flags-set-spec = tie.close (tie.spec mul-result add-result returns)
+flags-set-spec = tie.close (tie.spec (λ c. search needs) add-result (λ c. search needs))

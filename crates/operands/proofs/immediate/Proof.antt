@@ -6,21 +6,6 @@ use Rattle.operands.proofs.Laws.{past}
 use Rattle.operands.proofs.immediate.Statement.{statement}
 use Rattle.operands.proofs.immediate.Tie as tie
 
-mul-result : tie.Need-mul-result
-mul-result c = search needs
-
-add-result : tie.Need-add-result
-add-result c = search needs
-
-add-result-2 : tie.Need-add-result-2
-add-result-2 c = search needs
-
-mul-result-2 : tie.Need-mul-result-2
-mul-result-2 c = search needs
-
-add-result-3 : tie.Need-add-result-3
-add-result-3 c = search needs
-
 returns : tie.Need-returns
 unfolding immediateOf
 returns c = rw (c .match .keys1)
@@ -41,11 +26,11 @@ pub immediate-spec : {M : Type 1} → statement M
 immediate-spec =
     tie.close
     (tie.spec
-    mul-result
-    add-result
-    add-result-2
-    mul-result-2
-    add-result-3
+    (λ c. search needs)
+    (λ c. search needs)
+    (λ c. search needs)
+    (λ c. search needs)
+    (λ c. search needs)
     returns
     returns-2
     returns-3

@@ -4,17 +4,11 @@ use borrow.Author.Needs.{needs}
 use Rattle.operands.proofs.operand.Statement.{statement}
 use Rattle.operands.proofs.operand.Tie as tie
 
-constant-requires : tie.Need-constant-requires
-constant-requires c κs = search needs
-
 returns : tie.Need-returns
 returns c = rw (eq-eqb _ _ (c .before .if1 .taken)) (c .constant .ensures)
-
-get-requires : tie.Need-get-requires
-get-requires c κs = search needs
 
 returns-2 : tie.Need-returns-2
 returns-2 c = rw (ne-eqb _ _ (c .before .if1 .left)) (c .get .ensures)
 
 pub operand-spec : {M : Type 1} → statement M
-operand-spec = tie.close (tie.spec constant-requires returns get-requires returns-2)
+operand-spec = tie.close (tie.spec (λ c κs. search needs) returns (λ c κs. search needs) returns-2)

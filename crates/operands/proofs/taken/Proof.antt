@@ -7,12 +7,6 @@ use Rattle.operands.proofs.Laws.{past}
 use Rattle.operands.proofs.taken.Statement.{statement}
 use Rattle.operands.proofs.taken.Tie as tie
 
-at-least-requires : tie.Need-at-least-requires
-at-least-requires c κs = search needs
-
-at-least-requires-2 : tie.Need-at-least-requires-2
-at-least-requires-2 c κs = search needs
-
 returns : tie.Need-returns
 unfolding takenOf
 returns c = rw (c .match .keys1)
@@ -49,8 +43,8 @@ pub taken-spec : {M : Type 1} → statement M
 taken-spec =
     tie.close
     (tie.spec
-    at-least-requires
-    at-least-requires-2
+    (λ c κs. search needs)
+    (λ c κs. search needs)
     returns
     returns-2
     returns-3

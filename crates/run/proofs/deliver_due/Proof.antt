@@ -11,18 +11,12 @@ returns c =
     let o = c .before .before .before .pre .2 in
     (λ k h. sym (undisturbed _ _ _ _ a o _ (omega arith) (c .if1 .taken) _), awaits-later _ _ _ _ a _ (omega arith))
 
-deliver-requires : tie.Need-deliver-requires
-deliver-requires c κs = search needs
-
-due-at-requires : tie.Need-due-at-requires
-due-at-requires c κs = search needs
-
-same-length : tie.Need-same-length
-same-length c = search needs
-
-returns-2 : tie.Need-returns-2
-returns-2 c = search needs
-
 pub deliver-due-spec : {M : Type 1} → statement M
 deliver-due-spec =
-    tie.close (tie.spec returns deliver-requires due-at-requires same-length returns-2)
+    tie.close
+    (tie.spec
+    returns
+    (λ c κs. search needs)
+    (λ c κs. search needs)
+    (λ c. search needs)
+    (λ c. search needs))

@@ -4,12 +4,6 @@ use Rattle.run.specs.Due.{dueOf}
 use Rattle.run.proofs.due_at.Statement.{statement}
 use Rattle.run.proofs.due_at.Tie as tie
 
-step-at-requires : tie.Need-step-at-requires
-step-at-requires c κs = search needs
-
-cast-result : tie.Need-cast-result
-cast-result c = search needs
-
 returns : tie.Need-returns
 unfolding dueOf
 returns c = rw (lt-ltb _ _ (c .before .if1 .taken)) (c .step-at .ensures)
@@ -19,4 +13,4 @@ unfolding dueOf
 returns-2 c = rw (le-ltb _ _ (c .if1 .left))
 
 pub due-at-spec : {M : Type 1} → statement M
-due-at-spec = tie.close (tie.spec step-at-requires cast-result returns returns-2)
+due-at-spec = tie.close (tie.spec (λ c κs. search needs) (λ c. search needs) returns returns-2)

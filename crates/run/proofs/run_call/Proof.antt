@@ -6,18 +6,6 @@ use Rattle.run.proofs.Calls.{events-fit, events-ordered, count-fits, ca
 use Rattle.run.proofs.run_call.Statement.{statement}
 use Rattle.run.proofs.run_call.Tie as tie
 
-verdict-requires : tie.Need-verdict-requires
-verdict-requires c κs = search needs
-
-refusal-number-requires : tie.Need-refusal-number-requires
-refusal-number-requires c κs = search needs
-
-same-length : tie.Need-same-length
-same-length c = search needs
-
-same-length-2 : tie.Need-same-length-2
-same-length-2 c = search needs
-
 returns : tie.Need-returns
 returns c =
     let e = call-refused _ _ _ _ _ _ (c .before .before .verdict .ensures) (c .before .refusal-number .ensures .0) (c .if1 .taken) in
@@ -46,27 +34,6 @@ write-record-requires c κs =
     let f = c .before .before .before .before .before .before .before in
     call-passed _ _ _ _ _ _ (f .before .before .verdict .ensures) (f .before .refusal-number .ensures .0) (f .if1 .left) .record-size
 
-reason-number-requires : tie.Need-reason-number-requires
-reason-number-requires c κs = search needs
-
-mul-result : tie.Need-mul-result
-mul-result c = search needs
-
-cast-result : tie.Need-cast-result
-cast-result c = search needs
-
-mul-result-2 : tie.Need-mul-result-2
-mul-result-2 c = search needs
-
-add-result : tie.Need-add-result
-add-result c = search needs
-
-same-length-3 : tie.Need-same-length-3
-same-length-3 c = search needs
-
-same-length-4 : tie.Need-same-length-4
-same-length-4 c = search needs
-
 returns-2 : tie.Need-returns-2
 returns-2 c =
     let r = c .before .before .before .before .before .before .before .before in
@@ -81,20 +48,20 @@ pub run-call-spec : {M : Type 1} → statement M
 run-call-spec =
     tie.close
     (tie.spec
-    verdict-requires
-    refusal-number-requires
-    same-length
-    same-length-2
+    (λ c κs. search needs)
+    (λ c κs. search needs)
+    (λ c. search needs)
+    (λ c. search needs)
     returns
     read-record-requires
     cast-run
     run-requires
     write-record-requires
-    reason-number-requires
-    mul-result
-    cast-result
-    mul-result-2
-    add-result
-    same-length-3
-    same-length-4
+    (λ c κs. search needs)
+    (λ c. search needs)
+    (λ c. search needs)
+    (λ c. search needs)
+    (λ c. search needs)
+    (λ c. search needs)
+    (λ c. search needs)
     returns-2)

@@ -4,18 +4,6 @@ use borrow.Author.Needs.{needs}
 use Rattle.state_record.proofs.put_status.Statement.{statement}
 use Rattle.state_record.proofs.put_status.Tie as tie
 
-put-two-requires : tie.Need-put-two-requires
-put-two-requires c κs = search needs
-
-put-two-requires-2 : tie.Need-put-two-requires-2
-put-two-requires-2 c κs = search needs
-
-slice-write-r : tie.Need-slice-write-r
-slice-write-r c = search needs
-
-cast-r : tie.Need-cast-r
-cast-r c = search needs
-
 slice-write-r-2 : tie.Need-slice-write-r-2
 slice-write-r-2 c =
     let c2 = c .before .before in
@@ -35,10 +23,10 @@ pub put-status-spec : {M : Type 1} → statement M
 put-status-spec =
     tie.close
     (tie.spec
-    put-two-requires
-    put-two-requires-2
-    slice-write-r
-    cast-r
+    (λ c κs. search needs)
+    (λ c κs. search needs)
+    (λ c. search needs)
+    (λ c. search needs)
     slice-write-r-2
     same-length
     returns)

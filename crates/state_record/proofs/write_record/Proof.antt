@@ -4,18 +4,6 @@ use Rattle.state_record.proofs.Laws.{whole-record}
 use Rattle.state_record.proofs.write_record.Statement.{statement}
 use Rattle.state_record.proofs.write_record.Tie as tie
 
-put-registers-requires : tie.Need-put-registers-requires
-put-registers-requires c κs = search needs
-
-put-status-requires : tie.Need-put-status-requires
-put-status-requires c κs = search needs
-
-put-count-requires : tie.Need-put-count-requires
-put-count-requires c κs = search needs
-
-same-length : tie.Need-same-length
-same-length c = search needs
-
 returns : tie.Need-returns
 returns c =
     let c6 = c .before .before .before .before .before .before in
@@ -27,4 +15,9 @@ returns c =
 pub write-record-spec : {M : Type 1} → statement M
 write-record-spec =
     tie.close
-    (tie.spec put-registers-requires put-status-requires put-count-requires same-length returns)
+    (tie.spec
+    (λ c κs. search needs)
+    (λ c κs. search needs)
+    (λ c κs. search needs)
+    (λ c. search needs)
+    returns)

@@ -26,7 +26,8 @@ returns-2 : tie.Need-returns-2
 returns-2 c =
     let a = c .before .before .before .before .before .before .before .before .args in
     let x = coreOf (now (a .regs)) (a .psw) (a .cex) in
-    let awake = sym (c .before .before .before .before .before .before .asleep .ensures) ∙ c .before .before .before .before .before .if1 .left in
+    let k = c .before .before .before .before .before in
+    let awake = sym (k .before .asleep .ensures) ∙ k .if1 .left in
     c .faulted .ensures
     ∙ ap (λ (r : List ℕ). faulting (coreOf r (a .psw) (a .cex)) x 9) (set-getD (now (a .regs)) 7 0)
     ∙ sym (instruction-odd x (now (a .mem)) awake (c .before .before .if2 .taken))
@@ -35,7 +36,8 @@ returns-3 : tie.Need-returns-3
 returns-3 c =
     let a = c .before .before .before .before .before .before .before .before .before .args in
     let x = coreOf (now (a .regs)) (a .psw) (a .cex) in
-    let awake = sym (c .before .before .before .before .before .before .before .asleep .ensures) ∙ c .before .before .before .before .before .before .if1 .left in
+    let k = c .before .before .before .before .before .before in
+    let awake = sym (k .before .asleep .ensures) ∙ k .if1 .left in
     let skipped = sym (c .before .skips .ensures) ∙ c .if3 .taken in
     let next = c .before .before .wrapping-add-u16 .ensures in
     skip-law (now (a .regs)) (a .psw) (a .cex) _ _ next (c .before .before .before .before .lower .ensures)
@@ -47,7 +49,8 @@ execute-requires c κs = subst Fields (sym (c .decode .ensures)) (decode-fields 
 grant-requires : tie.Need-grant-requires
 grant-requires c κs =
     let f = subst Fields (sym (c .before .before .decode .ensures)) (decode-fields _) in
-    (c .before .before .before .before .before .before .before .before .before .before .before .before .before .before .before .pre, subst (λ (e : Effect). Asked (e .access)) (sym (c .before .execute .ensures)) (effect-within _ _ f))
+    let s = c .before .before .before .before .before .before .before .before .before .before .before .before .before .before .before in
+    (s .pre, subst (λ (e : Effect). Asked (e .access)) (sym (c .before .execute .ensures)) (effect-within _ _ f))
 
 returns-4 : tie.Need-returns-4
 returns-4 c =

@@ -14,13 +14,15 @@ returns c =
     let s = c .before .before .before .before .before in
     let a = s .args in
     let r = returns-is (coreWith (now (a .regs)) (a .t)) (c .before .before .before .asleep .ensures) (c .before .if1 .taken) in
-    (due-leaves (stateWith (now (a .regs)) (a .t) (now (a .mem))) (s .pre .1) r (c .leave .ensures .0 (now (a .regs))), c .leave .ensures .1)
+    let e = c .leave .ensures in
+    (due-leaves (stateWith (now (a .regs)) (a .t) (now (a .mem))) (s .pre .1) r (e .0 (now (a .regs))), e .1)
 
 returns-2 : tie.Need-returns-2
 returns-2 c =
     let s = c .before .before .before .before .before .before .before in
     let a = s .args in
-    let r = returns-is (coreWith (now (a .regs)) (a .t)) (c .before .before .before .before .before .asleep .ensures) (c .before .before .before .if1 .left) in
+    let k = c .before .before .before in
+    let r = returns-is (coreWith (now (a .regs)) (a .t)) (k .before .before .asleep .ensures) (k .if1 .left) in
     let d = c .before .line-above .ensures .0 in
     let q = c .before .before .current-priority .ensures .0 in
     (due-accepts (stateWith (now (a .regs)) (a .t) (now (a .mem))) (s .pre .1) _ _ r q d (c .if2 .taken) refl, c .if2 .taken)
@@ -29,7 +31,8 @@ returns-3 : tie.Need-returns-3
 returns-3 c =
     let s = c .before .before .before .before .before .before .before .before .before in
     let a = s .args in
-    let r = returns-is (coreWith (now (a .regs)) (a .t)) (c .before .before .before .before .before .before .before .asleep .ensures) (c .before .before .before .before .before .if1 .left) in
+    let k = c .before .before .before .before .before in
+    let r = returns-is (coreWith (now (a .regs)) (a .t)) (k .before .before .asleep .ensures) (k .if1 .left) in
     let d = c .before .before .before .line-above .ensures .0 in
     let q = c .before .before .before .before .current-priority .ensures .0 in
     let e = c .instruction .ensures in (

@@ -9,15 +9,10 @@ use Rattle.stretch.proofs.fetching.Tie as tie
 returns : tie.Need-returns
 returns c e = absurd (false≢true e)
 
-element-copy-out-result : tie.Need-element-copy-out-result
-element-copy-out-result c = search needs
-
-asleep-requires : tie.Need-asleep-requires
-asleep-requires c κs = search needs
-
 returns-2 : tie.Need-returns-2
 returns-2 c e =
-    let a = c .before .before .before .before .before .args in tests-fetching (now (a .regs)) (a .t) (c .asleep .ensures) (c .before .before .if1 .left) e
+    let a = c .before .before .before .before .before .args in
+    tests-fetching (now (a .regs)) (a .t) (c .asleep .ensures) (c .before .before .if1 .left) e
 
 pub fetching-spec : {M : Type 1} → statement M
-fetching-spec = tie.close (tie.spec returns element-copy-out-result asleep-requires returns-2)
+fetching-spec = tie.close (tie.spec returns (λ c. search needs) (λ c κs. search needs) returns-2)

@@ -5,22 +5,10 @@ use Rattle.stretch.proofs.Laws.{tried-taken, decode-load, decode-store,
 use Rattle.stretch.proofs.high_word.Statement.{statement}
 use Rattle.stretch.proofs.high_word.Tie as tie
 
-load-indexed-requires : tie.Need-load-indexed-requires
-load-indexed-requires c κs = search needs
-
-same-length : tie.Need-same-length
-same-length c = search needs
-
 returns : tie.Need-returns
 returns c =
     let d = c .before .before .before .before .before in
     rw (decode-load _ (d .before .before .pre .1) (d .if1 .taken)) (c .before .before .load-indexed .ensures)
-
-store-indexed-requires : tie.Need-store-indexed-requires
-store-indexed-requires c κs = search needs
-
-same-length-2 : tie.Need-same-length-2
-same-length-2 c = search needs
 
 returns-2 : tie.Need-returns-2
 returns-2 c =
@@ -28,21 +16,12 @@ returns-2 c =
     rw (decode-store _ (d .before .before .before .pre .1) (d .before .if1 .left) (d .if2 .taken))
     (c .before .before .store-indexed .ensures)
 
-immediate-word-requires : tie.Need-immediate-word-requires
-immediate-word-requires c κs = search needs
-
 returns-3 : tie.Need-returns-3
 returns-3 c =
     let d = c .before .before in
     let start = d .before .before .before .before in
     rw (decode-immediate _ (start .pre .1) (d .before .if2 .left) (d .if3 .taken))
     (tried-taken _ (now (start .args .regs)) _ (now (start .args .mem)) (start .args .psw) _ (c .immediate-word .ensures))
-
-relative-word-requires : tie.Need-relative-word-requires
-relative-word-requires c κs = search needs
-
-same-length-3 : tie.Need-same-length-3
-same-length-3 c = search needs
 
 returns-4 : tie.Need-returns-4
 returns-4 c =
@@ -53,14 +32,14 @@ pub high-word-spec : {M : Type 1} → statement M
 high-word-spec =
     tie.close
     (tie.spec
-    load-indexed-requires
-    same-length
+    (λ c κs. search needs)
+    (λ c. search needs)
     returns
-    store-indexed-requires
-    same-length-2
+    (λ c κs. search needs)
+    (λ c. search needs)
     returns-2
-    immediate-word-requires
+    (λ c κs. search needs)
     returns-3
-    relative-word-requires
-    same-length-3
+    (λ c κs. search needs)
+    (λ c. search needs)
     returns-4)

@@ -12,23 +12,11 @@ use Rattle.stretch.proofs.Laws.{cex-stays, pc-set}
 use Rattle.stretch.proofs.load.Statement.{statement}
 use Rattle.stretch.proofs.load.Tie as tie
 
-load-requires : tie.Need-load-requires
-load-requires c κs = search needs
-
-get-requires : tie.Need-get-requires
-get-requires c κs = search needs
-
 with-low-requires : tie.Need-with-low-requires
 with-low-requires c κs =
     let a = c .before .before .before .before .before .before .before .args in
     let bytes : Bytes (now (a .mem)) = λ i. omega (arith, c .before .before .before .before .before .before .slice-known .given i) in
     value-lt (a .byte) (now (a .mem)) (a .at) _ bytes (c .before .before .before .before .load .ensures .0)
-
-put-requires : tie.Need-put-requires
-put-requires c κs = search needs
-
-same-length : tie.Need-same-length
-same-length c = search needs
 
 returns : tie.Need-returns
 returns c =
@@ -48,4 +36,12 @@ returns c =
     )
 
 pub load-spec : {M : Type 1} → statement M
-load-spec = tie.close (tie.spec load-requires get-requires with-low-requires put-requires same-length returns)
+load-spec =
+    tie.close
+    (tie.spec
+    (λ c κs. search needs)
+    (λ c κs. search needs)
+    with-low-requires
+    (λ c κs. search needs)
+    (λ c. search needs)
+    returns)

@@ -11,44 +11,11 @@ use borrow.Author.Needs.{needs}
 use Rattle.stretch.proofs.load_indexed.Statement.{statement}
 use Rattle.stretch.proofs.load_indexed.Tie as tie
 
-cast-src : tie.Need-cast-src
-cast-src c = search needs
-
-cast-dst : tie.Need-cast-dst
-cast-dst c = search needs
-
 returns : tie.Need-returns
 returns c = inl (refl, refl, refl)
 
-cast-dec : tie.Need-cast-dec
-cast-dec c = search needs
-
-cast-inc : tie.Need-cast-inc
-cast-inc c = search needs
-
-get-requires : tie.Need-get-requires
-get-requires c κs = search needs
-
-cast-adjusted-by : tie.Need-cast-adjusted-by
-cast-adjusted-by c = search needs
-
-adjusted-by-requires : tie.Need-adjusted-by-requires
-adjusted-by-requires c κs = search needs
-
-cast-address : tie.Need-cast-address
-cast-address c = search needs
-
-address-requires : tie.Need-address-requires
-address-requires c κs = search needs
-
-aligned-requires : tie.Need-aligned-requires
-aligned-requires c κs = search needs
-
 returns-2 : tie.Need-returns-2
 returns-2 c = inl (refl, refl, refl)
-
-adjust-index-requires : tie.Need-adjust-index-requires
-adjust-index-requires c κs = search needs
 
 load-requires : tie.Need-load-requires
 load-requires c κs =
@@ -56,9 +23,6 @@ load-requires c κs =
     let start = d .before .before in
     let w = start .args .w in
     (start .pre, below-seven (w / 8 % 8) (w % 8) (omega arith) (omega arith) (d .if1 .left) .1)
-
-same-length : tie.Need-same-length
-same-length c = search needs
 
 returns-3 : tie.Need-returns-3
 returns-3 c =
@@ -82,19 +46,19 @@ pub load-indexed-spec : {M : Type 1} → statement M
 load-indexed-spec =
     tie.close
     (tie.spec
-    cast-src
-    cast-dst
+    (λ c. search needs)
+    (λ c. search needs)
     returns
-    cast-dec
-    cast-inc
-    get-requires
-    cast-adjusted-by
-    adjusted-by-requires
-    cast-address
-    address-requires
-    aligned-requires
+    (λ c. search needs)
+    (λ c. search needs)
+    (λ c κs. search needs)
+    (λ c. search needs)
+    (λ c κs. search needs)
+    (λ c. search needs)
+    (λ c κs. search needs)
+    (λ c κs. search needs)
     returns-2
-    adjust-index-requires
+    (λ c κs. search needs)
     load-requires
-    same-length
+    (λ c. search needs)
     returns-3)

@@ -13,35 +13,11 @@ use borrow.Author.Needs.{needs}
 use Rattle.stretch.proofs.load_relative.Statement.{statement}
 use Rattle.stretch.proofs.load_relative.Tie as tie
 
-cast-dst : tie.Need-cast-dst
-cast-dst c = search needs
-
 returns : tie.Need-returns
 returns c = inl (refl, refl, refl)
 
-signed-requires : tie.Need-signed-requires
-signed-requires c κs = search needs
-
-cast-get : tie.Need-cast-get
-cast-get c = search needs
-
-get-requires : tie.Need-get-requires
-get-requires c κs = search needs
-
-offset-from-requires : tie.Need-offset-from-requires
-offset-from-requires c κs = search needs
-
-aligned-requires : tie.Need-aligned-requires
-aligned-requires c κs = search needs
-
 returns-2 : tie.Need-returns-2
 returns-2 c = inl (refl, refl, refl)
-
-load-requires : tie.Need-load-requires
-load-requires c κs = search needs
-
-same-length : tie.Need-same-length
-same-length c = search needs
 
 returns-3 : tie.Need-returns-3
 returns-3 c =
@@ -62,14 +38,14 @@ pub load-relative-spec : {M : Type 1} → statement M
 load-relative-spec =
     tie.close
     (tie.spec
-    cast-dst
+    (λ c. search needs)
     returns
-    signed-requires
-    cast-get
-    get-requires
-    offset-from-requires
-    aligned-requires
+    (λ c κs. search needs)
+    (λ c. search needs)
+    (λ c κs. search needs)
+    (λ c κs. search needs)
+    (λ c κs. search needs)
     returns-2
-    load-requires
-    same-length
+    (λ c κs. search needs)
+    (λ c. search needs)
     returns-3)

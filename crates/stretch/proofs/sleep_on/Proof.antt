@@ -8,23 +8,11 @@ use borrow.Author.Needs.{needs}
 use Rattle.stretch.proofs.sleep_on.Statement.{statement}
 use Rattle.stretch.proofs.sleep_on.Tie as tie
 
-asleep-requires : tie.Need-asleep-requires
-asleep-requires c κs = search needs
-
 returns : tie.Need-returns
 returns c = (λ regs ev u. stretch-none ev _ _, (omega arith, omega arith))
 
-unasked-requires : tie.Need-unasked-requires
-unasked-requires c κs = search needs
-
 returns-2 : tie.Need-returns-2
 returns-2 c = (λ regs ev u. stretch-none ev _ _, (omega arith, omega arith))
-
-until-requires : tie.Need-until-requires
-until-requires c κs = search needs
-
-add-t9 : tie.Need-add-t9
-add-t9 c = search needs
 
 returns-3 : tie.Need-returns-3
 returns-3 c =
@@ -41,4 +29,11 @@ returns-3 c =
 pub sleep-on-spec : {M : Type 1} → statement M
 sleep-on-spec =
     tie.close
-    (tie.spec asleep-requires returns unasked-requires returns-2 until-requires add-t9 returns-3)
+    (tie.spec
+    (λ c κs. search needs)
+    returns
+    (λ c κs. search needs)
+    returns-2
+    (λ c κs. search needs)
+    (λ c. search needs)
+    returns-3)

@@ -13,17 +13,8 @@ use borrow.Author.Needs.{needs}
 use Rattle.stretch.proofs.store.Statement.{statement}
 use Rattle.stretch.proofs.store.Tie as tie
 
-inside-requires : tie.Need-inside-requires
-inside-requires c κs = search needs
-
 returns : tie.Need-returns
 returns c = (λ e. refl, λ e. absurd (false≢true e))
-
-store-requires : tie.Need-store-requires
-store-requires c κs = search needs
-
-same-length : tie.Need-same-length
-same-length c = search needs
 
 returns-2 : tie.Need-returns-2
 returns-2 c =
@@ -41,12 +32,6 @@ returns-2 c =
 
 returns-3 : tie.Need-returns-3
 returns-3 c = (λ e. refl, λ e. absurd (false≢true e))
-
-store-requires-2 : tie.Need-store-requires-2
-store-requires-2 c κs = search needs
-
-same-length-2 : tie.Need-same-length-2
-same-length-2 c = search needs
 
 returns-4 : tie.Need-returns-4
 returns-4 c =
@@ -67,12 +52,12 @@ pub store-spec : {M : Type 1} → statement M
 store-spec =
     tie.close
     (tie.spec
-    inside-requires
+    (λ c κs. search needs)
     returns
-    store-requires
-    same-length
+    (λ c κs. search needs)
+    (λ c. search needs)
     returns-2
     returns-3
-    store-requires-2
-    same-length-2
+    (λ c κs. search needs)
+    (λ c. search needs)
     returns-4)

@@ -11,53 +11,11 @@ use borrow.Author.Needs.{needs}
 use Rattle.stretch.proofs.store_indexed.Statement.{statement}
 use Rattle.stretch.proofs.store_indexed.Tie as tie
 
-cast-dst : tie.Need-cast-dst
-cast-dst c = search needs
-
 returns : tie.Need-returns
 returns c = inl (refl, refl, refl)
 
-cast-dec : tie.Need-cast-dec
-cast-dec c = search needs
-
-cast-inc : tie.Need-cast-inc
-cast-inc c = search needs
-
-cast-get : tie.Need-cast-get
-cast-get c = search needs
-
-get-requires : tie.Need-get-requires
-get-requires c κs = search needs
-
-get-requires-2 : tie.Need-get-requires-2
-get-requires-2 c κs = search needs
-
-cast-adjusted-by : tie.Need-cast-adjusted-by
-cast-adjusted-by c = search needs
-
-adjusted-by-requires : tie.Need-adjusted-by-requires
-adjusted-by-requires c κs = search needs
-
-cast-address : tie.Need-cast-address
-cast-address c = search needs
-
-address-requires : tie.Need-address-requires
-address-requires c κs = search needs
-
-store-requires : tie.Need-store-requires
-store-requires c κs = search needs
-
-same-length : tie.Need-same-length
-same-length c = search needs
-
 returns-2 : tie.Need-returns-2
 returns-2 c = inl (refl, refl, c .before .before .before .store .ensures .0 (not-true _ (c .if2 .taken)))
-
-adjust-index-requires : tie.Need-adjust-index-requires
-adjust-index-requires c κs = search needs
-
-same-length-2 : tie.Need-same-length-2
-same-length-2 c = search needs
 
 returns-3 : tie.Need-returns-3
 returns-3 c =
@@ -78,20 +36,20 @@ pub store-indexed-spec : {M : Type 1} → statement M
 store-indexed-spec =
     tie.close
     (tie.spec
-    cast-dst
+    (λ c. search needs)
     returns
-    cast-dec
-    cast-inc
-    cast-get
-    get-requires
-    get-requires-2
-    cast-adjusted-by
-    adjusted-by-requires
-    cast-address
-    address-requires
-    store-requires
-    same-length
+    (λ c. search needs)
+    (λ c. search needs)
+    (λ c. search needs)
+    (λ c κs. search needs)
+    (λ c κs. search needs)
+    (λ c. search needs)
+    (λ c κs. search needs)
+    (λ c. search needs)
+    (λ c κs. search needs)
+    (λ c κs. search needs)
+    (λ c. search needs)
     returns-2
-    adjust-index-requires
-    same-length-2
+    (λ c κs. search needs)
+    (λ c. search needs)
     returns-3)

@@ -10,29 +10,8 @@ use borrow.Author.Needs.{needs}
 use Rattle.stretch.proofs.store_plain.Statement.{statement}
 use Rattle.stretch.proofs.store_plain.Tie as tie
 
-cast-get : tie.Need-cast-get
-cast-get c = search needs
-
-get-requires : tie.Need-get-requires
-get-requires c κs = search needs
-
-cast-get-2 : tie.Need-cast-get-2
-cast-get-2 c = search needs
-
-get-requires-2 : tie.Need-get-requires-2
-get-requires-2 c κs = search needs
-
-store-requires : tie.Need-store-requires
-store-requires c κs = search needs
-
-same-length : tie.Need-same-length
-same-length c = search needs
-
 returns : tie.Need-returns
 returns c = inl (refl, refl, c .before .before .before .store .ensures .0 (not-true _ (c .if1 .taken)))
-
-same-length-2 : tie.Need-same-length-2
-same-length-2 c = search needs
 
 returns-2 : tie.Need-returns-2
 returns-2 c =
@@ -48,12 +27,12 @@ pub store-plain-spec : {M : Type 1} → statement M
 store-plain-spec =
     tie.close
     (tie.spec
-    cast-get
-    get-requires
-    cast-get-2
-    get-requires-2
-    store-requires
-    same-length
+    (λ c. search needs)
+    (λ c κs. search needs)
+    (λ c. search needs)
+    (λ c κs. search needs)
+    (λ c κs. search needs)
+    (λ c. search needs)
     returns
-    same-length-2
+    (λ c. search needs)
     returns-2)

@@ -8,24 +8,9 @@ use borrow.Author.Needs.{needs}
 use Rattle.stretch.proofs.stretch.Statement.{statement}
 use Rattle.stretch.proofs.stretch.Tie as tie
 
-fetching-requires : tie.Need-fetching-requires
-fetching-requires c κs = search needs
-
-sleep-on-requires : tie.Need-sleep-on-requires
-sleep-on-requires c κs = search needs
-
-same-length : tie.Need-same-length
-same-length c = search needs
-
 returns : tie.Need-returns
 returns c =
     let o = c .sleep-on .ensures in (λ ev u. o .0 _ ev u .0, (λ ev u. o .0 _ ev u .1, o .1))
-
-unasked-requires : tie.Need-unasked-requires
-unasked-requires c κs = search needs
-
-same-length-2 : tie.Need-same-length-2
-same-length-2 c = search needs
 
 returns-2 : tie.Need-returns-2
 returns-2 c =
@@ -33,18 +18,9 @@ returns-2 c =
     let s = stateWith (now (a .regs)) (a .t) (now (a .mem)) in
     (λ ev u. stretch-none ev s (a .t .count) .0, (λ ev u. stretch-none ev s (a .t .count) .1, (omega arith, omega arith)))
 
-until-requires : tie.Need-until-requires
-until-requires c κs = search needs
-
 take-steps-requires : tie.Need-take-steps-requires
 take-steps-requires c κs =
     let b = c .before .before .before .before .before .before in (omega arith, b .before .fetching .ensures (not-false _ (b .if1 .left)) .2)
-
-add-t17 : tie.Need-add-t17
-add-t17 c = search needs
-
-same-length-3 : tie.Need-same-length-3
-same-length-3 c = search needs
 
 returns-3 : tie.Need-returns-3
 returns-3 c =
@@ -64,15 +40,15 @@ pub stretch-spec : {M : Type 1} → statement M
 stretch-spec =
     tie.close
     (tie.spec
-    fetching-requires
-    sleep-on-requires
-    same-length
+    (λ c κs. search needs)
+    (λ c κs. search needs)
+    (λ c. search needs)
     returns
-    unasked-requires
-    same-length-2
+    (λ c κs. search needs)
+    (λ c. search needs)
     returns-2
-    until-requires
+    (λ c κs. search needs)
     take-steps-requires
-    add-t17
-    same-length-3
+    (λ c. search needs)
+    (λ c. search needs)
     returns-3)

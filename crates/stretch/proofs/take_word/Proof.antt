@@ -7,17 +7,11 @@ use Rattle.stretch.proofs.Laws.{operand-words, operation-taken, decode-
 use Rattle.stretch.proofs.take_word.Statement.{statement}
 use Rattle.stretch.proofs.take_word.Tie as tie
 
-register-of-requires : tie.Need-register-of-requires
-register-of-requires c κs = search needs
-
 add-words-requires : tie.Need-add-words-requires
 add-words-requires c κs =
     let d = c .before .before .before in
     let a = d .before .before .args in
     operand-words 0 0 (a .w) (omega arith) (omega arith) (d .match .keys1) (now (a .regs)) (a .psw) (c .register-of .ensures)
-
-constant-of-requires : tie.Need-constant-of-requires
-constant-of-requires c κs = search needs
 
 add-words-requires-2 : tie.Need-add-words-requires-2
 add-words-requires-2 c κs =
@@ -25,17 +19,11 @@ add-words-requires-2 c κs =
     let a = d .before .before .args in
     operand-words 0 1 (a .w) (omega arith) (omega arith) (d .match .keys2) (now (a .regs)) (a .psw) (c .constant-of .ensures)
 
-register-of-requires-2 : tie.Need-register-of-requires-2
-register-of-requires-2 c κs = search needs
-
 subtract-words-requires : tie.Need-subtract-words-requires
 subtract-words-requires c κs =
     let d = c .before .before .before in
     let a = d .before .before .args in
     operand-words 2 0 (a .w) (omega arith) (omega arith) (d .match .keys3) (now (a .regs)) (a .psw) (c .register-of2 .ensures)
-
-constant-of-requires-2 : tie.Need-constant-of-requires-2
-constant-of-requires-2 c κs = search needs
 
 subtract-words-requires-2 : tie.Need-subtract-words-requires-2
 subtract-words-requires-2 c κs =
@@ -43,17 +31,11 @@ subtract-words-requires-2 c κs =
     let a = d .before .before .args in
     operand-words 2 1 (a .w) (omega arith) (omega arith) (d .match .keys4) (now (a .regs)) (a .psw) (c .constant-of2 .ensures)
 
-register-of-requires-3 : tie.Need-register-of-requires-3
-register-of-requires-3 c κs = search needs
-
 compare-words-requires : tie.Need-compare-words-requires
 compare-words-requires c κs =
     let d = c .before .before in
     let a = d .before .before .args in
     operand-words 5 0 (a .w) (omega arith) (omega arith) (d .match .keys5) (now (a .regs)) (a .psw) (c .register-of3 .ensures)
-
-constant-of-requires-3 : tie.Need-constant-of-requires-3
-constant-of-requires-3 c κs = search needs
 
 compare-words-requires-2 : tie.Need-compare-words-requires-2
 compare-words-requires-2 c κs =
@@ -61,17 +43,11 @@ compare-words-requires-2 c κs =
     let a = d .before .before .args in
     operand-words 5 1 (a .w) (omega arith) (omega arith) (d .match .keys6) (now (a .regs)) (a .psw) (c .constant-of3 .ensures)
 
-register-of-requires-4 : tie.Need-register-of-requires-4
-register-of-requires-4 c κs = search needs
-
 xor-words-requires : tie.Need-xor-words-requires
 xor-words-requires c κs =
     let d = c .before .before .before in
     let a = d .before .before .args in
     operand-words 6 0 (a .w) (omega arith) (omega arith) (d .match .keys7) (now (a .regs)) (a .psw) (c .register-of4 .ensures)
-
-constant-of-requires-4 : tie.Need-constant-of-requires-4
-constant-of-requires-4 c κs = search needs
 
 xor-words-requires-2 : tie.Need-xor-words-requires-2
 xor-words-requires-2 c κs =
@@ -79,17 +55,11 @@ xor-words-requires-2 c κs =
     let a = d .before .before .args in
     operand-words 6 1 (a .w) (omega arith) (omega arith) (d .match .keys8) (now (a .regs)) (a .psw) (c .constant-of4 .ensures)
 
-register-of-requires-5 : tie.Need-register-of-requires-5
-register-of-requires-5 c κs = search needs
-
 and-words-requires : tie.Need-and-words-requires
 and-words-requires c κs =
     let d = c .before .before .before in
     let a = d .before .before .args in
     operand-words 7 0 (a .w) (omega arith) (omega arith) (d .match .keys9) (now (a .regs)) (a .psw) (c .register-of5 .ensures)
-
-constant-of-requires-5 : tie.Need-constant-of-requires-5
-constant-of-requires-5 c κs = search needs
 
 and-words-requires-2 : tie.Need-and-words-requires-2
 and-words-requires-2 c κs =
@@ -97,17 +67,11 @@ and-words-requires-2 c κs =
     let a = d .before .before .args in
     operand-words 7 1 (a .w) (omega arith) (omega arith) (d .match .keys10) (now (a .regs)) (a .psw) (c .constant-of5 .ensures)
 
-register-of-requires-6 : tie.Need-register-of-requires-6
-register-of-requires-6 c κs = search needs
-
 or-words-requires : tie.Need-or-words-requires
 or-words-requires c κs =
     let d = c .before .before .before in
     let a = d .before .before .args in
     operand-words 8 0 (a .w) (omega arith) (omega arith) (d .match .keys11) (now (a .regs)) (a .psw) (c .register-of6 .ensures)
-
-constant-of-requires-6 : tie.Need-constant-of-requires-6
-constant-of-requires-6 c κs = search needs
 
 or-words-requires-2 : tie.Need-or-words-requires-2
 or-words-requires-2 c κs =
@@ -115,32 +79,17 @@ or-words-requires-2 c κs =
     let a = d .before .before .args in
     operand-words 8 1 (a .w) (omega arith) (omega arith) (d .match .keys12) (now (a .regs)) (a .psw) (c .constant-of6 .ensures)
 
-register-of-requires-7 : tie.Need-register-of-requires-7
-register-of-requires-7 c κs = search needs
-
 bit-words-requires : tie.Need-bit-words-requires
 bit-words-requires c κs =
     let d = c .before .before in
     let a = d .before .before .args in
     operand-words 9 0 (a .w) (omega arith) (omega arith) (d .match .keys13) (now (a .regs)) (a .psw) (c .register-of7 .ensures)
 
-constant-of-requires-7 : tie.Need-constant-of-requires-7
-constant-of-requires-7 c κs = search needs
-
 bit-words-requires-2 : tie.Need-bit-words-requires-2
 bit-words-requires-2 c κs =
     let d = c .before .before in
     let a = d .before .before .args in
     operand-words 9 1 (a .w) (omega arith) (omega arith) (d .match .keys14) (now (a .regs)) (a .psw) (c .constant-of7 .ensures)
-
-load-plain-requires : tie.Need-load-plain-requires
-load-plain-requires c κs = search needs
-
-store-plain-requires : tie.Need-store-plain-requires
-store-plain-requires c κs = search needs
-
-any-word-requires : tie.Need-any-word-requires
-any-word-requires c κs = search needs
 
 returns : tie.Need-returns
 returns c =
@@ -240,63 +189,51 @@ returns-14 c =
     operation-taken 9 1 (a .w) (omega arith) (omega arith) (d .match .keys14)
     (now (a .regs)) _ (now (a .mem)) (a .psw) _ (inr (c .bit-words2 .ensures))
 
-same-length : tie.Need-same-length
-same-length c = search needs
-
 returns-15 : tie.Need-returns-15
 returns-15 c =
     let d = c .before .before .before .before .before in
     rw (decode-load-plain _ (d .match .keys15)) (c .before .before .load-plain .ensures)
-
-same-length-2 : tie.Need-same-length-2
-same-length-2 c = search needs
 
 returns-16 : tie.Need-returns-16
 returns-16 c =
     let d = c .before .before .before .before .before in
     rw (decode-store-plain _ (d .match .keys16)) (c .before .before .store-plain .ensures)
 
-same-length-3 : tie.Need-same-length-3
-same-length-3 c = search needs
-
-returns-17 : tie.Need-returns-17
-returns-17 c = search needs
-
 pub take-word-spec : {M : Type 1} → statement M
 take-word-spec =
     tie.close
     (tie.spec
-    register-of-requires
+    (λ c κs. search needs)
     add-words-requires
-    constant-of-requires
+    (λ c κs. search needs)
     add-words-requires-2
-    register-of-requires-2
+    (λ c κs. search needs)
     subtract-words-requires
-    constant-of-requires-2
+    (λ c κs. search needs)
     subtract-words-requires-2
-    register-of-requires-3
+    (λ c κs. search needs)
     compare-words-requires
-    constant-of-requires-3
+    (λ c κs. search needs)
     compare-words-requires-2
-    register-of-requires-4
+    (λ c κs. search needs)
     xor-words-requires
-    constant-of-requires-4
+    (λ c κs. search needs)
     xor-words-requires-2
-    register-of-requires-5
+    (λ c κs. search needs)
     and-words-requires
-    constant-of-requires-5
+    (λ c κs. search needs)
     and-words-requires-2
-    register-of-requires-6
+    (λ c κs. search needs)
     or-words-requires
-    constant-of-requires-6
+    (λ c κs. search needs)
     or-words-requires-2
-    register-of-requires-7
+    (λ c κs. search needs)
     bit-words-requires
-    constant-of-requires-7
+    (λ c κs. search needs)
     bit-words-requires-2
-    load-plain-requires
-    store-plain-requires
-    any-word-requires
+    (λ c κs. search needs)
+    (λ c κs. search needs)
+    (λ c κs. search needs)
     returns
     returns-2
     returns-3
@@ -311,9 +248,9 @@ take-word-spec =
     returns-12
     returns-13
     returns-14
-    same-length
+    (λ c. search needs)
     returns-15
-    same-length-2
+    (λ c. search needs)
     returns-16
-    same-length-3
-    returns-17)
+    (λ c. search needs)
+    (λ c. search needs))

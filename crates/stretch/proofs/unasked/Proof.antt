@@ -10,12 +10,6 @@ use borrow.Author.Needs.{needs}
 use Rattle.stretch.proofs.unasked.Statement.{statement}
 use Rattle.stretch.proofs.unasked.Tie as tie
 
-current-priority-requires : tie.Need-current-priority-requires
-current-priority-requires c κs = search needs
-
-line-above-requires : tie.Need-line-above-requires
-line-above-requires c κs = search needs
-
 returns : tie.Need-returns
 returns c e =
     let a = c .before .before .before .args in
@@ -27,4 +21,4 @@ returns c e =
     ∙ line-isnt m (a .lines) (p .result) d (c .line-above .ensures .0) (omega (arith, none))
 
 pub unasked-spec : {M : Type 1} → statement M
-unasked-spec = tie.close (tie.spec current-priority-requires line-above-requires returns)
+unasked-spec = tie.close (tie.spec (λ c κs. search needs) (λ c κs. search needs) returns)

@@ -11,20 +11,8 @@ use borrow.Author.Needs.{needs}
 use Rattle.stretch_registers.proofs.add_words.Statement.{statement}
 use Rattle.stretch_registers.proofs.add_words.Tie as tie
 
-cast-dst : tie.Need-cast-dst
-cast-dst c = search needs
-
 returns : tie.Need-returns
 returns c = inl (refl, refl)
-
-get-requires : tie.Need-get-requires
-get-requires c κs = search needs
-
-add-into-requires : tie.Need-add-into-requires
-add-into-requires c κs = search needs
-
-write-requires : tie.Need-write-requires
-write-requires c κs = search needs
 
 returns-2 : tie.Need-returns-2
 unfolding binaryOf aluOf
@@ -37,4 +25,11 @@ returns-2 c =
 
 pub add-words-spec : {M : Type 1} → statement M
 add-words-spec =
-    tie.close (tie.spec cast-dst returns get-requires add-into-requires write-requires returns-2)
+    tie.close
+    (tie.spec
+    (λ c. search needs)
+    returns
+    (λ c κs. search needs)
+    (λ c κs. search needs)
+    (λ c κs. search needs)
+    returns-2)

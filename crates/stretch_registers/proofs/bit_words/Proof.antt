@@ -11,18 +11,9 @@ use borrow.Author.Needs.{needs}
 use Rattle.stretch_registers.proofs.bit_words.Statement.{statement}
 use Rattle.stretch_registers.proofs.bit_words.Tie as tie
 
-cast-get : tie.Need-cast-get
-cast-get c = search needs
-
-get-requires : tie.Need-get-requires
-get-requires c κs = search needs
-
 logic-into-requires : tie.Need-logic-into-requires
 unfolding widthOf
 logic-into-requires c κs = and-lt 16 (c .get .result) (c .before .args .s) (omega arith) (omega arith)
-
-cast-result : tie.Need-cast-result
-cast-result c = search needs
 
 returns : tie.Need-returns
 unfolding binaryOf
@@ -33,4 +24,10 @@ returns c =
 
 pub bit-words-spec : {M : Type 1} → statement M
 bit-words-spec =
-    tie.close (tie.spec cast-get get-requires logic-into-requires cast-result returns)
+    tie.close
+    (tie.spec
+    (λ c. search needs)
+    (λ c κs. search needs)
+    logic-into-requires
+    (λ c. search needs)
+    returns)

@@ -13,9 +13,6 @@ use borrow.Author.Needs.{needs}
 use Rattle.stretch_registers.proofs.branch_word.Statement.{statement}
 use Rattle.stretch_registers.proofs.branch_word.Tie as tie
 
-signed-requires : tie.Need-signed-requires
-signed-requires c κs = search needs
-
 bl-requires : tie.Need-bl-requires
 bl-requires c κs =
     let e : toZ w16 (ofZ w16 (c .signed .result)) ≡ c .signed .result = search needs in
@@ -28,12 +25,6 @@ returns c =
     let e : toZ w16 (ofZ w16 (c .before .signed .result)) ≡ c .before .signed .result = search needs in
     rw (lt-ltb _ _ (c .before .before .before .if1 .taken))
     (linking (now (start .args .regs)) _ _ (omega arith) _ (rw (e ∙ c .before .signed .ensures) at (c .bl .ensures)))
-
-cast-branch : tie.Need-cast-branch
-cast-branch c = search needs
-
-signed-requires-2 : tie.Need-signed-requires-2
-signed-requires-2 c κs = search needs
 
 branch-requires : tie.Need-branch-requires
 branch-requires c κs =
@@ -52,10 +43,10 @@ pub branch-word-spec : {M : Type 1} → statement M
 branch-word-spec =
     tie.close
     (tie.spec
-    signed-requires
+    (λ c κs. search needs)
     bl-requires
     returns
-    cast-branch
-    signed-requires-2
+    (λ c. search needs)
+    (λ c κs. search needs)
     branch-requires
     returns-2)

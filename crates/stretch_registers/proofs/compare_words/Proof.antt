@@ -9,18 +9,6 @@ use borrow.Author.Needs.{needs}
 use Rattle.stretch_registers.proofs.compare_words.Statement.{statement}
 use Rattle.stretch_registers.proofs.compare_words.Tie as tie
 
-cast-get : tie.Need-cast-get
-cast-get c = search needs
-
-get-requires : tie.Need-get-requires
-get-requires c κs = search needs
-
-subtract-into-requires : tie.Need-subtract-into-requires
-subtract-into-requires c κs = search needs
-
-cast-result : tie.Need-cast-result
-cast-result c = search needs
-
 returns : tie.Need-returns
 unfolding binaryOf
 returns c =
@@ -30,4 +18,10 @@ returns c =
 
 pub compare-words-spec : {M : Type 1} → statement M
 compare-words-spec =
-    tie.close (tie.spec cast-get get-requires subtract-into-requires cast-result returns)
+    tie.close
+    (tie.spec
+    (λ c. search needs)
+    (λ c κs. search needs)
+    (λ c κs. search needs)
+    (λ c. search needs)
+    returns)

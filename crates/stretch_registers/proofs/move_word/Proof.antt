@@ -8,23 +8,8 @@ use borrow.Author.Needs.{needs}
 use Rattle.stretch_registers.proofs.move_word.Statement.{statement}
 use Rattle.stretch_registers.proofs.move_word.Tie as tie
 
-cast-src : tie.Need-cast-src
-cast-src c = search needs
-
-cast-dst : tie.Need-cast-dst
-cast-dst c = search needs
-
-get-requires : tie.Need-get-requires
-get-requires c κs = search needs
-
 returns : tie.Need-returns
 returns c = inl (refl, refl)
-
-cast-mov : tie.Need-cast-mov
-cast-mov c = search needs
-
-mov-requires : tie.Need-mov-requires
-mov-requires c κs = search needs
 
 returns-2 : tie.Need-returns-2
 returns-2 c =
@@ -37,4 +22,12 @@ returns-2 c =
 
 pub move-word-spec : {M : Type 1} → statement M
 move-word-spec =
-    tie.close (tie.spec cast-src cast-dst get-requires returns cast-mov mov-requires returns-2)
+    tie.close
+    (tie.spec
+    (λ c. search needs)
+    (λ c. search needs)
+    (λ c κs. search needs)
+    returns
+    (λ c. search needs)
+    (λ c κs. search needs)
+    returns-2)

@@ -6,27 +6,6 @@ use borrow.Author.Needs.{needs}
 use Rattle.stretch_registers.proofs.operate.Statement.{statement}
 use Rattle.stretch_registers.proofs.operate.Tie as tie
 
-cast-op : tie.Need-cast-op
-cast-op c = search needs
-
-cast-rc : tie.Need-cast-rc
-cast-rc c = search needs
-
-cast-wb : tie.Need-cast-wb
-cast-wb c = search needs
-
-cast-arithmetic : tie.Need-cast-arithmetic
-cast-arithmetic c = search needs
-
-cast-arithmetic-2 : tie.Need-cast-arithmetic-2
-cast-arithmetic-2 c = search needs
-
-arithmetic-requires : tie.Need-arithmetic-requires
-arithmetic-requires c κs = search needs
-
-cast-result : tie.Need-cast-result
-cast-result c = search needs
-
 returns : tie.Need-returns
 returns c =
     let start = c .before .before .before in
@@ -36,11 +15,11 @@ pub operate-spec : {M : Type 1} → statement M
 operate-spec =
     tie.close
     (tie.spec
-    cast-op
-    cast-rc
-    cast-wb
-    cast-arithmetic
-    cast-arithmetic-2
-    arithmetic-requires
-    cast-result
+    (λ c. search needs)
+    (λ c. search needs)
+    (λ c. search needs)
+    (λ c. search needs)
+    (λ c. search needs)
+    (λ c κs. search needs)
+    (λ c. search needs)
     returns)

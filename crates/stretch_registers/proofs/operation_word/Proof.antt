@@ -8,11 +8,8 @@ use Rattle.stretch_registers.proofs.operation_word.Tie as tie
 returns : tie.Need-returns
 returns c = inl (refl, refl)
 
-operate-requires : tie.Need-operate-requires
-operate-requires c κs = search needs
-
 returns-2 : tie.Need-returns-2
 returns-2 c = inr (c .operate .ensures)
 
 pub operation-word-spec : {M : Type 1} → statement M
-operation-word-spec = tie.close (tie.spec returns operate-requires returns-2)
+operation-word-spec = tie.close (tie.spec returns (λ c κs. search needs) returns-2)

@@ -8,14 +8,8 @@ use borrow.Author.Needs.{needs}
 use Rattle.stretch_registers.proofs.register_word.Statement.{statement}
 use Rattle.stretch_registers.proofs.register_word.Tie as tie
 
-branch-word-requires : tie.Need-branch-word-requires
-branch-word-requires c κs = search needs
-
 returns : tie.Need-returns
 returns c = inr (c .branch-word .ensures)
-
-operation-word-requires : tie.Need-operation-word-requires
-operation-word-requires c κs = search needs
 
 returns-2 : tie.Need-returns-2
 unfolding decodeOf
@@ -23,9 +17,6 @@ returns-2 c =
     let d = c .before .before in
     let w = d .before .before .args .w in
     rw (le-ltb w 0x2000 (omega arith), le-ltb _ _ (d .before .if1 .left), lt-ltb _ _ (d .if2 .taken)) (c .operation-word .ensures)
-
-move-word-requires : tie.Need-move-word-requires
-move-word-requires c κs = search needs
 
 returns-3 : tie.Need-returns-3
 unfolding decodeOf
@@ -40,9 +31,6 @@ returns-3 c =
       lt-ltb _ _ (d .if3 .taken),
     ) (c .move-word .ensures)
 
-swap-word-requires : tie.Need-swap-word-requires
-swap-word-requires c κs = search needs
-
 returns-4 : tie.Need-returns-4
 unfolding decodeOf
 returns-4 c =
@@ -56,9 +44,6 @@ returns-4 c =
       le-ltb _ _ (d .before .if3 .left),
       lt-ltb _ _ (d .if4 .taken),
     ) (c .swap-word .ensures)
-
-single-word-requires : tie.Need-single-word-requires
-single-word-requires c κs = search needs
 
 returns-5 : tie.Need-returns-5
 unfolding decodeOf
@@ -82,14 +67,14 @@ pub register-word-spec : {M : Type 1} → statement M
 register-word-spec =
     tie.close
     (tie.spec
-    branch-word-requires
+    (λ c κs. search needs)
     returns
-    operation-word-requires
+    (λ c κs. search needs)
     returns-2
-    move-word-requires
+    (λ c κs. search needs)
     returns-3
-    swap-word-requires
+    (λ c κs. search needs)
     returns-4
-    single-word-requires
+    (λ c κs. search needs)
     returns-5
     returns-6)

@@ -14,23 +14,8 @@ use borrow.Author.Needs.{needs}
 use Rattle.stretch_registers.proofs.single_word.Statement.{statement}
 use Rattle.stretch_registers.proofs.single_word.Tie as tie
 
-cast-dst : tie.Need-cast-dst
-cast-dst c = search needs
-
 returns : tie.Need-returns
 returns c = inl (refl, refl)
-
-cast-unary : tie.Need-cast-unary
-cast-unary c = search needs
-
-unary-requires : tie.Need-unary-requires
-unary-requires c κs = search needs
-
-one-operand-requires : tie.Need-one-operand-requires
-one-operand-requires c κs = search needs
-
-cast-result : tie.Need-cast-result
-cast-result c = search needs
 
 returns-2 : tie.Need-returns-2
 unfolding effectOf
@@ -42,12 +27,6 @@ returns-2 c =
     (inr (operating-on-one (now (start .args .regs)) (start .args .psw) (i.Unary (w / 8 % 8) (w / 64 % 2) (w % 8)) _ _ (w % 8) _ refl
     (omega arith) (omega arith) (rw (d .unary .ensures) at (c .before .one-operand .ensures))))
 
-one-operand-requires-2 : tie.Need-one-operand-requires-2
-one-operand-requires-2 c κs = search needs
-
-cast-result-2 : tie.Need-cast-result-2
-cast-result-2 c = search needs
-
 returns-3 : tie.Need-returns-3
 unfolding effectOf widthOf
 returns-3 c =
@@ -57,12 +36,6 @@ returns-3 c =
     rw (le-ltb _ _ (d .before .if2 .left), lt-ltb _ _ (d .if3 .taken))
     (inr (operating-on-one (now (start .args .regs)) (start .args .psw) (i.Swpb (w % 8) (w / 64 % 2)) op.Swpb 16 (w % 8) _ refl
     (omega arith) (omega arith) (c .before .one-operand2 .ensures)))
-
-one-operand-requires-3 : tie.Need-one-operand-requires-3
-one-operand-requires-3 c κs = search needs
-
-cast-result-3 : tie.Need-cast-result-3
-cast-result-3 c = search needs
 
 returns-4 : tie.Need-returns-4
 unfolding effectOf widthOf
@@ -81,17 +54,17 @@ pub single-word-spec : {M : Type 1} → statement M
 single-word-spec =
     tie.close
     (tie.spec
-    cast-dst
+    (λ c. search needs)
     returns
-    cast-unary
-    unary-requires
-    one-operand-requires
-    cast-result
+    (λ c. search needs)
+    (λ c κs. search needs)
+    (λ c κs. search needs)
+    (λ c. search needs)
     returns-2
-    one-operand-requires-2
-    cast-result-2
+    (λ c κs. search needs)
+    (λ c. search needs)
     returns-3
-    one-operand-requires-3
-    cast-result-3
+    (λ c κs. search needs)
+    (λ c. search needs)
     returns-4
     returns-5)

@@ -8,20 +8,11 @@ use borrow.Author.Needs.{needs}
 use Rattle.stretch_registers.proofs.swap_word.Statement.{statement}
 use Rattle.stretch_registers.proofs.swap_word.Tie as tie
 
-cast-src : tie.Need-cast-src
-cast-src c = search needs
-
-cast-dst : tie.Need-cast-dst
-cast-dst c = search needs
-
 returns : tie.Need-returns
 returns c = inl (refl, refl)
 
 returns-2 : tie.Need-returns-2
 returns-2 c = inl (refl, refl)
-
-swap-requires : tie.Need-swap-requires
-swap-requires c κs = search needs
 
 returns-3 : tie.Need-returns-3
 returns-3 c =
@@ -29,4 +20,12 @@ returns-3 c =
     inr (swapping (now (start .args .regs)) _ _ (omega arith) _ _ _ (omega arith) (omega arith) (c .swap .ensures _))
 
 pub swap-word-spec : {M : Type 1} → statement M
-swap-word-spec = tie.close (tie.spec cast-src cast-dst returns returns-2 swap-requires returns-3)
+swap-word-spec =
+    tie.close
+    (tie.spec
+    (λ c. search needs)
+    (λ c. search needs)
+    returns
+    returns-2
+    (λ c κs. search needs)
+    returns-3)

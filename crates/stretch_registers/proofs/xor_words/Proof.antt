@@ -12,22 +12,13 @@ use borrow.Author.Needs.{needs}
 use Rattle.stretch_registers.proofs.xor_words.Statement.{statement}
 use Rattle.stretch_registers.proofs.xor_words.Tie as tie
 
-cast-dst : tie.Need-cast-dst
-cast-dst c = search needs
-
 returns : tie.Need-returns
 returns c = inl (refl, refl)
-
-get-requires : tie.Need-get-requires
-get-requires c κs = search needs
 
 logic-into-requires : tie.Need-logic-into-requires
 unfolding widthOf
 logic-into-requires c κs =
     xor-lt 16 (c .before .get .result) (c .before .before .before .before .args .s) (omega arith) (omega arith)
-
-write-requires : tie.Need-write-requires
-write-requires c κs = search needs
 
 returns-2 : tie.Need-returns-2
 unfolding binaryOf
@@ -40,4 +31,11 @@ returns-2 c =
 
 pub xor-words-spec : {M : Type 1} → statement M
 xor-words-spec =
-    tie.close (tie.spec cast-dst returns get-requires logic-into-requires write-requires returns-2)
+    tie.close
+    (tie.spec
+    (λ c. search needs)
+    returns
+    (λ c κs. search needs)
+    logic-into-requires
+    (λ c κs. search needs)
+    returns-2)

@@ -1,6 +1,6 @@
 # XM-23 examination machine. 'make help' lists what there is.
 
-.PHONY: help run lib install uninstall input list report test fuzz fuzz_words replay bench clean
+.PHONY: help run lib install uninstall input list card report test fuzz fuzz_words replay bench clean
 
 CFLAGS = -std=c99 -pedantic -O2 -Wall -Wextra -Werror -Iinclude
 ORACLE = --offline --locked --manifest-path oracle/Cargo.toml --target-dir oracle/target
@@ -10,6 +10,7 @@ DESTDIR =
 CASE =
 INPUT = $(EXAMPLE).in
 OUT = build/report.html
+CARD = build/card.html
 TITLE =
 EXPECT =
 INPUTS = 100000
@@ -49,6 +50,10 @@ report: $(shell test -e $(call quoted,$(INPUT)) && echo target/bin/print_state)
 
 list: build/decode_image
 	@build/decode_image examples/copy_words.img 1000
+
+# The page is put in its place whole, or not at all.
+card: build/card
+	@build/card > build/card.new && mv build/card.new $(call quoted,$(CARD)) && echo $(call quoted,$(CARD))
 
 test:
 	@scripts/test.sh

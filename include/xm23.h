@@ -24,7 +24,7 @@ extern "C" {
 /* ---- version: of this header, as one number; xm23_version gives that of the library */
 
 #define XM23_VERSION_MAJOR 0
-#define XM23_VERSION_MINOR 9
+#define XM23_VERSION_MINOR 10
 #define XM23_VERSION_PATCH 0
 #define XM23_VERSION (XM23_VERSION_MAJOR * 65536 + XM23_VERSION_MINOR * 256 + XM23_VERSION_PATCH)
 
@@ -313,6 +313,38 @@ uint64_t xm23_range(uint16_t word);
 #define XM23_RANGE_OPERATION(reply) ((unsigned)((reply) >> 8 & 0xFF))
 #define XM23_RANGE_FIRST(reply) ((uint16_t)((reply) >> 16))
 #define XM23_RANGE_LAST(reply) ((uint16_t)((reply) >> 32))
+
+/*
+ * How many of the 65,536 words mean an operation, or are illegal. All bits of a word count, an ignored one too: SWAP
+ * has 128. The counts of the numbers 0 to 41 add up to 65,536.
+ *
+ * operation in: any number; XM23_OPERATION_... is one that there is.
+ * result    one reply: 0 in bits 7-0, XM23_COUNT in bits 31-8. A number that is no operation's counts 0.
+ * refusals  none.
+ * defined   crates/isa_card/specs/Words.antt, countReply: countOf.
+ */
+uint32_t xm23_count(uint32_t operation);
+
+/* The number of words in a reply of xm23_count. */
+#define XM23_COUNT(reply) ((uint32_t)((reply) >> 8))
+
+/*
+ * The first legal word at or above a given one that means an operation. To list an operation's words, rising, each
+ * once, ask at 0 and then each time at the word found plus 1, until there is none; xm23_decode gives the instruction.
+ *
+ * operation in: any number. For XM23_OPERATION_ILLEGAL, whose words are no instructions, and for a number that is no
+ *           operation's there is none.
+ * word      in: any number; above 65,535 there is none.
+ * result    one reply: 0 in bits 7-0, XM23_NEXT_FOUND in 15-8, XM23_NEXT_WORD in 31-16, 0 in 63-32; 0 where there is
+ *           none.
+ * refusals  none.
+ * defined   crates/isa_card/specs/Words.antt, nextReply: nextOf.
+ */
+uint64_t xm23_next(uint32_t operation, uint32_t word);
+
+/* The parts of a reply of xm23_next: 1 or 0, and the word that is found. */
+#define XM23_NEXT_FOUND(reply) ((unsigned)((reply) >> 8 & 0xFF))
+#define XM23_NEXT_WORD(reply) ((uint16_t)((reply) >> 16))
 
 /*
  * Runs a machine for n steps, or until it halts. To advance a machine further, call again with the memory and the

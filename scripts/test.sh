@@ -102,6 +102,11 @@ example_host() {
         diff - <("$build/host" 7 examples/interrupts.in examples/interrupts.in)
 }
 
+card() {
+    gcc $warn -std=c99 -pedantic -o "$build/card" examples/card.c "$xm23" && "$build/card" > "$build/card.html" &&
+        python3 -B scripts/card_test.py "$build/card.html"
+}
+
 part 'what the trace refuses' count_line python3 -B scripts/trace_test.py
 part 'trace to 01' count_line python3 -B scripts/trace.py
 part 'sentences of the refusals' count_line python3 -B scripts/refusals.py
@@ -125,6 +130,7 @@ else
 fi
 part 'example listing' count_status listing
 part 'example host' count_status example_host
+part 'reference card' count_line card
 part 'the program' count_line tests/shell/program.sh
 part 'installing' count_line tests/shell/install.sh
 part 'the report' count_line tests/shell/report.sh

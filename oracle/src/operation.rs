@@ -82,6 +82,23 @@ pub fn replies() -> Vec<u64> {
     ranges().into_iter().map(reply).collect()
 }
 
+/// The words that mean an operation, rising, by looking at every word; 0 is the illegal words (02 §11).
+pub fn words(operation_number: u32) -> Vec<u16> {
+    (0..=u16::MAX).filter(|&word| u32::from(operation(word)) == operation_number).collect()
+}
+
+/// What `xm23_count` must answer, of those words: their number in bits 31-8.
+pub fn count(words: &[u16]) -> u32 {
+    (words.len() as u32) << 8
+}
+
+/// What `xm23_next` must answer, of those words: 1 in bits 15-8 and in 31-16 the first word at or above the given one;
+/// 0 for none, and for the illegal words, which are no instructions.
+pub fn next(operation_number: u32, words: &[u16], word: u32) -> u64 {
+    let found = words.iter().find(|&&w| operation_number != 0 && u32::from(w) >= word);
+    found.map_or(0, |&w| 1 << 8 | u64::from(w) << 16)
+}
+
 #[cfg(test)]
 mod tests {
     use super::*;
@@ -104,6 +121,17 @@ mod tests {
         assert_eq!(all.iter().enumerate().filter(|(word, range)| *word == usize::from(range.1)).count(), 52);
         let words = |o: u8| all.iter().filter(|range| range.0 == o).count();
         assert_eq!((words(0), words(number("SWAP")), words(number("SXT"))), (1624, 128, 16));
+    }
+
+    #[test]
+    fn lists_by_hand() {
+        let swap = words(u32::from(number("SWAP")));
+        assert_eq!((swap.len(), swap[0], swap[64], swap[127]), (128, 0x4C80, 0x4CC0, 0x4CFF));
+        let sxt = words(u32::from(number("SXT")));
+        assert_eq!((sxt[0], sxt[7], sxt[8], sxt[15]), (0x4D20, 0x4D27, 0x4D60, 0x4D67));
+        assert_eq!(next(28, &sxt, 0x4D28), 0x4D60_0100);
+        assert_eq!((next(28, &sxt, 0x4D68), next(0, &words(0), 0)), (0, 0));
+        assert_eq!(words(42), []);
     }
 
     #[test]

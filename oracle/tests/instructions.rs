@@ -1,4 +1,5 @@
-//! libxm23.a beside the oracle: every word and its range, random instruction numbers, and the near misses of every format.
+//! libxm23.a beside the oracle: every word and its range, every operation's list, random
+//! instruction numbers, and the near misses of every format.
 
 use oracle::number;
 use oracle::operation;
@@ -9,6 +10,8 @@ extern "C" {
     fn xm23_decode(word: u16) -> u64;
     fn xm23_encode(instruction: u64) -> u32;
     fn xm23_range(word: u16) -> u64;
+    fn xm23_count(operation: u32) -> u32;
+    fn xm23_next(operation: u32, word: u32) -> u64;
 }
 
 fn decode(word: u16) -> u64 {
@@ -99,6 +102,43 @@ fn every_word_decodes_and_comes_back() {
 fn every_word_has_its_range() {
     for (word, reply) in (0..=u16::MAX).zip(operation::replies()) {
         assert_eq!(unsafe { xm23_range(word) }, reply, "word {word:04X}");
+    }
+}
+
+/// Numbers that are no operation's, and numbers that are no word's.
+const BEYOND: [u32; 5] = [65_536, 65_537, 0x1_4C80, 0x8000_0000, u32::MAX];
+
+#[test]
+fn every_operation_has_its_words() {
+    let mut sum = 0;
+    for number in (0..300).chain(BEYOND) {
+        let words = operation::words(number);
+        assert_eq!(unsafe { xm23_count(number) }, operation::count(&words), "operation {number}");
+        sum += words.len();
+        let mut listed = Vec::new();
+        let mut word = 0;
+        loop {
+            let reply = unsafe { xm23_next(number, word) };
+            if reply == 0 {
+                break;
+            }
+            listed.push((reply >> 16) as u16);
+            word = (reply >> 16) as u32 + 1;
+        }
+        assert_eq!(listed, if number == 0 { Vec::new() } else { words }, "operation {number}");
+    }
+    assert_eq!(sum, 65536);
+}
+
+#[test]
+fn every_word_has_its_next() {
+    for number in (0..44).chain(BEYOND) {
+        let words = operation::words(number);
+        let near = |word: u16| [u32::from(word).saturating_sub(1), u32::from(word), u32::from(word) + 1];
+        for word in words.iter().copied().flat_map(near).chain((0..65_540).step_by(61)).chain(BEYOND) {
+            let expected = operation::next(number, &words, word);
+            assert_eq!(unsafe { xm23_next(number, word) }, expected, "operation {number}, word {word:X}");
+        }
     }
 }
 

@@ -153,6 +153,50 @@ static void ranges(void)
     same("ranges", count, 52);
 }
 
+static void next(const char *what, uint32_t operation, uint32_t word, unsigned found, uint16_t expected)
+{
+    uint64_t reply = xm23_next(operation, word);
+    same(what, XM23_NEXT_FOUND(reply), found);
+    same(what, XM23_NEXT_WORD(reply), expected);
+    same(what, reply & 0xFFFFFFFF000000FF, 0);
+}
+
+/* Counts and next words by hand, and every operation's list: rising, of its words alone, as many as are counted. */
+static void lists(void)
+{
+    uint32_t operation, sum = 0;
+    same("illegal words", XM23_COUNT(xm23_count(XM23_OPERATION_ILLEGAL)), 1624);
+    same("words of bl", XM23_COUNT(xm23_count(XM23_OPERATION_BL)), 8192);
+    same("words of swap", XM23_COUNT(xm23_count(XM23_OPERATION_SWAP)), 128);
+    same("words of sxt", XM23_COUNT(xm23_count(XM23_OPERATION_SXT)), 16);
+    same("words of no operation", xm23_count(XM23_OPERATION_STR + 1), 0);
+    same("words of the last number", xm23_count(UINT32_MAX), 0);
+    next("first of swap", XM23_OPERATION_SWAP, 0, 1, 0x4C80);
+    next("at", XM23_OPERATION_SWAP, 0x4CBF, 1, 0x4CBF);
+    next("ignored bit set", XM23_OPERATION_SWAP, 0x4CC0, 1, 0x4CC0);
+    next("the next range", XM23_OPERATION_SWAP, 0x4D00, 0, 0);
+    next("second range", XM23_OPERATION_SXT, 0x4D28, 1, 0x4D60);
+    next("last word", XM23_OPERATION_STR, 0xFFFF, 1, 0xFFFF);
+    next("above all words", XM23_OPERATION_STR, 0x10000, 0, 0);
+    next("above all numbers", XM23_OPERATION_BL, UINT32_MAX, 0, 0);
+    next("illegal", XM23_OPERATION_ILLEGAL, 0x4D28, 0, 0);
+    next("no operation", XM23_OPERATION_STR + 1, 0, 0, 0);
+    next("the last number", UINT32_MAX, 0, 0, 0);
+    for (operation = 0; operation <= XM23_OPERATION_STR; operation++) {
+        uint32_t many = 0, word = 0, alike = 0;
+        uint64_t reply;
+        for (; XM23_NEXT_FOUND(reply = xm23_next(operation, word)); word = (uint32_t)XM23_NEXT_WORD(reply) + 1) {
+            many++;
+            alike += XM23_NEXT_WORD(reply) >= word &&
+                     XM23_RANGE_OPERATION(xm23_range(XM23_NEXT_WORD(reply))) == operation;
+        }
+        same("of the operation, rising", alike, many);
+        same("as many", many, operation ? XM23_COUNT(xm23_count(operation)) : 0);
+        sum += XM23_COUNT(xm23_count(operation));
+    }
+    same("sum of the counts", sum, 65536);
+}
+
 /* The macros take a reply apart. */
 static void parts(void)
 {
@@ -483,6 +527,7 @@ int main(void)
     accepted_instructions();
     refused_instructions();
     ranges();
+    lists();
     parts();
     accepted_runs();
     near_misses();

@@ -1,5 +1,6 @@
 /*
- * A target of libFuzzer: xm23_decode, xm23_encode and xm23_range beside a decoder and an encoder in C, written from
+ * A target of libFuzzer: xm23_decode, xm23_encode, xm23_range, xm23_count and xm23_next beside a decoder and an
+ * encoder in C, written from
  * section 14's rows and compiled with the fuzzer's counters. The string is up to eight bytes: an instruction's number,
  * and a word in the first two. Held for each: the calls answer as the judge does; what encodes decodes to itself, and
  * what decodes encodes to itself.
@@ -172,6 +173,28 @@ static uint64_t judge_range(uint16_t word)
     return (uint64_t)operations[word] << 8 | (uint64_t)firsts[word] << 16 | (uint64_t)lasts[word] << 32;
 }
 
+/* The words of each operation, counted once. */
+static uint32_t judge_count(uint32_t operation)
+{
+    static uint32_t counts[256];
+    if (!counts[0])
+        for (int w = 0; w < 65536; w++)
+            counts[judge_range((uint16_t)w) >> 8 & 0xFF]++;
+    return operation < 256 ? counts[operation] << 8 : 0;
+}
+
+/* The next word of an operation, from range to range. */
+static uint64_t judge_next(uint32_t operation, uint32_t word)
+{
+    while (operation && word < 65536) {
+        uint64_t range = judge_range((uint16_t)word);
+        if ((range >> 8 & 0xFF) == operation)
+            return 1 << 8 | (uint64_t)word << 16;
+        word = (uint32_t)(range >> 32) + 1;
+    }
+    return 0;
+}
+
 /* ---- what is held */
 
 static void check(const char *what, uint64_t given, uint64_t got, uint64_t expected)
@@ -199,6 +222,13 @@ static void check_number(uint64_t number)
         check("decoding what was encoded from", number, xm23_decode(XM23_ENCODED(reply)), number);
 }
 
+static void check_list(uint32_t operation, uint32_t word)
+{
+    check("the words of", operation, xm23_count(operation), judge_count(operation));
+    check("the next word of", (uint64_t)operation << 32 | word, xm23_next(operation, word),
+          judge_next(operation, word));
+}
+
 int LLVMFuzzerTestOneInput(const uint8_t *data, size_t size)
 {
     uint64_t number = 0;
@@ -206,5 +236,7 @@ int LLVMFuzzerTestOneInput(const uint8_t *data, size_t size)
         number |= (uint64_t)data[i] << 8 * i;
     check_word((uint16_t)number);
     check_number(number);
+    check_list((uint32_t)(number >> 32), (uint32_t)number);
+    check_list((uint32_t)(number >> 32) % 44, (uint32_t)number % 66000);
     return 0;
 }

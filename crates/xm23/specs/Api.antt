@@ -10,6 +10,9 @@ pub use Rattle.isa_number.specs.Reply.{encodeNumber, replyOf, refusalNumber}
 -- of its range. [02 §4]
 pub use Rattle.isa_ranges.specs.Operation.{operationOf, operationNumber}
 pub use Rattle.isa_ranges.specs.Ranges.{firstOf, lastOf, rangeReply}
+-- xm23_count replies countReply operation and xm23_next nextReply operation word: countOf is the number of words that
+-- mean the operation, nextOf the first legal one at or above the word, or none. [02 §11]
+pub use Rattle.isa_card.specs.Words.{countOf, countReply, nextOf, nextReply}
 -- xm23_run replies and leaves what runCallOf gives for its buffers and n; Resumption is demand 3 of that call, across
 -- the application's own traps. [01 Who can be turned back; 01 Resumption; 02 §13]
 pub use Rattle.machine.specs.Call.{Closing, runCallOf}
@@ -21,4 +24,4 @@ pub use Rattle.srec_call.specs.Trip.{Restores}
 
 -- xm23_version replies versionNumber: major, minor and patch, which are those of the header.
 abbrev pub versionNumber : ℕ
-versionNumber = 0 * 65536 + 9 * 256 + 0
+versionNumber = 0 * 65536 + 10 * 256 + 0

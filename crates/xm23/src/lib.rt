@@ -3,11 +3,15 @@
 // The definitions that the replies equal are gathered in specs/Api.antt.
 ghost use mathlib.Core.Path.{_≡_};
 ghost use Rattle.xm23.specs.Api.{versionNumber, decodeOf, numberOf, encodeNumber};
-ghost use Rattle.xm23.specs.Api.{rangeReply, runCallOf, Resumption};
+ghost use Rattle.xm23.specs.Api.{rangeReply, countReply, nextReply};
+ghost use Rattle.xm23.specs.Api.{runCallOf, Resumption};
 ghost use Rattle.xm23.specs.Api.{loadCallOf, writeCallOf, Restores};
 use isa::Encoded;
 use isa::decode;
 use isa::encode;
+use isa_card::Next;
+use isa_card::count_of;
+use isa_card::next_of;
 use isa_number::from_number;
 use isa_number::number;
 use isa_ranges::ends_of;
@@ -19,7 +23,7 @@ use isa_ranges::operation_of;
 pub extern "C" fn xm23_version() -> u32
     ensures reply { λ r. ⌜ r ≡ versionNumber ⌝ }
 {
-    0x000900
+    0x000A00
 }
 
 // The number of the instruction that a word means; that of the illegal one is 0.
@@ -54,6 +58,26 @@ pub extern "C" fn xm23_range(word: u16) -> u64
     let operation = operation_number(operation_of(decode(word)));
     let ends = ends_of(word);
     operation as u64 * 0x100 + ends.first as u64 * 0x10000 + ends.last as u64 * 0x100000000
+}
+
+// How many of the 65,536 words mean the operation with this number, in bits 31-8.
+#[no_mangle]
+pub extern "C" fn xm23_count(operation: u32) -> u32
+    ensures reply { λ r. ⌜ r ≡ countReply operation ⌝ }
+{
+    count_of(operation) * 0x100
+}
+
+// The first legal word at or above a given one with the operation of this number: 1 in bits 15-8
+// and the word in bits 31-16, or 0 where there is none.
+#[no_mangle]
+pub extern "C" fn xm23_next(operation: u32, word: u32) -> u64
+    ensures reply { λ r. ⌜ r ≡ nextReply operation word ⌝ }
+{
+    match next_of(operation, word) {
+        Next::Found(v) => 0x100 + v as u64 * 0x10000,
+        Next::Nothing => 0,
+    }
 }
 
 // A run of n steps of the machine that the state record holds, with the event list: refusal in bits

@@ -1,0 +1,3 @@
+pub mod Words
+pub mod Theorems
+pub mod Blocks

@@ -77,6 +77,7 @@ bench: $(ARCHIVE) target/staticlib/libprobe.a build/libxm23_fast.a build/srec
 	@cargo bench $(ORACLE) --bench operations
 	@cargo bench $(ORACLE) --bench run
 	@cargo bench $(ORACLE) --bench srec
+	@cargo bench $(ORACLE) --bench stack
 
 clean:
 	rm -rf target build oracle/target

@@ -24,7 +24,7 @@ extern "C" {
 /* ---- version: of this header, as one number; xm23_version gives that of the library */
 
 #define XM23_VERSION_MAJOR 0
-#define XM23_VERSION_MINOR 10
+#define XM23_VERSION_MINOR 11
 #define XM23_VERSION_PATCH 0
 #define XM23_VERSION (XM23_VERSION_MAJOR * 65536 + XM23_VERSION_MINOR * 256 + XM23_VERSION_PATCH)
 
@@ -35,6 +35,10 @@ extern "C" {
 #define XM23_EVENT_SIZE 8      /* bytes of an event record */
 #define XM23_MAX_EVENTS 4096   /* event records of one run */
 #define XM23_MAX_STEPS 1000000 /* steps of one run */
+#define XM23_VECTORS_SIZE 64   /* bytes of the sixteen vectors, at XM23_VECTORS of memory */
+#define XM23_USES_SIZE 16      /* bytes of the eight stack uses */
+#define XM23_MAX_USE 1024      /* bytes of one stack use */
+#define XM23_VECTORS 0xFFC0    /* where in memory the vectors begin */
 
 /* Bytes of text that xm23_write_srec makes of a span of n bytes: 11 of n 0, at most 176,139. */
 #define XM23_SREC_LENGTH(n) ((size_t)11 * (((size_t)(n) + 15) / 16) + 2 * (size_t)(n) + 11)
@@ -81,6 +85,7 @@ extern "C" {
 #define XM23_REFUSED_SREC_CHECKSUM 11
 #define XM23_REFUSED_SREC_ROOM 12
 #define XM23_REFUSED_EVENT_TWINS 13
+#define XM23_REFUSED_STACK 16
 
 /* What a refusal says, in the papers' words. Every number gives a text, which is there for good and never NULL. */
 static inline const char *xm23_refusal_text(unsigned refusal)
@@ -99,6 +104,7 @@ static inline const char *xm23_refusal_text(unsigned refusal)
     case XM23_REFUSED_SREC_CHECKSUM: return "a line's checksum differs";
     case XM23_REFUSED_SREC_ROOM: return "data or span passes #FFFF, or the text does not fit its buffer";
     case XM23_REFUSED_EVENT_TWINS: return "two events share step and device";
+    case XM23_REFUSED_STACK: return "a use is above 1,024, the priority above 7, or the vectors are not 64 bytes or the uses not 16";
     default: return "no refusal has this number";
     }
 }
@@ -424,6 +430,28 @@ uint64_t xm23_write_srec(const uint8_t *memory, size_t memory_len, uint16_t star
 
 /* The bytes of text in a reply of xm23_write_srec that refuses nothing. */
 #define XM23_WRITTEN(reply) ((size_t)((reply) >> 8))
+
+/*
+ * The stack bytes that the handlers of some devices can need together: the largest total over choices of these devices
+ * with strictly rising priorities above the one given, each costing 8 for its frame and its own use.
+ *
+ * vectors, vectors_len in: the 64 bytes at XM23_VECTORS of memory, XM23_VECTORS_SIZE bytes.
+ * devices              in: bit d for device d.
+ * uses, uses_len       in: eight numbers of two bytes, little-endian, device 0 first: the bytes by which its handler
+ *                      holds SP below where entry left it, at most XM23_MAX_USE; XM23_USES_SIZE bytes.
+ * priority             in: the lowest priority that the application holds, 0 to 7.
+ * result               one reply: XM23_REFUSAL in bits 7-0, XM23_STACK_BYTES in bits 31-8, at most 7,224.
+ * refusals             XM23_REFUSED_STACK, for a use of a device that is not chosen too. The reply is then 16.
+ * runs                 where the premises of crates/stack_need/specs/Stack.antt hold of a run, no handler's SP and no
+ *                      pushed byte lies further below the application's SP when the outermost frame opened, downwards
+ *                      modulo 65,536. The call does not check the premises.
+ * defined              crates/stack_need/specs/Need.antt, needReply, for every length, content and number.
+ */
+uint32_t xm23_stack(const uint8_t *vectors, size_t vectors_len, uint8_t devices, const uint8_t *uses, size_t uses_len,
+                    uint32_t priority);
+
+/* The bytes in a reply of xm23_stack that refuses nothing. */
+#define XM23_STACK_BYTES(reply) ((uint32_t)((reply) >> 8))
 
 #ifdef __cplusplus
 }

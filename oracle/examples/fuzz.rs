@@ -1,5 +1,5 @@
 //! Compares the library with the oracle on more inputs than the gate does. `fuzz INPUTS [SEED]` runs so many of each
-//! kind, and a quarter as many of each kind of S-record file, from a seed of the clock if none is given, and saves the
+//! kind, a quarter as many of each kind of S-record file, and as many calls for stack bytes, from a seed of the clock if none is given, and saves the
 //! first difference under build/fuzz. `fuzz replay FOLDER` runs a saved input again. The exit status is 1 where there is
 //! a difference, and 2, with one line, where the command cannot be carried out.
 
@@ -7,13 +7,17 @@
 mod library;
 #[path = "../tests/library/srec.rs"]
 mod library_srec;
+#[path = "../tests/library/stack.rs"]
+mod library_stack;
 
 use library::library;
 use oracle::compare::{compare, compare_many, folder, saved, Found};
 use oracle::coverage::Coverage;
 use oracle::inputs::KINDS;
+use oracle::random::Random;
 use oracle::srec_compare::{self, Reached};
 use oracle::srec_inputs;
+use oracle::stack::Stack;
 use std::path::Path;
 use std::process::ExitCode;
 use std::sync::Mutex;
@@ -70,7 +74,19 @@ fn fuzz(inputs: u64, seed: u64) -> bool {
         }
         println!("{kind:?}: {inputs} of {inputs}, no difference, {:.1} s", start.elapsed().as_secs_f64());
     }
-    srec(inputs / 4, seed)
+    srec(inputs / 4, seed) && stack(inputs, seed)
+}
+
+/// Compares calls for stack bytes with every choice of devices tried. A difference is printed whole.
+fn stack(inputs: u64, seed: u64) -> bool {
+    let (start, mut random) = (Instant::now(), Random::new(seed));
+    let mut calls = (0..inputs).map(|_| Stack::random(&mut random));
+    if let Some(call) = calls.find(|call| library_stack::stack(call) != call.reply()) {
+        println!("stack bytes: {:#X} and not {:#X} of {call:?}", library_stack::stack(&call), call.reply());
+        return false;
+    }
+    println!("stack bytes: {inputs} calls, no difference, {:.1} s", start.elapsed().as_secs_f64());
+    true
 }
 
 /// Compares loads and writes of S-records: files of every kind, real ones mutated among them.

@@ -22,3 +22,4 @@ pub mod resume;
 pub mod srec;
 pub mod srec_compare;
 pub mod srec_inputs;
+pub mod stack;

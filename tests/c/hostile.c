@@ -293,6 +293,43 @@ static void texts(int at_end, int rounds)
     }
 }
 
+/* ---- stack bytes */
+
+/* Every combination of lengths around the right ones, with junk inside: the figure stays within its bounds, and what is
+ * lent is as it was. Vectors and uses stand in the rooms of record and events. */
+static void stacks(int at_end, int rounds)
+{
+    static const size_t vectors[] = {0, 1, 63, 64, 65, 128, 65536}, uses[] = {0, 1, 15, 16, 17, 64, 65536};
+    size_t v, u;
+    int i;
+    for (v = 0; v < sizeof vectors / sizeof *vectors; v++)
+        for (u = 0; u < sizeof uses / sizeof *uses; u++)
+            for (i = 0; i < (vectors[v] == XM23_VECTORS_SIZE && uses[u] == XM23_USES_SIZE ? 50 : 1) * rounds; i++) {
+                uint64_t pick = draw();
+                uint32_t priority = pick % 4 ? (uint32_t)(pick / 4 % 9) : (uint32_t)(pick >> 8);
+                int fits = vectors[v] == XM23_VECTORS_SIZE && uses[u] == XM23_USES_SIZE && priority <= 7;
+                size_t k;
+                uint32_t reply;
+                calls++;
+                lend(&record, vectors[v], at_end);
+                lend(&events, uses[u], at_end);
+                scatter(&record);
+                scatter(&events);
+                for (k = 1; k < events.length; k += 2) {
+                    events.at[k] %= pick >> 40 & 7 ? 4 : 8;
+                    fits = fits && events.at[k] * 256 + events.at[k - 1] <= XM23_MAX_USE;
+                }
+                memcpy(record_before, record.at, record.length);
+                memcpy(events_before, events.at, events.length);
+                reply = xm23_stack(record.at, record.length, (uint8_t)(pick >> 48), events.at, events.length, priority);
+                check("guard bytes", guarded(&record) && guarded(&events));
+                check("vectors", memcmp(record.at, record_before, record.length) == 0);
+                check("uses", memcmp(events.at, events_before, events.length) == 0);
+                check("refusal", fits ? XM23_REFUSAL(reply) == XM23_ACCEPTED : reply == XM23_REFUSED_STACK);
+                check("bytes", XM23_STACK_BYTES(reply) <= 7224);
+            }
+}
+
 int main(int argc, char **argv)
 {
     int brief = argc > 1 && strcmp(argv[1], "short") == 0, at_end;
@@ -313,6 +350,9 @@ int main(int argc, char **argv)
         wrong == before ? passed++ : failed++;
         before = wrong;
         texts(at_end, brief ? 40 : 20000);
+        wrong == before ? passed++ : failed++;
+        before = wrong;
+        stacks(at_end, brief ? 1 : 40);
         wrong == before ? passed++ : failed++;
     }
     printf("%u calls\n%u passed, %u failed\n", calls, passed, failed);

@@ -55,7 +55,7 @@ entered-top x y z q hx hy hz hq =
     let a : (x + y * 16 + z * 256 + q * 8192) / 8192 ≡ q = omega arith in
     rw a (omega arith)
 
-entered-priorities : (p q : ℕ) (f : Bool) → q < 8 → (current (enteredPsw p q f) ≡ current p) × (previous (enteredPsw p q f) ≡ q)
+pub entered-priorities : (p q : ℕ) (f : Bool) → q < 8 → (current (enteredPsw p q f) ≡ current p) × (previous (enteredPsw p q f) ≡ q)
 unfolding enteredPsw
 entered-priorities p q f h =
     let b : p / 16 % 16 / 2 % 8 ≡ p / 32 % 8 = omega arith in (
@@ -73,7 +73,7 @@ pulled-top x y z h k l =
     let a : (x + y * 16 + z * 8192) / 8192 ≡ z = omega arith in
     rw a (omega arith)
 
-pulled-priorities : (p : ℕ) → SamePriorities (pulledPsw p) p
+pub pulled-priorities : (p : ℕ) → SamePriorities (pulledPsw p) p
 pulled-priorities p =
     let b : p / 16 % 32 / 2 % 8 ≡ p / 32 % 8 = omega arith in (
       pulled-sum (p % 8) (p / 16 % 32) (previous p) (omega arith) ∙ b,
@@ -101,7 +101,7 @@ interrupt-above c l m =
     (λ r. rw (q, r) tt))
 
 -- the same of the act
-abbrev Higher : (p q : ℕ) (m : List ℕ) → Act → Type 0
+abbrev pub Higher : (p q : ℕ) (m : List ℕ) → Act → Type 0
 Higher p q m acts.Stopped = Unit {0}
 Higher p q m acts.Pull = Unit {0}
 Higher p q m (acts.Chain d) = q < priority m d
@@ -129,7 +129,7 @@ steady-higher p q m acts.Plain s = tt
 steady-higher p q m (acts.Loads byte a d) s = tt
 steady-higher p q m (acts.Stores byte a v) s = tt
 
-plan-higher : (s : State) → Faultless (planOf s .act)
+pub plan-higher : (s : State) → Faultless (planOf s .act)
     → Higher (current (s .core .psw)) (previous (s .core .psw)) (s .mem) (planOf s .act)
 unfolding Above
 plan-higher s =
@@ -181,7 +181,7 @@ instruction-priorities c m =
     (λ q r o h u e. (refl, refl))
     (λ q r o h u e. granted-priorities c (x .core) m n (executed-priorities c n (decode-fields (wordAt m (pc c)))) (x .access) h u e)
 
-plan-priorities : (s : State) → Faultless (planOf s .act) → svc? (planOf s .act) ≡ false → setsPriority? s ≡ false → Steady (planOf s .act)
+pub plan-priorities : (s : State) → Faultless (planOf s .act) → svc? (planOf s .act) ≡ false → setsPriority? s ≡ false → Steady (planOf s .act)
     → SamePriorities (planOf s .core .psw) (s .core .psw)
 plan-priorities s =
     let b = setPri? (decodeOf (wordAt (s .mem) (pc (s .core)))) in
@@ -194,7 +194,7 @@ plan-priorities s =
     (λ d h q c u e st. absurd st)
     (λ h q c u e st. instruction-priorities (s .core) (s .mem) c u e)
 
-perform-steady : (a : Act) → Steady a → svc? a ≡ false → (c : Core) (l : ℕ) (m : List ℕ)
+pub perform-steady : (a : Act) → Steady a → svc? a ≡ false → (c : Core) (l : ℕ) (m : List ℕ)
     → perform a c l m .core .psw ≡ c .psw
 unfolding perform
 perform-steady acts.Stopped s u c l m = absurd s
@@ -213,7 +213,7 @@ perform-steady (acts.Stores byte a v) s u c l m = refl
 -- ---- the invariant
 
 -- the PSW that a frame holds
-abbrev savedPsw : State → ℕ
+abbrev pub savedPsw : State → ℕ
 savedPsw t = wordAt (t .mem) (wrap (sp (t .core) + 2))
 
 -- what is known of the PSW w and the frames open under it: each lies above p by as many levels as frames are open, and

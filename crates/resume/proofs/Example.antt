@@ -218,7 +218,7 @@ sets-none {d = d} R h o =
     ∙ ap (λ p. executes? (p .act) && setPri? (decodeOf (wordAt (d .mem) (pc (d .core))))) (R .plan-is)
     ∙ h
 
-fetched : (ws : List Write) (a : ℕ) → a < 65536 → setPri? (decodeOf (over ws (even a) 0 + 256 * over ws (even a + 1) 0)) ≡ false
+pub fetched : (ws : List Write) (a : ℕ) → a < 65536 → setPri? (decodeOf (over ws (even a) 0 + 256 * over ws (even a + 1) 0)) ≡ false
     → setPri? (decodeOf (wordAt (commit ws zeros) a)) ≡ false
 fetched ws a h e = ap (λ w. setPri? (decodeOf w)) (word-is ws a h) ∙ e
 

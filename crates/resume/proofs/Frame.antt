@@ -20,7 +20,7 @@ use Rattle.resume.specs.Frames.{FrameFound}
 use Rattle.resume.specs.Resume.{Found}
 
 -- LR, SP and PC set
-three : (l : List ℕ) (x y z : ℕ) → length l ≡ 8
+pub three : (l : List ℕ) (x y z : ℕ) → length l ≡ 8
     → set (set (set l 5 x) 6 y) 7 z ≡ getD l 0 0 ∷ getD l 1 0 ∷ getD l 2 0 ∷ getD l 3 0 ∷ getD l 4 0 ∷ x ∷ y ∷ z ∷ []
 three l x y z h = ap (λ k. set (set (set k 5 x) 6 y) 7 z) (eight-cells l h)
 

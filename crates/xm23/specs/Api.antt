@@ -21,7 +21,10 @@ pub use Rattle.resume.specs.Resumption.{Resumption}
 -- of the text written. [02 §2]
 pub use Rattle.srec_call.specs.Call.{Loaded, loadCallOf, Written, writeCallOf}
 pub use Rattle.srec_call.specs.Trip.{Restores}
+-- xm23_stack replies needReply of its buffers and numbers: needOf is the largest total over all choices of devices. That
+-- no stack reaches further below is `within` of stack_need, from StackPremises to Within. [02 §9]
+pub use Rattle.stack_need.specs.Need.{needOf, needReply}
 
 -- xm23_version replies versionNumber: major, minor and patch, which are those of the header.
 abbrev pub versionNumber : ℕ
-versionNumber = 0 * 65536 + 10 * 256 + 0
+versionNumber = 0 * 65536 + 11 * 256 + 0

@@ -5,7 +5,7 @@ ghost use mathlib.Core.Path.{_≡_};
 ghost use Rattle.xm23.specs.Api.{versionNumber, decodeOf, numberOf, encodeNumber};
 ghost use Rattle.xm23.specs.Api.{rangeReply, countReply, nextReply};
 ghost use Rattle.xm23.specs.Api.{runCallOf, Resumption};
-ghost use Rattle.xm23.specs.Api.{loadCallOf, writeCallOf, Restores};
+ghost use Rattle.xm23.specs.Api.{loadCallOf, writeCallOf, Restores, needReply};
 use isa::Encoded;
 use isa::decode;
 use isa::encode;
@@ -23,7 +23,7 @@ use isa_ranges::operation_of;
 pub extern "C" fn xm23_version() -> u32
     ensures reply { λ r. ⌜ r ≡ versionNumber ⌝ }
 {
-    0x000A00
+    0x000B00
 }
 
 // The number of the instruction that a word means; that of the illegal one is 0.
@@ -125,4 +125,14 @@ pub extern "C" fn xm23_write_srec(
         (now (text .exit)) ⌝ }
 {
     srec_call::write_call(memory, start, size, pc, text)
+}
+
+// The stack bytes that the chosen devices' handlers can need together above priority p: refusal in
+// bits 7-0, the bytes in bits 31-8.
+#[no_mangle]
+pub extern "C" fn xm23_stack(vectors: &[u8], devices: u8, uses: &[u8], priority: u32) -> u32
+    ensures reply { λ r. ⌜ r
+        ≡ needReply (now (vectors .entry)) devices (now (uses .entry)) priority ⌝ }
+{
+    stack_bytes::stack_call(vectors, devices, uses, priority)
 }

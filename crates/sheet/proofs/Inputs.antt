@@ -20,7 +20,8 @@ use Rattle.machine_laws.specs.Passed.{Passed}
 use Rattle.machine_laws.proofs.Cases.{not-eq, not-lt, ge-of}
 use Rattle.machine_laws.proofs.Records.{passed, not-met, is-accepted}
 use Rattle.run.proofs.Calls.{events-fit, events-ordered, count-fits}
-use Rattle.sheet.specs.Sheet.{stepsIn, recordIn, memoryIn, eventsIn, inputVerdict, runIn, lineOf, refusedLine, answered, sheetOf, memoryAfter}
+use Rattle.sheet.specs.Sheet.{stepsIn, recordIn, memoryIn, eventsIn, inputVerdict, runIn}
+use Rattle.sheet.specs.Sheet.{lineOf, refusedLine, answered, sheetOf, memoryAfter}
 
 -- the last part, cut by the length
 rest : (b : List ℕ) (k : ℕ) → take (length b - k) (drop k b) ≡ drop k b

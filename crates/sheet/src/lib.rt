@@ -26,8 +26,8 @@ fn put_run(input: &[u8], memory: &mut [u8], out: &mut [u8]) -> usize
     line::put_line(out, done.machine, done.steps)
 }
 
-// The line printed for an input, at the start of `out`; the result is its length, and the bytes past
-// it stay. `memory` is written over by the run's; of a refused input it stays.
+// The line printed for an input, at the start of `out`; the result is its length. What stands past
+// the line stays; `memory` becomes the run's, and stays where the input is refused.
 pub fn sheet(input: &[u8], memory: &mut [u8; 65536], out: &mut [u8; 64]) -> usize
     ensures line { λ r. ⌜ take r (now (out .exit)) ≡ sheetOf (now (input .entry)) ⌝ }
     ensures memory { λ r. ⌜ now (memory .exit)

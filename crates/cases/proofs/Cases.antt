@@ -4,13 +4,17 @@ use mathlib.Core.Bool.{Bool, true, false, _&&_}
 use mathlib.Core.List.{List, [], _∷_, List·Memᴰ, List·Memᴰ·cases-cons, List·Memᴰ·not-nil}
 use mathlib.Core.Logic.{⊎-elim}
 use lib.Dec.{T, eqb, eqb→eq}
+use Rattle.word.specs.Width.{widthOf}
 use Rattle.alu.specs.Sums.{addWithCarry, overflowOf}
 use Rattle.alu.specs.Decimal.{decimalSum, digitOf, digitCarry}
 use Rattle.alu.specs.Alu.{aluOf}
-use Rattle.machine.specs.Entry.{vectored, enteredPsw}
-use Rattle.machine.specs.Effect.{effectOf, takenOf}
-use Rattle.machine.specs.Step.{advanced}
-use Rattle.cases.specs.Cases.{Row, arithmetic, entry, branch, cases, Says, test, stackAfter, branchFrom}
+use Rattle.isa.specs.Decode.{decodeOf}
+use Rattle.machine.specs.State.{reg, sp, pc}
+use Rattle.machine.specs.Devices.{deliverAt}
+use Rattle.machine.specs.Entry.{bestFrom, vectored, enteredPsw}
+use Rattle.machine.specs.Effect.{binaryOf, unaryOf, effectOf, takenOf}
+use Rattle.machine.specs.Step.{advanced, granted, interruptOf, instructionOf, planOf, perform, stepOf}
+use Rattle.cases.specs.Cases.{Row, arithmetic, entry, branch, cases, Says, test, after}
 
 both : (a b : Bool) → T (a && b) → T a × T b
 both true b t = (tt, t)
@@ -19,19 +23,20 @@ both false b t = absurd t
 -- a row that passes its test holds
 sound : (r : Row) → T (test r) → Says r
 unfolding test
-sound (arithmetic op w d s p value psw) t =
-    let o = aluOf op w d s p in
-    let h = both (eqb (o .value) value) (eqb (o .psw) psw) t in
-    λ i. record { value = eqb→eq (o .value) value (h .0) i; psw = eqb→eq (o .psw) psw (h .1) i }
-sound (entry before after) t = eqb→eq (stackAfter before) after t
-sound (branch at off to) t = eqb→eq (branchFrom at off) to t
+sound (arithmetic word d s p value psw) t =
+    let c = after word s d 0 p in
+    let h = both (eqb (reg c 1) value) (eqb (c .psw) psw) t in
+    (eqb→eq (reg c 1) value (h .0), eqb→eq (c .psw) psw (h .1))
+sound (entry word before to) t = eqb→eq (sp (after word 0 0 before 0)) to t
+sound (branch word to) t = eqb→eq (pc (after word 0 0 0 0)) to t
 
 abbrev every : List Row → Bool
 every [] = true
 every (r ∷ rs) = test r && every rs
 
 all : T (every cases)
-unfolding test aluOf addWithCarry overflowOf decimalSum digitOf digitCarry vectored enteredPsw effectOf takenOf advanced
+unfolding test after stepOf deliverAt planOf interruptOf bestFrom instructionOf advanced decodeOf effectOf granted perform
+    binaryOf unaryOf takenOf widthOf aluOf addWithCarry overflowOf decimalSum digitOf digitCarry vectored enteredPsw
 all = tt
 
 from : (rs : List Row) → T (every rs) → {r : Row} → List·Memᴰ r rs → Says r

@@ -1,26 +1,20 @@
--- The starred cases, one row each, and what each row says. Assumes nothing.
+-- The starred cases, one row each, and what each row says of one step. Assumes nothing.
 use mathlib.Core.Path.{_≡_}
-use mathlib.Core.Bool.{Bool, true, _&&_}
-use mathlib.Core.List.{List, [], _∷_}
-use Prim.Native.Nat.{ℕ, _+_}
+use mathlib.Core.Bool.{Bool, false, _&&_}
+use mathlib.Core.List.{List, [], _∷_, _++_}
+use Prim.Native.Nat.{ℕ, zero, suc, _+_}
 use lib.Dec.{eqb}
-use lib.IntN.{ℤ, negsuc}
-use Rattle.alu.specs.declared.Outcome.{Outcome}
-use Rattle.alu.specs.declared.Op.{Op}
-use Rattle.alu.specs.declared.Op.the-variants.{Add, Addc, Sub, Subc, Dadd, Sra, Sxt}
-use Rattle.alu.specs.Alu.{aluOf}
-use Rattle.isa.specs.declared.Instr.the-variants.{Branch}
-use Rattle.machine.specs.State.{Core, coreOf, sp, pc}
-use Rattle.machine.specs.Effect.{effectOf}
-use Rattle.machine.specs.Step.{entered, advanced}
+use Rattle.machine.specs.State.{Core, coreOf, reg, sp, pc}
+use Rattle.machine.specs.Memory.{lowByte, highByte}
+use Rattle.machine.specs.Step.{stepOf}
 
--- a case of each kind. Arithmetic: an instruction of w bits on the destination d and the source s with the PSW p, and
--- what it leaves in the destination and in the PSW. Entry: the SP before, and after. Branch: where a BRA stands, its
--- offset in words, and where it leads. [01 Sheet for the markers]
+-- a case of each kind, by the word that stands at #1000. Arithmetic: what the word leaves in R1 and in the PSW, with
+-- the destination d in R1, the source s in R0 and the PSW p. Entry: SP before, and after. Branch: where the word leads.
+-- [01 Sheet for the markers]
 pub data Row : Type 0 where
-  arithmetic : Op → (w d s p value psw : ℕ) → Row
-  entry : (before after : ℕ) → Row
-  branch : (at : ℕ) → ℤ → (to : ℕ) → Row
+  arithmetic : (word d s p value psw : ℕ) → Row
+  entry : (word before after : ℕ) → Row
+  branch : (word to : ℕ) → Row
 
 -- the flags as bits of the PSW. [01 State and memory]
 abbrev flagC : ℕ
@@ -35,43 +29,50 @@ flagN = 4
 abbrev flagV : ℕ
 flagV = 16
 
--- the starred cases in the paper's order. SRA of #FFF0 sets N by the rule. [01 Sheet for the markers]
+-- the starred cases in the paper's order: ADD.B, ADD, ADDC, SUB.B twice, SUBC, DADD.B twice (each R0,R1), SRA and SXT
+-- of R1, an illegal word (fault 8 enters), BRA by -1 word. SRA of #FFF0 sets N by the rule. [01 Sheet for the markers]
 abbrev pub cases : List Row
 cases =
-    arithmetic Add 8 0xff 0xf8 0 0xf7 (flagC + flagN)
-    ∷ arithmetic Add 16 0x7fff 1 0 0x8000 (flagN + flagV)
-    ∷ arithmetic Addc 16 0xffff 0 flagC 0 (flagC + flagZ)
-    ∷ arithmetic Sub 8 0x03 0x04 0 0xff flagN
-    ∷ arithmetic Sub 8 0xf5 0x04 0 0xf1 (flagC + flagN)
-    ∷ arithmetic Subc 16 0 0xffff 0 0 flagZ
-    ∷ arithmetic Dadd 8 0x99 0x01 0 0x00 (flagC + flagZ)
-    ∷ arithmetic Dadd 8 0xff 0xff flagC 0x55 flagC
-    ∷ arithmetic Sra 16 0xfff0 0 0 0xfff8 flagN
-    ∷ arithmetic Sxt 16 0x0080 0 0 0xff80 0
-    ∷ entry 0 0xfff8
-    ∷ branch 0x1000 (negsuc 0) 0x1000
+    arithmetic 0x4041 0xff 0xf8 0 0xf7 (flagC + flagN)
+    ∷ arithmetic 0x4001 0x7fff 1 0 0x8000 (flagN + flagV)
+    ∷ arithmetic 0x4101 0xffff 0 flagC 0 (flagC + flagZ)
+    ∷ arithmetic 0x4241 0x03 0x04 0 0xff flagN
+    ∷ arithmetic 0x4241 0xf5 0x04 0 0xf1 (flagC + flagN)
+    ∷ arithmetic 0x4301 0 0xffff 0 0 flagZ
+    ∷ arithmetic 0x4441 0x99 0x01 0 0x00 (flagC + flagZ)
+    ∷ arithmetic 0x4441 0xff 0xff flagC 0x55 flagC
+    ∷ arithmetic 0x4d01 0xfff0 0 0 0xfff8 flagN
+    ∷ arithmetic 0x4d21 0x0080 0 0 0xff80 0
+    ∷ entry 0x4e00 0 0xfff8
+    ∷ branch 0x3fff 0x1000
     ∷ []
 
--- a core that is zero but for SP and PC
-abbrev coreAt : (stack counter : ℕ) → Core
-coreAt stack counter = coreOf (0 ∷ 0 ∷ 0 ∷ 0 ∷ 0 ∷ 0 ∷ stack ∷ counter ∷ []) 0 0
+abbrev pub zeros : ℕ → List ℕ
+zeros zero = []
+zeros (suc n) = 0 ∷ zeros n
 
--- SP after an entry, by fault 9 and with the memory zero. [01 Entry]
-abbrev pub stackAfter : ℕ → ℕ
-stackAfter before = sp (entered (coreAt before 0) [] 9 true)
-
--- PC after a BRA. [01 State and memory]
-abbrev pub branchFrom : ℕ → ℤ → ℕ
-branchFrom at off = pc (effectOf (advanced (coreAt 0 at)) (Branch 7 off) .core)
+-- What one step leaves of a machine at #1000, the word there; all else is zero but R0, R1, SP and the PSW. Bytes past
+-- the end of the list read as zero. [01 One step, in order]
+unfoldable pub after : (word r0 r1 stack psw : ℕ) → Core
+after word r0 r1 stack psw =
+    stepOf []
+    (record {
+      core = coreOf (r0 ∷ r1 ∷ 0 ∷ 0 ∷ 0 ∷ 0 ∷ stack ∷ 0x1000 ∷ []) psw 0;
+      lines = 0;
+      halted = false;
+      count = 0;
+      mem = zeros 0x1000 ++ lowByte word ∷ highByte word ∷ [];
+    })
+    .core
 
 -- what a row says of the definitions. [01 Sheet for the markers]
 abbrev pub Says : Row → Type 0
-Says (arithmetic op w d s p value psw) = aluOf op w d s p ≡ record { value = value; psw = psw }
-Says (entry before after) = stackAfter before ≡ after
-Says (branch at off to) = branchFrom at off ≡ to
+Says (arithmetic word d s p value psw) = (reg (after word s d 0 p) 1 ≡ value) × (after word s d 0 p .psw ≡ psw)
+Says (entry word before to) = sp (after word 0 0 before 0) ≡ to
+Says (branch word to) = pc (after word 0 0 0 0) ≡ to
 
 -- the same as a test. [01 Sheet for the markers]
 unfoldable pub test : Row → Bool
-test (arithmetic op w d s p value psw) = eqb (aluOf op w d s p .value) value && eqb (aluOf op w d s p .psw) psw
-test (entry before after) = eqb (stackAfter before) after
-test (branch at off to) = eqb (branchFrom at off) to
+test (arithmetic word d s p value psw) = eqb (reg (after word s d 0 p) 1) value && eqb (after word s d 0 p .psw) psw
+test (entry word before to) = eqb (sp (after word 0 0 before 0)) to
+test (branch word to) = eqb (pc (after word 0 0 0 0)) to

@@ -14,14 +14,14 @@ use Rattle.machine.specs.declared.Verdict.the-variants.{Accepted, MemoryLength,
 use Rattle.machine.specs.State.{stateOf}
 use Rattle.machine.specs.Record.{stateIn}
 use Rattle.machine.specs.Events.{eventCount, eventsOf}
-use Rattle.machine.specs.Run.{ran, runOf}
-use Rattle.machine.specs.Refusal.{eventsFitBelow, inOrderBelow, verdictOf, refusalNumber}
+use Rattle.machine.specs.Run.{Run, ran, runOf}
+use Rattle.machine.specs.Refusal.{eventsFitBelow, inOrderBelow, verdictOf, refusalNumber, accepted?}
 use Rattle.machine_laws.specs.Passed.{Passed}
 use Rattle.machine_laws.proofs.Cases.{not-eq, not-lt, ge-of}
 use Rattle.machine_laws.proofs.Records.{passed, not-met, is-accepted}
 use Rattle.run.proofs.Calls.{events-fit, events-ordered, count-fits}
-use Rattle.sheet.specs.Sheet.{stepsIn, recordIn, memoryIn, eventsIn, inputVerdict, lineOf, refusedLine, answered, sheetOf}
-use Rattle.sheet.specs.Parts.{runIn}
+use Rattle.sheet.specs.Sheet.{stepsIn, recordIn, memoryIn, eventsIn, inputVerdict, runIn}
+use Rattle.sheet.specs.Sheet.{lineOf, refusedLine, answered, sheetOf, memoryAfter}
 
 -- the last part, cut by the length
 rest : (b : List ℕ) (k : ℕ) → take (length b - k) (drop k b) ≡ drop k b
@@ -40,8 +40,8 @@ verdict-of-parts b h en er em ee ev =
     let h36 : 36 ≤ length b = omega arith in
     rw (not-lt h36, not-lt h, ev, en, er, em, ee, rest b 65572)
 
--- a run from an input's parts gives the line of the run that the input asks for
-pub line-of-parts : (b : List ℕ) (m x : Machine) {mem after r e t : List ℕ} {n k : ℕ}
+-- a run from an input's parts gives the line of the run that the input asks for, and leaves its memory
+pub run-of-parts : (b : List ℕ) (m x : Machine) {mem after r e t : List ℕ} {n k : ℕ}
     → mem ≡ memoryIn b
     → n ≡ stepsIn b
     → r ≡ recordIn b
@@ -49,9 +49,10 @@ pub line-of-parts : (b : List ℕ) (m x : Machine) {mem after r e t : List ℕ} 
     → e ≡ take (length b - 65572) (drop 65572 b)
     → ran (stateOf x after) k ≡ runOf (eventsOf e) (stateOf m mem) n
     → ((a : List ℕ) → t ≡ lineOf (ran (stateOf x a) k))
-    → t ≡ lineOf (runIn b)
-line-of-parts b m x {mem} {after} em en er es ee ex et =
-    et after ∙ ap lineOf (ex ∙ rw (es mem, em, en, er, ee, rest b 65572))
+    → (t ≡ lineOf (runIn b)) × (after ≡ runIn b .state .mem)
+run-of-parts b m x {mem} {after} {k = k} em en er es ee ex et =
+    let whole : ran (stateOf x after) k ≡ runIn b = ex ∙ rw (es mem, em, en, er, ee, rest b 65572) in
+    (et after ∙ ap lineOf whole, ap (λ (r : Run). r .state .mem) whole)
 
 -- ---- what an accepted input has settled
 
@@ -86,7 +87,7 @@ run-ready b m rb en er es ee =
     let fit = events-fit (memoryIn b) (recordIn b) (eventsIn b) (stepsIn b) p in
     rw (en, ee, rest b 65572) (count, ordered, fit)
 
--- ---- the line of an input
+-- ---- the line of an input, and the memory lent for its run
 
 -- an input whose verdict has the number 0 is accepted
 pub accepted-of : (b : List ℕ) {v : Verdict} {k : ℕ} → v ≡ inputVerdict b → k ≡ refusalNumber v → k ≡ 0 → inputVerdict b ≡ Accepted
@@ -103,3 +104,17 @@ sheet-refused b {v} {k} ev ek h =
     ap refusedLine ek
     ∙ sym (ap (λ t. cond t (lineOf x) (refusedLine (refusalNumber v))) (not-eq (λ (q : refusalNumber v ≡ 0). h (ek ∙ q))))
     ∙ ap (λ (w : Verdict). answered w x) ev
+
+abbrev left : Verdict → (b memory : List ℕ) → List ℕ
+left v b memory = cond (accepted? v) (runIn b .state .mem) memory
+
+pub memory-accepted : (b memory : List ℕ) → inputVerdict b ≡ Accepted → memoryAfter b memory ≡ runIn b .state .mem
+unfolding memoryAfter
+memory-accepted b memory e = ap (λ (v : Verdict). left v b memory) e
+
+pub memory-refused : (b memory : List ℕ) {v : Verdict} {k : ℕ} → v ≡ inputVerdict b → k ≡ refusalNumber v → k ≢ 0
+    → memory ≡ memoryAfter b memory
+unfolding memoryAfter
+memory-refused b memory {v} {k} ev ek h =
+    sym (ap (λ t. cond t (runIn b .state .mem) memory) (not-eq (λ (q : refusalNumber v ≡ 0). h (ek ∙ q))))
+    ∙ ap (λ (w : Verdict). left w b memory) ev

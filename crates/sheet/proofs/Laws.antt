@@ -14,8 +14,7 @@ use Rattle.machine.specs.Record.{fourAt}
 use Rattle.machine.specs.Run.{Run}
 use Rattle.machine.specs.Refusal.{recordFits, eventsFit, verdictOf}
 use Rattle.machine_laws.proofs.Cases.{bool-cases, not-lt, not-le, lt-of, ge-of}
-use Rattle.sheet.specs.Sheet.{stepsIn, recordIn, memoryIn, eventsIn, inputVerdict, answered, sheetOf}
-use Rattle.sheet.specs.Parts.{runIn}
+use Rattle.sheet.specs.Sheet.{stepsIn, recordIn, memoryIn, eventsIn, inputVerdict, runIn, answered, sheetOf}
 
 -- a part that lies within the first k elements
 part-take : (n m k : ℕ) (b : List ℕ) → m + n ≤ k → take n (drop m (take k b)) ≡ take n (drop m b)

@@ -5,7 +5,7 @@ use mathlib.Core.Path.{_≡_, refl, sym, ap, _∙_}
 use mathlib.Core.Bool.{Bool, true, false, cond}
 use mathlib.Core.List.{List, [], _∷_, _++_, append-assoc}
 use native.Mathlib.Numerals.{add-one}
-use lib.ListN.{length, getD, set, take}
+use lib.ListN.{length, getD, set, take, drop}
 use lib.Seq.{take-suc, take-suc-set, take-all}
 use mir.Syntax.{w8}
 use mir.Val.{Fits, boolByte}
@@ -15,6 +15,7 @@ use Rattle.machine.specs.declared.Reason.the-variants.{Done, Halted}
 use Rattle.machine.specs.State.{stateOf}
 use Rattle.machine.specs.Run.{ran, reasonNumber}
 use Rattle.text.specs.Text.{hexOf, decimalOf}
+use Rattle.text.proofs.Laws.{kept-twice}
 use Rattle.sheet.specs.Sheet.{spaced, lineOf, refusedLine}
 use Rattle.sheet.specs.Parts.{wordsText, machineText}
 
@@ -91,6 +92,11 @@ pub refusal-text : (n : ℕ) {x y z : List ℕ}
     → z ≡ y ++ (10 ∷ [])
     → z ≡ refusedLine n
 refusal-text n ea eb ec = rw (ec, eb, ea)
+
+-- three writes, each up to its own end: from the last end on all is as before them
+pub kept-thrice : (a b c : ℕ) (x y z w : List ℕ) → a ≤ b → b ≤ c
+    → drop a y ≡ drop a x → drop b z ≡ drop b y → drop c w ≡ drop c z → drop c w ≡ drop c x
+kept-thrice a b c x y z w hb hc first second third = kept-twice b c x z w hc (kept-twice a b x y z hb first second) third
 
 -- ---- a list copied element by element
 

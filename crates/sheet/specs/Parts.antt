@@ -1,19 +1,11 @@
--- What single functions work out: the run that an input asks for, and parts of its line (document 01, "Sheet for the
--- markers").
+-- Parts of the line, as single functions write them (document 01, "Sheet for the markers").
 -- Assumes nothing.
 use Prim.Native.Nat.{ℕ}
 use mathlib.Core.List.{List, [], _∷_, _++_}
 use lib.ListN.{getD}
 use Rattle.machine.specs.declared.Machine.{Machine}
-use Rattle.machine.specs.Record.{stateIn}
-use Rattle.machine.specs.Events.{eventsOf}
-use Rattle.machine.specs.Run.{Run, runOf}
 use Rattle.text.specs.Text.{hexOf}
-use Rattle.sheet.specs.Sheet.{stepsIn, recordIn, memoryIn, eventsIn, spaced}
-
--- the run that an accepted input asks for. [01 Sheet for the markers]
-abbrev pub runIn : List ℕ → Run
-runIn b = runOf (eventsOf (eventsIn b)) (stateIn (recordIn b) (memoryIn b)) (stepsIn b)
+use Rattle.sheet.specs.Sheet.{spaced}
 
 -- four words in a row, each after a space. [01 Sheet for the markers]
 abbrev pub wordsText : (a b c d : ℕ) → List ℕ

@@ -34,6 +34,10 @@ inputVerdict b =
     (cond (ltb (length b) 65572) MemoryLength
     (verdictOf (memoryIn b) (recordIn b) (eventsIn b) (stepsIn b)))
 
+-- the run that an accepted input asks for. [01 Sheet for the markers]
+abbrev pub runIn : List ℕ → Run
+runIn b = runOf (eventsOf (eventsIn b)) (stateIn (recordIn b) (memoryIn b)) (stepsIn b)
+
 -- a field after a single space
 abbrev pub spaced : List ℕ → List ℕ
 spaced t = 32 ∷ t
@@ -67,5 +71,8 @@ answered v x = cond (accepted? v) (lineOf x) (refusedLine (refusalNumber v))
 
 -- the line printed for an input. [01 Sheet for the markers]
 unfoldable pub sheetOf : List ℕ → List ℕ
-sheetOf b =
-    answered (inputVerdict b) (runOf (eventsOf (eventsIn b)) (stateIn (recordIn b) (memoryIn b)) (stepsIn b))
+sheetOf b = answered (inputVerdict b) (runIn b)
+
+-- the memory lent for the run: the run's, or as handed over where the input is refused. [01 Who can be turned back]
+unfoldable pub memoryAfter : (b memory : List ℕ) → List ℕ
+memoryAfter b memory = cond (accepted? (inputVerdict b)) (runIn b .state .mem) memory

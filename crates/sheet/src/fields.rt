@@ -1,9 +1,9 @@
-// Fields of the line, appended to a buffer: each function writes from `at` on, leaves what stands
-// before, and returns the place after the last byte written.
+// Fields of the line, put into a buffer: each function writes from `at` on, returns the place after
+// the last byte written, and leaves what stands before `at` and from that place on.
 ghost use mathlib.Core.Path.{_≡_};
 ghost use mathlib.Core.List.{_++_};
 ghost use Prim.Native.Nat.{_+_, _≤_, _<_};
-ghost use lib.ListN.{length, take};
+ghost use lib.ListN.{length, take, drop};
 ghost use Rattle.text.specs.Text.{hexOf};
 ghost use Rattle.sheet.specs.Sheet.{spaced};
 ghost use Rattle.sheet.specs.Parts.{wordsText};
@@ -15,7 +15,7 @@ pub fn put_field(out: &mut [u8], at: usize, k: usize, n: u32) -> usize
     requires { ⌜ at + k < length (now out) ⌝ }
     ensures { λ r.
         ⌜ (take r (now (out .exit)) ≡ take at (now (out .entry)) ++ spaced (hexOf k n))
-        × (r ≡ at + k + 1) ⌝ }
+        × (r ≡ at + k + 1) × (drop r (now (out .exit)) ≡ drop r (now (out .entry))) ⌝ }
 {
     let next = put(out, at, b' ');
     put_hex(out, next, k, n)
@@ -26,7 +26,7 @@ pub fn put_words(out: &mut [u8], at: usize, a: u16, b: u16, c: u16, d: u16) -> u
     requires { ⌜ at + 20 ≤ length (now out) ⌝ }
     ensures { λ r.
         ⌜ (take r (now (out .exit)) ≡ take at (now (out .entry)) ++ wordsText a b c d)
-        × (r ≡ at + 20) ⌝ }
+        × (r ≡ at + 20) × (drop r (now (out .exit)) ≡ drop r (now (out .entry))) ⌝ }
 {
     let second = put_field(out, at, 4, a as u32);
     let third = put_field(out, second, 4, b as u32);

@@ -5,16 +5,17 @@ mod line;
 
 ghost use mathlib.Core.Path.{_≡_};
 ghost use Prim.Native.Nat.{_≤_};
-ghost use lib.ListN.{length, take};
+ghost use lib.ListN.{length, take, drop};
 ghost use Rattle.machine.specs.declared.Verdict.the-variants.{Accepted};
-ghost use Rattle.sheet.specs.Sheet.{inputVerdict, lineOf, sheetOf};
-ghost use Rattle.sheet.specs.Parts.{runIn};
+ghost use Rattle.sheet.specs.Sheet.{inputVerdict, runIn, lineOf, sheetOf, memoryAfter};
 
 // The line of an accepted input, whose memory is copied out and run on.
 fn put_run(input: &[u8], memory: &mut [u8], out: &mut [u8]) -> usize
     requires { ⌜ (inputVerdict (now input) ≡ Accepted) × (length (now memory) ≡ 65536)
         × (length (now out) ≡ 64) ⌝ }
     ensures line { λ r. ⌜ take r (now (out .exit)) ≡ lineOf (runIn (now (input .entry))) ⌝ }
+    ensures memory { λ r. ⌜ now (memory .exit) ≡ runIn (now (input .entry)) .state .mem ⌝ }
+    ensures kept { λ r. ⌜ drop r (now (out .exit)) ≡ drop r (now (out .entry)) ⌝ }
     ensures fits { λ r. ⌜ r ≤ 64 ⌝ }
 {
     cut::copy(cut::part(input, 36, 65572), memory);
@@ -25,10 +26,13 @@ fn put_run(input: &[u8], memory: &mut [u8], out: &mut [u8]) -> usize
     line::put_line(out, done.machine, done.steps)
 }
 
-// The line printed for an input, at the start of `out`; the result is its length. `memory` is
-// written over.
+// The line printed for an input, at the start of `out`; the result is its length. What stands past
+// the line stays; `memory` becomes the run's, and stays where the input is refused.
 pub fn sheet(input: &[u8], memory: &mut [u8; 65536], out: &mut [u8; 64]) -> usize
     ensures line { λ r. ⌜ take r (now (out .exit)) ≡ sheetOf (now (input .entry)) ⌝ }
+    ensures memory { λ r. ⌜ now (memory .exit)
+        ≡ memoryAfter (now (input .entry)) (now (memory .entry)) ⌝ }
+    ensures kept { λ r. ⌜ drop r (now (out .exit)) ≡ drop r (now (out .entry)) ⌝ }
     ensures fits { λ r. ⌜ (r ≤ 64) × (length (now (out .exit)) ≡ 64) ⌝ }
 {
     let refused = refusal::refusal_number(cut::verdict(input));

@@ -1,8 +1,8 @@
-// The line that is printed: of a run, or of a refusal.
+// The line that is printed: of a run, or of a refusal. What stands past it is left.
 ghost use mathlib.Core.Path.{_≡_};
 ghost use mathlib.Core.List.{List, _++_};
 ghost use Prim.Native.Nat.{ℕ, _+_, _≤_};
-ghost use lib.ListN.{length, take};
+ghost use lib.ListN.{length, take, drop};
 ghost use Rattle.machine.specs.State.{stateOf};
 ghost use Rattle.machine.specs.Run.{ran};
 ghost use Rattle.sheet.specs.Sheet.{lineOf, refusedLine};
@@ -18,7 +18,7 @@ fn put_machine(out: &mut [u8], at: usize, m: Machine) -> usize
     requires { ⌜ at + 52 ≤ length (now out) ⌝ }
     ensures { λ r.
         ⌜ (take r (now (out .exit)) ≡ take at (now (out .entry)) ++ machineText m)
-        × (r ≡ at + 52) ⌝ }
+        × (r ≡ at + 52) × (drop r (now (out .exit)) ≡ drop r (now (out .entry))) ⌝ }
 {
     let regs = m.regs;
     let r4 = put_words(out, at, regs[0], regs[1], regs[2], regs[3]);
@@ -34,6 +34,7 @@ pub fn put_line(out: &mut [u8], m: Machine, steps: u32) -> usize
     requires { ⌜ length (now out) ≡ 64 ⌝ }
     ensures line { λ r.
         ⌜ ((mem : List ℕ) → take r (now (out .exit)) ≡ lineOf (ran (stateOf m mem) steps)) ⌝ }
+    ensures kept { λ r. ⌜ drop r (now (out .exit)) ≡ drop r (now (out .entry)) ⌝ }
     ensures fits { λ r. ⌜ r ≤ 64 ⌝ }
 {
     let space = put(out, 0, 48 + m.halted as u8);
@@ -46,6 +47,7 @@ pub fn put_line(out: &mut [u8], m: Machine, steps: u32) -> usize
 pub fn put_refusal(out: &mut [u8], refused: u64) -> usize
     requires { ⌜ (length (now out) ≡ 64) × (refused ≤ 255) ⌝ }
     ensures line { λ r. ⌜ take r (now (out .exit)) ≡ refusedLine refused ⌝ }
+    ensures kept { λ r. ⌜ drop r (now (out .exit)) ≡ drop r (now (out .entry)) ⌝ }
     ensures fits { λ r. ⌜ r ≤ 64 ⌝ }
 {
     let digits = put(out, 0, b'R');

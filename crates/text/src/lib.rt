@@ -1,16 +1,17 @@
-// Text appended to a buffer: each function writes from `at` on, leaves what stands before, and
-// returns the place after the last byte written.
+// Text put into a buffer: each function writes from `at` on, returns the place after the last byte
+// written, and leaves what stands before `at` and from that place on.
 ghost use mathlib.Core.Path.{_≡_};
 ghost use mathlib.Core.List.{[], _∷_, _++_};
 ghost use Prim.Native.Nat.{_+_, _≤_, _<_};
-ghost use lib.ListN.{length, take};
+ghost use lib.ListN.{length, take, drop};
 ghost use Rattle.text.specs.Text.{glyph, hexOf, decimalOf};
 
 // One byte.
 pub fn put(out: &mut [u8], at: usize, b: u8) -> usize
     requires { ⌜ at < length (now out) ⌝ }
     ensures { λ r.
-        ⌜ (take r (now (out .exit)) ≡ take at (now (out .entry)) ++ (b ∷ [])) × (r ≡ at + 1) ⌝ }
+        ⌜ (take r (now (out .exit)) ≡ take at (now (out .entry)) ++ (b ∷ [])) × (r ≡ at + 1)
+        × (drop r (now (out .exit)) ≡ drop r (now (out .entry))) ⌝ }
 {
     out[at] = b;
     at + 1
@@ -28,7 +29,8 @@ pub fn digit(d: u32) -> u8
 pub fn put_hex(out: &mut [u8], at: usize, k: usize, n: u32) -> usize
     requires { ⌜ at + k ≤ length (now out) ⌝ }
     ensures { λ r.
-        ⌜ (take r (now (out .exit)) ≡ take at (now (out .entry)) ++ hexOf k n) × (r ≡ at + k) ⌝ }
+        ⌜ (take r (now (out .exit)) ≡ take at (now (out .entry)) ++ hexOf k n) × (r ≡ at + k)
+        × (drop r (now (out .exit)) ≡ drop r (now (out .entry))) ⌝ }
 {
     if k == 0 {
         return at;
@@ -42,7 +44,8 @@ pub fn put_decimal(out: &mut [u8], at: usize, k: usize, n: u32) -> usize
     requires { ⌜ at + k < length (now out) ⌝ }
     ensures { λ r.
         ⌜ (take r (now (out .exit)) ≡ take at (now (out .entry)) ++ decimalOf k n)
-        × (r ≤ at + k + 1) ⌝ }
+        × (r ≤ at + k + 1) × (at < r)
+        × (drop r (now (out .exit)) ≡ drop r (now (out .entry))) ⌝ }
 {
     if k == 0 || n < 10 {
         return put(out, at, digit(n % 10));

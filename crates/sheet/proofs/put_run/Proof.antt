@@ -2,7 +2,7 @@ use mathlib.Core.Path.{sym, ap, _∙_}
 use native.Mathlib.Omega.{arith}
 use lib.ListN.{length}
 use borrow.Author.Needs.{needs}
-use Rattle.sheet.proofs.Inputs.{ready, part-length, run-ready, line-of-parts}
+use Rattle.sheet.proofs.Inputs.{ready, part-length, run-ready, run-of-parts}
 use Rattle.sheet.proofs.put_run.Statement.{statement}
 use Rattle.sheet.proofs.put_run.Tie as tie
 
@@ -77,8 +77,8 @@ returns c =
     let at-copy = at-four-at .before .before .before in
     let at-part = at-copy .before .before in
     let entry = at-part .before .before .before .before in
-    let line =
-    line-of-parts (entry .args .input .now) (at-read-record .read-record .result) (at-run .run .result .machine)
+    let done =
+    run-of-parts (entry .args .input .now) (at-read-record .read-record .result) (at-run .run .result .machine)
     (at-copy .copy .ensures ∙ at-part .part .ensures)
     (at-four-at .four-at .ensures)
     (at-part2 .part2 .ensures)
@@ -86,7 +86,7 @@ returns c =
     (at-part3 .part3 .ensures)
     (at-run .run .ensures .0)
     (at-put-line .put-line .ensures .0) in
-    (line, at-put-line .put-line .ensures .1)
+    (done .0, (done .1, at-put-line .put-line .ensures .1))
 
 pub put-run-spec : {M : Type 1} → statement M
 put-run-spec =

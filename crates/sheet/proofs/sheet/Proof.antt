@@ -1,7 +1,7 @@
 use mathlib.Core.Path.{sym, _∙_}
 use native.Mathlib.Omega.{arith}
 use borrow.Author.Needs.{needs}
-use Rattle.sheet.proofs.Inputs.{accepted-of, sheet-accepted, sheet-refused}
+use Rattle.sheet.proofs.Inputs.{accepted-of, sheet-accepted, sheet-refused, memory-accepted, memory-refused}
 use Rattle.sheet.proofs.sheet.Statement.{statement}
 use Rattle.sheet.proofs.sheet.Tie as tie
 
@@ -22,7 +22,10 @@ returns c =
     let line =
     sheet-refused (entry .args .input .now) (at-verdict .verdict .ensures) (at-number .refusal-number .ensures .0)
     (c .before .before .if1 .taken) in
-    (c .put-refusal .ensures .0 ∙ line, (c .put-refusal .ensures .1, omega arith))
+    let memory =
+    memory-refused (entry .args .input .now) (entry .args .memory .now) (at-verdict .verdict .ensures)
+    (at-number .refusal-number .ensures .0) (c .before .before .if1 .taken) in
+    (c .put-refusal .ensures .0 ∙ line, (memory, (c .put-refusal .ensures .1 .0, (c .put-refusal .ensures .1 .1, omega arith))))
 
 put-run-requires : tie.Need-put-run-requires
 put-run-requires c κs =
@@ -40,7 +43,10 @@ returns-2 c =
     let entry = at-verdict .before .before in
     let accepted =
     accepted-of (entry .args .input .now) (at-verdict .verdict .ensures) (at-if1 .before .refusal-number .ensures .0) (at-if1 .if1 .left) in
-    (c .put-run .ensures .0 ∙ sym (sheet-accepted (entry .args .input .now) accepted), (c .put-run .ensures .1, omega arith))
+    let memory = sym (memory-accepted (entry .args .input .now) (entry .args .memory .now) accepted) in (
+      c .put-run .ensures .0 ∙ sym (sheet-accepted (entry .args .input .now) accepted),
+      (c .put-run .ensures .1 .0 ∙ memory, (c .put-run .ensures .1 .1 .0, (c .put-run .ensures .1 .1 .1, omega arith))),
+    )
 
 pub sheet-spec : {M : Type 1} → statement M
 sheet-spec =

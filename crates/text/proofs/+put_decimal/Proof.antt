@@ -6,7 +6,7 @@ use borrow.Author.Needs.{needs}
 use borrow.Author.Tests.{ltb-true, ltb-false}
 use borrow.Fn.Kinds.{In}
 use borrow.Fn.PlainCycle.{Measures, is, falls, and}
-use Rattle.text.proofs.Laws.{decimal-last, decimal-low, decimal-more}
+use Rattle.text.proofs.Laws.{decimal-last, decimal-low, decimal-more, kept-twice}
 use Rattle.text.proofs.put_decimal.Reads as put-decimal
 use Rattle.text.proofs.put_decimal.Kinds as put-decimal-kinds
 use Rattle.text.proofs.+put_decimal.Lts-put_decimal as put-decimal-lts
@@ -72,7 +72,7 @@ put-decimal-returns t c =
     let one =
     ⊎-elim (λ w. decimal-last _ _ (omega arith)) (λ w. decimal-low (entry .args .k) (entry .args .n) (omega (arith, ltb-true)))
     (at-if1 .if1 .came) in
-    (rw (at-put .put .ensures .0, at-digit .digit .ensures, one), omega arith)
+    (rw (at-put .put .ensures .0, at-digit .digit .ensures, one), omega arith, omega arith, at-put .put .ensures .2)
 
 put-decimal-sub-put-decimal : (t : ℕ) → put-decimal-lts.Need-sub-put-decimal (
   digit-reads.Asked,
@@ -137,7 +137,12 @@ put-decimal-returns-2 t c =
     let at-digit2 = at-put2 .before in
     let at-put-decimal = at-digit2 .before .before .before .before in
     let at-if2 = at-put-decimal .before .before in
-    let at-if1 = at-if2 .before in (
+    let at-if1 = at-if2 .before in
+    let entry = at-if1 .before .before in
+    let kept =
+    kept-twice (at-put-decimal .put-decimal .result) (at-put2 .put2 .result)
+    (entry .args .out .now) (at-put-decimal .put-decimal .last .0) (at-put2 .put2 .last .0) (omega arith)
+    (at-put-decimal .put-decimal .ensures .3) (at-put2 .put2 .ensures .2) in (
       rw (
         at-put2 .put2 .ensures .0,
         at-put-decimal .put-decimal .ensures .0,
@@ -146,6 +151,8 @@ put-decimal-returns-2 t c =
         at-digit2 .digit2 .ensures,
       ),
       omega arith,
+      omega arith,
+      kept,
     )
 
 pub +put-decimal-spec : {M : Type 1} → statement M

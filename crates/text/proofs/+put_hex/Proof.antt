@@ -1,10 +1,11 @@
 use Prim.Native.Nat.{ℕ, _<_}
+use mathlib.Core.Path.{refl}
 use mathlib.Core.List.{append-assoc}
 use native.Mathlib.Omega.{arith}
 use borrow.Author.Needs.{needs}
 use borrow.Fn.Kinds.{In}
 use borrow.Fn.PlainCycle.{Measures, is, falls, and}
-use Rattle.text.proofs.Laws.{hex-none, hex-more}
+use Rattle.text.proofs.Laws.{hex-none, hex-more, kept-twice}
 use Rattle.text.proofs.put_hex.Reads as put-hex
 use Rattle.text.proofs.put_hex.Kinds as put-hex-kinds
 use Rattle.text.proofs.+put_hex.Lts-put_hex as put-hex-lts
@@ -30,7 +31,7 @@ put-hex-returns : (t : ℕ) → put-hex-lts.Need-returns (
   put-reads.Asked,
   put-reads.Learnt,
 ) (put-hex-at t) put-hex.Post
-put-hex-returns t c = (hex-none _ _ _ (c .if1 .taken), omega arith)
+put-hex-returns t c = (hex-none _ _ _ (c .if1 .taken), omega arith, refl)
 
 put-hex-sub-put-hex : (t : ℕ) → put-hex-lts.Need-sub-put-hex (
   put-hex-below t,
@@ -97,7 +98,11 @@ put-hex-returns-2 t c =
     let at-if1 = at-put-hex .before .before in
     let entry = at-if1 .before .before in
     let more = hex-more (entry .args .k) (entry .args .n) (at-if1 .if1 .left) in
-    (rw (at-put .put .ensures .0, at-put-hex .put-hex .ensures .0, append-assoc, more, at-digit .digit .ensures), omega arith)
+    let kept =
+    kept-twice (at-put-hex .put-hex .result) (at-put .put .result)
+    (entry .args .out .now) (at-put-hex .put-hex .last .0) (at-put .put .last .0) (omega arith)
+    (at-put-hex .put-hex .ensures .2) (at-put .put .ensures .2) in
+    (rw (at-put .put .ensures .0, at-put-hex .put-hex .ensures .0, append-assoc, more, at-digit .digit .ensures), omega arith, kept)
 
 pub +put-hex-spec : {M : Type 1} → statement M
 +put-hex-spec = close μ-put-hex λ t. put-hex-lts.spec (

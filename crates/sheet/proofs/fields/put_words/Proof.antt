@@ -1,7 +1,8 @@
 use native.Mathlib.Omega.{arith}
 use lib.ListN.{take}
 use borrow.Author.Needs.{needs}
-use Rattle.sheet.proofs.Texts.{words-text}
+use Rattle.text.proofs.Laws.{kept-twice}
+use Rattle.sheet.proofs.Texts.{words-text, kept-thrice}
 use Rattle.sheet.proofs.fields.put_words.Statement.{statement}
 use Rattle.sheet.proofs.fields.put_words.Tie as tie
 
@@ -33,7 +34,17 @@ returns c =
     (at-put-field2 .put-field2 .ensures .0)
     (at-put-field3 .put-field3 .ensures .0)
     (at-put-field4 .put-field4 .ensures .0) in
-    (line, omega arith)
+    let second = at-put-field2 .put-field2 .result in
+    let third = at-put-field3 .put-field3 .result in
+    let two =
+    kept-twice (at-put-field .put-field .result) second
+    (entry .args .out .now) (at-put-field .put-field .last .0) (at-put-field2 .put-field2 .last .0) (omega arith)
+    (at-put-field .put-field .ensures .2) (at-put-field2 .put-field2 .ensures .2) in
+    let kept =
+    kept-thrice second third (at-put-field4 .put-field4 .result)
+    (entry .args .out .now) (at-put-field2 .put-field2 .last .0) (at-put-field3 .put-field3 .last .0) (at-put-field4 .put-field4 .last .0)
+    (omega arith) (omega arith) two (at-put-field3 .put-field3 .ensures .2) (at-put-field4 .put-field4 .ensures .2) in
+    (line, omega arith, kept)
 
 pub put-words-spec : {M : Type 1} → statement M
 put-words-spec =

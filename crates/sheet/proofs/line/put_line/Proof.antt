@@ -1,6 +1,7 @@
 use native.Mathlib.Omega.{arith}
 use borrow.Author.Needs.{needs}
-use Rattle.sheet.proofs.Texts.{line-text, reason-fits}
+use Rattle.text.proofs.Laws.{kept-twice}
+use Rattle.sheet.proofs.Texts.{line-text, reason-fits, kept-thrice}
 use Rattle.sheet.proofs.line.put_line.Statement.{statement}
 use Rattle.sheet.proofs.line.put_line.Tie as tie
 
@@ -38,7 +39,16 @@ returns c =
     (at-put2 .put2 .ensures .0)
     (at-put-decimal .put-decimal .ensures .0)
     (at-put-machine .put-machine .ensures .0) in
-    (line, omega arith)
+    let second = at-put2 .put2 .result in
+    let two =
+    kept-twice (at-put .put .result) second
+    (entry .args .out .now) (at-put .put .last .0) (at-put2 .put2 .last .0) (omega arith)
+    (at-put .put .ensures .2) (at-put2 .put2 .ensures .2) in
+    let kept =
+    kept-thrice second (at-put-decimal .put-decimal .result) (at-put-machine .put-machine .result)
+    (entry .args .out .now) (at-put2 .put2 .last .0) (at-put-decimal .put-decimal .last .0) (at-put-machine .put-machine .last .0)
+    (omega arith) (omega arith) two (at-put-decimal .put-decimal .ensures .3) (at-put-machine .put-machine .ensures .2) in
+    (line, (kept, omega arith))
 
 pub put-line-spec : {M : Type 1} → statement M
 put-line-spec =

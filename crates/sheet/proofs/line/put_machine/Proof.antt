@@ -1,7 +1,8 @@
 use native.Mathlib.Omega.{arith}
 use lib.ListN.{take}
 use borrow.Author.Needs.{needs}
-use Rattle.sheet.proofs.Texts.{machine-text}
+use Rattle.text.proofs.Laws.{kept-twice}
+use Rattle.sheet.proofs.Texts.{machine-text, kept-thrice}
 use Rattle.sheet.proofs.line.put_machine.Statement.{statement}
 use Rattle.sheet.proofs.line.put_machine.Tie as tie
 
@@ -95,7 +96,23 @@ returns c =
     (at-put-field .put-field .ensures .0)
     (at-put-field2 .put-field2 .ensures .0)
     (at-put-field3 .put-field3 .ensures .0)
-    (at-put .put .ensures .0) in (
+    (at-put .put .ensures .0) in
+    let r2 = at-put-words2 .put-words2 .result in
+    let r4 = at-put-field2 .put-field2 .result in
+    let out2 = at-put-words2 .put-words2 .last .0 in
+    let out4 = at-put-field2 .put-field2 .last .0 in
+    let two =
+    kept-twice (at-put-words .put-words .result) r2 (entry .args .out .now) (at-put-words .put-words .last .0) out2
+    (omega (arith, at-put-words2 .put-words2 .ensures .1)) (at-put-words .put-words .ensures .2) (at-put-words2 .put-words2 .ensures .2) in
+    let four =
+    kept-thrice r2 (at-put-field .put-field .result) r4 (entry .args .out .now) out2 (at-put-field .put-field .last .0) out4
+    (omega (arith, at-put-field .put-field .ensures .1)) (omega (arith, at-put-field2 .put-field2 .ensures .1))
+    two (at-put-field .put-field .ensures .2) (at-put-field2 .put-field2 .ensures .2) in
+    let kept =
+    kept-thrice r4 (at-put-field3 .put-field3 .result) (at-put .put .result)
+    (entry .args .out .now) out4 (at-put-field3 .put-field3 .last .0) (at-put .put .last .0)
+    (omega (arith, at-put-field3 .put-field3 .ensures .1)) (omega (arith, at-put .put .ensures .1))
+    four (at-put-field3 .put-field3 .ensures .2) (at-put .put .ensures .2) in (
       line,
       omega (
         arith,
@@ -106,6 +123,7 @@ returns c =
         at-put-field3 .put-field3 .ensures .1,
         at-put .put .ensures .1,
       ),
+      kept,
     )
 
 pub put-machine-spec : {M : Type 1} → statement M

@@ -1,6 +1,6 @@
 use native.Mathlib.Omega.{arith}
 use borrow.Author.Needs.{needs}
-use Rattle.sheet.proofs.Texts.{refusal-text}
+use Rattle.sheet.proofs.Texts.{refusal-text, kept-thrice}
 use Rattle.sheet.proofs.line.put_refusal.Statement.{statement}
 use Rattle.sheet.proofs.line.put_refusal.Tie as tie
 
@@ -30,7 +30,11 @@ returns c =
     (at-put .put .ensures .0)
     (at-put-decimal .put-decimal .ensures .0)
     (at-put2 .put2 .ensures .0) in
-    (line, omega arith)
+    let kept =
+    kept-thrice (at-put .put .result) (at-put-decimal .put-decimal .result) (at-put2 .put2 .result)
+    (entry .args .out .now) (at-put .put .last .0) (at-put-decimal .put-decimal .last .0) (at-put2 .put2 .last .0)
+    (omega arith) (omega arith) (at-put .put .ensures .2) (at-put-decimal .put-decimal .ensures .3) (at-put2 .put2 .ensures .2) in
+    (line, (kept, omega arith))
 
 pub put-refusal-spec : {M : Type 1} → statement M
 put-refusal-spec =

@@ -18,7 +18,7 @@ enum { C = 1, Z = 2, N = 4, SLP = 8, V = 16, FLT = 256 };
 enum { IE = 1, INPUT = 2, DBA = 4, OF = 8, ENA = 16 };
 enum { LR = 5, SP = 6, PC = 7, DEVICES = 16, VECTORS = 0xFFC0 };
 
-/* Why a stretch of instructions ended: to be looked at again, a fault 8 or 10, or SVC to vector code - TRAP. */
+/* Why a stretch of instructions ended: to be looked at again, a fault 8, 9 or 10, or SVC to vector code - TRAP. */
 enum { LOOK = 0, TRAP = 16 };
 
 #define unlikely(x) __builtin_expect(!!(x), 0)
@@ -262,8 +262,8 @@ static const uint16_t constants[8] = {0, 1, 2, 4, 8, 16, 32, 0xFFFF};
 #define LOAD(name, by, before, byte)                                                                                   \
     name: {                                                                                                            \
         unsigned s = S, d = D, a = (uint16_t)(r[s] + (before ? by : 0)), v;                                            \
-        if (!byte)                                                                                                     \
-            a &= 0xFFFE;                                                                                               \
+        if (unlikely(!byte && (a & 1)))                                                                                \
+            goto odd;                                                                                                  \
         if (unlikely(a < DEVICES))                                                                                     \
             v = load_device(mem, a, byte);                                                                             \
         else                                                                                                           \
@@ -287,8 +287,8 @@ static const uint16_t constants[8] = {0, 1, 2, 4, 8, 16, 32, 0xFFFF};
 #define STORE(name, by, before, byte)                                                                                  \
     name: {                                                                                                            \
         unsigned d = D, a = (uint16_t)(r[d] + (before ? by : 0)), v = r[S];                                            \
-        if (!byte)                                                                                                     \
-            a &= 0xFFFE;                                                                                               \
+        if (unlikely(!byte && (a & 1)))                                                                                \
+            goto odd;                                                                                                  \
         WRITE(a, v, byte);                                                                                             \
         if (by)                                                                                                        \
             r[d] = (uint16_t)(r[d] + by);                                                                              \
@@ -498,7 +498,9 @@ movls:
 movh:
     PUT(D, (r[D] & 0xFF) | (w << 5 & 0xFF00));
 ldr_w: {
-    unsigned a = (unsigned)(r[S] + ((int16_t)(w << 2) >> 9)) & 0xFFFE;
+    unsigned a = (unsigned)(r[S] + ((int16_t)(w << 2) >> 9)) & 0xFFFF;
+    if (unlikely(a & 1))
+        goto odd;
     PUT(D, unlikely(a < DEVICES) ? load_device(mem, a, 0) : two(mem + a));
 }
 ldr_b: {
@@ -506,7 +508,9 @@ ldr_b: {
     PUT_BYTE(D, unlikely(a < DEVICES) ? load_device(mem, a, 1) : mem[a]);
 }
 str_w: {
-    unsigned a = (unsigned)(r[D] + ((int16_t)(w << 2) >> 9)) & 0xFFFE, v = r[S];
+    unsigned a = (unsigned)(r[D] + ((int16_t)(w << 2) >> 9)) & 0xFFFF, v = r[S];
+    if (unlikely(a & 1))
+        goto odd;
     WRITE(a, v, 0);
     if (unlikely(a >= VECTORS))
         goto look;
@@ -521,6 +525,9 @@ str_b: {
 }
 illegal:
     *code = 8;
+    goto end;
+odd:
+    *code = 9;
     goto end;
 jumped:
     pc = r[PC];

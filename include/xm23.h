@@ -24,7 +24,7 @@ extern "C" {
 /* ---- version: of this header, as one number; xm23_version gives that of the library */
 
 #define XM23_VERSION_MAJOR 0
-#define XM23_VERSION_MINOR 11
+#define XM23_VERSION_MINOR 12
 #define XM23_VERSION_PATCH 0
 #define XM23_VERSION (XM23_VERSION_MAJOR * 65536 + XM23_VERSION_MINOR * 256 + XM23_VERSION_PATCH)
 

@@ -180,13 +180,21 @@ pub const OF_01: [&str; 25] = [
 ];
 
 /// The cases of the change requests of 02.
-pub const OF_02: [&str; 6] = [
+pub const OF_02: [&str; 14] = [
     "02-3-one-device-twice-on-a-step",
     "02-3-one-step-of-all-devices",
     "02-3-the-step-after",
     "02-3-other-data",
     "02-3-before-the-sitting",
     "02-3-order-first",
+    "02-6-word-store-takes-nothing",
+    "02-6-effective-address",
+    "02-6-byte-accesses",
+    "02-6-pushes-drop-bit-0",
+    "02-6-entry-and-return-at-an-odd-sp",
+    "02-6-cex-count-lowered",
+    "02-6-with-flt-set",
+    "02-6-device-word",
 ];
 
 /// Every case of the repository, by name. A mistake in one is a panic.

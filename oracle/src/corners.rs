@@ -2,7 +2,7 @@
 //! after the step, so a few steps that overwrite their own vector are judged by what they wrote.
 
 use crate::alu::{FLT, SLP, Z};
-use crate::isa::Instr;
+use crate::isa::{decode, Instr};
 use crate::machine::{current, vector_priority, word_at, Act, Machine, Trace, DEVICES, INPUT, LR, PC, SP, VECTORS};
 
 /// A step as the oracle shows it. The machine `before` is that before the due events, the memory that after the step.
@@ -128,16 +128,25 @@ impl Seen<'_> {
         }
     }
 
-    /// The address of a word access before bit 0 is dropped, but for adjustments, which keep it.
-    fn word_address(&self) -> Option<u16> {
+    /// The instruction of a fault 9 that is no odd PC's: a word access at an odd address, entered or halting.
+    pub fn odd_access(&self) -> Option<Instr> {
+        match self.trace.act {
+            Act::Fault(9) | Act::Halt(9) => self.trace.word.map(decode),
+            _ => None,
+        }
+    }
+
+    /// The address of a word access, an odd one too.
+    pub fn word_address(&self) -> Option<u16> {
+        let before = |prpo: u8, dec: u8, inc: u8| 2 * i16::from(prpo) * (i16::from(inc) - i16::from(dec));
         let base = |register: u8, offset: i16| {
             let register = usize::from(register);
             let next = if register == PC { 2 } else { 0 };
             self.before.regs[register].wrapping_add(next).wrapping_add(offset as u16)
         };
-        match self.instr()? {
-            Instr::Ld { wb: 0, src, .. } => Some(base(src, 0)),
-            Instr::St { wb: 0, dst, .. } => Some(base(dst, 0)),
+        match self.instr().or(self.odd_access())? {
+            Instr::Ld { prpo, dec, inc, wb: 0, src, .. } => Some(base(src, before(prpo, dec, inc))),
+            Instr::St { prpo, dec, inc, wb: 0, dst, .. } => Some(base(dst, before(prpo, dec, inc))),
             Instr::Ldr { wb: 0, src, offset, .. } => Some(base(src, offset)),
             Instr::Str { wb: 0, dst, offset, .. } => Some(base(dst, offset)),
             _ => None,
@@ -210,7 +219,8 @@ const BLOCKS: &[Corner] = &[
         !branch && s.clears_cex()
     }),
     ("fault 8 in a block", |s| s.trace.act == Act::Fault(8)),
-    ("fault 9 in a block", |s| s.trace.act == Act::Fault(9)),
+    ("an odd PC in a block", |s| s.trace.act == Act::Fault(9) && s.odd_access().is_none()),
+    ("an odd word access in a block", |s| s.trace.act == Act::Fault(9) && s.odd_access().is_some()),
     ("fault 10 in a block", |s| s.trace.act == Act::Fault(10)),
     ("a halt in a block", |s| s.halts()),
     ("SVC in a block", |s| matches!(s.trace.act, Act::Trap(_))),
@@ -249,6 +259,19 @@ const ENTRIES: &[Corner] = &[
     ("a pull of a PC that is #FFFF", |s| s.pulls() && s.after.regs[PC] == 0xFFFF),
     ("a return with LR that is not #FFFF", |s| s.pulls() && s.before.regs[LR] != 0xFFFF),
     ("a halt with an event in its step", |s| s.halts() && !s.trace.due.is_empty()),
+    ("LD of an odd word", |s| !s.halts() && matches!(s.odd_access(), Some(Instr::Ld { .. }))),
+    ("ST to an odd word", |s| !s.halts() && matches!(s.odd_access(), Some(Instr::St { .. }))),
+    ("LDR of an odd word", |s| !s.halts() && matches!(s.odd_access(), Some(Instr::Ldr { .. }))),
+    ("STR to an odd word", |s| !s.halts() && matches!(s.odd_access(), Some(Instr::Str { .. }))),
+    ("an odd word that would move its index", |s| match s.odd_access() {
+        Some(Instr::Ld { dec, inc, .. } | Instr::St { dec, inc, .. }) => dec != inc,
+        _ => false,
+    }),
+    ("an odd word by way of SP", |s| {
+        matches!(s.odd_access(), Some(Instr::Ld { src: 6, .. } | Instr::St { dst: 6, .. }))
+    }),
+    ("an odd word of a device", |s| s.odd_access().is_some() && s.word_address().is_some_and(|a| a < DEVICES)),
+    ("an odd word access with FLT set", |s| s.halts() && s.odd_access().is_some()),
 ];
 
 const INSTRUCTIONS: &[Corner] = &[
@@ -293,8 +316,16 @@ const INSTRUCTIONS: &[Corner] = &[
 ];
 
 const ACCESSES: &[Corner] = &[
-    ("a word load at an odd address", |s| s.loads() == Some(false) && s.word_address().is_some_and(|a| a & 1 == 1)),
-    ("a word store at an odd address", |s| s.stores() == Some(false) && s.word_address().is_some_and(|a| a & 1 == 1)),
+    ("a word at an even place from an odd register", |s| {
+        let odd = |register: u8| s.before.regs[usize::from(register)] & 1 == 1;
+        match s.instr() {
+            Some(Instr::Ldr { wb: 0, src, .. }) => odd(src),
+            Some(Instr::Str { wb: 0, dst, .. }) => odd(dst),
+            _ => false,
+        }
+    }),
+    ("a byte load at an odd address", |s| s.loads() == Some(true) && s.trace.loaded.iter().any(|a| a & 1 == 1)),
+    ("a byte store at an odd address", |s| s.stores() == Some(true) && s.trace.written.iter().any(|a| a & 1 == 1)),
     (
         "LD into its own index, which moves",
         |s| matches!(s.instr(), Some(Instr::Ld { src, dst, dec, inc, .. }) if src == dst && dec != inc),

@@ -41,6 +41,9 @@ pub enum Item {
     Chain(u8),
     Fault(u8),
     Halt(u8),
+    /// Fault 9 by LD or ST of an odd word, by how the index would have moved.
+    OddLd { prpo: u8, dec: u8, inc: u8 },
+    OddSt { prpo: u8, dec: u8, inc: u8 },
     /// Fault 10 by SVC or by SETPRI, entered or halting.
     Priority { svc: bool, halts: bool },
     Trap(u8),
@@ -96,6 +99,8 @@ pub fn owed() -> Vec<Item> {
             (0..16).filter(|&cond| cond != if byte { 15 } else { 14 }).map(|cond| Item::Cex { cond, holds: byte }),
         );
     }
+    all.extend((0..8).map(|i| Item::OddLd { prpo: i >> 2, dec: i >> 1 & 1, inc: i & 1 }));
+    all.extend((0..8).map(|i| Item::OddSt { prpo: i >> 2, dec: i >> 1 & 1, inc: i & 1 }));
     all.extend((0..4).map(|op| Item::MovImm { op }));
     all.extend((0..5).flat_map(|bit| [Item::SetCc { bit }, Item::ClrCc { bit }]));
     all.extend((0..8).flat_map(|d| [Item::SetPri(d), Item::Accept(d), Item::Chain(d)]));
@@ -222,6 +227,11 @@ impl Coverage {
                 self.mark(if halts { Item::Halt(v) } else { Item::Fault(v) });
                 if let (10, Some(word)) = (v, word) {
                     self.mark(Item::Priority { svc: matches!(decode(word), Instr::Svc { .. }), halts });
+                }
+                match seen.odd_access() {
+                    Some(Instr::Ld { prpo, dec, inc, .. }) => self.mark(Item::OddLd { prpo, dec, inc }),
+                    Some(Instr::St { prpo, dec, inc, .. }) => self.mark(Item::OddSt { prpo, dec, inc }),
+                    _ => {}
                 }
             }
             Act::Execute(instr) => self.instruction(instr, seen),

@@ -180,6 +180,15 @@ fn adjustment(dec: u8, inc: u8, byte: bool) -> u16 {
 /// An instruction that faults, and with which vector.
 struct Faulted(u8);
 
+/// The bytes that a load or a store touches. Words lie at even addresses alone (02, §6).
+fn touched(address: u16, byte: bool) -> Result<Vec<u16>, Faulted> {
+    match byte {
+        true => Ok(vec![address]),
+        false if address & 1 == 1 => Err(Faulted(9)),
+        false => Ok(vec![address, address + 1]),
+    }
+}
+
 /// A step under way: the machine, the memory, and what has been touched.
 struct Step<'a> {
     m: &'a mut Machine,
@@ -369,8 +378,8 @@ impl Step<'_> {
     }
 
     /// Loads a byte or a word, as LD and LDR do. A status that is touched loses DBA and OF afterwards.
-    fn load(&mut self, address: u16, byte: bool) -> u16 {
-        let touched = if byte { vec![address] } else { vec![even(address), even(address) + 1] };
+    fn load(&mut self, address: u16, byte: bool) -> Result<u16, Faulted> {
+        let touched = touched(address, byte)?;
         let mut value = 0;
         for (i, &a) in touched.iter().enumerate() {
             value |= u16::from(self.memory[usize::from(a)]) << (8 * i);
@@ -379,18 +388,15 @@ impl Step<'_> {
             }
             self.loaded.push(a);
         }
-        value
+        Ok(value)
     }
 
     /// Stores a byte or a word, as ST and STR do.
-    fn store(&mut self, address: u16, value: u16, byte: bool) {
-        let [low, high] = value.to_le_bytes();
-        if byte {
-            self.store_byte(address, low);
-        } else {
-            self.store_byte(even(address), low);
-            self.store_byte(even(address) + 1, high);
+    fn store(&mut self, address: u16, value: u16, byte: bool) -> Result<(), Faulted> {
+        for (a, part) in touched(address, byte)?.into_iter().zip(value.to_le_bytes()) {
+            self.store_byte(a, part);
         }
+        Ok(())
     }
 
     /// A store to status changes bits 0 and 4 only. A store to data clears DBA on an output device.
@@ -439,7 +445,7 @@ impl Step<'_> {
             Instr::SetPri { level } => self.set_priority(level)?,
             Instr::SetCc { .. } | Instr::ClrCc { .. } | Instr::Cex { .. } => self.set_status(instr),
             Instr::Bl { .. } | Instr::Branch { .. } => self.transfer(instr),
-            Instr::Ld { .. } | Instr::St { .. } | Instr::Ldr { .. } | Instr::Str { .. } => self.access(instr),
+            Instr::Ld { .. } | Instr::St { .. } | Instr::Ldr { .. } | Instr::Str { .. } => self.access(instr)?,
             _ => self.work(instr),
         }
         Ok(Act::Execute(instr))
@@ -491,31 +497,33 @@ impl Step<'_> {
         }
     }
 
-    /// LD, ST, LDR and STR: address and stored value are read first, a loaded value is written last.
-    fn access(&mut self, instr: Instr) {
+    /// LD, ST, LDR and STR: address and stored value are read first, a loaded value is written last. A word at an odd
+    /// address is fault 9 before anything is touched (02, §6).
+    fn access(&mut self, instr: Instr) -> Result<(), Faulted> {
         match instr {
             Instr::Ld { prpo, dec, inc, wb, src, dst } => {
                 let by = adjustment(dec, inc, wb == 1);
                 let address = self.get(src).wrapping_add(if prpo == 1 { by } else { 0 });
-                let value = self.load(address, wb == 1);
+                let value = self.load(address, wb == 1)?;
                 self.adjust(src, by);
                 self.set(dst, merge(self.get(dst), value, wb == 1));
             }
             Instr::St { prpo, dec, inc, wb, src, dst } => {
                 let by = adjustment(dec, inc, wb == 1);
                 let address = self.get(dst).wrapping_add(if prpo == 1 { by } else { 0 });
-                self.store(address, self.get(src), wb == 1);
+                self.store(address, self.get(src), wb == 1)?;
                 self.adjust(dst, by);
             }
             Instr::Ldr { offset, wb, src, dst } => {
-                let value = self.load(self.get(src).wrapping_add(offset as u16), wb == 1);
+                let value = self.load(self.get(src).wrapping_add(offset as u16), wb == 1)?;
                 self.set(dst, merge(self.get(dst), value, wb == 1));
             }
             Instr::Str { offset, wb, src, dst } => {
-                self.store(self.get(dst).wrapping_add(offset as u16), self.get(src), wb == 1);
+                self.store(self.get(dst).wrapping_add(offset as u16), self.get(src), wb == 1)?;
             }
             _ => unreachable!(),
         }
+        Ok(())
     }
 
     /// The instructions that only work on registers and flags.

@@ -1,6 +1,6 @@
 //! Random setups that look like examination papers: an application, eight handlers that mostly restore what they use,
 //! enabled devices, and events that nest and chain. In every other one the application calls SVC, whose handlers restore
-//! nothing. Now and then each of them does something unwise.
+//! nothing. Words mostly lie at even addresses (02, §6). Now and then each of them does something unwise.
 
 use crate::isa::{encode, Instr};
 use crate::machine::{without_twins, Event, Machine, Setup, LR, MEMORY, PC, SP};
@@ -16,9 +16,10 @@ const HANDLER_DATA: u8 = 0x38;
 
 /// A setup from a seed: the same seed gives the same one.
 pub fn setup(seed: u64) -> Setup {
-    let mut maker = Maker { random: Random::new(seed), memory: vec![0; MEMORY], at: 0 };
+    let mut maker = Maker { random: Random::new(seed), memory: vec![0; MEMORY], at: 0, level: true };
     let sp = maker.stack();
-    let roomy = sp >> 8 == 0x08 || sp >> 8 == DATA >> 8;
+    maker.level = sp & 1 == 0;
+    let roomy = maker.level && (sp >> 8 == 0x08 || sp >> 8 == DATA >> 8);
     let stairs = maker.random.one_in(16);
     let traps = !stairs && maker.random.one_in(2);
     maker.application(traps);
@@ -37,6 +38,8 @@ struct Maker {
     random: Random,
     memory: Vec<u8>,
     at: u16,
+    /// SP is even, so that words can be pushed and pulled.
+    level: bool,
 }
 
 impl Maker {
@@ -73,11 +76,19 @@ impl Maker {
         sp | u16::from(self.random.one_in(6))
     }
 
-    /// An instruction that works on R0 to R4 and the data, R3 and R4 being mostly kept as pointers.
+    /// An offset from an even address, that of a word mostly even itself.
+    fn offset(&mut self, limit: u8, wb: u8) -> i16 {
+        let odd = wb == 1 || self.random.one_in(24);
+        i16::from(self.below(limit)) & if odd { -1 } else { -2 }
+    }
+
+    /// An instruction that works on R0 to R4 and the data, R3 and R4 being mostly kept as even pointers: a byte seldom
+    /// moves its index.
     fn work(&mut self) {
         let (wb, src) = (self.below(2), self.below(5));
-        let dst = if self.random.one_in(12) { 3 + self.below(2) } else { self.below(3) };
-        let (prpo, dec, inc) = (self.below(2), self.below(2), self.below(2));
+        let dst = if self.random.one_in(48) { 3 + self.below(2) } else { self.below(3) };
+        let moves = if wb == 0 || self.random.one_in(24) { 2 } else { 1 };
+        let (prpo, dec, inc) = (self.below(2), self.below(moves), self.below(moves));
         let instr = match self.random.below(14) {
             0..=4 => Instr::Alu { op: self.below(12), rc: self.below(2), wb, src, dst },
             5 => Instr::Unary { op: self.below(3), wb, dst },
@@ -86,8 +97,8 @@ impl Maker {
             8 => Instr::Swap { src: self.below(3), dst, ignored: wb },
             9 => Instr::Ld { prpo, dec, inc, wb, src: 3, dst },
             10 | 11 => Instr::St { prpo, dec, inc, wb, src, dst: 3 },
-            12 => Instr::Ldr { offset: self.below(60).into(), wb, src: 4, dst },
-            _ => Instr::Str { offset: self.below(60).into(), wb, src, dst: 4 },
+            12 => Instr::Ldr { offset: self.offset(60, wb), wb, src: 4, dst },
+            _ => Instr::Str { offset: self.offset(60, wb), wb, src, dst: 4 },
         };
         self.put(instr);
     }
@@ -114,10 +125,16 @@ impl Maker {
                     let level = self.below(4) >> self.below(3);
                     self.put(Instr::SetPri { level });
                 }
+                9 | 10 if !self.level && !self.random.one_in(8) => self.work(),
                 9 => self.push(1),
                 10 => self.pull(1),
                 11 => self.unwise(),
                 12 => self.put(Instr::MovImm { op: 3, byte: (DATA >> 8) as u8, dst: 3 }),
+                16 | 17 => {
+                    // BIC $0: bit 0 of a pointer
+                    let dst = 3 + self.below(2);
+                    self.put(Instr::Alu { op: 10, rc: 1, wb: 0, src: 0, dst });
+                }
                 13..=15 if traps => self.svc(TRAPS.start),
                 _ => self.work(),
             }
@@ -144,7 +161,7 @@ impl Maker {
                 _ => self.work(),
             }
         }
-        if self.random.one_in(4) {
+        if self.level && self.random.one_in(4) {
             for _ in 0..4 {
                 self.put(Instr::Ldr { offset: 6, wb: 0, src: SP as u8, dst: 0 });
                 self.push(0);
@@ -235,7 +252,10 @@ impl Maker {
                 0 => self.lower(),
                 1 => self.put(Instr::SetCc { flags: dst }),
                 2 => self.put(Instr::Cex { cond: 15, if_true: 1, if_false: 0 }),
-                3 => self.put(Instr::Str { offset: dst.into(), wb, src, dst: 3 }),
+                3 => {
+                    let offset = self.offset(8, wb);
+                    self.put(Instr::Str { offset, wb, src, dst: 3 });
+                }
                 _ => self.put(Instr::Alu { op: 5, rc: 0, wb, src, dst }),
             }
         }
@@ -248,7 +268,8 @@ impl Maker {
     }
 
     fn touch_device(&mut self) {
-        let (offset, wb) = (self.below(16).into(), self.below(2));
+        let wb = self.below(2);
+        let offset = self.offset(16, wb);
         self.put(Instr::MovImm { op: 1, byte: 0, dst: 2 });
         if self.random.one_in(2) {
             self.put(Instr::Ldr { offset, wb, src: 2, dst: 0 });
@@ -265,7 +286,7 @@ impl Maker {
             m.regs[i] = self.random.word();
         }
         for i in 3..5 {
-            m.regs[i] = DATA + self.random.below(64) as u16;
+            m.regs[i] = DATA + 2 * self.random.below(32) as u16 + u16::from(self.random.one_in(48));
         }
         m.regs[SP] = sp;
         m.regs[PC] = CODE;

@@ -165,7 +165,7 @@ pub fn cksum(bytes: &[u8]) -> u32 {
 fn fault_name(v: u8) -> &'static str {
     match v {
         8 => "illegal word",
-        9 => "odd PC",
+        9 => "odd address",
         _ => "priority",
     }
 }

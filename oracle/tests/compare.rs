@@ -1,12 +1,13 @@
 //! What the comparison must catch, held to engines that are wrong on purpose, and what it saves.
 
+use oracle::alu::FLT;
 use oracle::compare::{compare, compare_many, difference, saved, Difference, Engine, Outcome};
+use oracle::corners::Seen;
 use oracle::coverage::Coverage;
 use oracle::inputs::{input, Input, Kind, KINDS};
-use oracle::isa::{decode, Instr};
-use oracle::machine::{
-    event_record, events_of, reply, run, without_twins, word_at, Event, Machine, EVENT, MEMORY, PC, RECORD,
-};
+use oracle::isa::Instr;
+use oracle::machine::{event_record, events_of, reply, run, without_twins, word_at, Act, Event, Machine, Trace};
+use oracle::machine::{DBA, DEVICES, EVENT, MEMORY, OF, PC, RECORD, SP, VECTORS};
 use std::fs;
 use std::path::{Path, PathBuf};
 
@@ -25,28 +26,51 @@ fn accepted(i: &mut Input, change: impl Fn(&mut Input, u64) -> u64) -> u64 {
     }
 }
 
-/// The oracle step by step, with a SWPB that keeps the high byte where bit 6 of its word is set.
-fn swpb_by_the_ignored_bit(i: &mut Input) -> u64 {
-    let (whole, n) = (honest(&mut i.clone()), i.n);
+/// A change to what a step left, from what is seen of the step.
+type Change = fn(&Trace, &Machine, &mut Machine, &mut [u8]);
+
+/// The oracle step by step, with a change after each.
+fn by_steps(i: &mut Input, change: Change) -> u64 {
+    let whole = honest(&mut i.clone());
     if whole & 0xFF != 0 {
         return whole;
     }
-    i.n = 1;
-    for _ in 0..whole >> 16 {
-        let before = Machine::from_record(&i.record);
-        let instr = decode(word_at(&i.memory, before.regs[PC]));
-        honest(i);
-        let mut after = Machine::from_record(&i.record);
-        if let Instr::Swpb { dst, ignored: 1 } = instr {
-            let (old, new) = (before.regs[usize::from(dst)], &mut after.regs[usize::from(dst)]);
-            if *new == old.swap_bytes() {
-                *new = old & 0xFF00 | *new & 0x00FF;
-            }
-        }
-        i.record = after.to_record().to_vec();
+    let (mut m, events) = (Machine::from_record(&i.record), events_of(&i.events));
+    for _ in 0..i.n {
+        let before = m;
+        let Some(trace) = m.step(&mut i.memory, &events) else { break };
+        change(&trace, &before, &mut m, &mut i.memory);
     }
-    i.n = n;
+    i.record = m.to_record().to_vec();
     whole
+}
+
+/// A SWPB that keeps the high byte where bit 6 of its word is set.
+fn swpb_by_the_ignored_bit(trace: &Trace, before: &Machine, after: &mut Machine, _: &mut [u8]) {
+    if let Act::Execute(Instr::Swpb { dst, ignored: 1 }) = trace.act {
+        let (old, new) = (before.regs[usize::from(dst)], &mut after.regs[usize::from(dst)]);
+        if *new == old.swap_bytes() {
+            *new = old & 0xFF00 | *new & 0x00FF;
+        }
+    }
+}
+
+/// A line or SVC entered at an odd SP goes to the handler of fault 9, FLT set.
+fn entry_at_an_odd_sp_faults(trace: &Trace, before: &Machine, after: &mut Machine, memory: &mut [u8]) {
+    if matches!(trace.act, Act::Accept(_) | Act::Trap(_)) && before.regs[SP] & 1 == 1 {
+        after.regs[PC] = word_at(memory, VECTORS + 4 * 9 + 2);
+        after.psw |= FLT;
+    }
+}
+
+/// A load of a device's odd word clears DBA and OF, and then faults.
+fn dba_cleared_before_the_fault(trace: &Trace, before: &Machine, after: &mut Machine, memory: &mut [u8]) {
+    let seen = Seen { trace, before, after, memory };
+    let loads = matches!(seen.odd_access(), Some(Instr::Ld { .. } | Instr::Ldr { .. }));
+    match seen.word_address() {
+        Some(at) if loads && at < DEVICES => memory[usize::from(at & !1)] &= !(DBA | OF),
+        _ => {}
+    }
 }
 
 /// The oracle, but for lists that it refuses with 13 unless `so` says that they are to be: those run without a twin.
@@ -70,7 +94,7 @@ fn any_two(list: &[Event], alike: fn(&Event, &Event) -> bool) -> bool {
 
 /// Engines that are wrong, the impostors of 01 first, each with a kind of input that shows it.
 #[rustfmt::skip]
-const WRONG: [(&str, Kind, Engine); 18] = [
+const WRONG: [(&str, Kind, Engine); 20] = [
     ("takes the first step truly and then only counts", Kind::Plausible, |i| {
         let n = std::mem::replace(&mut i.n, 1);
         let number = honest(i);
@@ -118,7 +142,9 @@ const WRONG: [(&str, Kind, Engine); 18] = [
         number
     }),
     ("replies with more than there is", Kind::Wild, |i| accepted(i, |_, number| number | 1 << 40)),
-    ("works on a byte where SWPB has its ignored bit set", Kind::Corner, swpb_by_the_ignored_bit),
+    ("works on a byte where SWPB has its ignored bit set", Kind::Corner, |i| by_steps(i, swpb_by_the_ignored_bit)),
+    ("faults on an entry at an odd SP", Kind::Plausible, |i| by_steps(i, entry_at_an_odd_sp_faults)),
+    ("clears DBA and then faults by an odd address", Kind::Corner, |i| by_steps(i, dba_cleared_before_the_fault)),
 ];
 
 #[test]

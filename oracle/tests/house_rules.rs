@@ -87,14 +87,27 @@ fn branches_wrap_around_zero() {
 }
 
 #[test]
-fn word_load_at_an_odd_address() {
-    let (mut m, mut memory) = start(" LD R0,R1\n ST R1,R2", 0);
+fn word_accesses_at_odd_addresses() {
+    for source in [" LD R0+,R1", " ST R1,-R0", " LDR R0,$0,R1", " STR R1,R0,$2", " LDR R2,$1,R1"] {
+        let (mut m, mut memory) = start(source, 0);
+        (m.regs[0], m.regs[2], m.cex) = (0x0101, 0x0200, 0x49);
+        let mut expected = memory.clone();
+        assert_eq!(act(&mut m, &mut memory, &[]), Act::Fault(9), "{source}");
+        for (at, word) in [(0x7FE, 0x1002u16), (0x7FC, 0), (0x7FA, 0), (0x7F8, 0x41)] {
+            expected[at..at + 2].copy_from_slice(&word.to_le_bytes());
+        }
+        assert!(memory == expected, "{source}");
+        assert_eq!(m.regs[..5], [0x0101, 0, 0x0200, 0, 0], "{source}");
+    }
+}
+
+#[test]
+fn words_at_even_places_from_odd_registers() {
+    let (mut m, mut memory) = start(" LDR R0,$1,R1\n LD.B R0,R2", 0);
     m.regs[0] = 0x0101;
-    m.regs[2] = 0x0203;
-    memory[0x100..0x103].copy_from_slice(&[0x34, 0x12, 0x99]);
+    memory[0x101..0x104].copy_from_slice(&[0x99, 0x34, 0x12]);
     steps(&mut m, &mut memory, 2);
-    assert_eq!(m.regs[1], 0x1234);
-    assert_eq!(memory[0x202..0x205], [0x34, 0x12, 0]);
+    assert_eq!((m.regs[1], m.regs[2]), (0x1234, 0x0099));
 }
 
 #[test]
@@ -548,7 +561,7 @@ fn loads_of_status_clear_dba_and_of() {
         (" LD.B R0,R1", 4, 0x00FF, 0xF3),
         (" LD.B R0,R1", 5, 0x0077, 0xFF),
         (" LD R0,R1", 4, 0x77FF, 0xF3),
-        (" LD R0,R1", 5, 0x77FF, 0xF3),
+        (" LD R0,R1", 5, 0x0000, 0xFF),
         (" LDR.B R0,$0,R1", 4, 0x00FF, 0xF3),
         (" LDR R0,$0,R1", 4, 0x77FF, 0xF3),
     ] {
@@ -622,22 +635,22 @@ fn load_writes_last_and_store_reads_first() {
 
 #[test]
 fn steps_are_1_for_bytes_and_2_for_words() {
-    let program = " LD +R0,R1\n LD.B +R0,R1\n LD -R0,R1\n LD.B -R0,R1\n LD R0-,R1\n LD.B R0-,R1";
+    let program = " LD +R0,R1\n LD -R0,R1\n LD R0-,R1\n LD.B +R0,R1\n LD.B -R0,R1\n LD.B R0-,R1";
     let (mut m, mut memory) = start(program, 0);
-    m.regs[0] = 0x201;
-    for expected in [0x203, 0x204, 0x202, 0x201, 0x1FF, 0x1FE] {
+    m.regs[0] = 0x200;
+    for expected in [0x202, 0x200, 0x1FE, 0x1FF, 0x1FE, 0x1FD] {
         steps(&mut m, &mut memory, 1);
         assert_eq!(m.regs[0], expected);
     }
 }
 
 #[test]
-fn relative_addresses_drop_bit_0_of_the_sum() {
-    let (mut m, mut memory) = start(" LDR R0,$1,R1\n LDR R0,$-64,R2\n STR.B R3,R0,$63", 0);
+fn relative_addresses_are_even_by_their_sum() {
+    let (mut m, mut memory) = start(" LDR R0,$1,R1\n LDR R0,$-63,R2\n STR.B R3,R0,$63", 0);
     m.regs[0] = 0x0301;
     m.regs[3] = 0xAB;
     memory[0x302..0x304].copy_from_slice(&[1, 2]);
-    memory[0x2C0..0x2C2].copy_from_slice(&[3, 4]);
+    memory[0x2C2..0x2C4].copy_from_slice(&[3, 4]);
     steps(&mut m, &mut memory, 3);
     assert_eq!((m.regs[1], m.regs[2], memory[0x340]), (0x0201, 0x0403, 0xAB));
 }

@@ -84,6 +84,7 @@ Done
     assert_eq!((d.word("DATA1"), d.word("DATA2")), (0x1234, 0x1234));
 }
 
+/// 003 leaves the index at #1001 and loads the word there, which is a fault since 02, §6: here it goes back to #1000.
 #[test]
 fn indexed_and_relative_addressing() {
     let d = done(
@@ -96,12 +97,12 @@ Start   movl Data1,R0
         movlz #F0,R1
         st.b R1,R0+
         movlz #0F,R1
-        st.b R1,R0
+        st.b R1,R0-
         ld.w R0,R2
 Done
 ",
     );
-    assert_eq!((d.m.regs[0], d.m.regs[2]), (0x1001, 0x0FF0));
+    assert_eq!((d.m.regs[0], d.m.regs[2]), (0x1000, 0x0FF0));
     let d = done(
         "
         org #1000

@@ -146,7 +146,7 @@ fn a_frame_that_was_changed_or_left_below_sp() {
             org #1000
 Here        bra Here
             org #2000
-First       str SP,SP,$2
+First       str SP,SP,$1
             add $4,SP
 Wait        bra Wait
             org #FFC4
@@ -194,7 +194,7 @@ fn what_the_last_step_was() {
             program(" org #1000\n word #4E00", &[], 1, plain),
             "entry: fault 8, illegal word; illegal, word #4E00 at #1000.",
         ),
-        (program("", &[], 1, at(0x1001)), "entry: fault 9, odd PC; PC was #1001."),
+        (program("", &[], 1, at(0x1001)), "entry: fault 9, odd address; PC was #1001."),
         (
             program(" org #1000\n setpri $3", &[], 9, faulted),
             "halt: fault 10, priority, with FLT set; SETPRI $3, word #4D83",

@@ -297,6 +297,25 @@ static void accepted_runs(void)
     same("step count", two(record + XM23_RECORD_COUNT), 1);
     same("pushed PC", two(memory + 0x07FE), 0x0801);
 
+    /* LD R0,R1 of an odd word: fault 9, with the address after the instruction. LD.B there loads the byte. */
+    example();
+    put_two(record + XM23_RECORD_REGISTER(0), 0x0101);
+    put_two(record + XM23_RECORD_REGISTER(7), 0x1000);
+    put_two(memory + 0x0100, 0x1234);
+    put_two(memory + 0x1000, 0x5801);
+    ran("odd word", 1, XM23_REASON_DONE, 1);
+    same("odd word, R1", two(record + XM23_RECORD_REGISTER(1)), 0);
+    same("odd word, PSW", two(record + XM23_RECORD_PSW), 0xE100);
+    same("odd word, pushed PC", two(memory + 0x07FE), 0x1002);
+    example();
+    put_two(record + XM23_RECORD_REGISTER(0), 0x0101);
+    put_two(record + XM23_RECORD_REGISTER(7), 0x1000);
+    put_two(memory + 0x0100, 0x1234);
+    put_two(memory + 0x1000, 0x5841);
+    ran("odd byte", 1, XM23_REASON_DONE, 1);
+    same("odd byte, R1", two(record + XM23_RECORD_REGISTER(1)), 0x12);
+    same("odd byte, PC", two(record + XM23_RECORD_REGISTER(7)), 0x1002);
+
     /* An event on an input device, with a line that waits below priority 7. */
     example();
     put_two(record + XM23_RECORD_REGISTER(7), 0x1000);

@@ -25,7 +25,7 @@ static void put_four(uint8_t *p, uint32_t value)
     put_two(p + 2, value >> 16);
 }
 
-/* A word at an address whose bit 0 is dropped, as every word of the machine. */
+/* A word at an address whose bit 0 is dropped, so that it may be a program's, a frame's or a vector's. */
 static void put_word(struct setup *s, unsigned at, unsigned value)
 {
     put_two(s->memory + (at & 0xFFFE), value);

@@ -55,15 +55,29 @@ advanced c = record { regs = set (c .regs) 7 (wrap (pc c + 2)); psw = c .psw; ce
 abbrev pub faulting : (before c : Core) → ℕ → Plan
 faulting before c v = cond (faulted? (before .psw)) (planned before act.Halt) (planned c (act.Fault v))
 
--- What an instruction asks for, granted: SVC to a vector whose priority is not above the current one is fault 10. A
+-- What an instruction asks for, by its kind: SVC to a vector whose priority is not above the current one is fault 10. A
 -- faulting instruction changes nothing besides its CEX count and PC. [01 Faults]
-unfoldable pub granted : (before x : Core) → Access → List ℕ → Plan
-granted c x Nothing m = planned x act.Plain
-granted c x (Load byte a d) m = planned x (act.Loads byte a d)
-granted c x (Store byte a v) m = planned x (act.Stores byte a v)
-granted c x (Fault v) m = faulting c (advanced c) v
-granted c x (Trap v) m =
+abbrev pub allowed : (before x : Core) → Access → List ℕ → Plan
+allowed c x Nothing m = planned x act.Plain
+allowed c x (Load byte a d) m = planned x (act.Loads byte a d)
+allowed c x (Store byte a v) m = planned x (act.Stores byte a v)
+allowed c x (Fault v) m = faulting c (advanced c) v
+allowed c x (Trap v) m =
     cond (ltb (current (c .psw)) (priority m v)) (planned x (act.Trap v)) (faulting c (advanced c) 10)
+
+-- A word access at an odd address: the effective one, after pre-adjustment or offset. [02 §6]
+abbrev pub odd? : Access → Bool
+odd? Nothing = false
+odd? (Load byte a d) = not byte && eqb (a .0 % 2) 1
+odd? (Store byte a v) = not byte && eqb (a .0 % 2) 1
+odd? (Fault v) = false
+odd? (Trap v) = false
+
+-- What an instruction asks for, granted. "Word loads and stores by instructions at odd addresses now raise fault 9,
+-- pushing the address after the instruction; neither register, memory nor auto-adjustment takes effect."
+-- [02 §6, for 01 State and memory]
+unfoldable pub granted : (before x : Core) → Access → List ℕ → Plan
+granted c x a m = cond (odd? a) (faulting c (advanced c) 9) (allowed c x a m)
 
 abbrev pub executed : Core → Effect → List ℕ → Plan
 executed c e m = granted c (e .core) (e .access) m

@@ -10,25 +10,30 @@ use lib.ListN.{length, length-set, getD, set}
 use lib.Seq.{getD-set-same}
 use Rattle.word.specs.Width.{widthOf, withLow}
 use Rattle.isa.specs.declared.Instr.the-variants.{Ld}
-use Rattle.machine.specs.State.{Core, coreOf, pc, wrap}
+use Rattle.machine.specs.State.{Core, coreOf, reg, pc, wrap}
 use Rattle.machine.specs.Memory.{wordAt, valueAt}
 use Rattle.machine.specs.Effect.{effectOf, indexed, loaded}
-use Rattle.machine.specs.Step.{advanced, granted, perform}
+use Rattle.machine.specs.Step.{advanced, perform}
 use Rattle.machine_laws.specs.Bounds.{Bytes}
 use Rattle.machine_laws.specs.Loads.{LoadedLast}
 use Rattle.machine_laws.proofs.Effects.{effect-eight}
 use Rattle.machine_laws.proofs.Memory.{word-lt}
+use Rattle.machine_laws.proofs.Plans.{granted-even}
 
 advanced-eight : (c : Core) → length (advanced c .regs) ≡ length (c .regs)
 unfolding advanced
 advanced-eight c = length-set (c .regs) 7 (wrap (pc c + 2))
 
 pub loaded-last : LoadedLast
-unfolding effectOf granted perform
-loaded-last c prpo dec inc r l m eight h =
+unfolding effectOf perform
+loaded-last c prpo dec inc r l m eight h even =
     let moved = effectOf (advanced c) (Ld prpo dec inc 0 r r) .core .regs in
     let e : 8 ≡ length moved = sym (effect-eight (advanced c) (Ld prpo dec inc 0 r r) ∙ advanced-eight c ∙ eight) in
-    getD-set-same moved r (wordAt m (indexed (advanced c) r prpo dec inc 0)) 0 (subst (λ (n : ℕ). r < n) e h)
+    let w = wordAt m (indexed (advanced c) r prpo dec inc 0) in
+    let x = effectOf (advanced c) (Ld prpo dec inc 0 r r) in
+    subst (λ p. reg (perform (p .act) (p .core) l m .core) r ≡ w)
+    (sym (granted-even c (x .core) (x .access) m (ap (λ n. eqb n 1) even)))
+    (getD-set-same moved r w 0 (subst (λ (n : ℕ). r < n) e h))
 
 -- ---- what the code of a load leaves
 

@@ -10,9 +10,11 @@ use Rattle.machine.specs.State.{Core, State, pc}
 use Rattle.machine.specs.Memory.{wordAt}
 use Rattle.machine.specs.Cex.{skips?}
 use Rattle.machine.specs.Effect.{effectOf}
+use Rattle.machine.specs.declared.Access.{Access}
 use Rattle.machine.specs.declared.Act.the-variants as act
 use Rattle.machine.specs.Step
-use Rattle.machine.specs.Step.{Plan, Interrupt, planned, interruptOf, advanced, faulting, executed, instructionOf, chosen, planOf}
+use Rattle.machine.specs.Step.{Plan, Interrupt, planned, interruptOf, advanced, faulting, allowed, odd?, granted}
+use Rattle.machine.specs.Step.{executed, instructionOf, chosen, planOf}
 use Rattle.machine_laws.proofs.Cases.{bool-cases}
 
 -- points 4 to 7
@@ -32,6 +34,16 @@ instruction-cases c m R sleeps odd skip runs =
     (λ q₁. bool-cases (skips? (c .cex))
     (λ q₂. rw (q, q₁, q₂) (skip q q₁ q₂))
     (λ q₂. rw (q, q₁, q₂) (runs q q₁ q₂))))
+
+-- point 7: an odd word access, or any other
+pub granted-cases : (c x : Core) (a : Access) (m : List ℕ) (R : Plan → Type 0)
+    → (odd? a ≡ true → R (faulting c (advanced c) 9)) → (odd? a ≡ false → R (allowed c x a m)) → R (granted c x a m)
+unfolding granted
+granted-cases c x a m R f g = bool-cases (odd? a) (λ q. rw q (f q)) (λ q. rw q (g q))
+
+pub granted-even : (c x : Core) (a : Access) (m : List ℕ) → odd? a ≡ false → granted c x a m ≡ allowed c x a m
+unfolding granted
+granted-even c x a m q = ap (λ b. cond b (faulting c (advanced c) 9) (allowed c x a m)) q
 
 by-interrupt : (i : Interrupt) (c : Core) (p : Plan) (R : Plan → Type 0)
     → (i ≡ Step.pulls → R (planned c act.Pull))

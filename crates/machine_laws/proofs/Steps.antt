@@ -23,14 +23,14 @@ use Rattle.machine.specs.Effect.{effectOf}
 use Rattle.machine.specs.declared.Act.the-variants as act
 use Rattle.machine.specs.Step
 use Rattle.machine.specs.declared.Act.{Act}
-use Rattle.machine.specs.Step.{Plan, Interrupt, interruptOf, returns?, advanced, faulting, granted, instructionOf, planOf, perform}
+use Rattle.machine.specs.Step.{Plan, Interrupt, interruptOf, returns?, advanced, faulting, allowed, granted, instructionOf, planOf, perform}
 use Rattle.machine.specs.Step.{entered, outcomeOf, finished, stepOf}
 use Rattle.machine.specs.Run.{runOf}
 use Rattle.machine_laws.specs.Bounds.{Each, Bytes, TidyCore, Tidy, AccessFits, ActFits, EventFits}
 use Rattle.machine_laws.proofs.Cases.{bool-cases, lt-of, and-left}
 use Rattle.machine_laws.proofs.Memory.{commit-length, commit-bytes, word-lt}
 use Rattle.machine_laws.proofs.Effects.{words-set, advanced-tidy, loaded-tidy, effect-tidy, effect-access}
-use Rattle.machine_laws.proofs.Plans.{instruction-cases, plan-cases}
+use Rattle.machine_laws.proofs.Plans.{instruction-cases, granted-cases, plan-cases}
 use Rattle.machine_laws.proofs.Runs.{step-halted, step-live, run-zero, run-step, run-next, run-halted}
 
 abbrev ByteValues : List Write → Type 0
@@ -142,16 +142,19 @@ PlanFits p = TidyCore (p .core) × ActFits (p .act)
 faulting-fits : (c x : Core) (v : ℕ) → TidyCore c → TidyCore x → v < 16 → PlanFits (faulting c x v)
 faulting-fits c x v t u h = bool-cases (faulted? (c .psw)) (λ q. rw q (t, tt)) (λ q. rw q (u, h))
 
-granted-fits : (c x : Core) (a : Access) (m : List ℕ) → TidyCore c → TidyCore x → AccessFits a → PlanFits (granted c x a m)
-unfolding granted
-granted-fits c x Nothing m t u f = (u, tt)
-granted-fits c x (Load byte a d) m t u f = (u, f)
-granted-fits c x (Store byte a v) m t u f = (u, f)
-granted-fits c x (Fault v) m t u f = faulting-fits c (advanced c) v t (advanced-tidy c t) f
-granted-fits c x (Trap v) m t u f =
+allowed-fits : (c x : Core) (a : Access) (m : List ℕ) → TidyCore c → TidyCore x → AccessFits a → PlanFits (allowed c x a m)
+allowed-fits c x Nothing m t u f = (u, tt)
+allowed-fits c x (Load byte a d) m t u f = (u, f)
+allowed-fits c x (Store byte a v) m t u f = (u, f)
+allowed-fits c x (Fault v) m t u f = faulting-fits c (advanced c) v t (advanced-tidy c t) f
+allowed-fits c x (Trap v) m t u f =
     bool-cases (ltb (current (c .psw)) (priority m v))
     (λ q. rw q (u, f))
     (λ q. rw q (faulting-fits c (advanced c) 10 t (advanced-tidy c t) (lit< tt)))
+
+granted-fits : (c x : Core) (a : Access) (m : List ℕ) → TidyCore c → TidyCore x → AccessFits a → PlanFits (granted c x a m)
+granted-fits c x a m t u f =
+    granted-cases c x a m PlanFits (λ q. faulting-fits c (advanced c) 9 t (advanced-tidy c t) (lit< tt)) (λ q. allowed-fits c x a m t u f)
 
 instruction-fits : (c : Core) (m : List ℕ) → TidyCore c → PlanFits (instructionOf c m)
 instruction-fits c m t =

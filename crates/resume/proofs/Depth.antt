@@ -25,14 +25,14 @@ use Rattle.machine.specs.Events.{Event, eventsOf}
 use Rattle.machine.specs.Entry.{vectorPsw, priority, best, above, vectored, enteredPsw, pulled, pulledPsw}
 use Rattle.machine.specs.Effect.{effectOf}
 use Rattle.machine.specs.declared.Act.{Act}
-use Rattle.machine.specs.Step.{Interrupt, pulls, chains, accepts, nothing, interruptOf, returns?, advanced, granted}
+use Rattle.machine.specs.Step.{Interrupt, pulls, chains, accepts, nothing, interruptOf, returns?, advanced, allowed, granted}
 use Rattle.machine.specs.Step.{instructionOf, planOf, perform, outcomeOf, finished}
 use Rattle.machine.specs.declared.Act.the-variants as acts
 use Rattle.machine_laws.specs.Bounds.{Each, Tidy, EventFits}
 use Rattle.machine_laws.specs.Passed.{Passed}
 use Rattle.machine_laws.proofs.Cases.{bool-cases, lt-of, ge-of, and-right}
 use Rattle.machine_laws.proofs.Effects.{SamePriorities, effect-priorities}
-use Rattle.machine_laws.proofs.Plans.{instruction-cases, plan-cases, plan-halted}
+use Rattle.machine_laws.proofs.Plans.{instruction-cases, granted-cases, plan-cases, plan-halted}
 use Rattle.machine_laws.proofs.Runs.{step-halted, step-live, run-zero, run-step}
 use Rattle.machine_laws.proofs.Steps.{deliver-tidy, deliver-core, deliver-halted, run-tidy}
 use Rattle.machine_laws.proofs.Records.{passed, start-tidy, events-fit}
@@ -149,15 +149,23 @@ not-set : (n : Instr) → setPri? n ≡ false → (level : ℕ) → n ≡ i.SetP
 not-set n h level e = true≢false (sym (ap setPri? e) ∙ h)
 
 module _ (c x : Core) (m : List ℕ) (n : Instr) (e : setPri? n ≡ false → SamePriorities (x .psw) (c .psw)) where
+  allowed-priorities : (a : Access) → Faultless (allowed c x a m .act) → svc? (allowed c x a m .act) ≡ false
+      → executes? (allowed c x a m .act) && setPri? n ≡ false
+      → SamePriorities (allowed c x a m .core .psw) (c .psw)
+  unfolding granted
+  allowed-priorities Nothing h u q = e q
+  allowed-priorities (Load byte a d) h u q = e q
+  allowed-priorities (Store byte a v) h u q = e q
+  allowed-priorities (Fault v) h u q = absurd (faulting-faults c (advanced c) v h)
+  allowed-priorities (Trap v) h u q = absurd (true≢false (sym (ap svc? (trap-granted c x m v h)) ∙ u))
+
   granted-priorities : (a : Access) → Faultless (granted c x a m .act) → svc? (granted c x a m .act) ≡ false
       → executes? (granted c x a m .act) && setPri? n ≡ false
       → SamePriorities (granted c x a m .core .psw) (c .psw)
-  unfolding granted
-  granted-priorities Nothing h u q = e q
-  granted-priorities (Load byte a d) h u q = e q
-  granted-priorities (Store byte a v) h u q = e q
-  granted-priorities (Fault v) h u q = absurd (faulting-faults c (advanced c) v h)
-  granted-priorities (Trap v) h u q = absurd (true≢false (sym (ap svc? (trap-granted c x m v h)) ∙ u))
+  granted-priorities a =
+      granted-cases c x a m
+      (λ p. Faultless (p .act) → svc? (p .act) ≡ false → executes? (p .act) && setPri? n ≡ false → SamePriorities (p .core .psw) (c .psw))
+      (λ q h. absurd (faulting-faults c (advanced c) 9 h)) (λ q. allowed-priorities a)
 
 advanced-psw : (c : Core) → advanced c .psw ≡ c .psw
 unfolding advanced

@@ -16,11 +16,12 @@ use Rattle.machine.specs.Cex.{skips?}
 use Rattle.machine.specs.Entry.{best, bestFrom, above, vectorPsw, vectorPc, vectored, enteredPsw, pushed, pushes}
 use Rattle.machine.specs.Effect.{effectOf, loaded}
 use Rattle.machine.specs.declared.Act.{Act}
-use Rattle.machine.specs.Step.{Interrupt, Outcome, pulls, chains, accepts, nothing, interruptOf, returns?, advanced, faulting, granted}
+use Rattle.machine.specs.Step.{Interrupt, Outcome, pulls, chains, accepts, nothing, interruptOf, returns?, advanced, faulting, allowed, granted}
 use Rattle.machine.specs.Step.{planned, instructionOf, perform}
 use Rattle.machine.specs.declared.Act.the-variants as acts
 use Rattle.machine_laws.specs.Bounds.{Each}
 use Rattle.machine_laws.proofs.Cases.{bool-cases}
+use Rattle.machine_laws.proofs.Plans.{granted-cases}
 use Rattle.resume.specs.Frames.{readsOf}
 use Rattle.resume.proofs.Steady.{Faultless, Steady, faulting-faults, trap-granted}
 use Rattle.resume.proofs.Writes.{SameWrites, same-refl, load-same, store-same}
@@ -80,16 +81,22 @@ module _ (c x : Core) (m : List ℕ) where
       ap (λ p. cond (ltb (current (c .psw)) (current p)) (planned x (acts.Trap v)) (faulting c (advanced c) 10)) w
 
   -- an instruction without a fault fetches
-  granted-fetch : (P : ℕ → Type 0) (a : Access) → Faultless (granted c x a m .act) → Each P (readsOf (granted c x a m .act) c)
+  allowed-fetch : (P : ℕ → Type 0) (a : Access) → Faultless (allowed c x a m .act) → Each P (readsOf (allowed c x a m .act) c)
       → P (even (pc c)) × P (even (pc c) + 1)
   unfolding granted
-  granted-fetch P Nothing h r = (r .0, r .1 .0)
-  granted-fetch P (Load byte a d) h r = (r .0, r .1 .0)
-  granted-fetch P (Store byte a v) h r = (r .0, r .1 .0)
-  granted-fetch P (Fault v) h r = absurd (faulting-faults c (advanced c) v h)
-  granted-fetch P (Trap v) h r =
+  allowed-fetch P Nothing h r = (r .0, r .1 .0)
+  allowed-fetch P (Load byte a d) h r = (r .0, r .1 .0)
+  allowed-fetch P (Store byte a v) h r = (r .0, r .1 .0)
+  allowed-fetch P (Fault v) h r = absurd (faulting-faults c (advanced c) v h)
+  allowed-fetch P (Trap v) h r =
       let r₁ = subst (λ b. Each P (readsOf b c)) (trap-granted c x m v h) r in
       (r₁ .1 .1 .1 .1 .0, r₁ .1 .1 .1 .1 .1 .0)
+
+  granted-fetch : (P : ℕ → Type 0) (a : Access) → Faultless (granted c x a m .act) → Each P (readsOf (granted c x a m .act) c)
+      → P (even (pc c)) × P (even (pc c) + 1)
+  granted-fetch P a =
+      granted-cases c x a m (λ p. Faultless (p .act) → Each P (readsOf (p .act) c) → P (even (pc c)) × P (even (pc c) + 1))
+      (λ q h. absurd (faulting-faults c (advanced c) 9 h)) (λ q. allowed-fetch P a)
 
 pub instruction-same : (c : Core) (m m′ : List ℕ) → Faultless (instructionOf c m .act)
     → Each (λ a. byteAt m a ≡ byteAt m′ a) (readsOf (instructionOf c m .act) c) → instructionOf c m′ ≡ instructionOf c m

@@ -14,10 +14,10 @@ use Rattle.machine.specs.Memory.{wordAt}
 use Rattle.machine.specs.Entry.{priority}
 use Rattle.machine.specs.Effect.{effectOf}
 use Rattle.machine.specs.declared.Act.{Act}
-use Rattle.machine.specs.Step.{advanced, faulting, granted, instructionOf, planOf, perform, finished}
+use Rattle.machine.specs.Step.{advanced, faulting, allowed, granted, instructionOf, planOf, perform, finished}
 use Rattle.machine.specs.declared.Act.the-variants as acts
 use Rattle.machine_laws.proofs.Cases.{bool-cases}
-use Rattle.machine_laws.proofs.Plans.{instruction-cases, plan-cases}
+use Rattle.machine_laws.proofs.Plans.{instruction-cases, granted-cases, plan-cases}
 use Rattle.resume.specs.Frames.{Frame, Calm}
 
 -- The acts that are no fault.
@@ -77,13 +77,18 @@ module _ (c x : Core) (m : List ℕ) where
       (λ q. rw q refl)
       (λ q. absurd (faulting-faults c (advanced c) 10 (rw q at h)))
 
-  pub granted-steady : (a : Access) → Faultless (granted c x a m .act) → Steady (granted c x a m .act)
+  allowed-steady : (a : Access) → Faultless (allowed c x a m .act) → Steady (allowed c x a m .act)
   unfolding granted
-  granted-steady Nothing h = tt
-  granted-steady (Load byte a d) h = tt
-  granted-steady (Store byte a v) h = tt
-  granted-steady (Fault v) h = absurd (faulting-faults c (advanced c) v h)
-  granted-steady (Trap v) h = subst Steady (sym (trap-granted v h)) tt
+  allowed-steady Nothing h = tt
+  allowed-steady (Load byte a d) h = tt
+  allowed-steady (Store byte a v) h = tt
+  allowed-steady (Fault v) h = absurd (faulting-faults c (advanced c) v h)
+  allowed-steady (Trap v) h = subst Steady (sym (trap-granted v h)) tt
+
+  pub granted-steady : (a : Access) → Faultless (granted c x a m .act) → Steady (granted c x a m .act)
+  granted-steady a =
+      granted-cases c x a m (λ p. Faultless (p .act) → Steady (p .act))
+      (λ q h. absurd (faulting-faults c (advanced c) 9 h)) (λ q. allowed-steady a)
 
 pub instruction-steady : (c : Core) (m : List ℕ) → Faultless (instructionOf c m .act) → Steady (instructionOf c m .act)
 instruction-steady c m =

@@ -28,13 +28,13 @@ use Rattle.machine.specs.Cex.{skips?, lowered}
 use Rattle.machine.specs.Entry.{priority, bestFrom, best, above, pushes, pulled}
 use Rattle.machine.specs.Effect.{Effect, effectOf, loaded}
 use Rattle.machine.specs.Step as step
-use Rattle.machine.specs.Step.{Plan, Interrupt, planned, chosen, returns?, interruptOf, advanced, faulting, granted, executed}
-use Rattle.machine.specs.Step.{instructionOf, planOf}
+use Rattle.machine.specs.Step.{Plan, Interrupt, planned, chosen, returns?, interruptOf, advanced, faulting, allowed, odd?, granted}
+use Rattle.machine.specs.Step.{executed, instructionOf, planOf}
 use Rattle.machine.specs.Step.{outcome, entered, chained, perform, closed, finished, stepOf}
 use Rattle.machine_laws.specs.Bounds.{Quits}
 use Rattle.machine_laws.proofs.Cases.{bool-cases, and-left, and-both}
 use Rattle.machine_laws.proofs.Effects.{effect-fault-core}
-use Rattle.machine_laws.proofs.Plans.{plan-live, instruction-cases}
+use Rattle.machine_laws.proofs.Plans.{plan-live, instruction-cases, granted-cases}
 use Rattle.machine_laws.proofs.Runs.{step-live}
 use Rattle.devices.specs.Cursor.{stateFrom}
 use Rattle.step.specs.Planned.{Asked, Within}
@@ -65,50 +65,44 @@ advanced-of : (b x : Core) (p : ℕ) → b .psw ≡ p → x ≡ advanced b → c
 unfolding advanced
 advanced-of b x p ep ex = (λ i. coreOf (ex i .regs) (sym ep i) (ex i .cex))
 
--- ---- what is granted
+-- ---- what is allowed
 
 module _ (b x : Core) (a : Access) (m : List ℕ) where
-  pub granted-nothing : a ≡ asks.Nothing → planned x act.Plain ≡ granted b x a m
-  unfolding granted
-  granted-nothing e = ap (λ (y : Access). granted b x y m) (sym e)
+  pub allowed-nothing : a ≡ asks.Nothing → planned x act.Plain ≡ allowed b x a m
+  allowed-nothing e = ap (λ (y : Access). allowed b x y m) (sym e)
 
-  pub granted-load : (byte : Bool) (at : ByteAddr) (d : ℕ) → a ≡ asks.Load byte at d → planned x (act.Loads byte at d) ≡ granted b x a m
-  unfolding granted
-  granted-load byte at d e = ap (λ (y : Access). granted b x y m) (sym e)
+  pub allowed-load : (byte : Bool) (at : ByteAddr) (d : ℕ) → a ≡ asks.Load byte at d → planned x (act.Loads byte at d) ≡ allowed b x a m
+  allowed-load byte at d e = ap (λ (y : Access). allowed b x y m) (sym e)
 
-  pub granted-store : (byte : Bool) (at : ByteAddr) (v : ℕ) → a ≡ asks.Store byte at v → planned x (act.Stores byte at v) ≡ granted b x a m
-  unfolding granted
-  granted-store byte at v e = ap (λ (y : Access). granted b x y m) (sym e)
+  pub allowed-store : (byte : Bool) (at : ByteAddr) (v : ℕ) → a ≡ asks.Store byte at v → planned x (act.Stores byte at v) ≡ allowed b x a m
+  allowed-store byte at v e = ap (λ (y : Access). allowed b x y m) (sym e)
 
   module _ (p q r : ℕ) (ep : b .psw ≡ p) (eq : b .cex ≡ q) (er : getD (b .regs) 7 0 ≡ r) (quits : Quits a → x ≡ advanced b) where
-    pub granted-fault :
+    pub allowed-fault :
         {t : Plan} (v : ℕ) → a ≡ asks.Fault v →
-        t ≡ faulting (coreOf (set (x .regs) 7 r) p q) (coreOf (x .regs) p (x .cex)) v → t ≡ granted b x a m
-    unfolding granted
-    granted-fault v e f =
+        t ≡ faulting (coreOf (set (x .regs) 7 r) p q) (coreOf (x .regs) p (x .cex)) v → t ≡ allowed b x a m
+    allowed-fault v e f =
         let ex : x ≡ advanced b = quits (subst Quits (sym e) tt) in
         f ∙ (λ i. faulting (restored b x p q r ep eq er ex i) (advanced-of b x p ep ex i) v)
-        ∙ ap (λ (y : Access). granted b x y m) (sym e)
+        ∙ ap (λ (y : Access). allowed b x y m) (sym e)
 
     module _ (v c k : ℕ) (e : a ≡ asks.Trap v) (ec : c ≡ current p) (ek : k ≡ priority m v) where
       -- the test of SVC, as the definition has it
       tested : (o : Bool) → ltb c k ≡ o → ltb (current (b .psw)) (priority m v) ≡ o
       tested o h = (λ i. ltb (current (ep i)) (sym ek i)) ∙ ap (λ (y : ℕ). ltb y k) (sym ec) ∙ h
 
-      pub granted-trap : c < k → planned x (act.Trap v) ≡ granted b x a m
-      unfolding granted
-      granted-trap h =
+      pub allowed-trap : c < k → planned x (act.Trap v) ≡ allowed b x a m
+      allowed-trap h =
           ap (λ (y : Bool). cond y (planned x (act.Trap v)) (faulting b (advanced b) 10)) (sym (tested true (lt-ltb _ _ h)))
-          ∙ ap (λ (y : Access). granted b x y m) (sym e)
+          ∙ ap (λ (y : Access). allowed b x y m) (sym e)
 
-      pub granted-low :
-          {t : Plan} → k ≤ c → t ≡ faulting (coreOf (set (x .regs) 7 r) p q) (coreOf (x .regs) p (x .cex)) 10 → t ≡ granted b x a m
-      unfolding granted
-      granted-low h w =
+      pub allowed-low :
+          {t : Plan} → k ≤ c → t ≡ faulting (coreOf (set (x .regs) 7 r) p q) (coreOf (x .regs) p (x .cex)) 10 → t ≡ allowed b x a m
+      allowed-low h w =
           let ex : x ≡ advanced b = quits (subst Quits (sym e) tt) in
           w ∙ (λ i. faulting (restored b x p q r ep eq er ex i) (advanced-of b x p ep ex i) 10)
           ∙ ap (λ (y : Bool). cond y (planned x (act.Trap v)) (faulting b (advanced b) 10)) (sym (tested false (le-ltb _ _ h)))
-          ∙ ap (λ (y : Access). granted b x y m) (sym e)
+          ∙ ap (λ (y : Access). allowed b x y m) (sym e)
 
 -- ---- an instruction
 
@@ -161,6 +155,19 @@ module _ (c : Core) (m : List ℕ) where
       instructionOf c m ≡ executed c (effectOf (advanced c) (decodeOf (wordAt m (pc c)))) m
   unfolding instructionOf
   instruction-runs h o k = rw (h, ne-eqb _ _ o, k) refl
+
+-- an odd word access: registers, PSW and CEX state as `advanced` leaves them, or all from before
+pub odd-law :
+    (regs m : List ℕ) (psw cex q y : ℕ) (e : Effect) {t : Plan} → q ≡ wrap (getD regs 7 0 + 2) → y ≡ lowered cex → odd? (e .access) ≡ true
+    → t ≡ faulting (coreOf (set (set regs 7 q) 7 (getD regs 7 0)) psw cex) (coreOf (set regs 7 q) psw y) 9
+    → t ≡ executed (coreOf regs psw cex) e m
+unfolding advanced granted
+odd-law regs m psw cex q y e eq ey o f =
+    let b = coreOf regs psw cex in
+    let back : set (set regs 7 q) 7 (getD regs 7 0) ≡ regs = set-set regs 7 q (getD regs 7 0) ∙ set-getD regs 7 0 in
+    f
+    ∙ (λ i. faulting (coreOf (back i) psw cex) (coreOf (set regs 7 (eq i)) psw (ey i)) 9)
+    ∙ ap (λ (x : Bool). cond x (faulting b (advanced b) 9) (allowed b (e .core) (e .access) m)) (sym o)
 
 -- ---- a return, and points 2 to 7
 
@@ -243,14 +250,18 @@ effect-within c (i.Str off wb src dst) f = tt
 faulting-within : (b c : Core) (v : ℕ) → v < 16 → Within (faulting b c v .act)
 faulting-within b c v h = bool-cases (faulted? (b .psw)) (λ e. rw e tt) (λ e. rw e h)
 
-granted-within : (b x : Core) (a : Access) (m : List ℕ) → Asked a → Within (granted b x a m .act)
-unfolding granted
-granted-within b x asks.Nothing m h = tt
-granted-within b x (asks.Load byte at d) m h = h
-granted-within b x (asks.Store byte at v) m h = tt
-granted-within b x (asks.Fault v) m h = faulting-within b (advanced b) v h
-granted-within b x (asks.Trap v) m h =
+allowed-within : (b x : Core) (a : Access) (m : List ℕ) → Asked a → Within (allowed b x a m .act)
+allowed-within b x asks.Nothing m h = tt
+allowed-within b x (asks.Load byte at d) m h = h
+allowed-within b x (asks.Store byte at v) m h = tt
+allowed-within b x (asks.Fault v) m h = faulting-within b (advanced b) v h
+allowed-within b x (asks.Trap v) m h =
     bool-cases (ltb (current (b .psw)) (priority m v)) (λ e. rw e h) (λ e. rw e (faulting-within b (advanced b) 10 (omega arith)))
+
+granted-within : (b x : Core) (a : Access) (m : List ℕ) → Asked a → Within (granted b x a m .act)
+granted-within b x a m h =
+    granted-cases b x a m (λ (p : Plan). Within (p .act))
+    (λ q. faulting-within b (advanced b) 9 (omega arith)) (λ q. allowed-within b x a m h)
 
 pub instruction-within : (c : Core) (m : List ℕ) → Within (instructionOf c m .act)
 instruction-within c m =

@@ -13,7 +13,8 @@ ghost use Rattle.machine.specs.Entry.{pushes, pulled};
 ghost use Rattle.machine.specs.Effect.{loaded};
 ghost use Rattle.machine.specs.Events.{eventsOf, eventCount};
 ghost use Rattle.machine.specs.Refusal.{eventsFitBelow};
-ghost use Rattle.machine.specs.Step.{Plan, advanced, faulting, granted, instructionOf, chosen, planOf};
+ghost use Rattle.machine.specs.Step.{Plan, advanced, faulting, allowed, odd?};
+ghost use Rattle.machine.specs.Step.{instructionOf, chosen, planOf};
 ghost use Rattle.machine.specs.Step.{outcome, entered, chained, perform, closed, stepOf};
 ghost use Rattle.machine_laws.specs.Bounds.{Quits};
 ghost use Rattle.devices.specs.Cursor.{Behind, Ordered};
@@ -57,14 +58,27 @@ fn faulted(regs: &mut [u16; 8], psw: u16, cex: u16, pc: u16, left: u16, v: u8) -
     }
 }
 
-// What an instruction asked for, granted. `psw`, `cex` and `pc` are from before the step, `d` and
-// the registers are as the instruction left them.
+// Is a word asked for at an odd address?
+fn odd(a: Access) -> bool
+    ensures { λ r. ⌜ r ≡ odd? a ⌝ }
+{
+    match a {
+        Access::Nothing => false,
+        Access::Load { byte, at, .. } => !byte & (at.0 % 2 == 1),
+        Access::Store { byte, at, .. } => !byte & (at.0 % 2 == 1),
+        Access::Fault(..) => false,
+        Access::Trap(..) => false,
+    }
+}
+
+// What an instruction asked for, which is no odd word, granted. `psw`, `cex` and `pc` are from
+// before the step, `d` and the registers are as the instruction left them.
 fn grant(regs: &mut [u16; 8], mem: &[u8], psw: u16, cex: u16, pc: u16, d: Executed) -> Planned
     requires { ⌜ (length (now mem) ≡ 65536) × Asked (d .access) ⌝ }
     ensures { λ r. ⌜ ((b : Core) → b .psw ≡ psw → b .cex ≡ cex → getD (b .regs) 7 0 ≡ pc →
         (Quits (d .access) → coreOf (now (regs .entry)) (d .psw) (d .cex) ≡ advanced b) →
         planWith (now (regs .exit)) r ≡
-        granted b (coreOf (now (regs .entry)) (d .psw) (d .cex)) (d .access) (now (mem .entry))) ⌝ }
+        allowed b (coreOf (now (regs .entry)) (d .psw) (d .cex)) (d .access) (now (mem .entry))) ⌝ }
 {
     let a = d.access;
     match a {
@@ -123,7 +137,8 @@ fn lower(cex: u16) -> u16
     cex - 8
 }
 
-// Points 4 to 7: asleep, an odd PC, a CEX block that skips, else fetch, decode, execute.
+// Points 4 to 7: asleep, an odd PC, a CEX block that skips, else fetch, decode, execute. An odd
+// word access takes back what the instruction did to the registers.
 fn instruction(regs: &mut [u16; 8], mem: &[u8], psw: u16, cex: u16) -> Planned
     requires { ⌜ length (now mem) ≡ 65536 ⌝ }
     ensures { λ r. ⌜ planWith (now (regs .exit)) r ≡
@@ -141,6 +156,7 @@ fn instruction(regs: &mut [u16; 8], mem: &[u8], psw: u16, cex: u16) -> Planned
     if pc % 2 == 1 {
         return faulted(regs, psw, cex, pc, cex, 9);
     }
+    let before = *regs;
     let next = std::num::wrapping_add_u16(pc, 2);
     regs[7] = next;
     if skips(cex) {
@@ -152,6 +168,12 @@ fn instruction(regs: &mut [u16; 8], mem: &[u8], psw: u16, cex: u16) -> Planned
     }
     let w = memory::read_word(mem, memory::word_of(ByteAddr(pc)));
     let d = execute::execute(regs, psw, left, isa::decode(w));
+    let asked = d.access;
+    if odd(asked) {
+        *regs = before;
+        regs[7] = next;
+        return faulted(regs, psw, cex, pc, left, 9);
+    }
     grant(regs, mem, psw, cex, pc, d)
 }
 

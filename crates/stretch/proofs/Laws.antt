@@ -2,7 +2,7 @@
 -- instruction, m the memory before it, p the PSW. Assumes nothing.
 use Prim.Native.Nat.{ℕ, _+_, _*_, _/_, _%_, _<_, _≤_}
 use native.Mathlib.Omega.{arith}
-use mathlib.Core.Bool.{Bool, true, false, cond, _||_}
+use mathlib.Core.Bool.{Bool, true, false, cond, not, _&&_, _||_}
 use mathlib.Core.List.{List}
 use mathlib.Core.Logic.{inl, inr, ⊎-elim}
 use mathlib.Core.Path.{_≡_, refl, sym, ap, _∙_}
@@ -15,16 +15,19 @@ use borrow.Author.Tests.{eqb-false, lt-ltb, le-ltb}
 use Rattle.isa.specs.declared.Instr.{Instr}
 use Rattle.isa.specs.declared.Instr.the-variants as Instr
 use Rattle.isa.specs.Decode.{relativeOf, decodeOf}
+use Rattle.machine.specs.declared.Access.{Access}
 use Rattle.machine.specs.declared.Access.the-variants as asks
-use Rattle.machine.specs.State.{coreOf, moved}
+use Rattle.machine.specs.State.{Core, coreOf, moved}
 use Rattle.machine.specs.Memory.{commit, valueAt}
 use Rattle.machine.specs.Devices.{loadWrites, storeWrites}
 use Rattle.machine.specs.Effect.{Effect, byteAddr, effect, effectOf, operand, moves?, adjusted, loaded}
-use Rattle.machine.specs.Step.{granted, executed, perform}
+use Rattle.machine.specs.Step.{Plan, allowed, odd?, granted, executed, perform}
+use Rattle.machine_laws.proofs.Cases.{and-right, eq-of}
+use Rattle.machine_laws.proofs.Plans.{granted-even}
 use Rattle.execute.proofs.Laws.{loading, storing}
 use Rattle.devices.specs.Cursor.{stateFrom}
 use Rattle.stretch_registers.specs.Effected.{unblocked, Keeps, Tried, Words, operation, named}
-use Rattle.stretch.specs.Ordinary.{aligned?, storable?, ordinary?}
+use Rattle.stretch.specs.Ordinary.{aligned?, inside?, storable?, ordinary?}
 use Rattle.stretch.specs.Served.{running, carriedOut, Served, Taken}
 
 -- ---- the CEX state and PC
@@ -45,6 +48,21 @@ same-pc l k p e = ((λ h. ap (λ (x : ℕ). x % 2) e ∙ h), refl, refl)
 
 -- ---- what is granted
 
+-- an access that a stretch takes is no odd word's
+aligned-even : (byte : Bool) (a : ℕ) → aligned? byte a ≡ true → not byte && eqb (a % 2) 1 ≡ false
+aligned-even true a h = refl
+aligned-even false a h = ap (λ (n : ℕ). eqb n 1) (eq-of {m = a % 2} {n = 0} h)
+
+ordinary-even : (a : Access) → ordinary? a ≡ true → odd? a ≡ false
+ordinary-even asks.Nothing h = refl
+ordinary-even (asks.Load byte a d) h = aligned-even byte (a .0) h
+ordinary-even (asks.Store byte a v) h = aligned-even byte (a .0) (and-right (inside? (a .0)) (aligned? byte (a .0)) h)
+ordinary-even (asks.Fault v) h = refl
+ordinary-even (asks.Trap v) h = refl
+
+pub ordinary-granted : (c x : Core) (a : Access) (m : List ℕ) → ordinary? a ≡ true → allowed c x a m ≡ granted c x a m
+ordinary-granted c x a m h = sym (granted-even c x a m (ordinary-even a h))
+
 module _ (x : Instr) (l k m : List ℕ) (p : ℕ) where
   -- a load's registers before it are k; k′ and m′ are after it
   pub served-load :
@@ -52,10 +70,13 @@ module _ (x : Instr) (l k m : List ℕ) (p : ℕ) where
       effect (unblocked k p) (asks.Load byte (byteAddr at) dst) ≡ effectOf (unblocked l p) x → aligned? byte at ≡ true →
       ((q : ℕ) → unblocked k′ q ≡ loaded (unblocked k q) byte dst (valueAt byte m at)) → m′ ≡ commit (loadWrites byte m at) m →
       getD k′ 7 0 ≡ getD l 7 0 → Served x l p m k′ p m′
-  unfolding granted perform
+  unfolding perform
   served-load k′ m′ byte at dst hp e h f g c = (
     hp,
-    (λ b t n. (λ i. stateFrom (f p i) t false (n + 1) (g i)) ∙ ap (λ (y : Effect). carriedOut (executed b y m) t n m) e),
+    (λ b t n.
+        (λ i. stateFrom (f p i) t false (n + 1) (g i))
+        ∙ ap (λ (y : Plan). carriedOut y t n m) (ordinary-granted b (unblocked k p) (asks.Load byte (byteAddr at) dst) m h)
+        ∙ ap (λ (y : Effect). carriedOut (executed b y m) t n m) e),
     same-pc l k′ p c,
     ap (λ (y : Effect). ordinary? (y .access)) (sym e) ∙ h,
   )
@@ -64,11 +85,13 @@ module _ (x : Instr) (l k m : List ℕ) (p : ℕ) where
       (m′ : List ℕ) (byte : Bool) (at v : ℕ) → p < 65536 →
       effect (unblocked k p) (asks.Store byte (byteAddr at) v) ≡ effectOf (unblocked l p) x → storable? byte at ≡ true →
       m′ ≡ commit (storeWrites byte m at v) m → getD k 7 0 ≡ getD l 7 0 → Served x l p m k p m′
-  unfolding granted perform
+  unfolding perform
   served-store m′ byte at v hp e h f c = (
     hp,
     (λ b t n.
-        ap (λ (o : List ℕ). running k p t (n + 1) o) f ∙ ap (λ (y : Effect). carriedOut (executed b y m) t n m) e),
+        ap (λ (o : List ℕ). running k p t (n + 1) o) f
+        ∙ ap (λ (y : Plan). carriedOut y t n m) (ordinary-granted b (unblocked k p) (asks.Store byte (byteAddr at) v) m h)
+        ∙ ap (λ (y : Effect). carriedOut (executed b y m) t n m) e),
     same-pc l k p c,
     ap (λ (y : Effect). ordinary? (y .access)) (sym e) ∙ h,
   )

@@ -25,8 +25,8 @@ use Rattle.machine.specs.Devices.{deliver}
 use Rattle.machine.specs.Entry.{best, above}
 use Rattle.machine.specs.Effect.{effectOf}
 use Rattle.machine.specs.Step as step
-use Rattle.machine.specs.Step.{Plan, Interrupt, planned, chosen, returns?, interruptOf, advanced, granted, executed, instructionOf}
-use Rattle.machine.specs.Step.{planOf, perform, finished}
+use Rattle.machine.specs.Step.{Plan, Interrupt, planned, chosen, returns?, interruptOf, advanced, allowed, granted}
+use Rattle.machine.specs.Step.{executed, instructionOf, planOf, perform, finished}
 use Rattle.machine.specs.Uneventful.{uneventful?, Uneventful}
 use Rattle.machine_laws.proofs.Cases.{and-left, and-right, le-of, lt-of, eq-of, not-lt}
 use Rattle.machine_laws.proofs.Plans.{plan-live}
@@ -38,33 +38,43 @@ use Rattle.machine.specs.declared.Rest.{Rest}
 use Rattle.machine.specs.Rest.{stateWith}
 use Rattle.stretch_registers.specs.Effected.{unblocked}
 use Rattle.stretch_registers.proofs.Laws.{set-even}
+use Rattle.stretch.proofs.Laws.{ordinary-granted}
 use Rattle.stretch.specs.Ordinary.{aligned?, inside?, ordinary?}
 use Rattle.stretch.specs.Served.{running, carriedOut, Untouched, Served, Taken}
 use Rattle.stretch.specs.Stretch.{Undisturbed, Fetching, NoneAbove, Passes, OneStep, Stepping, Reaches}
 
 -- ---- an ordinary access
 
-granted-uneventful : (c x : Core) (a : Access) (m : List ℕ) → ordinary? a ≡ true → uneventful? (granted c x a m .act) ≡ true
-unfolding granted
-granted-uneventful c x asks.Nothing m h = refl
-granted-uneventful c x (asks.Load byte a d) m h = refl
-granted-uneventful c x (asks.Store byte a v) m h =
+allowed-uneventful : (c x : Core) (a : Access) (m : List ℕ) → ordinary? a ≡ true → uneventful? (allowed c x a m .act) ≡ true
+allowed-uneventful c x asks.Nothing m h = refl
+allowed-uneventful c x (asks.Load byte a d) m h = refl
+allowed-uneventful c x (asks.Store byte a v) m h =
     let k : 16 ≤ a .0 = le-of (and-left _ (ltb (a .0) 0xFFC0) (and-left (inside? (a .0)) (aligned? byte (a .0)) h)) in
     ap not (not-lt {m = a .0} {n = 16} k)
-granted-uneventful c x (asks.Fault v) m h = absurd (false≢true h)
-granted-uneventful c x (asks.Trap v) m h = absurd (false≢true h)
+allowed-uneventful c x (asks.Fault v) m h = absurd (false≢true h)
+allowed-uneventful c x (asks.Trap v) m h = absurd (false≢true h)
+
+granted-uneventful : (c x : Core) (a : Access) (m : List ℕ) → ordinary? a ≡ true → uneventful? (granted c x a m .act) ≡ true
+granted-uneventful c x a m h =
+    subst (λ (p : Plan). uneventful? (p .act) ≡ true) (ordinary-granted c x a m h) (allowed-uneventful c x a m h)
+
+allowed-below :
+    (c x : Core) (a : Access) (l : ℕ) (m : List ℕ) → ordinary? a ≡ true →
+    BelowVectors (perform (allowed c x a m .act) (allowed c x a m .core) l m .writes)
+unfolding perform
+allowed-below c x asks.Nothing l m h = tt
+allowed-below c x (asks.Load byte a d) l m h = load-below byte m (a .0)
+allowed-below c x (asks.Store byte a v) l m h =
+    let k = and-left (inside? (a .0)) (aligned? byte (a .0)) h in
+    store-below byte m (a .0) v (le-of (and-left _ _ k)) (lt-of (and-right (leb 16 (a .0)) _ k))
+allowed-below c x (asks.Fault v) l m h = absurd (false≢true h)
+allowed-below c x (asks.Trap v) l m h = absurd (false≢true h)
 
 granted-below :
     (c x : Core) (a : Access) (l : ℕ) (m : List ℕ) → ordinary? a ≡ true →
     BelowVectors (perform (granted c x a m .act) (granted c x a m .core) l m .writes)
-unfolding granted perform
-granted-below c x asks.Nothing l m h = tt
-granted-below c x (asks.Load byte a d) l m h = load-below byte m (a .0)
-granted-below c x (asks.Store byte a v) l m h =
-    let k = and-left (inside? (a .0)) (aligned? byte (a .0)) h in
-    store-below byte m (a .0) v (le-of (and-left _ _ k)) (lt-of (and-right (leb 16 (a .0)) _ k))
-granted-below c x (asks.Fault v) l m h = absurd (false≢true h)
-granted-below c x (asks.Trap v) l m h = absurd (false≢true h)
+granted-below c x a l m h =
+    subst (λ (p : Plan). BelowVectors (perform (p .act) (p .core) l m .writes)) (ordinary-granted c x a m h) (allowed-below c x a l m h)
 
 -- ---- one step
 

@@ -141,11 +141,13 @@ fn load_relative(regs: &mut [u16; 8], mem: &mut [u8], psw: u16, w: u16) -> u32
         return 65536;
     }
     let off = signed(64, w / 128 % 128);
-    let at = operands::offset_from(get(regs, (w / 8 % 8) as u8), off);
-    if !aligned(w / 64 % 2 == 1, at) {
+    let base = get(regs, (w / 8 % 8) as u8);
+    let at = operands::offset_from(base, off);
+    let byte = w / 64 % 2 == 1;
+    if !aligned(byte, at) {
         return 65536;
     }
-    load(regs, mem, w / 64 % 2 == 1, at, dst);
+    load(regs, mem, byte, at, dst);
     psw as u32
 }
 

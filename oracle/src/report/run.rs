@@ -28,7 +28,7 @@ fn halt(last: &Taken) -> String {
     let (pc, word) = (hex(last.pc()), last.word.map(hex).unwrap_or_default());
     match (last.act, instruction(last)) {
         (Act::Halt(8), _) => format!("illegal word {word} at {pc}"),
-        (Act::Halt(9), _) => format!("odd PC {pc}"),
+        (Act::Halt(9), None) => format!("odd PC {pc}"),
         (Act::Halt(v), Some(text)) => format!("{} fault, {text} at {pc}", fault_name(v)),
         (act, _) => act_text(act),
     }

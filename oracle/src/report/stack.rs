@@ -58,7 +58,7 @@ fn drawn(sp: u16, words: u16, reach: u16) -> String {
         text += &format!(" {} more words are left out.", grouped((reach - words).into()));
     }
     if sp & 1 == 1 {
-        text += " SP is odd: a word access drops bit 0.";
+        text += " SP is odd: pushes and pulls of entry and return drop bit 0, and an instruction's are fault 9.";
     }
     text
 }

@@ -4,7 +4,7 @@ use denote.Ref.{now}
 use borrow.Author.Needs.{needs}
 use Rattle.machine.specs.State.{coreOf}
 use Rattle.step.specs.Planned.{Asked}
-use Rattle.step.proofs.Laws.{granted-nothing, granted-load, granted-store, granted-fault, granted-trap, granted-low}
+use Rattle.step.proofs.Laws.{allowed-nothing, allowed-load, allowed-store, allowed-fault, allowed-trap, allowed-low}
 use Rattle.step.proofs.grant.Statement.{statement}
 use Rattle.step.proofs.grant.Tie as tie
 
@@ -18,47 +18,44 @@ returns c =
     let a = c .before .before .before .before .before .before .before .args in
     let x = coreOf (now (a .regs)) (a .d .psw) (a .d .cex) in
     λ b ep eq er quits.
-    granted-trap b x (a .d .access) (now (a .mem)) (a .psw) (a .cex) (a .pc) ep eq er quits _ _ _
-    (c .before .before .before .before .a4 .given .1) (c .before .before .current-priority .ensures .0)
-    (c .before .priority-of .ensures) (c .if1 .taken)
+    allowed-trap b x (a .d .access) (now (a .mem)) (a .psw) (a .cex) (a .pc) ep eq er quits _ _ _
+    (c .before .before .before .before .a4 .given .1) (c .before .before .current-priority .ensures .0) (c .before .priority-of .ensures) (c .if1 .taken)
 
 returns-2 : tie.Need-returns-2
 returns-2 c =
     let a = c .before .before .before .args in
     let x = coreOf (now (a .regs)) (a .d .psw) (a .d .cex) in
     λ b ep eq er quits.
-    granted-nothing b x (a .d .access) (now (a .mem)) (c .enum-told .given .1)
+    allowed-nothing b x (a .d .access) (now (a .mem)) (c .enum-told .given .1)
 
 returns-3 : tie.Need-returns-3
 returns-3 c =
     let a = c .before .before .before .before .args in
     let x = coreOf (now (a .regs)) (a .d .psw) (a .d .cex) in
     λ b ep eq er quits.
-    granted-load b x (a .d .access) (now (a .mem)) _ _ _ (c .before .a .given .1)
+    allowed-load b x (a .d .access) (now (a .mem)) _ _ _ (c .before .a .given .1)
 
 returns-4 : tie.Need-returns-4
 returns-4 c =
     let a = c .before .before .before .before .args in
     let x = coreOf (now (a .regs)) (a .d .psw) (a .d .cex) in
     λ b ep eq er quits.
-    granted-store b x (a .d .access) (now (a .mem)) _ _ _ (c .before .a2 .given .1)
+    allowed-store b x (a .d .access) (now (a .mem)) _ _ _ (c .before .a2 .given .1)
 
 returns-5 : tie.Need-returns-5
 returns-5 c =
     let a = c .before .before .before .before .before .before .args in
     let x = coreOf (now (a .regs)) (a .d .psw) (a .d .cex) in
     λ b ep eq er quits.
-    granted-fault b x (a .d .access) (now (a .mem)) (a .psw) (a .cex) (a .pc) ep eq er quits _
-    (c .before .before .before .a3 .given .1) (c .faulted .ensures)
+    allowed-fault b x (a .d .access) (now (a .mem)) (a .psw) (a .cex) (a .pc) ep eq er quits _ (c .before .before .before .a3 .given .1) (c .faulted .ensures)
 
 returns-6 : tie.Need-returns-6
 returns-6 c =
     let a = c .before .before .before .before .before .before .before .before .before .args in
     let x = coreOf (now (a .regs)) (a .d .psw) (a .d .cex) in
     λ b ep eq er quits.
-    granted-low b x (a .d .access) (now (a .mem)) (a .psw) (a .cex) (a .pc) ep eq er quits _ _ _
-    (c .before .before .before .before .before .before .a4 .given .1) (c .before .before .before .before .current-priority .ensures .0)
-    (c .before .before .before .priority-of .ensures)
+    allowed-low b x (a .d .access) (now (a .mem)) (a .psw) (a .cex) (a .pc) ep eq er quits _ _ _
+    (c .before .before .before .before .before .before .a4 .given .1) (c .before .before .before .before .current-priority .ensures .0) (c .before .before .before .priority-of .ensures)
     (c .before .before .if1 .left) (c .faulted2 .ensures)
 
 pub grant-spec : {M : Type 1} → statement M

@@ -11,9 +11,10 @@ use Rattle.isa.proofs.Laws.{decode-fields}
 use Rattle.machine.specs.State.{coreOf}
 use Rattle.machine.specs.Effect.{Effect, effectOf}
 use Rattle.machine.specs.Step.{faulting, executed}
+use Rattle.machine_laws.proofs.Plans.{granted-even}
 use Rattle.step.specs.Planned.{Asked}
 use Rattle.step.proofs.Laws.{instruction-asleep, instruction-odd, instruction-skips, instruction-runs}
-use Rattle.step.proofs.Laws.{skip-law, fetched, fetched-quits, effect-within}
+use Rattle.step.proofs.Laws.{skip-law, odd-law, fetched, fetched-quits, effect-within}
 use Rattle.step.proofs.instruction.Statement.{statement}
 use Rattle.step.proofs.instruction.Tie as tie
 
@@ -34,40 +35,65 @@ returns-2 c =
 
 returns-3 : tie.Need-returns-3
 returns-3 c =
-    let a = c .before .before .before .before .before .before .before .before .before .args in
+    let r = c .before .before .before .before .before in
+    let a = r .before .before .before .before .before .args in
     let x = coreOf (now (a .regs)) (a .psw) (a .cex) in
-    let k = c .before .before .before .before .before .before in
-    let awake = sym (k .before .asleep .ensures) ∙ k .if1 .left in
+    let awake = sym (r .before .before .before .asleep .ensures) ∙ r .before .before .if1 .left in
     let skipped = sym (c .before .skips .ensures) ∙ c .if3 .taken in
     let next = c .before .before .wrapping-add-u16 .ensures in
-    skip-law (now (a .regs)) (a .psw) (a .cex) _ _ next (c .before .before .before .before .lower .ensures)
-    ∙ sym (instruction-skips x (now (a .mem)) awake (c .before .before .before .if2 .left) skipped)
+    skip-law (now (a .regs)) (a .psw) (a .cex) _ _ next (r .lower .ensures)
+    ∙ sym (instruction-skips x (now (a .mem)) awake (c .before .before .before .before .if2 .left) skipped)
 
 execute-requires : tie.Need-execute-requires
 execute-requires c κs = subst Fields (sym (c .decode .ensures)) (decode-fields _)
 
-grant-requires : tie.Need-grant-requires
-grant-requires c κs =
-    let f = subst Fields (sym (c .before .before .decode .ensures)) (decode-fields _) in
-    let s = c .before .before .before .before .before .before .before .before .before .before .before .before .before .before .before in
-    (s .pre, subst (λ (e : Effect). Asked (e .access)) (sym (c .before .execute .ensures)) (effect-within _ _ f))
-
+-- an odd word access: the registers are those from before the step, PC past the instruction
 returns-4 : tie.Need-returns-4
 returns-4 c =
-    let b = c .before .before .before .before .before in
-    let d = b .before .before .before .before .before .before in
-    let a = d .before .before .before .before .before .args in
+    let o = c .before .before .before in
+    let d = o .before .before in
+    let b = d .before .before in
+    let r = b .before .before .before .before .before .before .before in
+    let a = r .before .before .before .before .before .args in
     let x = coreOf (now (a .regs)) (a .psw) (a .cex) in
-    let y = coreOf (set (now (a .regs)) 7 (b .before .before .before .before .wrapping-add-u16 .result)) (a .psw) (d .lower .result) in
+    let y = coreOf (set (now (a .regs)) 7 (b .before .before .before .before .wrapping-add-u16 .result)) (a .psw) (r .lower .result) in
     let e =
     fetched (now (a .regs)) (now (a .mem)) (a .psw) (a .cex) _ _ _ _ _ (b .before .word-of .ensures .0) (b .read-word .ensures)
-    (b .before .before .before .before .wrapping-add-u16 .ensures) (d .lower .ensures)
-    (c .before .before .execute .ensures ∙ ap (effectOf y) (c .before .before .before .decode .ensures)) in
-    let awake = sym (d .before .before .before .asleep .ensures) ∙ d .before .before .if1 .left in
+    (b .before .before .before .before .wrapping-add-u16 .ensures) (r .lower .ensures)
+    (o .before .execute .ensures ∙ ap (effectOf y) (d .decode .ensures)) in
+    let awake = sym (r .before .before .before .asleep .ensures) ∙ r .before .before .if1 .left in
+    let taken = sym (b .before .before .before .skips .ensures) ∙ b .before .before .if3 .left in
+    odd-law (now (a .regs)) (now (a .mem)) (a .psw) (a .cex) _ _ _ (b .before .before .before .before .wrapping-add-u16 .ensures)
+    (r .lower .ensures) (sym (o .odd .ensures) ∙ c .before .before .if4 .taken) (c .faulted2 .ensures)
+    ∙ ap (λ (z : Effect). executed x z (now (a .mem))) e
+    ∙ sym (instruction-runs x (now (a .mem)) awake (b .before .before .before .before .before .before .if2 .left) taken)
+
+grant-requires : tie.Need-grant-requires
+grant-requires c κs =
+    let b = c .before .before .before .before in
+    let f = subst Fields (sym (b .decode .ensures)) (decode-fields _) in
+    let s = b .before .before .before .before .before .before .before .before .before .before .before .before .before .before in
+    (s .pre, subst (λ (e : Effect). Asked (e .access)) (sym (c .before .before .before .execute .ensures)) (effect-within _ _ f))
+
+returns-5 : tie.Need-returns-5
+returns-5 c =
+    let o = c .before .before .before in
+    let d = o .before .before in
+    let b = d .before .before in
+    let r = b .before .before .before .before .before .before .before in
+    let a = r .before .before .before .before .before .args in
+    let x = coreOf (now (a .regs)) (a .psw) (a .cex) in
+    let y = coreOf (set (now (a .regs)) 7 (b .before .before .before .before .wrapping-add-u16 .result)) (a .psw) (r .lower .result) in
+    let e =
+    fetched (now (a .regs)) (now (a .mem)) (a .psw) (a .cex) _ _ _ _ _ (b .before .word-of .ensures .0) (b .read-word .ensures)
+    (b .before .before .before .before .wrapping-add-u16 .ensures) (r .lower .ensures)
+    (o .before .execute .ensures ∙ ap (effectOf y) (d .decode .ensures)) in
+    let awake = sym (r .before .before .before .asleep .ensures) ∙ r .before .before .if1 .left in
     let taken = sym (b .before .before .before .skips .ensures) ∙ b .before .before .if3 .left in
     c .grant .ensures x refl refl refl (fetched-quits _ _ _ e)
+    ∙ sym (granted-even x _ _ (now (a .mem)) (sym (o .odd .ensures) ∙ c .before .before .if4 .left))
     ∙ ap (λ (z : Effect). executed x z (now (a .mem))) e
-    ∙ sym (instruction-runs x (now (a .mem)) awake (b .before .before .before .before .before .if2 .left) taken)
+    ∙ sym (instruction-runs x (now (a .mem)) awake (b .before .before .before .before .before .before .if2 .left) taken)
 
 pub instruction-spec : {M : Type 1} → statement M
 instruction-spec =
@@ -87,5 +113,9 @@ instruction-spec =
     (λ c κs. search needs)
     (λ c κs. search needs)
     execute-requires
+    (λ c κs. search needs)
+    (λ c. search needs)
+    (λ c κs. search needs)
+    returns-4
     grant-requires
-    returns-4)
+    returns-5)

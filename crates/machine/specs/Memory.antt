@@ -17,7 +17,8 @@ wordNumber a = a / 2
 abbrev pub firstByte : ℕ → ℕ
 firstByte w = 2 * w
 
--- "a word access drops bit 0 of its address": the one place of this rule. [01 State and memory]
+-- "a word access drops bit 0 of its address": the one place of this rule. It is felt by pushes, pulls and vectors; a
+-- word that an instruction loads or stores at an odd address is a fault (Step: granted). [01 State and memory; 02 §6]
 abbrev pub even : ℕ → ℕ
 even a = firstByte (wordNumber a)
 

@@ -259,7 +259,8 @@ perform-tidy act.Halt c l m t h = t
 perform-tidy act.Skip c l m t h = t
 perform-tidy (act.Trap v) c l m t h = entered-tidy c m v false t h
 perform-tidy act.Plain c l m t h = t
-perform-tidy (act.Loads byte a d) c l m t h = loaded-tidy c byte d (valueAt byte m (a .0)) t (value-byte m (a .0) byte h) (value-word m (a .0) byte h)
+perform-tidy (act.Loads byte a d) c l m t h =
+    loaded-tidy c byte d (valueAt byte m (a .0)) t (value-byte m (a .0) byte h) (value-word m (a .0) byte h)
 perform-tidy (act.Stores byte a v) c l m t h = t
 
 pub perform-lines : (a : Act) (c : Core) (l : ℕ) (m : List ℕ) → ActFits a → l < 256 → perform a c l m .lines < 256

@@ -189,8 +189,8 @@ instruction-priorities c m =
     (λ q r o h u e. (refl, refl))
     (λ q r o h u e. granted-priorities c (x .core) m n (executed-priorities c n (decode-fields (wordAt m (pc c)))) (x .access) h u e)
 
-pub plan-priorities : (s : State) → Faultless (planOf s .act) → svc? (planOf s .act) ≡ false → setsPriority? s ≡ false → Steady (planOf s .act)
-    → SamePriorities (planOf s .core .psw) (s .core .psw)
+pub plan-priorities : (s : State) → Faultless (planOf s .act) → svc? (planOf s .act) ≡ false → setsPriority? s ≡ false
+    → Steady (planOf s .act) → SamePriorities (planOf s .core .psw) (s .core .psw)
 plan-priorities s =
     let b = setPri? (decodeOf (wordAt (s .mem) (pc (s .core)))) in
     plan-cases s

@@ -16,8 +16,8 @@ use Rattle.machine.specs.Cex.{skips?}
 use Rattle.machine.specs.Entry.{best, bestFrom, above, vectorPsw, vectorPc, vectored, enteredPsw, pushed, pushes}
 use Rattle.machine.specs.Effect.{effectOf, loaded}
 use Rattle.machine.specs.declared.Act.{Act}
-use Rattle.machine.specs.Step.{Interrupt, Outcome, pulls, chains, accepts, nothing, interruptOf, returns?, advanced, faulting, allowed, granted}
-use Rattle.machine.specs.Step.{planned, instructionOf, perform}
+use Rattle.machine.specs.Step.{Interrupt, Outcome, pulls, chains, accepts, nothing, interruptOf, returns?, advanced}
+use Rattle.machine.specs.Step.{faulting, allowed, granted, planned, instructionOf, perform}
 use Rattle.machine.specs.declared.Act.the-variants as acts
 use Rattle.machine_laws.specs.Bounds.{Each}
 use Rattle.machine_laws.proofs.Cases.{bool-cases}

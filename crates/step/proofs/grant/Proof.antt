@@ -19,7 +19,8 @@ returns c =
     let x = coreOf (now (a .regs)) (a .d .psw) (a .d .cex) in
     λ b ep eq er quits.
     allowed-trap b x (a .d .access) (now (a .mem)) (a .psw) (a .cex) (a .pc) ep eq er quits _ _ _
-    (c .before .before .before .before .a4 .given .1) (c .before .before .current-priority .ensures .0) (c .before .priority-of .ensures) (c .if1 .taken)
+    (c .before .before .before .before .a4 .given .1) (c .before .before .current-priority .ensures .0)
+    (c .before .priority-of .ensures) (c .if1 .taken)
 
 returns-2 : tie.Need-returns-2
 returns-2 c =
@@ -47,7 +48,8 @@ returns-5 c =
     let a = c .before .before .before .before .before .before .args in
     let x = coreOf (now (a .regs)) (a .d .psw) (a .d .cex) in
     λ b ep eq er quits.
-    allowed-fault b x (a .d .access) (now (a .mem)) (a .psw) (a .cex) (a .pc) ep eq er quits _ (c .before .before .before .a3 .given .1) (c .faulted .ensures)
+    allowed-fault b x (a .d .access) (now (a .mem)) (a .psw) (a .cex) (a .pc) ep eq er quits _
+    (c .before .before .before .a3 .given .1) (c .faulted .ensures)
 
 returns-6 : tie.Need-returns-6
 returns-6 c =
@@ -55,7 +57,8 @@ returns-6 c =
     let x = coreOf (now (a .regs)) (a .d .psw) (a .d .cex) in
     λ b ep eq er quits.
     allowed-low b x (a .d .access) (now (a .mem)) (a .psw) (a .cex) (a .pc) ep eq er quits _ _ _
-    (c .before .before .before .before .before .before .a4 .given .1) (c .before .before .before .before .current-priority .ensures .0) (c .before .before .before .priority-of .ensures)
+    (c .before .before .before .before .before .before .a4 .given .1)
+    (c .before .before .before .before .current-priority .ensures .0) (c .before .before .before .priority-of .ensures)
     (c .before .before .if1 .left) (c .faulted2 .ensures)
 
 pub grant-spec : {M : Type 1} → statement M

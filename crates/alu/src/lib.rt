@@ -206,7 +206,8 @@ fn width(byte: bool) -> u16
     if byte { 8 } else { 16 }
 }
 
-// The one bit that BIC clears or BIS sets, as a mask; 0 where the operand names no bit of the width.
+// The one bit that BIC clears or BIS sets, as a mask; 0 where the operand names no bit of the
+// width.
 fn mask_of(byte: bool, src: u16) -> u16
     ensures { λ r. ⌜ (r ≡ maskOf (widthOf byte) src) × (r < 2 ^ widthOf byte) ⌝ }
 {

@@ -268,10 +268,11 @@ pub fn alu(op: Op, byte: bool, dst: u16, src: u16, psw: u16) -> Outcome
         Op::Sra => shift_into(byte, dst, word::flag(word::top(byte) <= d), psw),
         Op::Rrc => shift_into(byte, dst, psw % 2, psw),
         Op::Comp => logic_into(byte, dst, word::turned_bits(byte, dst), psw),
-        Op::Swpb => Outcome {
-            value: dst % 256 * 256 + dst / 256,
-            psw,
-        },
+        Op::Swpb => {
+            let high = dst % 256 * 256;
+            let value = high + dst / 256;
+            Outcome { value, psw }
+        }
         Op::Sxt => Outcome {
             value: extend(dst),
             psw,

@@ -126,11 +126,11 @@ logic-into-requires-5 c κs = search needs
 enum-told-16 : tie.Need-enum-told-16
 enum-told-16 c = search needs
 
-mul-t25 : tie.Need-mul-t25
-mul-t25 c = search needs
+mul-high : tie.Need-mul-high
+mul-high c = search needs
 
-add-t27 : tie.Need-add-t27
-add-t27 c = search needs
+add-value : tie.Need-add-value
+add-value c = search needs
 
 enum-told-17 : tie.Need-enum-told-17
 enum-told-17 c = search needs
@@ -262,8 +262,8 @@ alu-spec =
     turned-bits-requires
     logic-into-requires-5
     enum-told-16
-    mul-t25
-    add-t27
+    mul-high
+    add-value
     enum-told-17
     extend-requires
     returns

@@ -2,9 +2,13 @@
 //! in one run. Every workload's outcome is compared before it is timed, and the C interpreter is held against the oracle
 //! on random inputs first.
 //!
-//! `run WORKLOAD rattle` (or c, oracle) runs one workload once, for `valgrind --tool=callgrind
-//! --toggle-collect=xm23_run`: instructions of the host per step.
+//! Last, instructions of the host per step, where valgrind is here; `run counts` prints these alone, and `run WORKLOAD
+//! rattle` (or c, oracle) runs one workload once, for such a count.
 
+mod callgrind;
+mod rows;
+
+use callgrind::instructions;
 use oracle::asm::assemble;
 use oracle::inputs::{input, Input, KINDS};
 use oracle::machine::{self, event_record, Event, Machine};
@@ -175,6 +179,52 @@ fn workloads() -> Vec<Workload> {
     ]
 }
 
+/// A line that waits, of a priority that is not above the program's.
+fn waiting(n: u64) -> Input {
+    let mut i = start(&format!("{MIXED}{HANDLERS}"), n);
+    i.record[16] = 0xA0; // priority 5
+    i.record[20] = 0x01; // device 0 has asked, at priority 3
+    i
+}
+
+/// A workload cut into calls of so many steps each.
+fn calls(name: &'static str, each: u64) -> Workload {
+    Workload { name, inputs: vec![mixed(0, each); 1_000] }
+}
+
+/// The workloads whose instructions are counted, besides some of those that are timed.
+fn counted() -> Vec<Workload> {
+    let one = |name, input| Workload { name, inputs: vec![input] };
+    let row = |(name, source)| one(name, start(&format!(" org #1000\n{source}\n"), 100_000));
+    let mut all = vec![one("a line waiting", waiting(100_000)), calls("calls of 1 step", 1), calls("calls of 10", 10)];
+    all.extend(rows::ROWS.map(row));
+    all
+}
+
+/// Calls of no steps, with a long list of events and with none.
+fn lists() -> [Workload; 2] {
+    [("list", 4_096), ("no list", 0)]
+        .map(|(name, events)| Workload { name, inputs: vec![Input { n: 0, ..mixed(events, 1_000_000) }] })
+}
+
+/// The first workloads that are timed, and every one that is only counted, by callgrind; then what an event record costs.
+fn print_counts(timed: &[Workload]) {
+    let rattle = |w: &Workload| instructions("xm23_run", &[w.name, "rattle"]);
+    if timed.first().and_then(rattle).is_none() {
+        return println!("host instructions a step: valgrind is not here");
+    }
+    println!("{:28} {:>9} {:>9}", "host instructions a step", "Rattle", "C");
+    for workload in timed.iter().take(3).chain(&counted()) {
+        let steps = compare(workload) as f64;
+        let count = |(function, engine)| instructions(function, &[workload.name, engine]).unwrap_or(f64::NAN) / steps;
+        let [ours, c] = [("xm23_run", "rattle"), ("xm23_fast_run", "c")].map(count);
+        println!("{:28} {ours:9.1} {c:9.1}", workload.name);
+    }
+    let of = |name: &str| instructions("xm23_run", &[name, "rattle"]).unwrap_or(f64::NAN);
+    let [list, none] = lists().map(|workload| of(workload.name));
+    println!("a record of a list of 4,096, n 0: {:.1} host instructions", (list - none) / 4_096.0);
+}
+
 /// Runs a workload once, and gives the seconds, the steps and what the runs left.
 fn once(engine: Engine, inputs: &[Input]) -> (f64, u64, Vec<Input>) {
     let mut work = inputs.to_vec();
@@ -230,10 +280,14 @@ fn main() {
     let words: Vec<String> = std::env::args().skip(1).filter(|word| !word.starts_with('-')).collect();
     let all = workloads();
     if let [name, engine] = &words[..] {
+        let all: Vec<Workload> = all.into_iter().chain(counted()).chain(lists()).collect();
         let workload = all.iter().find(|w| w.name == name).expect("a workload");
         let engine = ENGINES.iter().find(|e| e.0 == engine).expect("an engine").1;
         println!("{} steps", once(engine, &workload.inputs).1);
         return;
+    }
+    if words == ["counts"] {
+        return print_counts(&all);
     }
     hold_to_the_oracle();
     println!("millions of steps a second, and how many times faster the proved library is");
@@ -244,4 +298,5 @@ fn main() {
         println!("{:20} {ours:9.1} {c:9.1} {oracle:9.1} {:10.2} {:12.2}", workload.name, ours / c, ours / oracle);
     }
     println!("a million steps with 4,096 events take {:.2} times those with none", cost_of_events());
+    print_counts(&all);
 }

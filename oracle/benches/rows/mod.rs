@@ -8,5 +8,5 @@ pub const ROWS: [(&str, &str); 8] = [
     ("SVC", "Loop svc $0\n bra Loop\n org #3000\nTrap mov LR,PC\n org #FFC0\n word #0020\n word Trap"),
     ("SETCC, CLRCC, SETPRI", "Loop setcc CZ\n clrcc N\n setpri $0\n bra Loop"),
     ("CEX", "Loop cex eq,$1,$1\n add $1,R0\n sub $1,R0\n bra Loop"),
-    ("skipped words", "Loop cex eq,$0,$7\n add $1,R0\n add $1,R0\n add $1,R0\n add $1,R0\n add $1,R0\n add $1,R0\n add $1,R0\n bra Loop"),
+    ("skipped words", "Loop cex eq,$5,$0\n add $1,R0\n add $1,R0\n add $1,R0\n add $1,R0\n add $1,R0\n bra Loop"),
 ];

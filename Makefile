@@ -98,9 +98,10 @@ build/libxm23_fast.a: bench/xm23_fast.c
 	@gcc -std=gnu11 -O2 -Wall -Wextra -Werror -c -o build/xm23_fast.o $<
 	@ar rcs $@ build/xm23_fast.o
 
-# What a crate is made of: its files and those of the crates that it stands on. Where one is newer, has come or has
-# gone, rt is asked, and proves what has changed.
-folders = $(wildcard $(addprefix crates/,$1 $(shell sed -n 's/^$1://p' crates.txt)))
+# What a crate is made of: its files and those of the crates that it stands on, which crates.txt has above it. Where one
+# is newer, has come or has gone, rt is asked, and proves what has changed.
+folders = $(shell tac crates.txt | awk -F '[: ]+' -v crate=$1 'BEGIN { on[crate] } \
+    $$1 in on { for (i = 2; i <= NF; i++) on[$$i]; print "crates/" $$1 }')
 sources = crates.txt $(shell find $(folders) ! -path '*/must-fail*')
 
 target/staticlib/libxm23.a: $(call sources,xm23)

@@ -16,7 +16,7 @@ clang=${CLANG:-clang}
 out=build/fuzz
 oracle='--release --offline --locked --manifest-path oracle/Cargo.toml --target-dir oracle/target'
 warn='-std=gnu11 -g -O2 -Wall -Wextra -Werror -Iinclude'
-mkdir -p "$out/seeds" "$out/corpus" "$out/corpus_words" "$out/corpus_srec"
+mkdir -p "$out/seeds" "$out/corpus" "$out/corpus_words" "$out/corpus_srec" "$out/corpus_stack"
 
 # The compiler and its runtime may not be here: the rest of 'make fuzz' does without.
 if ! command -v "$clang" > /dev/null; then
@@ -99,4 +99,7 @@ search words $((seconds / 6 + 1)) "$out/corpus_words"
 options=(-max_len=400)
 "$clang" $warn -fsanitize=fuzzer -o "$out/srec" tests/fuzz/srec.c target/staticlib/libxm23.a
 search srec $((seconds / 6 + 1)) "$out/corpus_srec" tests/srec
+options=(-max_len=83)
+"$clang" $warn -fsanitize=fuzzer -o "$out/stack" tests/fuzz/stack.c target/staticlib/libxm23.a
+search stack $((seconds / 6 + 1)) "$out/corpus_stack"
 echo "coverage-guided fuzzing: no difference"

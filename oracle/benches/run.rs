@@ -2,9 +2,13 @@
 //! in one run. Every workload's outcome is compared before it is timed, and the C interpreter is held against the oracle
 //! on random inputs first.
 //!
-//! `run WORKLOAD rattle` (or c, oracle) runs one workload once, for `valgrind --tool=callgrind
-//! --toggle-collect=xm23_run`: instructions of the host per step.
+//! Last, instructions of the host per step, where valgrind is here; `run counts` prints these alone, and `run WORKLOAD
+//! rattle` (or c, oracle) runs one workload once, for such a count.
 
+mod callgrind;
+mod rows;
+
+use callgrind::instructions;
 use oracle::asm::assemble;
 use oracle::inputs::{input, Input, KINDS};
 use oracle::machine::{self, event_record, Event, Machine};
@@ -160,19 +164,73 @@ fn machines() -> Vec<Input> {
     (0..640).map(|_| one()).collect()
 }
 
-fn workloads() -> Vec<Workload> {
-    let one = |name, input| Workload { name, inputs: vec![input] };
+fn one(name: &'static str, input: Input) -> Workload {
+    Workload { name, inputs: vec![input] }
+}
+
+/// What is timed and counted.
+fn loops() -> Vec<Workload> {
     vec![
         one("tight loop", start(TIGHT, 1_000_000)),
         one("mixed loop", mixed(0, 1_000_000)),
         one("interrupts", interrupts(160_000)),
+    ]
+}
+
+/// What is timed.
+fn workloads() -> Vec<Workload> {
+    let more = [
         Workload { name: "640 machines", inputs: machines() },
         one("mixed, n 10,000", mixed(0, 10_000)),
         one("mixed, n 100,000", mixed(0, 100_000)),
         one("mixed, 256 events", mixed(256, 1_000_000)),
         one("mixed, 1,024 events", mixed(1_024, 1_000_000)),
         one("mixed, 4,096 events", mixed(4_096, 1_000_000)),
-    ]
+    ];
+    loops().into_iter().chain(more).collect()
+}
+
+/// A line that waits, of a priority that is not above the program's.
+fn waiting(n: u64) -> Input {
+    let mut i = start(&format!("{MIXED}{HANDLERS}"), n);
+    i.record[16] = 0xA0; // priority 5
+    i.record[20] = 0x01; // device 0 has asked, at priority 3
+    i
+}
+
+/// A workload cut into calls of so many steps each.
+fn calls(name: &'static str, each: u64) -> Workload {
+    Workload { name, inputs: vec![mixed(0, each); 1_000] }
+}
+
+/// What is only counted.
+fn counted() -> Vec<Workload> {
+    let row = |(name, source)| one(name, start(&format!(" org #1000\n{source}\n"), 100_000));
+    let mut all = vec![one("a line waiting", waiting(100_000)), calls("calls of 1 step", 1), calls("calls of 10", 10)];
+    all.extend(rows::ROWS.map(row));
+    all
+}
+
+/// Calls of no steps, with a long list of events and with none.
+fn lists() -> Vec<Workload> {
+    let list = |name, events| one(name, Input { n: 0, ..mixed(events, 1_000_000) });
+    vec![list("no list", 0), list("list", 4_096)]
+}
+
+/// Host instructions a step, by callgrind, and what a record of an event list costs.
+fn print_counts() {
+    let of = |name: &str| instructions("xm23_run", &[name, "rattle"]);
+    let Some((none, list)) = of("no list").zip(of("list")) else {
+        return println!("host instructions a step: valgrind is not here");
+    };
+    println!("{:28} {:>9} {:>9}", "host instructions a step", "Rattle", "C");
+    for workload in loops().iter().chain(&counted()) {
+        let steps = compare(workload) as f64;
+        let count = |(function, engine)| instructions(function, &[workload.name, engine]).unwrap_or(f64::NAN) / steps;
+        let [ours, c] = [("xm23_run", "rattle"), ("xm23_fast_run", "c")].map(count);
+        println!("{:28} {ours:9.1} {c:9.1}", workload.name);
+    }
+    println!("a record of a list of 4,096, n 0: {:.1} host instructions", (list - none) / 4_096.0);
 }
 
 /// Runs a workload once, and gives the seconds, the steps and what the runs left.
@@ -228,14 +286,19 @@ fn compare(workload: &Workload) -> u64 {
 
 fn main() {
     let words: Vec<String> = std::env::args().skip(1).filter(|word| !word.starts_with('-')).collect();
-    let all = workloads();
     if let [name, engine] = &words[..] {
-        let workload = all.iter().find(|w| w.name == name).expect("a workload");
+        // One after the other: a workload that is not asked for is not made.
+        let groups: [fn() -> Vec<Workload>; 4] = [loops, counted, lists, workloads];
+        let workload = groups.iter().flat_map(|group| group()).find(|w| w.name == name).expect("a workload");
         let engine = ENGINES.iter().find(|e| e.0 == engine).expect("an engine").1;
         println!("{} steps", once(engine, &workload.inputs).1);
         return;
     }
+    if words == ["counts"] {
+        return print_counts();
+    }
     hold_to_the_oracle();
+    let all = workloads();
     println!("millions of steps a second, and how many times faster the proved library is");
     println!("{:20} {:>9} {:>9} {:>9} {:>10} {:>12}", "", "Rattle", "C", "oracle", "than C", "than oracle");
     for workload in &all {
@@ -244,4 +307,5 @@ fn main() {
         println!("{:20} {ours:9.1} {c:9.1} {oracle:9.1} {:10.2} {:12.2}", workload.name, ours / c, ours / oracle);
     }
     println!("a million steps with 4,096 events take {:.2} times those with none", cost_of_events());
+    print_counts();
 }

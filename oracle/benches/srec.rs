@@ -8,6 +8,9 @@
 #[path = "../tests/library/srec.rs"]
 mod library;
 
+mod callgrind;
+
+use callgrind::instructions;
 use oracle::machine::MEMORY;
 use oracle::random::Random;
 use oracle::srec_compare::{oracle_load, oracle_write, Loader, Writer};
@@ -111,21 +114,6 @@ fn programs() {
     }
 }
 
-/// Instructions of the host in one call, by callgrind; None where it is not here.
-fn instructions(call: &str, function: &str) -> Option<f64> {
-    let collect = format!("--toggle-collect={function}");
-    let program = env::current_exe().expect("this program");
-    let out = Command::new("valgrind")
-        .args(["--tool=callgrind", "--callgrind-out-file=/dev/null", &collect])
-        .arg(program)
-        .args(["once", call])
-        .output()
-        .ok()?;
-    let said = String::from_utf8_lossy(&out.stderr).into_owned();
-    let line = said.lines().find(|line| line.contains("Collected"))?;
-    line.rsplit(' ').next()?.parse().ok()
-}
-
 fn main() {
     let words: Vec<String> = env::args().collect();
     if let Some(at) = words.iter().position(|word| word == "once") {
@@ -140,7 +128,7 @@ fn main() {
     calls();
     programs();
     for (call, function, limit) in LIMITS {
-        match instructions(call, function) {
+        match instructions(function, &["once", call]) {
             None => println!("host instructions per byte of text to {call}: valgrind is not here"),
             Some(count) => {
                 let each = count / 176_139.0;

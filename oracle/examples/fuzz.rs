@@ -1,7 +1,8 @@
 //! Compares the library with the oracle on more inputs than the gate does. `fuzz INPUTS [SEED]` runs so many of each
-//! kind, a quarter as many of each kind of S-record file, and as many calls for stack bytes, from a seed of the clock if none is given, and saves the
-//! first difference under build/fuzz. `fuzz replay FOLDER` runs a saved input again. The exit status is 1 where there is
-//! a difference, and 2, with one line, where the command cannot be carried out.
+//! kind, a quarter as many of each kind of S-record file, and as many calls for stack bytes, from a seed of the clock if
+//! none is given, and saves the first difference under build/fuzz. `fuzz replay FOLDER` runs a saved input again, or a
+//! saved call for S-records. The exit status is 1 where there is a difference, and 2, with one line, where the command
+//! cannot be carried out.
 
 #[path = "../tests/library/mod.rs"]
 mod library;
@@ -103,7 +104,7 @@ fn srec(inputs: u64, seed: u64) -> bool {
     };
     println!("{}: {}", found.name, found.difference.what);
     match found.difference.save(&folder(), &found.name) {
-        Ok(place) => println!("saved in {}", place.display()),
+        Ok(_) => println!("saved in build/fuzz/{0} (again: make replay FOUND=build/fuzz/{0})", found.name),
         Err(e) => println!("not saved: {e}"),
     }
     false
@@ -122,6 +123,9 @@ fn report(found: Found, first: u64) -> bool {
 
 /// Runs a saved input again, and tells what both leave where they differ.
 fn replay(place: &Path) -> Outcome {
+    if srec_compare::is_saved(place) {
+        return replay_srec(place);
+    }
     let input = saved(place).map_err(|e| format!("{}: {e}", place.display()))?;
     match compare(library, &input, &mut Coverage::default()) {
         Ok(outcome) => {
@@ -134,4 +138,17 @@ fn replay(place: &Path) -> Outcome {
             Ok(false)
         }
     }
+}
+
+/// Makes a saved call for S-records again, and tells where the two differ.
+fn replay_srec(place: &Path) -> Outcome {
+    let call = srec_compare::saved(place).map_err(|e| format!("{}: {e}", place.display()))?;
+    match srec_compare::compare_call((library_srec::write, library_srec::load), &call) {
+        Ok(reply) => println!("no difference; both reply {reply:016X}"),
+        Err(difference) => {
+            println!("{}", difference.what);
+            return Ok(false);
+        }
+    }
+    Ok(true)
 }

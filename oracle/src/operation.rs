@@ -1,6 +1,8 @@
 //! The operations of 003 section 14, row by row, and the longest unbroken range around each word whose words all have its
 //! operation (02 §4), found by looking from each word to its neighbour.
 
+use std::collections::HashSet;
+
 /// Section 14 row by row. Letters are fields, in the order of the row; `i` in SWAP, SWPB and SXT is the ignored bit.
 pub const ROWS: [(&str, &str); 41] = [
     ("000ooooooooooooo", "BL"),
@@ -97,6 +99,71 @@ pub fn count(words: &[u16]) -> u32 {
 pub fn next(operation_number: u32, words: &[u16], word: u32) -> u64 {
     let found = words.iter().find(|&&w| operation_number != 0 && u32::from(w) >= word);
     found.map_or(0, |&w| 1 << 8 | u64::from(w) << 16)
+}
+
+/// What a call of `xm23_count` or `xm23_next` can meet.
+#[derive(Clone, Copy, Debug, PartialEq, Eq, Hash)]
+pub enum Item {
+    /// A count or a next of each operation, and of numbers that are none's.
+    Count(u32),
+    CountOfNone,
+    Next(u32),
+    NextOfNone,
+    NextOfIllegal,
+    /// Where the word asked at stands among an operation's words.
+    AtTheWord,
+    BelowTheFirst,
+    BetweenTwoBlocks,
+    AtTheLast,
+    PastTheLast,
+    NoWord,
+    /// The word found has its ignored bit set.
+    IgnoredBit,
+}
+
+/// Which items calls have met.
+#[derive(Default)]
+pub struct Reached(HashSet<Item>);
+
+impl Reached {
+    fn mark(&mut self, holds: bool, item: Item) {
+        if holds {
+            self.0.insert(item);
+        }
+    }
+
+    /// What `xm23_count` must answer, as `count` has it.
+    pub fn count(&mut self, operation_number: u32, words: &[u16]) -> u32 {
+        self.mark(true, if operation_number > 41 { Item::CountOfNone } else { Item::Count(operation_number) });
+        count(words)
+    }
+
+    /// What `xm23_next` must answer, as `next` has it.
+    pub fn next(&mut self, operation_number: u32, words: &[u16], word: u32) -> u64 {
+        let reply = next(operation_number, words, word);
+        self.mark(operation_number == 0, Item::NextOfIllegal);
+        self.mark(operation_number > 41, Item::NextOfNone);
+        if let (1..=41, &[first, .., last]) = (operation_number, words) {
+            let (first, last, found) = (u32::from(first), u32::from(last), (reply >> 16) as u32);
+            self.mark(true, Item::Next(operation_number));
+            self.mark(found == word && reply != 0, Item::AtTheWord);
+            self.mark(word < first, Item::BelowTheFirst);
+            self.mark(first < word && word < found, Item::BetweenTwoBlocks);
+            self.mark(word == last, Item::AtTheLast);
+            self.mark(word == last + 1, Item::PastTheLast);
+            self.mark(word > 65_535, Item::NoWord);
+            self.mark(matches!(operation_number, 23 | 27 | 28) && found & 0x40 != 0, Item::IgnoredBit);
+        }
+        reply
+    }
+
+    /// What was not met.
+    pub fn gaps(&self) -> Vec<Item> {
+        let single = [Item::CountOfNone, Item::NextOfNone, Item::NextOfIllegal, Item::AtTheWord, Item::BelowTheFirst];
+        let more = [Item::BetweenTwoBlocks, Item::AtTheLast, Item::PastTheLast, Item::NoWord, Item::IgnoredBit];
+        let all = (0..=41).map(Item::Count).chain((1..=41).map(Item::Next)).chain(single).chain(more);
+        all.filter(|item| !self.0.contains(item)).collect()
+    }
 }
 
 #[cfg(test)]

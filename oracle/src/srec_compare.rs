@@ -195,21 +195,72 @@ impl Reached {
 
 // ---- comparing
 
-/// An input on which the library and the oracle differ.
+/// What a call is lent.
+#[derive(Clone, Debug)]
+pub enum Call {
+    Load(Load),
+    Write(Write),
+}
+
+/// A call on which the library and the oracle differ.
 #[derive(Debug)]
 pub struct Difference {
     pub what: String,
-    pub text: Vec<u8>,
+    pub given: Call,
 }
 
 impl Difference {
-    /// Writes the text and what differs into a new folder, and gives its path.
+    /// Writes the call and what differs into a new folder, and gives its path.
     pub fn save(&self, folder: &Path, name: &str) -> io::Result<PathBuf> {
         let place = folder.join(name);
         fs::create_dir_all(&place)?;
-        fs::write(place.join("text.s19"), &self.text)?;
+        let (memory, text, numbers) = match &self.given {
+            Call::Load(i) => (&i.memory, &i.text, format!("load {}\n", i.pc)),
+            Call::Write(i) => (&i.memory, &i.text, format!("write {} {} {}\n", i.start, i.length, i.pc)),
+        };
+        fs::write(place.join("memory.bin"), memory)?;
+        fs::write(place.join("text.s19"), text)?;
+        fs::write(place.join(CALL), numbers)?;
         fs::write(place.join("difference.txt"), format!("{}\n", self.what))?;
         Ok(place)
+    }
+}
+
+/// The file of a saved call that has its numbers.
+const CALL: &str = "call.txt";
+
+/// Whether a path is one of a saved call: a folder of `save`, or a text that the search by coverage has written.
+pub fn is_saved(place: &Path) -> bool {
+    let name = place.file_name().map(|name| name.to_string_lossy().into_owned()).unwrap_or_default();
+    place.join(CALL).exists() || place.is_file() && name.starts_with("srec-")
+}
+
+/// The call of such a path. The search loads its text into bytes EE, with PC 1234.
+pub fn saved(place: &Path) -> io::Result<Call> {
+    if place.is_file() {
+        return Ok(Call::Load(Load { memory: vec![0xEE; MEMORY], text: fs::read(place)?, pc: 0x1234 }));
+    }
+    let (memory, text) = (fs::read(place.join("memory.bin"))?, fs::read(place.join("text.s19"))?);
+    let words = fs::read_to_string(place.join(CALL))?;
+    let words: Vec<&str> = words.split_whitespace().collect();
+    let wrong = || io::Error::other("call.txt has no call");
+    let number = |text: &str| text.parse::<u32>().map_err(|_| wrong());
+    let short = |text: &str| text.parse::<u16>().map_err(|_| wrong());
+    match words[..] {
+        ["load", pc] => Ok(Call::Load(Load { memory, text, pc: short(pc)? })),
+        ["write", start, length, pc] => {
+            Ok(Call::Write(Write { memory, start: short(start)?, length: number(length)?, pc: short(pc)?, text }))
+        }
+        _ => Err(wrong()),
+    }
+}
+
+/// Makes a call by both.
+pub fn compare_call(calls: (Writer, Loader), given: &Call) -> Result<u64, Difference> {
+    let reached = &mut Reached::default();
+    match given {
+        Call::Load(i) => compare_load(calls.1, i, reached),
+        Call::Write(i) => compare_write(calls.0, calls.1, i, reached),
     }
 }
 
@@ -232,7 +283,7 @@ pub fn compare_load(loader: Loader, given: &Load, reached: &mut Reached) -> Resu
     let (reply, right) = (loader(&mut ours), reached.load(&mut theirs));
     let what = replies(reply, right).or_else(|| first("memory", &ours.memory, &theirs.memory));
     let what = what.or_else(|| (ours.text != given.text).then(|| "the text changed".into()));
-    what.map_or(Ok(reply), |what| Err(Difference { what, text: given.text.clone() }))
+    what.map_or(Ok(reply), |what| Err(Difference { what, given: Call::Load(given.clone()) }))
 }
 
 /// Writes an input by both, counting what the oracle reaches. What was written is then loaded by both.
@@ -242,7 +293,7 @@ pub fn compare_write(writer: Writer, loader: Loader, given: &Write, reached: &mu
     let what = replies(reply, right).or_else(|| first("text", &ours.text, &theirs.text));
     let what = what.or_else(|| (ours.memory != given.memory).then(|| "the memory changed".into()));
     if let Some(what) = what {
-        return Err(Difference { what: format!("{what}; {}", named(given)), text: ours.text });
+        return Err(Difference { what: format!("{what}; {}", named(given)), given: Call::Write(given.clone()) });
     }
     if reply & 0xFF == 0 {
         let text = ours.text[..(reply >> 8) as usize].to_vec();

@@ -2,7 +2,7 @@
 //! instruction numbers, and the near misses of every format.
 
 use oracle::number;
-use oracle::operation;
+use oracle::operation::{self, Reached};
 use oracle::random::Random;
 
 #[link(name = "xm23", kind = "static")]
@@ -130,16 +130,20 @@ fn every_operation_has_its_words() {
     assert_eq!(sum, 65536);
 }
 
+/// Each number, with words around each of its own. Everything that a call can meet must be met.
 #[test]
 fn every_word_has_its_next() {
+    let mut reached = Reached::default();
     for number in (0..44).chain(BEYOND) {
         let words = operation::words(number);
+        assert_eq!(unsafe { xm23_count(number) }, reached.count(number, &words), "operation {number}");
         let near = |word: u16| [u32::from(word).saturating_sub(1), u32::from(word), u32::from(word) + 1];
         for word in words.iter().copied().flat_map(near).chain((0..65_540).step_by(61)).chain(BEYOND) {
-            let expected = operation::next(number, &words, word);
+            let expected = reached.next(number, &words, word);
             assert_eq!(unsafe { xm23_next(number, word) }, expected, "operation {number}, word {word:X}");
         }
     }
+    assert_eq!(reached.gaps(), []);
 }
 
 #[test]

@@ -7,7 +7,8 @@ use oracle::compare::folder;
 use oracle::machine::MEMORY;
 use oracle::srec;
 use oracle::srec_compare::{
-    compare_load, loads, oracle_load, oracle_write, writes, Found, Loader, Reached, Writer, OWED,
+    compare_call, compare_load, is_saved, loads, oracle_load, oracle_write, saved, writes, Found, Loader, Reached,
+    Writer, OWED,
 };
 use oracle::srec_inputs::{Kind, Load, KINDS, REAL};
 
@@ -242,4 +243,21 @@ fn the_oracle_does_not_differ_from_itself() {
         assert!(loads(oracle_load, kind, 1, 100, &mut Reached::default()).is_ok());
     }
     assert!(writes((oracle_write, oracle_load), 1, 100, &mut Reached::default()).is_ok());
+}
+
+#[test]
+fn a_saved_call_runs_again() {
+    let place = std::env::temp_dir().join(format!("xm23-srec-{}", std::process::id()));
+    let (_, kind, wrong) = WRONG[8];
+    let load = loads(wrong, kind, 1, 1_000, &mut Reached::default()).unwrap_err();
+    let write = writes((WRONG_WRITERS[0].1, oracle_load), 1, 1_000, &mut Reached::default()).unwrap_err();
+    for Found { name, difference } in [load, write] {
+        let saved_in = difference.save(&place, &name).unwrap();
+        assert!(is_saved(&saved_in), "{name}");
+        let call = saved(&saved_in).unwrap();
+        assert_eq!(format!("{call:?}"), format!("{:?}", difference.given), "{name}");
+        assert!(compare_call((oracle_write, oracle_load), &call).is_ok(), "{name}");
+        assert!(compare_call((WRONG_WRITERS[0].1, wrong), &call).is_err(), "{name}");
+    }
+    std::fs::remove_dir_all(place).unwrap();
 }

@@ -61,8 +61,8 @@ tested d o = record { value = d; psw = o .psw }
 
 -- ---- bits cleared and set
 
--- "the operand names the bit, 0 to 15": the mask of that one bit; byte forms take the operand's low byte. A number that is
--- no bit of the width names none, and "no bit changes". [02 §5, for 01 Arithmetic]
+-- "the operand names the bit, 0 to 15": the mask of that one bit; byte forms take the operand's low byte. A number that
+-- is no bit of the width names none, and "no bit changes". [02 §5, for 01 Arithmetic]
 unfoldable pub maskOf : (w s : ℕ) → ℕ
 maskOf w s = cond (ltb (low w s) w) (2 ^ low w s) 0
 

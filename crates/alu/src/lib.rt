@@ -206,7 +206,8 @@ fn width(byte: bool) -> u16
     if byte { 8 } else { 16 }
 }
 
-// The one bit that BIC clears or BIS sets, as a mask; 0 where the operand names no bit of the width.
+// The one bit that BIC clears or BIS sets, as a mask; 0 where the operand names no bit of the
+// width.
 fn mask_of(byte: bool, src: u16) -> u16
     ensures { λ r. ⌜ (r ≡ maskOf (widthOf byte) src) × (r < 2 ^ widthOf byte) ⌝ }
 {
@@ -267,10 +268,11 @@ pub fn alu(op: Op, byte: bool, dst: u16, src: u16, psw: u16) -> Outcome
         Op::Sra => shift_into(byte, dst, word::flag(word::top(byte) <= d), psw),
         Op::Rrc => shift_into(byte, dst, psw % 2, psw),
         Op::Comp => logic_into(byte, dst, word::turned_bits(byte, dst), psw),
-        Op::Swpb => Outcome {
-            value: dst % 256 * 256 + dst / 256,
-            psw,
-        },
+        Op::Swpb => {
+            let high = dst % 256 * 256;
+            let value = high + dst / 256;
+            Outcome { value, psw }
+        }
         Op::Sxt => Outcome {
             value: extend(dst),
             psw,

@@ -1,6 +1,7 @@
 -- `alu::alu` meets its contract. Assumes nothing.
 use Rattle.alu.specs.Alu.{aluOf}
-use lib.Bits.{and-lt, or-lt, xor-lt}
+use native.Mathlib.Nat.{lt-of-le-of-lt}
+use lib.Bits.{and-lt, and-le-l, or-lt, xor-lt}
 use borrow.Author.Needs.{needs}
 use Rattle.alu.proofs.alu.Statement.{statement}
 use Rattle.alu.proofs.alu.Tie as tie
@@ -72,7 +73,7 @@ enum-told-10 : tie.Need-enum-told-10
 enum-told-10 c = search needs
 
 logic-into-requires-4 : tie.Need-logic-into-requires-4
-logic-into-requires-4 c κs = and-lt _ _ _ (c .before .before .before .low-bits .ensures .1) (c .before .before .low-bits2 .ensures .1)
+logic-into-requires-4 c κs = lt-of-le-of-lt (and-le-l _ _) (c .before .before .before .low-bits .ensures .1)
 
 tested-only-requires-2 : tie.Need-tested-only-requires-2
 tested-only-requires-2 c κs = search needs
@@ -125,11 +126,11 @@ logic-into-requires-5 c κs = search needs
 enum-told-16 : tie.Need-enum-told-16
 enum-told-16 c = search needs
 
-mul-t25 : tie.Need-mul-t25
-mul-t25 c = search needs
+mul-high : tie.Need-mul-high
+mul-high c = search needs
 
-add-t27 : tie.Need-add-t27
-add-t27 c = search needs
+add-value : tie.Need-add-value
+add-value c = search needs
 
 enum-told-17 : tie.Need-enum-told-17
 enum-told-17 c = search needs
@@ -261,8 +262,8 @@ alu-spec =
     turned-bits-requires
     logic-into-requires-5
     enum-told-16
-    mul-t25
-    add-t27
+    mul-high
+    add-value
     enum-told-17
     extend-requires
     returns

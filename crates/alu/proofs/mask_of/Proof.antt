@@ -19,7 +19,9 @@ returns c =
     mask-shifted (c .before .before .before .args .src) (c .before .before .low-bits .ensures .0) (w .0) (w .1) (c .if1 .taken)
 
 returns-2 : tie.Need-returns-2
-returns-2 c = mask-zero (c .before .before .before .args .src) (c .before .before .low-bits .ensures .0) (c .before .width .ensures .0) (c .if1 .left)
+returns-2 c =
+    let n = c .before .before in
+    mask-zero (n .before .args .src) (n .low-bits .ensures .0) (c .before .width .ensures .0) (c .if1 .left)
 
 pub mask-of-spec : {M : Type 1} → statement M
 mask-of-spec = tie.close (tie.spec low-bits-requires width-requires shl-result returns returns-2)

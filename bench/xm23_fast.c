@@ -25,7 +25,7 @@ enum { LOOK = 0, TRAP = 16 };
 
 struct machine {
     uint16_t r[8];
-    unsigned psw, cex, lines, halted;
+    unsigned psw, cex, lines, halted; /* lines: eight counts of four bits, device 0 lowest */
     uint8_t *mem;
 };
 
@@ -86,7 +86,7 @@ static void event_on(struct machine *m, const uint8_t *e)
         at[1] = e[5];
     at[0] = (uint8_t)(status | DBA | (status & DBA ? OF : 0));
     if (status & IE)
-        m->lines |= 1u << e[4];
+        m->lines += (m->lines >> 4 * e[4] & 15) < 15 ? 1u << 4 * e[4] : 0;
 }
 
 /* ---- entry and return */
@@ -100,8 +100,9 @@ static unsigned vector_priority(const uint8_t *mem, unsigned v)
 static unsigned line_above(const struct machine *m, unsigned level)
 {
     unsigned best = 8;
-    for (unsigned lines = m->lines; lines; lines &= lines - 1) {
-        unsigned d = (unsigned)__builtin_ctz(lines), p = vector_priority(m->mem, d);
+    for (unsigned lines = m->lines; lines;) {
+        unsigned d = (unsigned)__builtin_ctz(lines) / 4, p = vector_priority(m->mem, d);
+        lines &= ~(15u << 4 * d);
         if (p > level) {
             level = p;
             best = d;
@@ -145,7 +146,7 @@ static void leave(struct machine *m)
 {
     unsigned d = line_above(m, m->psw >> 13);
     if (d < 8) {
-        m->lines &= ~(1u << d);
+        m->lines -= 1u << 4 * d;
         start_handler(m, two(m->mem + VECTORS + 4 * d), two(m->mem + VECTORS + 4 * d + 2), m->psw >> 13, 0);
         return;
     }
@@ -585,7 +586,7 @@ static uint32_t steps(struct machine *m, uint32_t left)
         return left - 1;
     }
     if (m->lines && (d = line_above(m, m->psw >> 5 & 7)) < 8) {
-        m->lines &= ~(1u << d);
+        m->lines -= 1u << 4 * d;
         enter(m, d, 0);
         return left - 1;
     }
@@ -615,9 +616,8 @@ static unsigned refusal(size_t memory_len, const uint8_t *record, size_t record_
         return 2;
     if (record[17] & 0x1E || record[18] > 127 || record[19] || record[21] > 1)
         return 4;
-    for (i = 26; i < 32; i++)
-        if (record[i])
-            return 4;
+    if (record[20] || record[30] || record[31])
+        return 4;
     if (events_len % 8 || events_len > 32768)
         return 5;
     for (i = 0; i < events_len; i += 8)
@@ -649,7 +649,7 @@ uint64_t xm23_fast_run(uint8_t *memory, size_t memory_len, uint8_t *record, size
         m.r[i] = (uint16_t)two(record + 2 * i);
     m.psw = two(record + 16);
     m.cex = two(record + 18);
-    m.lines = record[20];
+    m.lines = four(record + 26);
     m.halted = record[21];
     m.mem = memory;
     count = four(record + 22);
@@ -669,8 +669,8 @@ uint64_t xm23_fast_run(uint8_t *memory, size_t memory_len, uint8_t *record, size
         put_two(record + 2 * i, m.r[i]);
     put_two(record + 16, m.psw);
     put_two(record + 18, m.cex);
-    record[20] = (uint8_t)m.lines;
     record[21] = (uint8_t)m.halted;
     memcpy(record + 22, &count, 4);
+    memcpy(record + 26, &m.lines, 4);
     return (uint64_t)m.halted << 8 | (n - left) << 16;
 }

@@ -98,8 +98,10 @@ static void print_line(const struct machine *m)
     printf("%u %u", m->reason, (unsigned)m->steps);
     for (i = 0; i < 8; i++)
         printf(" %04X", (unsigned)two(record + XM23_RECORD_REGISTER(i)));
-    printf(" %04X %02X %02X\n", (unsigned)two(record + XM23_RECORD_PSW), record[XM23_RECORD_CEX],
-           record[XM23_RECORD_LINES]);
+    printf(" %04X %02X ", (unsigned)two(record + XM23_RECORD_PSW), record[XM23_RECORD_CEX]);
+    for (i = 7; i >= 0; i--)
+        printf("%X", XM23_RECORD_WAITING(record, i));
+    putchar('\n');
 }
 
 int main(int argc, char **argv)

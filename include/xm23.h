@@ -24,7 +24,7 @@ extern "C" {
 /* ---- version: of this header, as one number; xm23_version gives that of the library */
 
 #define XM23_VERSION_MAJOR 0
-#define XM23_VERSION_MINOR 12
+#define XM23_VERSION_MINOR 13
 #define XM23_VERSION_PATCH 0
 #define XM23_VERSION (XM23_VERSION_MAJOR * 65536 + XM23_VERSION_MINOR * 256 + XM23_VERSION_PATCH)
 
@@ -48,10 +48,15 @@ extern "C" {
 #define XM23_RECORD_REGISTER(i) (2 * (i)) /* two bytes each: R0 to R7; 5 is LR, 6 SP, 7 PC */
 #define XM23_RECORD_PSW 16                /* two bytes */
 #define XM23_RECORD_CEX 18                /* two bytes */
-#define XM23_RECORD_LINES 20              /* one byte: bit d is the waiting line of device d */
+#define XM23_RECORD_ZERO 20               /* one byte, 0 */
 #define XM23_RECORD_HALTED 21             /* one byte: 0 or 1 */
 #define XM23_RECORD_COUNT 22              /* four bytes: the step count */
-#define XM23_RECORD_ZERO 26               /* six bytes, all 0 */
+#define XM23_RECORD_LINES 26              /* four bytes: eight counts of waiting events, four bits each */
+#define XM23_RECORD_ZEROS 30              /* two bytes, both 0 */
+
+/* How many events of device d wait on its line, 0 to 15: from a state record's bytes. Device 0 is in the low half of
+ * byte 26. */
+#define XM23_RECORD_WAITING(record, d) ((unsigned)((record)[XM23_RECORD_LINES + (d) / 2] >> 4 * ((d) % 2) & 15))
 
 /* The PSW. C, Z, N, SLP and V are XM23_FLAG_...; bits 12-9 are 0. */
 #define XM23_PSW_CURRENT(psw) ((unsigned)((psw) >> 5 & 7))

@@ -15,7 +15,7 @@ def legend(line):
     if len(fields) == 1 and line[:1] == "R":
         return [("refusal", line[1:], sentence(int(line[1:])))]
     reason, steps, *words = fields
-    psw, cex, lines = (int(word, 16) for word in words[8:])
+    psw, cex, _ = (int(word, 16) for word in words[8:])
     rows = [("reason", reason, "halted" if reason == "1" else "all steps are done"), ("steps", steps, "done")]
     names = ["R0", "R1", "R2", "R3", "R4", "R5", "R6", "R7"]
     says = ["", "", "", "", "", "LR", "SP", "PC"]
@@ -25,7 +25,8 @@ def legend(line):
     held = "held" if cex >> 6 & 1 else "not held"
     block = f"true count {cex >> 3 & 7}, false count {cex & 7}, condition {held}" if cex else "clear"
     rows.append(("CEX", words[9], block))
-    rows.append(("lines", words[10], "waiting: " + named(lines, [(d, str(d)) for d in range(8)])))
+    waiting = [f"{int(digit, 16)} of device {d}" for d, digit in enumerate(reversed(words[10])) if digit != "0"]
+    rows.append(("lines", words[10], "events waiting: " + (", ".join(waiting) or "none")))
     return rows
 
 
@@ -38,7 +39,7 @@ def main():
         return 2
     print(line)
     for name, field, says in rows:
-        print(f"  {name:8}{field:8}{says}".rstrip())
+        print(f"  {name:8}{field:10}{says}".rstrip())
     return 0
 
 

@@ -29,7 +29,7 @@ REQUEST = re.compile(r"§(1[0-4]|[1-9])(?:, for 01 (.*))?$")
 # what may stand after a heading: items, as ", 3" or ", 4 to 7"
 ITEMS = re.compile(r"(, \d+( to \d+)?)*$")
 ANTT = r"^\s*(?:(?:pub|abbrev|unfoldable|data|record)\s+)*%s(?:\s|$)"
-CODE = r"\b(?:fn|struct|enum)\s+%s\b"
+CODE = r"\b(?:fn|struct|enum|type)\s+%s\b"
 
 
 def tags(text):

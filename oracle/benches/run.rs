@@ -194,7 +194,7 @@ fn workloads() -> Vec<Workload> {
 fn waiting(n: u64) -> Input {
     let mut i = start(&format!("{MIXED}{HANDLERS}"), n);
     i.record[16] = 0xA0; // priority 5
-    i.record[20] = 0x01; // device 0 has asked, at priority 3
+    i.record[26] = 0x01; // device 0 has asked, at priority 3
     i
 }
 

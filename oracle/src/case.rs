@@ -2,14 +2,15 @@
 //! prints, and the sentence that decides.
 //!
 //! A file is a list of `key: value`; lines that start with a blank belong to the key above them. Keys: `title`, `from`,
-//! `start` (`R0=00FF PSW=60E0 CEX=.. LINES=.. HALTED=1 COUNT=..`, hexadecimal; PC #1000 and SP #0800 if not named),
+//! `start` (`R0=00FF PSW=60E0 CEX=.. LINES=00000012 HALTED=1 COUNT=..`, hexadecimal; PC #1000 and SP #0800 if not
+//! named; `BYTE20=01` is byte 20 of the record whatever it means),
 //! `source`, `events` (`step device data` on each line, step in base ten; `x9` behind it is nine of them, each a step
 //! later), `n`, `line`, `bytes` (`0100=34`, afterwards), `printed`, `decides`. Every key but `start`, `events`, `bytes`
 //! and `printed` must be there in a case of the repository; an input is made of `source` and `n` alone.
 
 use crate::asm::{try_assemble, Mistake};
 use crate::inputs::Input;
-use crate::machine::{event_record, Event, Machine, LR, PC, SP};
+use crate::machine::{event_record, Event, Lines, Machine, LR, PC, RECORD, SP};
 use std::collections::HashMap;
 use std::path::PathBuf;
 
@@ -53,8 +54,9 @@ fn pair(text: &str) -> Outcome<(&str, u32)> {
     Ok((name, hex(value)?))
 }
 
-fn start(text: &str) -> Outcome<Machine> {
-    let mut m = Machine::default();
+/// The record that a run starts from: a machine by its parts, then single bytes.
+fn start(text: &str) -> Outcome<[u8; RECORD]> {
+    let (mut m, mut bytes) = (Machine::default(), Vec::<(usize, u8)>::new());
     (m.regs[PC], m.regs[SP]) = (0x1000, 0x0800);
     for part in text.split_whitespace() {
         let (name, value) = pair(part)?;
@@ -66,13 +68,18 @@ fn start(text: &str) -> Outcome<Machine> {
             ("PC", _) => m.regs[PC] = fitting(name, value)?,
             ("PSW", _) => m.psw = fitting(name, value)?,
             ("CEX", _) => m.cex = fitting(name, value)?,
-            ("LINES", _) => m.lines = fitting(name, value)?,
+            ("LINES", _) => m.lines = Lines::from_bytes(&value.to_le_bytes()),
             ("HALTED", _) => m.halted = value == 1,
             ("COUNT", _) => m.count = value,
-            _ => return Err(format!("{name} is no part of the start")),
+            _ => match name.strip_prefix("BYTE").and_then(|place| place.parse().ok()) {
+                Some(place) if place < RECORD => bytes.push((place, fitting(name, value)?)),
+                _ => return Err(format!("{name} is no part of the start")),
+            },
         }
     }
-    Ok(m)
+    let mut record = m.to_record();
+    bytes.into_iter().for_each(|(place, byte)| record[place] = byte);
+    Ok(record)
 }
 
 /// A line of events: one, or as many as it says, each a step after the one before it.
@@ -140,7 +147,7 @@ pub fn parse(name: &str, text: &str) -> Result<Case, Mistake> {
     let n: u32 = get("n").parse().map_err(|_| wrong(("n", format!("'{}' is no number of steps", get("n")))))?;
     let input = Input {
         memory: program.memory(),
-        record: start(get("start")).map_err(at("start")).map_err(wrong)?.to_record().to_vec(),
+        record: start(get("start")).map_err(at("start")).map_err(wrong)?.to_vec(),
         events: list.into_iter().flat_map(event_record).collect(),
         n: n.into(),
     };
@@ -180,7 +187,7 @@ pub const OF_01: [&str; 25] = [
 ];
 
 /// The cases of the change requests of 02.
-pub const OF_02: [&str; 14] = [
+pub const OF_02: [&str; 22] = [
     "02-3-one-device-twice-on-a-step",
     "02-3-one-step-of-all-devices",
     "02-3-the-step-after",
@@ -195,6 +202,14 @@ pub const OF_02: [&str; 14] = [
     "02-6-cex-count-lowered",
     "02-6-with-flt-set",
     "02-6-device-word",
+    "02-7-forty-ticks",
+    "02-7-full-count",
+    "02-7-chained-again",
+    "02-7-old-record",
+    "02-7-interrupts-not-enabled",
+    "02-7-places-of-the-counts",
+    "02-7-tick-lost-as-one-is-taken",
+    "02-7-trap-takes-none",
 ];
 
 /// Every case of the repository, by name. A mistake in one is a panic.

@@ -3,7 +3,8 @@
 
 use crate::alu::{FLT, SLP, Z};
 use crate::isa::{decode, Instr};
-use crate::machine::{current, vector_priority, word_at, Act, Machine, Trace, DEVICES, INPUT, LR, PC, SP, VECTORS};
+use crate::machine::{current, vector_priority, word_at, Act, Machine, Trace};
+use crate::machine::{DEVICES, ENA, FULL, IE, INPUT, LR, PC, SP, VECTORS};
 
 /// A step as the oracle shows it. The machine `before` is that before the due events, the memory that after the step.
 pub struct Seen<'a> {
@@ -27,7 +28,7 @@ impl Seen<'_> {
     fn plain(&self) -> bool {
         let away = |at: u16| (DEVICES..VECTORS).contains(&at);
         let instruction = self.instr().is_some() && self.trace.fetched.is_some_and(away);
-        instruction && self.trace.due.is_empty() && self.after.lines == 0
+        instruction && self.trace.due.is_empty() && self.after.lines.none()
     }
 
     /// An LD, ST, LDR or STR.
@@ -66,6 +67,12 @@ impl Seen<'_> {
             Act::Accept(d) | Act::Chain(d) => Some(d),
             _ => None,
         }
+    }
+
+    /// The counts, before the step, of the devices whose lines its events raise. No two events are of one device.
+    fn rises(&self) -> impl Iterator<Item = u8> + '_ {
+        let raises = |status: u8| status & (ENA | IE) == ENA | IE;
+        self.trace.due.iter().filter(move |&&(_, status)| raises(status)).map(|&(d, _)| self.before.lines.count(d))
     }
 
     fn accepts(&self) -> bool {
@@ -181,27 +188,39 @@ const STEPS: &[Corner] = &[
     ("events of a higher device and then of a lower one in one step", |s| {
         s.trace.due.windows(2).any(|pair| pair[1].0 < pair[0].0)
     }),
-    ("a line raised and accepted in one step", |s| {
-        s.accepts() && s.line().is_some_and(|d| s.before.lines >> d & 1 == 0)
-    }),
-    ("a line raised and chained in one step", |s| {
-        !s.accepts() && s.line().is_some_and(|d| s.before.lines >> d & 1 == 0)
-    }),
+    ("a line raised and accepted in one step", |s| s.accepts() && s.line().is_some_and(|d| !s.before.lines.waits(d))),
+    ("a line raised and chained in one step", |s| !s.accepts() && s.line().is_some_and(|d| !s.before.lines.waits(d))),
     ("asleep at #FFFF", |s| s.trace.act == Act::Sleep && s.pc() == 0xFFFF),
     ("asleep at an odd PC", |s| s.trace.act == Act::Sleep && s.pc() & 1 == 1 && s.pc() != 0xFFFF),
-    ("asleep with a line that is not above", |s| s.trace.act == Act::Sleep && s.after.lines != 0),
+    ("asleep with a line that is not above", |s| s.trace.act == Act::Sleep && !s.after.lines.none()),
     ("a line accepted asleep", |s| s.accepts() && s.asleep()),
     ("a line accepted asleep at #FFFF", |s| s.accepts() && s.asleep() && s.pc() == 0xFFFF),
     ("a line accepted at an odd PC", |s| s.accepts() && s.pc() & 1 == 1 && !s.asleep()),
     ("a line taken before another of its priority", |s| {
         let same = |d: u8, e: u8| vector_priority(s.memory, d) == vector_priority(s.memory, e);
-        s.line().is_some_and(|d| (d + 1..8).any(|e| s.after.lines >> e & 1 == 1 && same(d, e)))
+        s.line().is_some_and(|d| (d + 1..8).any(|e| s.after.lines.waits(e) && same(d, e)))
     }),
     ("a line taken before one of a lower device and priority", |s| {
         let below = |d: u8, e: u8| vector_priority(s.memory, e) < vector_priority(s.memory, d);
-        s.line().is_some_and(|d| (0..d).any(|e| s.after.lines >> e & 1 == 1 && below(d, e)))
+        s.line().is_some_and(|d| (0..d).any(|e| s.after.lines.waits(e) && below(d, e)))
     }),
-    ("an instruction while a line waits", |s| s.instr().is_some() && s.after.lines != 0),
+    ("an event on a line that waits", |s| s.rises().any(|count| (1..FULL - 1).contains(&count))),
+    ("an event that fills a count", |s| s.rises().any(|count| count == FULL - 1)),
+    ("an event on a full count", |s| s.rises().any(|count| count == FULL)),
+    ("an event with IE clear on a line that waits", |s| {
+        let quiet = |status: u8| status & (ENA | IE) == ENA;
+        s.trace.due.iter().any(|&(d, status)| quiet(status) && s.before.lines.waits(d))
+    }),
+    ("a line accepted with more of its events waiting", |s| {
+        s.accepts() && s.line().is_some_and(|d| s.after.lines.waits(d))
+    }),
+    ("a line chained with more of its events waiting", |s| {
+        !s.accepts() && s.line().is_some_and(|d| s.after.lines.waits(d))
+    }),
+    ("one taken from a full count", |s| s.line().is_some_and(|d| s.after.lines.count(d) == FULL - 1)),
+    ("SVC while a line waits", |s| matches!(s.trace.act, Act::Trap(_)) && !s.after.lines.none()),
+    ("every line waiting", |s| s.after.lines.0.iter().all(|&count| count > 0)),
+    ("an instruction while a line waits", |s| s.instr().is_some() && !s.after.lines.none()),
     ("a fetch from a device register", |s| s.trace.fetched.is_some_and(|at| at < DEVICES)),
     ("a fetch from a vector", |s| s.trace.fetched.is_some_and(|at| at >= VECTORS)),
     ("PC around address 0", |s| s.trace.fetched == Some(0xFFFE)),
@@ -250,7 +269,7 @@ const ENTRIES: &[Corner] = &[
     ("a handler at #FFFF", |s| s.pushes().is_some() && s.after.regs[PC] == 0xFFFF),
     ("a pull with SP odd", |s| s.pulls() && s.sp() & 1 == 1),
     ("a pull around address 0", |s| s.pulls() && s.sp() > 0xFFF8),
-    ("a pull with a line that is not above", |s| s.pulls() && s.after.lines != 0),
+    ("a pull with a line that is not above", |s| s.pulls() && !s.after.lines.none()),
     ("a pull of zero bits that are set", |s| {
         let (cex, psw) = (word_at(s.memory, s.sp()), word_at(s.memory, s.sp().wrapping_add(2)));
         s.pulls() && cex & 0xFF80 != 0 && psw & 0x1E00 != 0

@@ -7,7 +7,7 @@ use crate::inputs::Input;
 use crate::isa::{decode, Instr};
 use crate::machine::{event_of, events_of, twins, Ran, ENA, MEMORY};
 use crate::machine::{
-    reply, run_watched, word_at, Act, Machine, Trace, DBA, EVENT, IE, INPUT, MAX_EVENTS, MAX_STEPS, PC,
+    reply, run_watched, word_at, Act, Machine, Trace, DBA, EVENT, FULL, IE, INPUT, MAX_EVENTS, MAX_STEPS, PC,
 };
 use std::collections::HashMap;
 
@@ -73,6 +73,11 @@ pub enum Item {
     TwinsOnDisabled,
     /// Refused with 6 or 7 though two records are twins.
     TwinsNotReached(u8),
+    /// Refused with 4 by a byte of the record that is to be zero, of an old record where it is 20.
+    RefusedByte(usize),
+    /// The counts of a start: one of this size; every one full.
+    Waiting(u8),
+    AllFull,
     /// A readable case of 01's list, of a misreading, or of a request of 02.
     Case(&'static str),
 }
@@ -84,6 +89,8 @@ pub fn owed() -> Vec<Item> {
     all.extend([Item::HaltedAtTheStart, Item::NoStep, Item::NoEvent, Item::FullList, Item::EventOnDisabled]);
     all.extend([Item::PassedOver, Item::NeverDue, Item::TwinsPassedOver, Item::TwinsNeverDue, Item::TwinsOnDisabled]);
     all.extend([6, 7].map(Item::TwinsNotReached));
+    all.extend([20, 30, 31].map(Item::RefusedByte));
+    all.extend((0..=FULL).map(Item::Waiting).chain([Item::AllFull]));
     all.extend((0..4).map(|i| Item::Twins { apart: i & 1 == 1, same_data: i & 2 != 0 }));
     for byte in both {
         all.extend((0..24).map(|i| Item::Alu { op: i / 2, constant: i % 2 == 1, byte }));
@@ -175,10 +182,17 @@ impl Coverage {
                 let number = result.expect_err("a whole record in an accepted run");
                 self.mark(Item::Refused(number));
                 self.mark_if(number == 2 && *n <= MAX_STEPS, Item::RefusedSum);
+                self.zeros(number, input);
                 self.twins(number, input);
             }
         }
         reply(result)
+    }
+
+    /// Counts which byte of a refused record is not zero.
+    fn zeros(&mut self, number: u8, input: &Input) {
+        let bytes = [20, 30, 31].into_iter().filter(|&i| number == 4 && input.record[i] != 0);
+        bytes.for_each(|i| self.mark(Item::RefusedByte(i)));
     }
 
     /// Counts what a refused list's twins are like.
@@ -202,6 +216,8 @@ impl Coverage {
         let step = |i: usize| event_of(&events[EVENT * i..]).step;
         let (many, end) = (events.len() / EVENT, start.count + ran.steps);
         self.mark_if(start.halted, Item::HaltedAtTheStart);
+        start.lines.0.into_iter().for_each(|count| self.mark(Item::Waiting(count)));
+        self.mark_if(start.lines.0 == [FULL; 8], Item::AllFull);
         self.mark_if(n == 0, Item::NoStep);
         self.mark_if(n == MAX_STEPS, Item::GreatestN);
         self.mark_if(n > 0 && u64::from(start.count) + n == u32::MAX.into(), Item::GreatestSum);

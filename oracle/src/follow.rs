@@ -1,7 +1,9 @@
 //! A run followed step by step: its last steps, its entries and returns, the frames that are open at its close, what
 //! became of its events.
 
-use crate::machine::{cut, even, events_of, refusal, word_at, Act, Event, Machine, Parts, Ran, Trace, ENA, IE, PC, SP};
+use crate::machine::{
+    cut, even, events_of, refusal, word_at, Act, Event, Machine, Parts, Ran, Trace, ENA, FULL, IE, PC, SP,
+};
 use std::collections::VecDeque;
 
 /// How many of the newest steps are kept.
@@ -97,11 +99,11 @@ pub enum Fate {
     PassedOver,
     /// Its step is after the run's last.
     NotReached,
-    /// The device's status before it; whether the device's line was waiting already; the entry that answered its line.
-    Applied { status: u8, waiting: bool, entered: Option<Entered> },
+    /// The device's status before it; its waiting events before it; the entry that answered it.
+    Applied { status: u8, waiting: u8, entered: Option<Entered> },
 }
 
-/// The entry that answered a line: the step, and whether it was chained to a return.
+/// The entry that answered an event: the step, and whether it was chained to a return.
 #[derive(Clone, Copy, Debug, PartialEq, Eq)]
 pub struct Entered {
     pub count: u32,
@@ -120,8 +122,9 @@ pub struct Followed {
     pub events: Vec<Event>,
     /// What became of each event.
     pub fates: Vec<Fate>,
-    /// The events of each device whose line waits, by their places in the list.
-    waiting: [Vec<usize>; 8],
+    /// The waiting events of each device, the oldest first, by their places in the list; none for one that waited at
+    /// the start.
+    waiting: [VecDeque<Option<usize>>; 8],
     /// The frames that are open, the oldest first.
     pub frames: Vec<Frame>,
     /// Frames opened in all, and how many were open together at most.
@@ -166,7 +169,7 @@ impl Followed {
             ran: Ran { reason: 0, steps: 0 },
             fates: events.iter().map(fate).collect(),
             events,
-            waiting: Default::default(),
+            waiting: start.lines.0.map(|count| (0..count).map(|_| None).collect()),
             frames: Vec::new(),
             opened: 0,
             deepest: 0,
@@ -222,24 +225,19 @@ impl Followed {
         let first = self.events.partition_point(|e| e.step < before.count);
         let mut lines = before.lines;
         for (place, &(device, status)) in trace.due.iter().enumerate() {
-            let line = 1 << device;
-            self.fates[first + place] = Fate::Applied { status, waiting: lines & line != 0, entered: None };
-            if raises(status) {
-                lines |= line;
-                self.waiting[usize::from(device)].push(first + place);
+            self.fates[first + place] = Fate::Applied { status, waiting: lines.count(device), entered: None };
+            if raises(status) && lines.count(device) < FULL {
+                lines.raise(device);
+                self.waiting[usize::from(device)].push_back(Some(first + place));
             }
         }
     }
 
-    /// An entry answers a device's line: all the events behind it, or the first where the line waits on.
+    /// An entry answers the oldest of a device's waiting events.
     fn answer(&mut self, device: u8, by: Entered) {
-        let waits = self.close.lines >> device & 1 == 1;
-        let places = &mut self.waiting[usize::from(device)];
-        let answered = if waits { places.len().min(1) } else { places.len() };
-        for place in places.drain(..answered) {
-            if let Fate::Applied { entered, .. } = &mut self.fates[place] {
-                *entered = Some(by);
-            }
+        let Some(Some(place)) = self.waiting[usize::from(device)].pop_front() else { return };
+        if let Fate::Applied { entered, .. } = &mut self.fates[place] {
+            *entered = Some(by);
         }
     }
 

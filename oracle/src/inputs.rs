@@ -3,7 +3,7 @@
 
 use crate::isa::{encode, Instr};
 use crate::machine::{event_record, events_of, without_twins};
-use crate::machine::{Event, Machine, Setup, EVENT, MAX_EVENTS, MAX_STEPS, MEMORY, PC, RECORD, SP};
+use crate::machine::{Event, Lines, Machine, Setup, EVENT, MAX_EVENTS, MAX_STEPS, MEMORY, PC, RECORD, SP};
 use crate::programs::setup;
 use crate::random::Random;
 
@@ -64,11 +64,22 @@ pub fn input(kind: Kind, seed: u64) -> Input {
     }
 }
 
+/// Counts of waiting events: any, or most of them zero, or full or nearly so.
+pub fn lines(random: &mut Random) -> Lines {
+    let kind = random.below(4);
+    Lines(std::array::from_fn(|_| match kind {
+        0 => random.below(16) as u8,
+        1 => 13 + random.below(3) as u8,
+        _ if random.one_in(2) => 0,
+        _ => 1 + random.below(3) as u8,
+    }))
+}
+
 /// A random record of a machine, its zero bits zero.
 fn machine(random: &mut Random) -> Machine {
     let mut m = Machine { psw: random.word() & 0xE1FF, cex: random.word() & 0x7F, ..Machine::default() };
     m.regs = std::array::from_fn(|_| random.word());
-    m.lines = random.byte();
+    m.lines = lines(random);
     m.halted = random.one_in(32);
     m.count = random.draw() as u32 >> random.below(33).min(31);
     m
@@ -98,7 +109,7 @@ fn wild(random: &mut Random) -> Input {
         m.psw &= !0x108;
     }
     if random.one_in(2) {
-        m.lines = 0;
+        m.lines = Lines::default();
     }
     Input { memory, record: m.to_record().to_vec(), events: events(random, m.count, n, 12), n }
 }
@@ -166,7 +177,7 @@ fn corner(random: &mut Random) -> Input {
         m.psw &= !0x08;
     }
     if random.one_in(2) {
-        (m.lines, m.cex) = (0, 0);
+        (m.lines, m.cex) = (Lines::default(), 0);
     }
     let (record, events) = (m.to_record().to_vec(), events(random, m.count, n, 10));
     let mut input = Input { memory: vec![0; MEMORY], record, events, n };
@@ -215,7 +226,7 @@ fn plant(input: &mut Input, random: &mut Random, pc: u16, sp: u16) {
 
 /// How many ways of breaking a rule there are, and of nearly breaking one.
 const BREAKS: u64 = 14;
-const NEARLY: u64 = 8;
+const NEARLY: u64 = 9;
 
 /// One to three rules broken, with near misses beside them, or near misses alone.
 fn broken(random: &mut Random, seed: u64) -> Input {
@@ -247,7 +258,7 @@ fn break_rule(input: &mut Input, random: &mut Random, rule: u64) {
         4 if whole => input.record[17] |= 2 << random.below(4),
         5 if whole => input.record[18 + usize::from(any & 1)] |= 0x80 >> (random.below(8) * u64::from(any & 1)),
         6 if whole => input.record[21] = any.max(2),
-        7 if whole => input.record[26 + usize::from(any) % 6] = any,
+        7 if whole => input.record[[20, 30, 31][usize::from(any) % 3]] = any,
         8 => input.events.extend(vec![0; 1 + usize::from(any) % 7]),
         9 => {
             let last = input
@@ -305,6 +316,7 @@ fn nearly(input: &mut Input, random: &mut Random) {
         }
         5 => input.events.clear(),
         6 => input.n = 0,
+        7 => input.record[26..30].fill([0xFF, 0xF0, 0x0F, 0x11][random.below(4) as usize]),
         _ => {
             // Every event on one step, one of each device.
             let step = u32::from_le_bytes(std::array::from_fn(|i| input.record[22 + i]));

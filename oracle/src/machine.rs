@@ -33,12 +33,68 @@ pub const DEVICES: u16 = 16;
 /// The first byte of the vectors.
 pub const VECTORS: u16 = 0xFFC0;
 
+/// A count of waiting events that is full.
+pub const FULL: u8 = 15;
+
+/// The lines: for each device a count of waiting events that raised its line, 0 to 15 (02, §7).
+#[derive(Clone, Copy, Debug, Default, PartialEq, Eq)]
+pub struct Lines(pub [u8; 8]);
+
+impl Lines {
+    /// One event for each time that a device is named.
+    pub fn of(devices: &[u8]) -> Lines {
+        let mut lines = Lines::default();
+        devices.iter().for_each(|&d| lines.raise(d));
+        lines
+    }
+
+    pub fn count(self, device: u8) -> u8 {
+        self.0[usize::from(device)]
+    }
+
+    pub fn waits(self, device: u8) -> bool {
+        self.count(device) > 0
+    }
+
+    /// "No line waiting" means eight zero counts.
+    pub fn none(self) -> bool {
+        self.0 == [0; 8]
+    }
+
+    /// One event more; a full count stays.
+    pub fn raise(&mut self, device: u8) {
+        let count = &mut self.0[usize::from(device)];
+        *count = FULL.min(*count + 1);
+    }
+
+    /// An acceptance or a chained entry takes one.
+    fn take(&mut self, device: u8) {
+        self.0[usize::from(device)] -= 1;
+    }
+
+    /// The counts in bytes 26-29 of a record: four bits each, device 0 in the low half of byte 26.
+    pub fn from_bytes(bytes: &[u8]) -> Lines {
+        Lines(std::array::from_fn(|d| if d % 2 == 0 { bytes[d / 2] & 15 } else { bytes[d / 2] >> 4 }))
+    }
+
+    pub fn to_bytes(self) -> [u8; 4] {
+        std::array::from_fn(|i| self.0[2 * i] | self.0[2 * i + 1] << 4)
+    }
+}
+
+/// Eight digits, device 7 first.
+impl fmt::Display for Lines {
+    fn fmt(&self, f: &mut fmt::Formatter) -> fmt::Result {
+        self.0.iter().rev().try_for_each(|count| write!(f, "{count:X}"))
+    }
+}
+
 #[derive(Clone, Copy, Debug, Default, PartialEq, Eq)]
 pub struct Machine {
     pub regs: [u16; 8],
     pub psw: u16,
     pub cex: u16,
-    pub lines: u8,
+    pub lines: Lines,
     pub halted: bool,
     pub count: u32,
 }
@@ -237,14 +293,14 @@ impl Machine {
         }
         memory[at] |= DBA;
         if status & IE != 0 {
-            self.lines |= 1 << event.device;
+            self.lines.raise(event.device);
         }
     }
 
     /// The best waiting line with its priority: the highest priority, then the lowest device.
     pub fn best_line(&self, memory: &[u8]) -> Option<(u8, u16)> {
         let mut best = None;
-        for device in (0..8).filter(|d| self.lines >> d & 1 == 1) {
+        for device in (0..8).filter(|&d| self.lines.waits(d)) {
             let priority = vector_priority(memory, device);
             if best.is_none_or(|(_, highest)| priority > highest) {
                 best = Some((device, priority));
@@ -268,7 +324,7 @@ impl Step<'_> {
             return (self.leave(), None);
         }
         if let Some(device) = self.m.line_above(self.memory, current(self.m.psw)) {
-            self.m.lines &= !(1 << device);
+            self.m.lines.take(device);
             self.enter(device, false);
             return (Act::Accept(device), None);
         }
@@ -315,7 +371,7 @@ impl Step<'_> {
     fn leave(&mut self) -> Act {
         if let Some(device) = self.m.line_above(self.memory, previous(self.m.psw)) {
             let kept = previous(self.m.psw);
-            self.m.lines &= !(1 << device);
+            self.m.lines.take(device);
             let (psw, pc) = self.vector_words(device);
             self.start_handler(psw, pc, kept, false);
             return Act::Chain(device);
@@ -578,7 +634,7 @@ impl Machine {
             regs: [0, 1, 2, 3, 4, 5, 6, 7].map(|i| word(2 * i)),
             psw: word(16),
             cex: word(18),
-            lines: record[20],
+            lines: Lines::from_bytes(&record[26..30]),
             halted: record[21] != 0,
             count: u32::from_le_bytes([record[22], record[23], record[24], record[25]]),
         }
@@ -589,9 +645,9 @@ impl Machine {
         for (i, value) in self.regs.iter().chain([&self.psw, &self.cex]).enumerate() {
             record[2 * i..2 * i + 2].copy_from_slice(&value.to_le_bytes());
         }
-        record[20] = self.lines;
         record[21] = u8::from(self.halted);
         record[22..26].copy_from_slice(&self.count.to_le_bytes());
+        record[26..30].copy_from_slice(&self.lines.to_bytes());
         record
     }
 }
@@ -603,7 +659,7 @@ impl fmt::Display for Machine {
             write!(f, "R{i} {value:04X} ")?;
         }
         let Machine { psw, cex, lines, halted, count, .. } = self;
-        write!(f, "PSW {psw:04X} CEX {cex:02X} lines {lines:02X} halted {} count {count}", u8::from(*halted))
+        write!(f, "PSW {psw:04X} CEX {cex:02X} lines {lines} halted {} count {count}", u8::from(*halted))
     }
 }
 
@@ -650,7 +706,8 @@ pub fn refusal(memory: &[u8], n: u64, record: &[u8], events: &[u8]) -> Option<u8
     if u64::from(m.count) + n > u64::from(u32::MAX) {
         return Some(2);
     }
-    let unused = m.psw & PSW_ZERO != 0 || m.cex & !CEX_USED != 0 || record[26..].iter().any(|&b| b != 0);
+    let zeros = [record[20], record[30], record[31]];
+    let unused = m.psw & PSW_ZERO != 0 || m.cex & !CEX_USED != 0 || zeros != [0; 3];
     if unused || record[21] > 1 {
         return Some(4);
     }
@@ -751,7 +808,7 @@ pub fn line_of(closed: Result<(Ran, Machine), u8>) -> String {
         Err(number) => format!("R{number}\n"),
         Ok((ran, m)) => {
             let words: Vec<String> = m.regs.iter().chain([&m.psw]).map(|w| format!("{w:04X}")).collect();
-            format!("{} {} {} {:02X} {:02X}\n", ran.reason, ran.steps, words.join(" "), m.cex, m.lines)
+            format!("{} {} {} {:02X} {}\n", ran.reason, ran.steps, words.join(" "), m.cex, m.lines)
         }
     }
 }

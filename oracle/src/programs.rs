@@ -2,6 +2,7 @@
 //! enabled devices, and events that nest and chain. In every other one the application calls SVC, whose handlers restore
 //! nothing. Words mostly lie at even addresses (02, §6). Now and then each of them does something unwise.
 
+use crate::inputs::lines;
 use crate::isa::{encode, Instr};
 use crate::machine::{without_twins, Event, Machine, Setup, LR, MEMORY, PC, SP};
 use crate::random::Random;
@@ -295,7 +296,7 @@ impl Maker {
         match self.random.below(64) {
             0 => m.psw |= 8,
             1 => m.halted = true,
-            2 => m.lines = self.random.byte(),
+            2 => m.lines = lines(&mut self.random),
             3 => m.psw |= 0x100,
             _ => {}
         }

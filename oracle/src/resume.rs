@@ -261,7 +261,7 @@ impl<'a> Walk<'a> {
         let mut broken = Broken::default();
         broken.add_if(m.psw & SLP != 0, Awake);
         broken.add_if(m.halted, NotHalted);
-        broken.add_if(m.lines != 0, NoLine);
+        broken.add_if(!m.lines.none(), NoLine);
         Walk {
             setup,
             reading,

@@ -73,6 +73,30 @@ fn dba_cleared_before_the_fault(trace: &Trace, before: &Machine, after: &mut Mac
     }
 }
 
+/// The oracle step by step, with another count of each device: from those before and after the step, and whether one of
+/// its events falls on the step.
+fn counting(i: &mut Input, count: fn(u8, u8, bool) -> u8) -> u64 {
+    let (whole, n) = (honest(&mut i.clone()), i.n);
+    if whole & 0xFF != 0 {
+        return whole;
+    }
+    i.n = 1;
+    for _ in 0..whole >> 16 {
+        let before = Machine::from_record(&i.record);
+        let due: Vec<u8> =
+            events_of(&i.events).into_iter().filter(|e| e.step == before.count).map(|e| e.device).collect();
+        honest(i);
+        let mut after = Machine::from_record(&i.record);
+        for d in 0..8 {
+            let counts = &mut after.lines.0[usize::from(d)];
+            *counts = count(before.lines.count(d), *counts, due.contains(&d));
+        }
+        i.record = after.to_record().to_vec();
+    }
+    i.n = n;
+    whole
+}
+
 /// The oracle, but for lists that it refuses with 13 unless `so` says that they are to be: those run without a twin.
 fn unless(i: &mut Input, so: fn(&[Event]) -> bool) -> u64 {
     let number = honest(i);
@@ -94,7 +118,7 @@ fn any_two(list: &[Event], alike: fn(&Event, &Event) -> bool) -> bool {
 
 /// Engines that are wrong, the impostors of 01 first, each with a kind of input that shows it.
 #[rustfmt::skip]
-const WRONG: [(&str, Kind, Engine); 20] = [
+const WRONG: [(&str, Kind, Engine); 26] = [
     ("takes the first step truly and then only counts", Kind::Plausible, |i| {
         let n = std::mem::replace(&mut i.n, 1);
         let number = honest(i);
@@ -142,6 +166,25 @@ const WRONG: [(&str, Kind, Engine); 20] = [
         number
     }),
     ("replies with more than there is", Kind::Wild, |i| accepted(i, |_, number| number | 1 << 40)),
+    ("lets a count of 15 wrap to 0", Kind::Corner, |i| counting(i, |before, after, due| {
+        if due && before == 15 && after == 15 { 0 } else { after }
+    })),
+    ("takes all that wait", Kind::Wild, |i| counting(i, |before, after, _| if after < before { 0 } else { after })),
+    ("counts whether IE is set or not", Kind::Corner, |i| counting(i, |before, after, due| {
+        if due && after == before { 15.min(after + 1) } else { after }
+    })),
+    ("has the odd devices in the low halves", Kind::Wild, |i| accepted(i, |i, number| {
+        i.record[26..30].iter_mut().for_each(|byte| *byte = byte.rotate_left(4));
+        number
+    })),
+    ("has device 7 in byte 26", Kind::Wild, |i| accepted(i, |i, number| { i.record[26..30].reverse(); number })),
+    ("accepts an old record", Kind::Broken, |i| {
+        let old = i.record.get(20).copied().unwrap_or(0);
+        if old != 0 { i.record[20] = 0 }
+        let number = honest(i);
+        if number & 0xFF != 0 && old != 0 { i.record[20] = old }
+        number
+    }),
     ("works on a byte where SWPB has its ignored bit set", Kind::Corner, |i| by_steps(i, swpb_by_the_ignored_bit)),
     ("faults on an entry at an odd SP", Kind::Plausible, |i| by_steps(i, entry_at_an_odd_sp_faults)),
     ("clears DBA and then faults by an odd address", Kind::Corner, |i| by_steps(i, dba_cleared_before_the_fault)),

@@ -51,7 +51,7 @@ fn the_line_of_the_sheet() {
     let mut input = 1u32.to_le_bytes().to_vec();
     input.extend(m.to_record());
     input.extend(vec![0; MEMORY]);
-    assert_eq!(sheet(&input).0, "0 1 0000 0000 0000 0000 0000 FFFF 07F8 0000 E100 00 00\n");
+    assert_eq!(sheet(&input).0, "0 1 0000 0000 0000 0000 0000 FFFF 07F8 0000 E100 00 00000000\n");
 }
 
 #[test]
@@ -189,7 +189,7 @@ fn events_of_the_count_are_applied_and_earlier_ones_passed_over() {
     memory[4] = 0x16;
     let events = [event(4, 1, 0x44), event(5, 2, 0x55), event(5, 1, 0x56), event(6, 1, 0x66)];
     act(&mut m, &mut memory, &events);
-    assert_eq!((&memory[2..6], m.lines), (&[0x16, 0x56, 0x1E, 0x55][..], 0));
+    assert_eq!((&memory[2..6], m.lines), (&[0x16, 0x56, 0x1E, 0x55][..], Lines::default()));
     act(&mut m, &mut memory, &events);
     assert_eq!((memory[2], memory[3], m.count), (0x1E, 0x66, 7));
 }
@@ -200,13 +200,13 @@ fn a_line_raised_in_a_step_is_accepted_in_it() {
     memory[4] = 0x11;
     set_vector(&mut memory, 2, 0x0080, 0x2000);
     assert_eq!(act(&mut m, &mut memory, &[event(0, 2, 0)]), Act::Accept(2));
-    assert_eq!((m.lines, m.regs[PC], m.regs[LR], m.psw), (0, 0x2000, 0xFFFF, 0x6080));
+    assert_eq!((m.lines, m.regs[PC], m.regs[LR], m.psw), (Lines::default(), 0x2000, 0xFFFF, 0x6080));
 }
 
 #[test]
 fn lines_above_the_priority_only_best_first() {
     let (mut m, mut memory) = start("Here BRA Here", 4);
-    m.lines = 0b1110;
+    m.lines = Lines::of(&[1, 2, 3]);
     for (v, priority) in [(1, 4u16), (2, 5), (3, 5)] {
         set_vector(&mut memory, v, priority << 5, 0x2000);
     }
@@ -215,15 +215,15 @@ fn lines_above_the_priority_only_best_first() {
     assert_eq!(act(&mut m, &mut memory, &[]), Act::Accept(3));
     m.psw = 4 << 5;
     assert!(matches!(act(&mut m, &mut memory, &[]), Act::Execute(_) | Act::Fault(_)));
-    assert_eq!(m.lines, 0b0010);
+    assert_eq!(m.lines, Lines::of(&[1]));
 }
 
 #[test]
 fn a_vector_of_priority_0_is_never_accepted() {
     let (mut m, mut memory) = start("Here BRA Here", 0);
-    m.lines = 1;
+    m.lines = Lines::of(&[0]);
     assert!(matches!(act(&mut m, &mut memory, &[]), Act::Execute(_)));
-    assert_eq!(m.lines, 1);
+    assert_eq!(m.lines, Lines::of(&[0]));
 }
 
 #[test]
@@ -232,7 +232,7 @@ fn lines_come_before_sleep_and_odd_pc() {
         let (mut m, mut memory) = start("", 0);
         m.psw = psw;
         m.regs[PC] = pc;
-        m.lines = 1;
+        m.lines = Lines::of(&[0]);
         set_vector(&mut memory, 0, 0x0020, 0x2000);
         assert_eq!(act(&mut m, &mut memory, &[]), Act::Accept(0));
         assert_eq!(pushed(&m, &memory, 0), pc);
@@ -373,20 +373,20 @@ fn entry_pushes_pc_lr_psw_cex_and_takes_the_vector() {
     m.psw |= C | V | 3 << 13;
     m.regs[LR] = 0xABCD;
     m.cex = 0x59;
-    m.lines = 0x80;
+    m.lines = Lines::of(&[7]);
     set_vector(&mut memory, 7, 0xFFFF, 0x2345);
     assert_eq!(act(&mut m, &mut memory, &[]), Act::Accept(7));
     assert_eq!(m.regs[SP], 0x07F8);
     assert_eq!([0, 1, 2, 3].map(|n| pushed(&m, &memory, n)), [0x1000, 0xABCD, 0x6051, 0x59]);
     // FLT of the vector does not count; previous is the old current; SLP and bits 12-9 are clear.
-    assert_eq!((m.psw, m.regs[PC], m.regs[LR], m.cex, m.lines), (0x40F7, 0x2345, 0xFFFF, 0, 0));
+    assert_eq!((m.psw, m.regs[PC], m.regs[LR], m.cex, m.lines), (0x40F7, 0x2345, 0xFFFF, 0, Lines::default()));
 }
 
 #[test]
 fn the_vector_is_read_before_the_pushes() {
     let (mut m, mut memory) = start("Here BRA Here", 0);
     m.regs[SP] = 0xFFC8;
-    m.lines = 1;
+    m.lines = Lines::of(&[0]);
     set_vector(&mut memory, 0, 0x0020, 0x2000);
     act(&mut m, &mut memory, &[]);
     assert_eq!((m.regs[PC], m.psw, m.regs[SP]), (0x2000, 0x0020, 0xFFC0));
@@ -396,7 +396,7 @@ fn the_vector_is_read_before_the_pushes() {
 fn an_odd_sp_keeps_its_bit() {
     let (mut m, mut memory) = start("Here BRA Here", 0);
     m.regs[SP] = 0x0801;
-    m.lines = 1;
+    m.lines = Lines::of(&[0]);
     set_vector(&mut memory, 0, 0x0020, 0xFFFF);
     act(&mut m, &mut memory, &[]);
     assert_eq!(m.regs[SP], 0x07F9);
@@ -419,13 +419,14 @@ fn a_chained_entry_keeps_the_previous_priority_and_pushes_nothing() {
     let (mut m, mut memory) = start("", 5);
     m.psw |= 2 << 13;
     m.regs[PC] = 0xFFFF;
-    m.lines = 0b11;
+    m.lines = Lines::of(&[0, 1]);
     m.cex = 0x11;
     set_vector(&mut memory, 0, 2 << 5, 0x2000);
     set_vector(&mut memory, 1, 3 << 5 | 7 << 13, 0x3000);
     let was = memory.clone();
     assert_eq!(act(&mut m, &mut memory, &[]), Act::Chain(1));
-    assert_eq!((m.psw, m.regs[PC], m.regs[LR], m.regs[SP], m.cex, m.lines), (0x4060, 0x3000, 0xFFFF, 0x0800, 0, 1));
+    assert_eq!((m.psw, m.regs[PC], m.regs[LR], m.regs[SP]), (0x4060, 0x3000, 0xFFFF, 0x0800));
+    assert_eq!((m.cex, m.lines), (0, Lines::of(&[0])));
     assert_eq!(memory, was);
     m.regs[PC] = 0xFFFF;
     assert_eq!(act(&mut m, &mut memory, &[]), Act::Pull);
@@ -469,7 +470,7 @@ fn a_fault_with_flt_set_halts_and_changes_nothing_else() {
 fn an_interrupt_keeps_flt_and_a_handler_of_a_fault_has_it() {
     let (mut m, mut memory) = start("Here BRA Here", 0);
     m.psw = FLT;
-    m.lines = 1;
+    m.lines = Lines::of(&[0]);
     set_vector(&mut memory, 0, 0x0020, 0x2000);
     act(&mut m, &mut memory, &[]);
     assert_eq!(m.psw, FLT | 0x0020);
@@ -480,17 +481,17 @@ fn svc_needs_a_priority_above_and_lowers_no_line() {
     for (priority, expected) in [(3, Act::Trap(2)), (4, Act::Fault(10)), (5, Act::Fault(10))] {
         let (mut m, mut memory) = start(" SVC $2", priority);
         m.cex = 0x49;
-        m.lines = 4;
+        m.lines = Lines::of(&[2]);
         set_vector(&mut memory, 2, 4 << 5, 0x2000);
         // The line itself waits at the same priority as the trap: point 3 takes it first at priority 3.
         if priority == 3 {
-            m.lines = 0;
+            m.lines = Lines::default();
         }
         assert_eq!(act(&mut m, &mut memory, &[]), expected);
         assert_eq!(pushed(&m, &memory, 0), 0x1002);
         assert_eq!(pushed(&m, &memory, 3), 0x41);
         assert_eq!(m.psw & FLT != 0, priority != 3);
-        assert_eq!(m.lines, if priority == 3 { 0 } else { 4 });
+        assert_eq!(m.lines, if priority == 3 { Lines::default() } else { Lines::of(&[2]) });
     }
 }
 
@@ -551,8 +552,81 @@ fn events_by_the_status_bits() {
         memory[7] = 0xAA;
         act(&mut m, &mut memory, &[event(0, 3, 0x55)]);
         let data = if taken { 0x55 } else { 0xAA };
-        assert_eq!((memory[6], memory[7], m.lines), (after, data, u8::from(raised) << 3), "{before:02X}");
+        let lines = if raised { Lines::of(&[3]) } else { Lines::default() };
+        assert_eq!((memory[6], memory[7], m.lines), (after, data, lines), "{before:02X}");
     }
+}
+
+// ---- lines that count (02, §7)
+
+#[test]
+fn a_count_gains_one_an_event_and_stays_at_15() {
+    let (mut m, mut memory) = start("Here BRA Here", 7);
+    memory[6] = 0x13;
+    for (step, count) in (1..=40).map(|k: u8| (u32::from(k) - 1, k.min(15))) {
+        act(&mut m, &mut memory, &[event(step, 3, step as u8)]);
+        assert_eq!((m.lines.0, memory[7]), ([0, 0, 0, count, 0, 0, 0, 0], step as u8));
+        assert_eq!(memory[6], if step == 0 { 0x17 } else { 0x1F });
+    }
+    // With IE clear nothing is counted, and ENA clear not either.
+    for status in [0x12, 0x03] {
+        (memory[6], m.lines) = (status, Lines::of(&[3, 3]));
+        let now = m.count;
+        act(&mut m, &mut memory, &[event(now, 3, 0)]);
+        assert_eq!(m.lines, Lines::of(&[3, 3]));
+    }
+}
+
+#[test]
+fn an_entry_takes_one_from_its_own_count() {
+    let (mut m, mut memory) = start("Here BRA Here", 3);
+    m.lines = Lines([15, 3, 15, 1, 2, 0, 15, 15]);
+    set_vector(&mut memory, 2, 0x0080, 0xFFFF);
+    assert_eq!(act(&mut m, &mut memory, &[]), Act::Accept(2));
+    assert_eq!(m.lines.0, [15, 3, 14, 1, 2, 0, 15, 15]);
+    // The handler returns at once: its own line is chained again, without a push, until the count is 0.
+    for left in (0..14).rev() {
+        assert_eq!(act(&mut m, &mut memory, &[]), Act::Chain(2));
+        assert_eq!((m.lines.count(2), m.regs[SP]), (left, 0x07F8));
+    }
+    assert_eq!(act(&mut m, &mut memory, &[]), Act::Pull);
+    assert_eq!(m.lines.0, [15, 3, 0, 1, 2, 0, 15, 15]);
+}
+
+#[test]
+fn an_event_and_an_acceptance_in_one_step() {
+    // The event comes first, so one that falls on a full count is lost though the step then takes one.
+    for (before, after) in [(0, 0), (1, 1), (14, 14), (15, 14)] {
+        let (mut m, mut memory) = start("Here BRA Here", 3);
+        m.lines.0[2] = before;
+        memory[4] = 0x11;
+        set_vector(&mut memory, 2, 0x0080, 0x2000);
+        assert_eq!(act(&mut m, &mut memory, &[event(0, 2, 0)]), Act::Accept(2));
+        assert_eq!(m.lines.count(2), after);
+    }
+}
+
+#[test]
+fn forty_ticks_enter_the_handler_fifteen_times_more() {
+    // The handler of device 0 runs 51 steps and a return; 40 ticks fall in its first ones.
+    let handler = " ORG #2000\n ADD $1,R1\n MOVL $24,R0\nNext SUB $1,R0\n BNE Next\n MOV LR,PC";
+    let (mut m, mut memory) = start(&format!("Here BRA Here\n{handler}"), 3);
+    memory[0] = 0x13;
+    set_vector(&mut memory, 0, 0x0080, 0x2000);
+    let ticks: Vec<Event> = (0..41).map(|step| event(step, 0, 0)).collect();
+    let mut entries = 0;
+    for _ in 0..2000 {
+        entries += u32::from(matches!(act(&mut m, &mut memory, &ticks), Act::Accept(0) | Act::Chain(0)));
+    }
+    assert_eq!((entries, m.regs[1], m.lines), (16, 16, Lines::default()));
+}
+
+#[test]
+fn counts_in_the_record_and_on_the_line() {
+    let m = Machine { lines: Lines([1, 2, 3, 4, 5, 6, 7, 15]), ..Machine::default() };
+    let record = m.to_record();
+    assert_eq!((record[20], &record[26..]), (0, &[0x21, 0x43, 0x65, 0xF7, 0, 0][..]));
+    assert_eq!(m.lines.to_string(), "F7654321");
 }
 
 #[test]
@@ -609,7 +683,7 @@ fn fetches_pushes_and_pulls_are_plain() {
     act(&mut m, &mut memory, &[]);
     assert_eq!((m.regs[4], memory[4]), (9, 0x4C));
     m.regs[SP] = 8;
-    m.lines = 1;
+    m.lines = Lines::of(&[0]);
     set_vector(&mut memory, 0, 0x0020, 0xFFFF);
     m.regs[LR] = 0x0C0C;
     act(&mut m, &mut memory, &[]);
@@ -712,8 +786,11 @@ fn each_refusal_and_its_near_miss() {
     }
     assert_eq!(refused(|i| i.record[21] = 1), None);
     assert_eq!(refused(|i| i.record[21] = 2), Some(4));
-    for at in 26..32 {
+    for at in [20, 30, 31] {
         assert_eq!(refused(move |i| i.record[at] = 1), Some(4));
+    }
+    for at in 26..30 {
+        assert_eq!(refused(move |i| i.record[at] = 0xFF), None);
     }
     assert_eq!(refused(|i| i.events.push(0)), Some(5));
     assert_eq!(refused(|i| i.events.clear()), None);
@@ -797,10 +874,13 @@ fn short_input_of_the_program() {
 #[test]
 fn the_places_in_the_records() {
     let mut record: Vec<u8> = (1..=16).collect();
-    record.extend([0x17, 0xE1, 0x2B, 0x00, 0xC5, 0x01, 0x78, 0x56, 0x34, 0x12, 0, 0, 0, 0, 0, 0]);
+    record.extend([0x17, 0xE1, 0x2B, 0x00, 0x00, 0x01, 0x78, 0x56, 0x34, 0x12, 0x21, 0x43, 0x65, 0xF7, 0, 0]);
     let m = Machine::from_record(&record);
     assert_eq!(m.regs, [0x0201, 0x0403, 0x0605, 0x0807, 0x0A09, 0x0C0B, 0x0E0D, 0x100F]);
-    assert_eq!((m.psw, m.cex, m.lines, m.halted, m.count), (0xE117, 0x2B, 0xC5, true, 0x1234_5678));
+    assert_eq!(
+        (m.psw, m.cex, m.lines.0, m.halted, m.count),
+        (0xE117, 0x2B, [1, 2, 3, 4, 5, 6, 7, 15], true, 0x1234_5678)
+    );
     assert_eq!(m.to_record()[..], record[..]);
     let list = [0x78, 0x56, 0x34, 0x12, 7, 0x9A, 0, 0];
     assert_eq!(events_of(&list), [event(0x1234_5678, 7, 0x9A)]);
@@ -808,7 +888,7 @@ fn the_places_in_the_records() {
     let mut input = vec![5, 0, 0, 0];
     input.extend(record);
     input.extend(vec![0; MEMORY]);
-    assert_eq!(sheet(&input).0, "1 0 0201 0403 0605 0807 0A09 0C0B 0E0D 100F E117 2B C5\n");
+    assert_eq!(sheet(&input).0, "1 0 0201 0403 0605 0807 0A09 0C0B 0E0D 100F E117 2B F7654321\n");
 }
 
 #[test]
@@ -819,8 +899,9 @@ fn records_go_both_ways() {
         record[17] &= !0x1E;
         record[18] &= 0x7F;
         record[19] = 0;
+        record[20] = 0;
         record[21] &= 1;
-        record[26..].fill(0);
+        record[30..].fill(0);
         assert_eq!(Machine::from_record(&record).to_record()[..], record[..]);
     }
 }

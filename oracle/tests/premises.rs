@@ -132,7 +132,7 @@ fn start_not_halted_is_idle() {
 fn no_line_waiting() {
     // The line is accepted in the run without events too.
     let mut s = setup(LOOP, 3, &[]);
-    s.machine.lines = 0x80;
+    s.machine.lines = Lines::of(&[7]);
     needed(Premise::NoLine, &s);
 }
 

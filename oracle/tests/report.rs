@@ -220,7 +220,7 @@ fn the_word_of_an_instruction_in_device_registers() {
 #[test]
 fn state_by_name() {
     let page = page_of(&program("", &[], 0, |m| {
-        (m.psw, m.cex, m.lines, m.regs[4], m.count) = (0x6155, 0x4A, 0x12, 0xFFFE, 1_234_567);
+        (m.psw, m.cex, m.lines, m.regs[4], m.count) = (0x6155, 0x4A, Lines::of(&[1, 4, 4, 4]), 0xFFFE, 1_234_567);
     }));
     let values: Vec<String> = rows(&page, "psw").iter().map(|row| row[2].clone()).collect();
     assert_eq!(values, ["3", "1", "2", "1", "0", "1", "0", "1"]);
@@ -232,6 +232,27 @@ fn state_by_name() {
     assert!(page.contains("Lines 1, 4 are waiting. The best is line 1 with priority 0, which is not above"));
     assert_eq!(rows(&page, "run")[4], ["Step count", "1,234,567", "1,234,567 at the start"]);
     assert_eq!(rows(&page, "vectors").len(), 16);
+    let waiting: Vec<String> = rows(&page, "devices").iter().map(|row| row[10].clone()).collect();
+    assert_eq!(waiting, ["0", "1", "0", "0", "3", "0", "0", "0"]);
+    assert!(page.contains("Lines #00030010 and devices"));
+}
+
+#[test]
+fn events_of_a_line_that_counts() {
+    // Sixteen events of device 7, whose vector has priority 0: the line counts fifteen of them, beside those of a start.
+    let many: Vec<(u32, u8, u8)> = (0..16).map(|step| (step, 7, 0)).collect();
+    let source = " org #000E\n byte #11\n org #1000\nHere bra Here";
+    let fates = |page: &str| rows(page, "events").iter().map(|row| row[4].clone()).collect::<Vec<String>>();
+    let all = fates(&page_of(&program(source, &many, 16, |_| ())));
+    assert_eq!(all[0], "ready; line raised; still waiting");
+    assert_eq!(all[14], "ready; OF set, since DBA was 1; line raised, 15 waiting; still waiting");
+    assert_eq!(all[15], "ready; OF set, since DBA was 1; not counted, since 15 were waiting");
+    // The oldest is answered first, and those of the start come before them all.
+    let source = " org #000E\n byte #11\n org #1000\nHere bra Here\n org #FFDC\n word #0080\n word #FFFF";
+    let page = page_of(&program(source, &many[..2], 9, |m| m.lines = Lines::of(&[7, 7])));
+    let all = fates(&page);
+    assert_eq!(all[0], "ready; line raised, 3 waiting; chained at step 2");
+    assert_eq!(all[1], "ready; OF set, since DBA was 1; line raised, 3 waiting; chained at step 3");
 }
 
 #[test]
@@ -239,7 +260,7 @@ fn devices_and_their_bytes_are_escaped() {
     let source = " org #0000\n byte #1F\n byte '<'\n byte #E4\n byte '&'\n byte #00\n byte #22\n byte #00\n byte #27";
     let page = page_of(&program(source, &[], 0, |_| ()));
     let devices = rows(&page, "devices");
-    assert_eq!(devices[0], ["0", "#0000", "#1F", "0", "1", "1", "1", "input", "1", "#3C &#39;&lt;&#39;", "-"]);
+    assert_eq!(devices[0], ["0", "#0000", "#1F", "0", "1", "1", "1", "input", "1", "#3C &#39;&lt;&#39;", "0"]);
     assert_eq!(devices[1][..9], ["1", "#0002", "#E4", "7", "0", "0", "1", "output", "0"]);
     assert_eq!([&devices[1][9], &devices[2][9]], ["#26 &#39;&amp;&#39;", "#22 &#39;&quot;&#39;"]);
     assert_eq!(devices[3][9], "#27 &#39;&#39;&#39;");
@@ -398,7 +419,7 @@ fn events_and_what_became_of_each() {
             "ready; line raised; accepted at step 4",
             "ready; line raised; chained at step 7",
             "ready; OF set, since DBA was 1; line raised; still waiting",
-            "ready; OF set, since DBA was 1; line already waiting; still waiting",
+            "ready; OF set, since DBA was 1; line raised, 2 waiting; still waiting",
             "not reached: after the run&#39;s last step",
         ]
     );

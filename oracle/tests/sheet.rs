@@ -67,7 +67,7 @@ fn with(at: usize, bytes: &[u8]) -> Vec<u8> {
 fn the_example_of_01() {
     let mut input = with(0, &1u32.to_le_bytes());
     input[4 + 12..4 + 18].copy_from_slice(&[0x00, 0x08, 0x01, 0x08, 0xE0, 0x60]);
-    assert_eq!(same("example", &input), "0 1 0000 0000 0000 0000 0000 FFFF 07F8 0000 E100 00 00\n");
+    assert_eq!(same("example", &input), "0 1 0000 0000 0000 0000 0000 FFFF 07F8 0000 E100 00 00000000\n");
 }
 
 #[test]
@@ -83,8 +83,9 @@ fn each_refusal() {
         ("R4\n", with(record + 17, &[0x02])),
         ("R4\n", with(record + 18, &[0x80])),
         ("R4\n", with(record + 19, &[0x01])),
+        ("R4\n", with(record + 20, &[1])),
         ("R4\n", with(record + 21, &[2])),
-        ("R4\n", with(record + 26, &[1])),
+        ("R4\n", with(record + 30, &[1])),
         ("R4\n", with(record + 31, &[0x80])),
         ("R5\n", with(LEAST, &[0])),
         ("R5\n", with(LEAST, &[0; 15])),
@@ -105,6 +106,7 @@ fn each_refusal() {
     assert_eq!(same("sum", &input), "R2\n");
     input[0] = 0;
     assert!(same("sum, nearly", &input).starts_with("0 0 "));
+    assert!(same("full counts", &with(record + 26, &[0xFF; 4])).ends_with(" FFFFFFFF\n"));
     assert!(same("equal steps", &events(&[on(5, 7), on(5, 0), on(5, 6)])).starts_with("0 0 "));
     let list: Vec<Event> = (0..MAX_EVENTS).map(|i| on(i as u32 / 8, i as u8 % 8)).collect();
     assert!(same("full list", &events(&list)).starts_with("0 0 "));

@@ -286,6 +286,8 @@ static void ran(const char *what, uint64_t n, unsigned reason, uint32_t steps)
 
 static void accepted_runs(void)
 {
+    static const uint8_t counts[] = {0x21, 0x43, 0x65, 0x87};
+    unsigned d;
     example();
     ran("example", 1, XM23_REASON_DONE, 1);
     same("LR", two(record + XM23_RECORD_REGISTER(5)), 0xFFFF);
@@ -325,7 +327,22 @@ static void accepted_runs(void)
     events_len = XM23_EVENT_SIZE;
     ran("event", 3, XM23_REASON_DONE, 3);
     same("status and data", two(memory + 4), 0x5517);
-    same("line", record[XM23_RECORD_LINES], 1u << 2);
+    for (d = 0; d < 8; d++)
+        same("line", XM23_RECORD_WAITING(record, d), d == 2);
+
+    /* Twenty events of one device, of which its line counts fifteen; every nibble in its place. */
+    example();
+    put_two(record + XM23_RECORD_REGISTER(7), 0x1000);
+    put_two(memory + 0x1000, 0x3FFF);
+    memory[4] = 0x11;
+    memcpy(record + XM23_RECORD_LINES, counts, sizeof counts);
+    for (d = 0; d < 20; d++)
+        put_event(d, d, 2, 0);
+    events_len = 20 * XM23_EVENT_SIZE;
+    ran("twenty events", 20, XM23_REASON_DONE, 20);
+    for (d = 0; d < 8; d++)
+        same("waiting", XM23_RECORD_WAITING(record, d), d == 2 ? 15 : d + 1);
+    same("byte 20", record[XM23_RECORD_ZERO], 0);
 
     /* A second fault halts, and a halted machine takes no step. */
     example();
@@ -357,7 +374,7 @@ static void near_misses(void)
     ran("4,096 events", 1, XM23_REASON_DONE, 1);
     put_two(record + XM23_RECORD_PSW, 0xE1FF);
     put_two(record + XM23_RECORD_CEX, 0x007F);
-    record[XM23_RECORD_LINES] = 0xFF;
+    memset(record + XM23_RECORD_LINES, 0xFF, 4);
     ran("every bit in use", 1, XM23_REASON_DONE, 1);
 }
 
@@ -365,7 +382,8 @@ static void near_misses(void)
 static void refused_runs(void)
 {
     static const unsigned zero_bits[] = {16 * 8 + 9,  16 * 8 + 10, 16 * 8 + 11, 16 * 8 + 12, 18 * 8 + 7, 18 * 8 + 8,
-                                         18 * 8 + 15, 21 * 8 + 1,  21 * 8 + 7,  26 * 8,      28 * 8 + 3, 31 * 8 + 7};
+                                         18 * 8 + 15, 20 * 8,      20 * 8 + 7,  21 * 8 + 1,  21 * 8 + 7, 30 * 8,
+                                         30 * 8 + 5,  31 * 8 + 7};
     size_t i;
     example();
     memory_len = XM23_MEMORY_SIZE - 1;

@@ -190,7 +190,8 @@ static void junk(int at_end, int rounds)
             record.at[XM23_RECORD_CEX] &= 0x7F;
             record.at[XM23_RECORD_CEX + 1] = 0;
             record.at[XM23_RECORD_HALTED] = 0;
-            memset(record.at + XM23_RECORD_ZERO, 0, 6);
+            record.at[XM23_RECORD_ZERO] = 0;
+            memset(record.at + XM23_RECORD_ZEROS, 0, 2);
         }
         if (pick >> 42 & 3)
             lend(&events, 0, at_end);

@@ -191,7 +191,7 @@ int LLVMFuzzerTestOneInput(const uint8_t *data, size_t size)
     advance(&library, setup.n);
 #ifdef WRONG
     /* Only to see that a difference is found and saved: a byte that no rule changes. */
-    if (XM23_RUN_REASON(library.reply) == 1 && library.record.at[20])
+    if (XM23_RUN_REASON(library.reply) == 1 && library.record.at[26])
         library.memory.at[0x8000] ^= 1;
 #endif
     interpreter.reply = xm23_fast_run(interpreter.memory.at, setup.memory_len, interpreter.record.at, setup.record_len,

@@ -162,7 +162,7 @@ static void state_command(struct setup *s, unsigned kind, unsigned k, unsigned a
         break;
     case STATE:
         s->record[18] = a & 0x7F;
-        s->record[20] = (uint8_t)b;
+        s->record[26 + (k & 3)] = (uint8_t)b;
         break;
     case COUNT:
         put_two(s->record + 22 + 2 * (k & 1), ab);
@@ -276,7 +276,9 @@ static void pack_record(struct writer *w, const uint8_t *record)
         if (two(record + 2 * i) || i > 5)
             put(w, REGISTER, i, two(record + 2 * i));
     put(w, PSW, 0, two(record + 16));
-    put(w, STATE, 0, record[18] | (unsigned)record[20] << 8);
+    for (unsigned i = 0; i < 4; i++)
+        if (i == 0 || record[26 + i])
+            put(w, STATE, i, record[18] | (unsigned)record[26 + i] << 8);
     put(w, COUNT, 0, two(record + 22));
     put(w, COUNT, 1, two(record + 24));
     if (record[21])

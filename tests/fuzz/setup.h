@@ -18,7 +18,7 @@ enum command {
     BYTE,     /* the byte a at the cursor, which moves by 1 */
     REGISTER, /* register k mod 8 is ab */
     PSW,      /* the PSW is ab, bits 12-9 clear */
-    STATE,    /* the CEX state is a without bit 7, the lines are b */
+    STATE,    /* the CEX state is a without bit 7; the counts of devices 2 * (k mod 4) and above it are b */
     VECTOR,   /* vector k: its PSW is a, its entry point 257 * b, so that #FF is #FFFF */
     DEVICE,   /* device k mod 8: status a, data b */
     EVENT,    /* an event on device k mod 8, a steps after the event before it (the first: after the count), data b */

@@ -37,7 +37,7 @@ wrong 2 'R1=12345 does not fit' 'n: 5\nstart: R1=12345\nsource:\n'
 wrong 4 "'7 0' is no event: .*" 'n: 5\nsource:\nevents:\n    7 0\n'
 printf 'n: 5\nsource:\n            org #1000\n    Here    bra Here\n' > "$room/case.txt"
 expect 'the least case' 0 "$room/case.in" '' scripts/input.sh "$room/case.txt" "$room/case.in"
-same 'runs' "$(target/bin/print_state < "$room/case.in")" '0 5 0000 0000 0000 0000 0000 0000 0800 1000 0000 00 00'
+same 'runs' "$(target/bin/print_state < "$room/case.in")" '0 5 0000 0000 0000 0000 0000 0000 0800 1000 0000 00 00000000'
 
 # The legend of an accepted line has a row for each field; of a refusal, its sentence.
 legend() {

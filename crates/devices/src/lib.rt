@@ -6,46 +6,61 @@ ghost use lib.ListN.{length};
 ghost use Rattle.machine.specs.State.{Core};
 ghost use Rattle.machine.specs.Memory.{commit};
 ghost use Rattle.machine.specs.Events.{eventAt, eventCount, eventsOf};
-ghost use Rattle.machine.specs.Devices.{eventStatus, raised, fallen, waiting};
+ghost use Rattle.machine.specs.Devices.{eventStatus, eventsWaiting, waiting, raised, fallen};
 ghost use Rattle.machine.specs.Devices.{eventWrites, eventOn, deliverAt};
 ghost use Rattle.machine.specs.Refusal.{eventsFitBelow};
 ghost use Rattle.devices.specs.Cursor.{Behind, Ordered, stateFrom};
+use machine::Lines;
 
 // The lines after an event or a list of them, and the index of the first record not yet due.
 pub struct Delivered {
-    pub lines: u8,
+    pub lines: Lines,
     pub next: usize,
 }
 
-// The bit of device d.
-fn line_bit(d: u8) -> u8
+// One event of device d, as the lines count it.
+fn one_event(d: u8) -> Lines
     requires { ⌜ d < 8 ⌝ }
-    ensures { λ r. ⌜ r ≡ 2 ^ d ⌝ }
+    ensures { λ r. ⌜ r ≡ 2 ^ (4 * d) ⌝ }
 {
-    1 << d
+    1 << (4 * d)
+}
+
+// How many events of device d wait?
+fn events_waiting(lines: Lines, d: u8) -> Lines
+    requires { ⌜ d < 8 ⌝ }
+    ensures { λ r. ⌜ r ≡ eventsWaiting lines d ⌝ }
+{
+    (lines >> (4 * d)) % 16
 }
 
 // Does the line of device d wait?
-pub fn waits(lines: u8, d: u8) -> bool
+pub fn waits(lines: Lines, d: u8) -> bool
     requires { ⌜ d < 8 ⌝ }
     ensures { λ r. ⌜ r ≡ waiting lines d ⌝ }
 {
-    (lines >> d) % 2 == 1
+    0 < events_waiting(lines, d)
 }
 
-// The lines with that of device d raised, or fallen.
-fn raise(lines: u8, d: u8) -> u8
+// The lines with one event of device d more, unless it has 15, or with one taken.
+fn raise(lines: Lines, d: u8) -> Lines
     requires { ⌜ d < 8 ⌝ }
     ensures { λ r. ⌜ r ≡ raised lines d ⌝ }
 {
-    lines | line_bit(d)
+    if events_waiting(lines, d) < 15 {
+        return lines + one_event(d);
+    }
+    lines
 }
 
-pub fn fall(lines: u8, d: u8) -> u8
+pub fn fall(lines: Lines, d: u8) -> Lines
     requires { ⌜ d < 8 ⌝ }
     ensures { λ r. ⌜ r ≡ fallen lines d ⌝ }
 {
-    lines & !line_bit(d)
+    if waits(lines, d) {
+        return lines - one_event(d);
+    }
+    lines
 }
 
 // A status byte after an event: OF if DBA was set, then DBA.
@@ -73,7 +88,7 @@ fn receive(mem: &mut [u8], device: u8, byte: u8, t: u8)
 }
 
 // One event: the lines after it. A device with ENA clear is left alone.
-fn event_on(mem: &mut [u8], lines: u8, device: u8, byte: u8) -> u8
+fn event_on(mem: &mut [u8], lines: Lines, device: u8, byte: u8) -> Lines
     requires { ⌜ (length (now mem) ≡ 65536) × (device < 8) ⌝ }
     ensures { λ r. ⌜ ((c : Core) (h : Bool) (k n : ℕ) → stateFrom c r h n (now (mem .exit))
         ≡ eventOn (record { step = k; device = device; byte = byte })
@@ -100,7 +115,7 @@ pub fn step_at(events: &[u8], k: usize) -> u32
 }
 
 // Applies the events due at step `count`, from record `next` on; earlier ones are passed over.
-pub fn deliver(mem: &mut [u8], events: &[u8], next: usize, count: u32, lines: u8) -> Delivered
+pub fn deliver(mem: &mut [u8], events: &[u8], next: usize, count: u32, lines: Lines) -> Delivered
     requires { ⌜ length (now mem) ≡ 65536 ⌝ }
     requires { ⌜ Behind (now events) next count ⌝ }
     requires { ⌜ Ordered (now events) ⌝ }

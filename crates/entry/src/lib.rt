@@ -9,6 +9,7 @@ ghost use Rattle.machine.specs.Entry.{enteredPsw, pushed, pushes, pulled};
 ghost use Rattle.machine.specs.Step.{entered, chained};
 ghost use Rattle.entry.specs.Lines.{lineAbove};
 use machine::ByteAddr;
+use machine::Lines;
 
 // A pulled PSW and CEX state.
 pub struct Pulled {
@@ -61,7 +62,7 @@ fn better_of(mem: &[u8], d: u8, e: u8) -> u8
 }
 
 // The best waiting line, 8 for none.
-pub fn best_line(mem: &[u8], lines: u8) -> u8
+pub fn best_line(mem: &[u8], lines: Lines) -> u8
     requires { ⌜ length (now mem) ≡ 65536 ⌝ }
     ensures { λ r. ⌜ (r ≡ best lines (now (mem .entry))) × (r ≤ 8) ⌝ }
 {
@@ -77,7 +78,7 @@ pub fn best_line(mem: &[u8], lines: u8) -> u8
 }
 
 // The best waiting line if its priority is above `level`, else 8.
-pub fn best_above(mem: &[u8], lines: u8, level: u16) -> u8
+pub fn best_above(mem: &[u8], lines: Lines, level: u16) -> u8
     requires { ⌜ length (now mem) ≡ 65536 ⌝ }
     ensures { λ r. ⌜ (r ≡ lineAbove (now (mem .entry)) lines level) × (r ≤ 8) ⌝ }
 {
@@ -91,7 +92,7 @@ pub fn best_above(mem: &[u8], lines: u8, level: u16) -> u8
 }
 
 // The same, asked at every step; no vector is read where no line waits.
-pub fn line_above(mem: &[u8], lines: u8, level: u16) -> u8
+pub fn line_above(mem: &[u8], lines: Lines, level: u16) -> u8
     requires { ⌜ length (now mem) ≡ 65536 ⌝ }
     ensures { λ r. ⌜ (r ≡ lineAbove (now (mem .entry)) lines level) × (r ≤ 8) ⌝ }
 {

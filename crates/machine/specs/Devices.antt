@@ -1,7 +1,7 @@
 -- The eight devices (document 01, "Devices"): device d has its status byte at 2 × d and its data byte above it.
 -- Status: IE bit 0, input bit 1, DBA bit 2, OF bit 3, ENA bit 4.
 -- Assumes nothing.
-use Prim.Native.Nat.{ℕ, _+_, _*_, _-_, _/_, _%_}
+use Prim.Native.Nat.{ℕ, _+_, _*_, _-_, _/_, _%_, _^_}
 use mathlib.Core.Bool.{Bool, true, false, cond, not, _&&_, _||_}
 use mathlib.Core.List.{List, [], _∷_, _++_}
 use mir.Val.{boolByte}
@@ -40,15 +40,21 @@ of? t = bitOf 3 t
 abbrev pub ena? : ℕ → Bool
 ena? t = bitOf 4 t
 
--- Lines: the one name by which a waiting line is known, raised and lowered. [01 State and memory]
-abbrev pub waiting : ℕ → ℕ → Bool
-waiting l d = bitOf d l
+-- Lines: "Each device now holds a count of waiting events that raised its line, 0 to 15", four bits each, device 0
+-- lowest; a line waits while its count is above 0. [02 §7, for 01 State and memory]
+abbrev pub eventsWaiting : (l d : ℕ) → ℕ
+eventsWaiting l d = l / 2 ^ (4 * d) % 16
 
-abbrev pub raised : ℕ → ℕ → ℕ
-raised l d = putBit d l true
+abbrev pub waiting : (l d : ℕ) → Bool
+waiting l d = ltb 0 (eventsWaiting l d)
 
-abbrev pub fallen : ℕ → ℕ → ℕ
-fallen l d = putBit d l false
+-- A line that rises counts one more, "staying at 15 when full"; "an acceptance or chained entry takes one".
+-- [02 §7, for 01 Devices]
+abbrev pub raised : (l d : ℕ) → ℕ
+raised l d = cond (ltb (eventsWaiting l d) 15) (l + 2 ^ (4 * d)) l
+
+abbrev pub fallen : (l d : ℕ) → ℕ
+fallen l d = cond (waiting l d) (l - 2 ^ (4 * d)) l
 
 -- An event on an enabled device: an input device takes the byte; OF is set if DBA was set; DBA is set; with IE the
 -- line rises. On a device with ENA clear it does nothing. [01 Devices]

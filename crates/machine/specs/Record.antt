@@ -1,5 +1,5 @@
--- The 32-byte state record (document 01, "State and memory"): 0-15 R0 to R7; 16-17 PSW; 18-19 CEX state; 20 lines;
--- 21 halted; 22-25 step count; 26-31 zero; all little-endian.
+-- The 32-byte state record (document 01, "State and memory"; document 02, §7): 0-15 R0 to R7; 16-17 PSW; 18-19 CEX
+-- state; 20 zero; 21 halted; 22-25 step count; 26-29 the lines' counts; 30-31 zero; all little-endian.
 -- Assumes nothing.
 use Prim.Native.Nat.{ℕ, _+_, _*_, _/_, _%_}
 use mathlib.Core.Bool.{Bool}
@@ -16,7 +16,8 @@ twoAt b i = byteAt b i + 256 * byteAt b (i + 1)
 abbrev pub fourAt : List ℕ → ℕ → ℕ
 fourAt b i = twoAt b i + 65536 * twoAt b (i + 2)
 
--- the state that a record and a memory hold. [01 State and memory]
+-- The state that a record and a memory hold. The lines are one number, so device 0's count is in "the low half of byte
+-- 26". [01 State and memory; 02 §7]
 unfoldable pub stateIn : (r mem : List ℕ) → State
 stateIn r mem =
     record {
@@ -25,17 +26,17 @@ stateIn r mem =
           (twoAt r 0 ∷ twoAt r 2 ∷ twoAt r 4 ∷ twoAt r 6 ∷ twoAt r 8 ∷ twoAt r 10 ∷ twoAt r 12 ∷ twoAt r 14 ∷ [])
           (twoAt r 16)
           (twoAt r 18);
-      lines = byteAt r 20;
+      lines = fourAt r 26;
       halted = eqb (byteAt r 21) 1;
       count = fourAt r 22;
       mem = mem;
     }
 
--- byte k of the step count. [01 State and memory]
+-- the byte of a four-byte number that counts in units of k: the step count's, and the lines'. [01 State and memory]
 abbrev pub countByte : ℕ → ℕ → ℕ
 countByte n k = n / k % 256
 
--- the record of a state. [01 State and memory]
+-- The record of a state: "byte 20 becomes zero, bytes 26-29 hold the counts". [01 State and memory; 02 §7]
 unfoldable pub recordOf : State → List ℕ
 recordOf s =
     let c = s .core in
@@ -45,8 +46,10 @@ recordOf s =
     ∷ lowByte (reg c 6) ∷ highByte (reg c 6) ∷ lowByte (reg c 7) ∷ highByte (reg c 7)
     ∷ lowByte (c .psw) ∷ highByte (c .psw)
     ∷ lowByte (c .cex) ∷ highByte (c .cex)
-    ∷ s .lines
+    ∷ 0
     ∷ boolByte (s .halted)
     ∷ countByte (s .count) 1 ∷ countByte (s .count) 0x100
     ∷ countByte (s .count) 0x10000 ∷ countByte (s .count) 0x1000000
-    ∷ 0 ∷ 0 ∷ 0 ∷ 0 ∷ 0 ∷ 0 ∷ []
+    ∷ countByte (s .lines) 1 ∷ countByte (s .lines) 0x100
+    ∷ countByte (s .lines) 0x10000 ∷ countByte (s .lines) 0x1000000
+    ∷ 0 ∷ 0 ∷ []

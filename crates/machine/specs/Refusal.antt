@@ -13,15 +13,14 @@ use Rattle.machine.specs.Memory.{byteAt}
 use Rattle.machine.specs.Record.{twoAt, fourAt}
 use Rattle.machine.specs.Events.{eventAt, eventCount}
 
--- Bits 12-9 of the PSW, bits 15-7 of the CEX state and bytes 26-31 are zero, and halted is 0 or 1.
--- [01 Who can be turned back, 4]
+-- Bits 12-9 of the PSW, bits 15-7 of the CEX state, byte 20 and bytes 30-31 are zero, and halted is 0 or 1; every count
+-- of a line is lawful. [02 §7, for 01 Who can be turned back, 4]
 unfoldable pub recordFits : List ℕ → Bool
 recordFits r =
     eqb (twoAt r 16 / 512 % 16) 0
     && ltb (twoAt r 18) 128
+    && eqb (byteAt r 20) 0
     && ltb (byteAt r 21) 2
-    && eqb (twoAt r 26) 0
-    && eqb (twoAt r 28) 0
     && eqb (twoAt r 30) 0
 
 -- A multiple of 8 bytes, at most 4,096 records. [01 Who can be turned back, 5]

@@ -121,7 +121,8 @@ entered c m v f = vectored c m v (current (c .psw)) (f || faulted? (c .psw)) (pu
 abbrev pub chained : Core → List ℕ → ℕ → Core
 chained c m v = vectored c m v (previous (c .psw)) (faulted? (c .psw)) (sp c)
 
--- "An accepted or chained line falls." [01 Entry; 01 Return; 01 Faults; 01 Devices]
+-- An acceptance and a chained entry take one from the line's count; SVC takes none.
+-- [02 §7, for 01 Devices; 01 Entry; 01 Return; 01 Faults]
 unfoldable pub perform : Act → Core → (lines : ℕ) → List ℕ → Outcome
 perform act.Stopped c l m = record { core = c; lines = l; halted = true; writes = [] }
 perform act.Pull c l m = outcome (pulled c m) l []

@@ -2,13 +2,16 @@
 // code over them stands in the crates above, so that theorems about the definitions do not
 // depend on it.
 
-// One machine: eight registers (R5 is LR, R6 SP, R7 PC), PSW, CEX state, waiting lines (bit d for
-// device d), halted mark and step count. Memory is lent beside it.
+// The lines: eight counts of waiting events, four bits each, device 0 lowest.
+pub type Lines = u32;
+
+// One machine: eight registers (R5 is LR, R6 SP, R7 PC), PSW, CEX state, lines, halted mark and step
+// count. Memory is lent beside it.
 pub struct Machine {
     pub regs: [u16; 8],
     pub psw: u16,
     pub cex: u16,
-    pub lines: u8,
+    pub lines: Lines,
     pub halted: bool,
     pub count: u32,
 }
@@ -17,7 +20,7 @@ pub struct Machine {
 pub struct Rest {
     pub psw: u16,
     pub cex: u16,
-    pub lines: u8,
+    pub lines: Lines,
     pub halted: bool,
     pub count: u32,
 }

@@ -1,5 +1,6 @@
 pub mod Cases
 pub mod Memory
+pub mod Lines
 pub mod Effects
 pub mod Loads
 pub mod Plans

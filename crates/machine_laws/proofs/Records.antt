@@ -1,5 +1,5 @@
 -- The state record both ways, and what an accepted run has settled. Assumes nothing.
-use Prim.Native.Nat.{ℕ, zero, suc, _+_, _*_, _/_, _%_, _-_, _<_, _≤_}
+use Prim.Native.Nat.{ℕ, zero, suc, _+_, _*_, _/_, _%_, _-_, _^_, _<_, _≤_}
 use native.Mathlib.Nat.{add-zero, add-suc}
 use native.Mathlib.Omega.{arith}
 use mathlib.Core.Bool.{Bool, true, false, cond, not, _&&_, false≢true}
@@ -59,6 +59,9 @@ two-high x y h k = omega arith
 pub two-lt : (b : List ℕ) (i : ℕ) → Bytes b → twoAt b i < 65536
 two-lt b i h = let l = h i in let k = h (i + 1) in omega arith
 
+four-lt : (a b c d : ℕ) → a < 256 → b < 256 → c < 256 → d < 256 → a + 256 * b + 65536 * (c + 256 * d) < 2 ^ 32
+four-lt a b c d h k l m = omega arith
+
 four-0 : (a b c d : ℕ) → a < 256 → countByte (a + 256 * b + 65536 * (c + 256 * d)) 1 ≡ a
 four-0 a b c d h = omega arith
 
@@ -103,7 +106,7 @@ record-read s t h =
     λ i.
     record {
       core = record { regs = regs i; psw = psw i; cex = cex i };
-      lines = s .lines;
+      lines = four-back (s .lines) (let f = t .lines in omega arith) i;
       halted = bit-read (s .halted) i;
       count = four-back (s .count) h i;
       mem = s .mem;
@@ -124,25 +127,34 @@ module _ (memory r events : List ℕ) (n : ℕ) (P : Passed memory r events n) (
   high-is : (i : ℕ) → highByte (twoAt r i) ≡ byteAt r (i + 1)
   high-is i = two-high (byteAt r i) (byteAt r (i + 1)) (b i) (b (i + 1))
 
+  -- the four bytes of a number read from four
+  byte-0 : (i : ℕ) → countByte (fourAt r i) 1 ≡ byteAt r i
+  byte-0 i = four-0 (byteAt r i) (byteAt r (i + 1)) (byteAt r (i + 2)) (byteAt r (i + 2 + 1)) (b i)
+
+  byte-1 : (i : ℕ) → countByte (fourAt r i) 0x100 ≡ byteAt r (i + 1)
+  byte-1 i = four-1 (byteAt r i) (byteAt r (i + 1)) (byteAt r (i + 2)) (byteAt r (i + 2 + 1)) (b i) (b (i + 1))
+
+  byte-2 : (i : ℕ) → countByte (fourAt r i) 0x10000 ≡ byteAt r (i + 2)
+  byte-2 i = four-2 (byteAt r i) (byteAt r (i + 1)) (byteAt r (i + 2)) (byteAt r (i + 2 + 1)) (b i) (b (i + 1)) (b (i + 2))
+
+  byte-3 : (i : ℕ) → countByte (fourAt r i) 0x1000000 ≡ byteAt r (i + 2 + 1)
+  byte-3 i =
+      four-3 (byteAt r i) (byteAt r (i + 1)) (byteAt r (i + 2)) (byteAt r (i + 2 + 1)) (b i) (b (i + 1)) (b (i + 2)) (b (i + 2 + 1))
+
   pub record-written : recordOf (stateIn r memory) ≡ r
   unfolding stateIn recordOf cells
   record-written =
-      let z26 = both-zero (byteAt r 26) (byteAt r 27) (P .zeros-26) in
-      let z28 = both-zero (byteAt r 28) (byteAt r 29) (P .zeros-28) in
       let z30 = both-zero (byteAt r 30) (byteAt r 31) (P .zeros-30) in
-      let c0 = four-0 (byteAt r 22) (byteAt r 23) (byteAt r 24) (byteAt r 25) (b 22) in
-      let c1 = four-1 (byteAt r 22) (byteAt r 23) (byteAt r 24) (byteAt r 25) (b 22) (b 23) in
-      let c2 = four-2 (byteAt r 22) (byteAt r 23) (byteAt r 24) (byteAt r 25) (b 22) (b 23) (b 24) in
-      let c3 = four-3 (byteAt r 22) (byteAt r 23) (byteAt r 24) (byteAt r 25) (b 22) (b 23) (b 24) (b 25) in
       let mark = bit-back (byteAt r 21) (P .halted-mark) in
       (λ i.
       low-is 0 i ∷ high-is 0 i ∷ low-is 2 i ∷ high-is 2 i ∷ low-is 4 i ∷ high-is 4 i ∷ low-is 6 i ∷ high-is 6 i
       ∷ low-is 8 i ∷ high-is 8 i ∷ low-is 10 i ∷ high-is 10 i ∷ low-is 12 i ∷ high-is 12 i ∷ low-is 14 i ∷ high-is 14 i
       ∷ low-is 16 i ∷ high-is 16 i ∷ low-is 18 i ∷ high-is 18 i
-      ∷ byteAt r 20
+      ∷ sym (P .zero-20) i
       ∷ mark i
-      ∷ c0 i ∷ c1 i ∷ c2 i ∷ c3 i
-      ∷ z26 .0 i ∷ z26 .1 i ∷ z28 .0 i ∷ z28 .1 i ∷ z30 .0 i ∷ z30 .1 i ∷ [])
+      ∷ byte-0 22 i ∷ byte-1 22 i ∷ byte-2 22 i ∷ byte-3 22 i
+      ∷ byte-0 26 i ∷ byte-1 26 i ∷ byte-2 26 i ∷ byte-3 26 i
+      ∷ z30 .0 i ∷ z30 .1 i ∷ [])
       ∙ sym (record-cells r (P .record-size))
 
 -- ---- what an accepted run has settled
@@ -201,9 +213,8 @@ sorted b n e j (suc i) h =
 record RecordFacts (r : List ℕ) : Type 0 where
   psw : twoAt r 16 / 512 % 16 ≡ 0
   cex : twoAt r 18 < 128
+  z20 : byteAt r 20 ≡ 0
   mark : byteAt r 21 < 2
-  z26 : twoAt r 26 ≡ 0
-  z28 : twoAt r 28 ≡ 0
   z30 : twoAt r 30 ≡ 0
 
 record-facts : (r : List ℕ) → recordFits r ≡ true → RecordFacts r
@@ -211,21 +222,18 @@ unfolding recordFits
 record-facts r e =
     let t1 = eqb (twoAt r 16 / 512 % 16) 0 in
     let t2 = ltb (twoAt r 18) 128 in
-    let t3 = ltb (byteAt r 21) 2 in
-    let t4 = eqb (twoAt r 26) 0 in
-    let t5 = eqb (twoAt r 28) 0 in
-    let t6 = eqb (twoAt r 30) 0 in
-    let e5 = and-left (t1 && t2 && t3 && t4 && t5) t6 e in
-    let e4 = and-left (t1 && t2 && t3 && t4) t5 e5 in
+    let t3 = eqb (byteAt r 20) 0 in
+    let t4 = ltb (byteAt r 21) 2 in
+    let t5 = eqb (twoAt r 30) 0 in
+    let e4 = and-left (t1 && t2 && t3 && t4) t5 e in
     let e3 = and-left (t1 && t2 && t3) t4 e4 in
     let e2 = and-left (t1 && t2) t3 e3 in
     record {
       psw = eq-of (and-left t1 t2 e2);
       cex = lt-of (and-right t1 t2 e2);
-      mark = lt-of (and-right (t1 && t2) t3 e3);
-      z26 = eq-of (and-right (t1 && t2 && t3) t4 e4);
-      z28 = eq-of (and-right (t1 && t2 && t3 && t4) t5 e5);
-      z30 = eq-of (and-right (t1 && t2 && t3 && t4 && t5) t6 e);
+      z20 = eq-of (and-right (t1 && t2) t3 e3);
+      mark = lt-of (and-right (t1 && t2 && t3) t4 e4);
+      z30 = eq-of (and-right (t1 && t2 && t3 && t4) t5 e);
     }
 
 event-device : (b : List ℕ) (k : ℕ) → eventFits b k ≡ true → eventAt b k .device < 8
@@ -259,9 +267,8 @@ passed memory r events n e =
       record-size = eq-of (not-false (eqb (length r) 32) (p3 .0));
       psw-zeros = facts .psw;
       cex-small = facts .cex;
+      zero-20 = facts .z20;
       halted-mark = facts .mark;
-      zeros-26 = facts .z26;
-      zeros-28 = facts .z28;
       zeros-30 = facts .z30;
       whole-events = eq-of (and-left (eqb (length events % 8) 0) (leb (length events) 32768) lengths);
       few-events = le-of (and-right (eqb (length events % 8) 0) (leb (length events) 32768) lengths);
@@ -289,7 +296,7 @@ start-tidy memory r events n P bm br =
         psw-zeros = P .psw-zeros;
         cex-small = P .cex-small;
       };
-      lines = br 20;
+      lines = four-lt (byteAt r 26) (byteAt r 27) (byteAt r 28) (byteAt r 29) (br 26) (br 27) (br 28) (br 29);
       size = P .memory-size;
       bytes = bm;
     }

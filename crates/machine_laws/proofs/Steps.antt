@@ -1,5 +1,5 @@
 -- What every step keeps: the bounds of core, lines and memory; and what it adds to the count. Assumes nothing.
-use Prim.Native.Nat.{ℕ, zero, suc, _+_, _*_, _/_, _%_, _-_, _<_, _≤_}
+use Prim.Native.Nat.{ℕ, zero, suc, _+_, _*_, _/_, _%_, _-_, _^_, _<_, _≤_}
 use mathlib.Core.Bool.{Bool, true, false, cond, not, _&&_, _||_, false≢true}
 use mathlib.Core.List.{List, [], _∷_, _++_}
 use mathlib.Core.Path.{_≡_, refl, sym, ap, subst, _∙_}
@@ -28,6 +28,7 @@ use Rattle.machine.specs.Step.{entered, outcomeOf, finished, stepOf}
 use Rattle.machine.specs.Run.{runOf}
 use Rattle.machine_laws.specs.Bounds.{Each, Bytes, TidyCore, Tidy, AccessFits, ActFits, EventFits}
 use Rattle.machine_laws.proofs.Cases.{bool-cases, lt-of, and-left}
+use Rattle.machine_laws.proofs.Lines.{raised-fits, fallen-fits}
 use Rattle.machine_laws.proofs.Memory.{commit-length, commit-bytes, word-lt}
 use Rattle.machine_laws.proofs.Effects.{words-set, advanced-tidy, loaded-tidy, effect-tidy, effect-access}
 use Rattle.machine_laws.proofs.Plans.{instruction-cases, granted-cases, plan-cases}
@@ -58,7 +59,7 @@ event-tidy e s f t =
     bool-cases (ena? b)
     (λ q. rw q (record {
       core = t .core;
-      lines = bool-cases (ie? b) (λ r. rw r (put-lt (e .device) (s .lines) true 8 (f .0) (t .lines))) (λ r. rw r (t .lines));
+      lines = bool-cases (ie? b) (λ r. rw r (raised-fits (s .lines) (e .device) (f .0) (t .lines))) (λ r. rw r (t .lines));
       size = commit-length (eventWrites e b) (s .mem) ∙ t .size;
       bytes = commit-bytes (eventWrites e b) (s .mem) (event-values e b (f .1) (t .bytes (statusOf (e .device)))) (t .bytes);
     }))
@@ -263,12 +264,12 @@ perform-tidy (act.Loads byte a d) c l m t h =
     loaded-tidy c byte d (valueAt byte m (a .0)) t (value-byte m (a .0) byte h) (value-word m (a .0) byte h)
 perform-tidy (act.Stores byte a v) c l m t h = t
 
-pub perform-lines : (a : Act) (c : Core) (l : ℕ) (m : List ℕ) → ActFits a → l < 256 → perform a c l m .lines < 256
+pub perform-lines : (a : Act) (c : Core) (l : ℕ) (m : List ℕ) → ActFits a → l < 2 ^ 32 → perform a c l m .lines < 2 ^ 32
 unfolding perform
 perform-lines act.Stopped c l m f h = h
 perform-lines act.Pull c l m f h = h
-perform-lines (act.Chain d) c l m f h = put-lt d l false 8 f h
-perform-lines (act.Accept d) c l m f h = put-lt d l false 8 f h
+perform-lines (act.Chain d) c l m f h = fallen-fits l d h
+perform-lines (act.Accept d) c l m f h = fallen-fits l d h
 perform-lines act.Sleep c l m f h = h
 perform-lines (act.Fault v) c l m f h = h
 perform-lines act.Halt c l m f h = h

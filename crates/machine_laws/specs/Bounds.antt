@@ -1,7 +1,7 @@
 -- The bounds that every accepted machine keeps: bytes, words, eight registers, and the zero bits of PSW and CEX state
 -- (document 01, "State and memory"); and the accesses by which an instruction gives up its own effect.
 -- Assumes nothing.
-use Prim.Native.Nat.{ℕ, _+_, _/_, _%_, _<_}
+use Prim.Native.Nat.{ℕ, _+_, _/_, _%_, _^_, _<_}
 use mathlib.Core.List.{List, [], _∷_}
 use mathlib.Core.Logic.{_⊎_}
 use mathlib.Core.Path.{_≡_}
@@ -32,10 +32,10 @@ pub record TidyCore (c : Core) : Type 0 where
   pub psw-zeros : c .psw / 512 % 16 ≡ 0
   pub cex-small : c .cex < 128
 
--- A tidy core, eight lines, and a memory of 65,536 bytes. [01 State and memory]
+-- A tidy core, eight counts of four bits, and a memory of 65,536 bytes. [01 State and memory; 02 §7]
 pub record Tidy (s : State) : Type 0 where
   pub core : TidyCore (s .core)
-  pub lines : s .lines < 256
+  pub lines : s .lines < 2 ^ 32
   pub size : length (s .mem) ≡ 65536
   pub bytes : Bytes (s .mem)
 

@@ -10,7 +10,7 @@ use Rattle.machine.specs.Memory.{byteAt}
 use Rattle.machine.specs.Record.{twoAt, fourAt}
 use Rattle.machine.specs.Events.{eventAt, eventCount}
 
--- Each rule by its number. [01 Who can be turned back; 02 §3]
+-- Each rule by its number. [01 Who can be turned back; 02 §3; 02 §7]
 pub record Passed (memory r events : List ℕ) (n : ℕ) : Type 0 where
   -- 1
   pub memory-size : length memory ≡ 65536
@@ -22,9 +22,8 @@ pub record Passed (memory r events : List ℕ) (n : ℕ) : Type 0 where
   -- 4
   pub psw-zeros : twoAt r 16 / 512 % 16 ≡ 0
   pub cex-small : twoAt r 18 < 128
+  pub zero-20 : byteAt r 20 ≡ 0
   pub halted-mark : byteAt r 21 < 2
-  pub zeros-26 : twoAt r 26 ≡ 0
-  pub zeros-28 : twoAt r 28 ≡ 0
   pub zeros-30 : twoAt r 30 ≡ 0
   -- 5
   pub whole-events : length events % 8 ≡ 0

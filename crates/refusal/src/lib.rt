@@ -27,13 +27,7 @@ fn record_fits(r: &[u8]) -> bool
     if 128 <= two_at(r, 18) {
         return false;
     }
-    if 2 <= r[21] {
-        return false;
-    }
-    if two_at(r, 26) != 0 {
-        return false;
-    }
-    if two_at(r, 28) != 0 {
+    if (r[20] != 0) | (2 <= r[21]) {
         return false;
     }
     two_at(r, 30) == 0

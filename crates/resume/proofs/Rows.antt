@@ -127,15 +127,15 @@ row0 =
       foreign-is = λ x. refl;
     }
 
-pub row1 : Row ev s 1 (known c1 0 2 stored) (known c1 2 2 risen) c1 (acts.Accept 1) [] 1 own
+pub row1 : Row ev s 1 (known c1 0 2 stored) (known c1 0x10 2 risen) c1 (acts.Accept 1) [] 1 own
 unfolding perform writes? deliverAt eventsFrom eventAt bestFrom interruptOf over
 row1 =
     next-row ev s program row0 refl (outcome c1 0 (write 512 7 ∷ write 513 0 ∷ []))
     refl
-    refl (known c1 2 2 risen) c1 (acts.Accept 1)
+    refl (known c1 0x10 2 risen) c1 (acts.Accept 1)
     (event-known (record { step = 2; device = 1; byte = 9 }) c1 0 2 stored 19 (lit< tt) refl refl)
-    (interrupt-plan (known c1 2 2 risen) (accepts 1) refl
-    (interrupt-is c1 2 1 2 (commit risen zeros) refl (ap current (word-is risen 65476 (lit< tt)))))
+    (interrupt-plan (known c1 0x10 2 risen) (accepts 1) refl
+    (interrupt-is c1 0x10 1 2 (commit risen zeros) refl (ap current (word-is risen 65476 (lit< tt)))))
 
 -- CMP R0,R0 in the first handler
 compare-plan : planOf (known c2 0 3 entered) ≡ planned c3 acts.Plain
@@ -146,47 +146,47 @@ pub row2 : Row ev s 2 (known c2 0 3 entered) (known c2 0 3 entered) c3 acts.Plai
 unfolding perform writes? deliverAt eventsFrom eventAt bestFrom interruptOf over enteredPsw pushes
 row2 =
     next-row ev s risen row1 refl (outcome c2 0 firstPush)
-    (ap (λ x. outcome x (fallen 2 1) (pushes c1))
+    (ap (λ x. outcome x (fallen 0x10 1) (pushes c1))
     (vectored-is c1 (commit risen zeros) 1 0 false 1016 64 320 (word-is risen 65476 (lit< tt)) (word-is risen 65478 (lit< tt))))
     refl (known c2 0 3 entered) c3 acts.Plain
     refl
     compare-plan
 
-pub row3 : Row ev s 3 (known c3 0 4 entered) (known c3 4 4 nested) c3 (acts.Accept 2) (outerFrame ∷ []) 1 entryBytes
+pub row3 : Row ev s 3 (known c3 0 4 entered) (known c3 0x100 4 nested) c3 (acts.Accept 2) (outerFrame ∷ []) 1 entryBytes
 unfolding perform writes? deliverAt eventsFrom eventAt bestFrom interruptOf over
 row3 =
     next-row ev s entered row2 refl (outcome c3 0 [])
     refl
-    refl (known c3 4 4 nested) c3 (acts.Accept 2)
+    refl (known c3 0x100 4 nested) c3 (acts.Accept 2)
     (event-known (record { step = 4; device = 2; byte = 0 }) c3 0 4 entered 17 (lit< tt) refl refl)
-    (interrupt-plan (known c3 4 4 nested) (accepts 2) refl
-    (interrupt-is c3 4 2 5 (commit nested zeros) refl (ap current (word-is nested 65480 (lit< tt)))))
+    (interrupt-plan (known c3 0x100 4 nested) (accepts 2) refl
+    (interrupt-is c3 0x100 2 5 (commit nested zeros) refl (ap current (word-is nested 65480 (lit< tt)))))
 
 pub row4 : Row ev s 4 (known c4 0 5 deeper) (known c4 0 5 deeper) c5 acts.Plain (innerFrame ∷ outerFrame ∷ []) 1 nestedBytes
 unfolding perform deliverAt eventsFrom eventAt bestFrom interruptOf over effectOf advanced decodeOf granted enteredPsw pushes widthOf
 row4 =
     next-row ev s nested row3 refl (outcome c4 0 secondPush)
-    (ap (λ x. outcome x (fallen 4 2) (pushes c3))
+    (ap (λ x. outcome x (fallen 0x100 2) (pushes c3))
     (vectored-is c3 (commit nested zeros) 2 2 false 1008 160 352 (word-is nested 65480 (lit< tt)) (word-is nested 65482 (lit< tt))))
     refl (known c4 0 5 deeper) c5 acts.Plain
     refl
     (fetch-plan (known c4 0 5 deeper) 0x4C2F refl refl refl refl refl (word-is deeper 352 (lit< tt)))
 
-pub row5 : Row ev s 5 (known c5 0 6 deeper) (known c5 8 6 waiting) c5 (acts.Chain 3) (innerFrame ∷ outerFrame ∷ []) 1 nestedBytes
+pub row5 : Row ev s 5 (known c5 0 6 deeper) (known c5 0x1000 6 waiting) c5 (acts.Chain 3) (innerFrame ∷ outerFrame ∷ []) 1 nestedBytes
 unfolding perform writes? deliverAt eventsFrom eventAt bestFrom interruptOf over
 row5 =
     next-row ev s deeper row4 refl (outcome c5 0 [])
     refl
-    refl (known c5 8 6 waiting) c5 (acts.Chain 3)
+    refl (known c5 0x1000 6 waiting) c5 (acts.Chain 3)
     (event-known (record { step = 6; device = 3; byte = 0 }) c5 0 6 deeper 17 (lit< tt) refl refl)
-    (interrupt-plan (known c5 8 6 waiting) (chains 3) refl
-    (interrupt-is c5 8 3 4 (commit waiting zeros) refl (ap current (word-is waiting 65484 (lit< tt)))))
+    (interrupt-plan (known c5 0x1000 6 waiting) (chains 3) refl
+    (interrupt-is c5 0x1000 3 4 (commit waiting zeros) refl (ap current (word-is waiting 65484 (lit< tt)))))
 
 pub row6 : Row ev s 6 (known c6 0 7 waiting) (known c6 0 7 waiting) c7 acts.Plain (innerFrame ∷ outerFrame ∷ []) 1 nestedBytes
 unfolding perform writes? deliverAt eventsFrom eventAt bestFrom interruptOf over effectOf advanced decodeOf granted enteredPsw widthOf
 row6 =
     next-row ev s waiting row5 refl (outcome c6 0 [])
-    (ap (λ x. outcome x (fallen 8 3) [])
+    (ap (λ x. outcome x (fallen 0x1000 3) [])
     (vectored-is c5 (commit waiting zeros) 3 2 false 1008 128 384 (word-is waiting 65484 (lit< tt)) (word-is waiting 65486 (lit< tt))))
     refl (known c6 0 7 waiting) c7 acts.Plain
     refl

@@ -208,22 +208,22 @@ row2 =
     refl
     (nested-plan stored refl refl)
 
-pub row3 : Row ev s 3 (known c3 0 4 nested) (known c3 2 4 risen) c3 (acts.Accept 1) both 3 g3
+pub row3 : Row ev s 3 (known c3 0 4 nested) (known c3 0x10 4 risen) c3 (acts.Accept 1) both 3 g3
 unfolding perform writes? deliverAt eventsFrom eventAt bestFrom interruptOf over enteredPsw pushes
 row3 =
     next-row ev s stored row2 refl (outcome c3 0 nestedPush)
     (ap (λ x. outcome x 0 (pushes c2′))
     (vectored-is c2′ (commit stored zeros) 11 1 false 1008 64 336 (word-is stored 65516 (lit< tt)) (word-is stored 65518 (lit< tt))))
-    refl (known c3 2 4 risen) c3 (acts.Accept 1)
+    refl (known c3 0x10 4 risen) c3 (acts.Accept 1)
     (event-known (record { step = 4; device = 1; byte = 9 }) c3 0 4 nested 19 (lit< tt) refl refl)
-    (interrupt-plan (known c3 2 4 risen) (accepts 1) refl
-    (interrupt-is c3 2 1 3 (commit risen zeros) refl (ap current (word-is risen 65476 (lit< tt)))))
+    (interrupt-plan (known c3 0x10 4 risen) (accepts 1) refl
+    (interrupt-is c3 0x10 1 3 (commit risen zeros) refl (ap current (word-is risen 65476 (lit< tt)))))
 
 pub row4 : Row ev s 4 (known c4 0 5 entered) (known c4 0 5 entered) c5 acts.Plain (entryFrame ∷ both) 3 g4
 unfolding perform deliverAt eventsFrom eventAt bestFrom interruptOf over effectOf advanced decodeOf granted enteredPsw pushes widthOf
 row4 =
     next-row ev s risen row3 refl (outcome c4 0 entryPush)
-    (ap (λ x. outcome x (fallen 2 1) (pushes c3))
+    (ap (λ x. outcome x (fallen 0x10 1) (pushes c3))
     (vectored-is c3 (commit risen zeros) 1 2 false 1000 96 352 (word-is risen 65476 (lit< tt)) (word-is risen 65478 (lit< tt))))
     refl (known c4 0 5 entered) c5 acts.Plain
     refl
@@ -258,21 +258,21 @@ row7 =
     refl
     (fetch-plan (known c7 0 8 entered) 0x4C2F refl refl refl refl refl (word-is entered 338 (lit< tt)))
 
-pub row8 : Row ev s 8 (known c8 0 9 entered) (known c8 4 9 waiting) c8 (acts.Chain 2) both 5 g4
+pub row8 : Row ev s 8 (known c8 0 9 entered) (known c8 0x100 9 waiting) c8 (acts.Chain 2) both 5 g4
 unfolding perform writes? deliverAt eventsFrom eventAt bestFrom interruptOf over
 row8 =
     next-row ev s entered row7 refl (outcome c8 0 [])
     refl
-    refl (known c8 4 9 waiting) c8 (acts.Chain 2)
+    refl (known c8 0x100 9 waiting) c8 (acts.Chain 2)
     (event-known (record { step = 9; device = 2; byte = 0 }) c8 0 9 entered 17 (lit< tt) refl refl)
-    (interrupt-plan (known c8 4 9 waiting) (chains 2) refl
-    (interrupt-is c8 4 2 5 (commit waiting zeros) refl (ap current (word-is waiting 65480 (lit< tt)))))
+    (interrupt-plan (known c8 0x100 9 waiting) (chains 2) refl
+    (interrupt-is c8 0x100 2 5 (commit waiting zeros) refl (ap current (word-is waiting 65480 (lit< tt)))))
 
 pub row9 : Row ev s 9 (known c9 0 10 waiting) (known c9 0 10 waiting) c10 acts.Plain (chainedFrame ∷ trapFrame ∷ []) 6 g4
 unfolding perform writes? deliverAt eventsFrom eventAt bestFrom interruptOf over effectOf advanced decodeOf granted enteredPsw widthOf
 row9 =
     next-row ev s waiting row8 refl (outcome c9 0 [])
-    (ap (λ x. outcome x (fallen 4 2) [])
+    (ap (λ x. outcome x (fallen 0x100 2) [])
     (vectored-is c8 (commit waiting zeros) 2 1 false 1008 160 384 (word-is waiting 65480 (lit< tt)) (word-is waiting 65482 (lit< tt))))
     refl (known c9 0 10 waiting) c10 acts.Plain
     refl

@@ -38,7 +38,7 @@ module _ (memory r events : List ℕ) where
     -- "Whatever the events of an accepted list do, passed-over ones included, and for every accepted start and step
     -- count"
     pub accepted : Start memory r events n
-    -- "let a run start awake, not halted, with no line waiting"
+    -- "let a run start awake, not halted, with no line waiting": lines of 0 are "eight zero counts". [02 §7]
     pub awake : asleep? (start .core .psw) ≡ false
     pub not-halted : start .halted ≡ false
     pub no-line : start .lines ≡ 0

@@ -14,6 +14,7 @@ ghost use Rattle.machine.specs.Call.{runCallOf};
 ghost use Rattle.devices.specs.Cursor.{Ordered, stateFrom};
 ghost use Rattle.machine.specs.Rest.{stateWith};
 ghost use Rattle.run.specs.Due.{dueOf, Awaits};
+use machine::Lines;
 use machine::Machine;
 use machine::Reason;
 use machine::Rest;
@@ -30,7 +31,7 @@ fn due_at(events: &[u8], k: usize) -> u64
 
 // The lines after the events of a step, the first record not behind, and its step.
 struct Delivery {
-    lines: u8,
+    lines: Lines,
     next: usize,
     due: u64,
 }
@@ -42,7 +43,7 @@ fn deliver_due(
     next: usize,
     due: u64,
     count: u32,
-    lines: u8,
+    lines: Lines,
 ) -> Delivery
     requires { ⌜ (length (now memory) ≡ 65536) × Awaits (now events) next due count
         × Ordered (now events) × (eventsFitBelow (now events) (eventCount (now events)) ≡ true) ⌝ }

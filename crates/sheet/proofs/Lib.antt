@@ -1,3 +1,4 @@
 pub mod Texts
 pub mod Inputs
 pub mod Laws
+pub mod Counts

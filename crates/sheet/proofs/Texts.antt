@@ -50,7 +50,7 @@ pub machine-text : (p : List ℕ) (m : Machine) {x y z w u v : List ℕ}
     → y ≡ x ++ wordsText (getD (m .regs) 4 0) (getD (m .regs) 5 0) (getD (m .regs) 6 0) (getD (m .regs) 7 0)
     → z ≡ y ++ spaced (hexOf 4 (m .psw))
     → w ≡ z ++ spaced (hexOf 2 (m .cex))
-    → u ≡ w ++ spaced (hexOf 2 (m .lines))
+    → u ≡ w ++ spaced (hexOf 8 (m .lines))
     → v ≡ u ++ (10 ∷ [])
     → v ≡ p ++ machineText m
 unfolding machineText
@@ -59,7 +59,7 @@ machine-text p m ea eb ec ed ee ef =
     let second : List ℕ = field m 4 ++ field m 5 ++ field m 6 ++ field m 7 in
     let psw : List ℕ = spaced (hexOf 4 (m .psw)) in
     let cex : List ℕ = spaced (hexOf 2 (m .cex)) in
-    let lines : List ℕ = spaced (hexOf 2 (m .lines)) in
+    let lines : List ℕ = spaced (hexOf 8 (m .lines)) in
     six p first second psw cex lines (10 ∷ []) ea eb ec ed ee ef
     ∙ ap (λ (t : List ℕ). p ++ (t ++ cex ++ lines ++ (10 ∷ [])))
     (flat (field m 0) (field m 1) (field m 2) (field m 3) (field m 4) (field m 5) (field m 6) (field m 7) psw)
@@ -84,7 +84,7 @@ line-text m steps ea eb ec ed mem =
     rw (ed, ec, eb, ea ∙ reason-text (m .halted))
     (line (decimalOf 6 (reasonNumber (cond (m .halted) Halted Done))) (32 ∷ []) (decimalOf 6 steps)
     (field m 0) (field m 1) (field m 2) (field m 3) (field m 4) (field m 5) (field m 6) (field m 7)
-    (spaced (hexOf 4 (m .psw))) (spaced (hexOf 2 (m .cex))) (spaced (hexOf 2 (m .lines))) (10 ∷ []))
+    (spaced (hexOf 4 (m .psw))) (spaced (hexOf 2 (m .cex))) (spaced (hexOf 8 (m .lines))) (10 ∷ []))
 
 pub refusal-text : (n : ℕ) {x y z : List ℕ}
     → x ≡ 82 ∷ []

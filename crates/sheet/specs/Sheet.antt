@@ -42,8 +42,8 @@ runIn b = runOf (eventsOf (eventsIn b)) (stateIn (recordIn b) (memoryIn b)) (ste
 abbrev pub spaced : List ℕ → List ℕ
 spaced t = 32 ∷ t
 
--- Reason and steps in base ten, then R0 to R7 and PSW (four digits each), CEX, lines (two digits), ended by LF.
--- [01 Sheet for the markers]
+-- Reason and steps in base ten, then R0 to R7 and PSW (four digits each), CEX (two digits) and the lines: "the two digits
+-- of lines give way to eight, device 7 first". Ended by LF. [01 Sheet for the markers; 02 §7]
 unfoldable pub lineOf : Run → List ℕ
 lineOf x =
     let c = x .state .core in
@@ -59,7 +59,7 @@ lineOf x =
     ++ spaced (hexOf 4 (reg c 7))
     ++ spaced (hexOf 4 (c .psw))
     ++ spaced (hexOf 2 (c .cex))
-    ++ spaced (hexOf 2 (x .state .lines))
+    ++ spaced (hexOf 8 (x .state .lines))
     ++ (10 ∷ [])
 
 -- "`R3` for refusal 3 and so on", ended by LF. [01 Sheet for the markers]

@@ -12,11 +12,11 @@ ghost use Rattle.sheet.specs.Sheet.{inputVerdict, runIn, lineOf, sheetOf
 // The line of an accepted input, whose memory is copied out and run on.
 fn put_run(input: &[u8], memory: &mut [u8], out: &mut [u8]) -> usize
     requires { ⌜ (inputVerdict (now input) ≡ Accepted) × (length (now memory) ≡ 65536)
-        × (length (now out) ≡ 64) ⌝ }
+        × (length (now out) ≡ 80) ⌝ }
     ensures line { λ r. ⌜ take r (now (out .exit)) ≡ lineOf (runIn (now (input .entry))) ⌝ }
     ensures memory { λ r. ⌜ now (memory .exit) ≡ runIn (now (input .entry)) .state .mem ⌝ }
     ensures kept { λ r. ⌜ drop r (now (out .exit)) ≡ drop r (now (out .entry)) ⌝ }
-    ensures fits { λ r. ⌜ r ≤ 64 ⌝ }
+    ensures fits { λ r. ⌜ r ≤ 80 ⌝ }
 {
     cut::copy(cut::part(input, 36, 65572), memory);
     let n = little_endian::four_at(input, 0);
@@ -28,12 +28,12 @@ fn put_run(input: &[u8], memory: &mut [u8], out: &mut [u8]) -> usize
 
 // The line printed for an input, at the start of `out`; the result is its length. What stands past
 // the line stays; `memory` becomes the run's, and stays where the input is refused.
-pub fn sheet(input: &[u8], memory: &mut [u8; 65536], out: &mut [u8; 64]) -> usize
+pub fn sheet(input: &[u8], memory: &mut [u8; 65536], out: &mut [u8; 80]) -> usize
     ensures line { λ r. ⌜ take r (now (out .exit)) ≡ sheetOf (now (input .entry)) ⌝ }
     ensures memory { λ r. ⌜ now (memory .exit)
         ≡ memoryAfter (now (input .entry)) (now (memory .entry)) ⌝ }
     ensures kept { λ r. ⌜ drop r (now (out .exit)) ≡ drop r (now (out .entry)) ⌝ }
-    ensures fits { λ r. ⌜ (r ≤ 64) × (length (now (out .exit)) ≡ 64) ⌝ }
+    ensures fits { λ r. ⌜ (r ≤ 80) × (length (now (out .exit)) ≡ 80) ⌝ }
 {
     let refused = refusal::refusal_number(cut::verdict(input));
     if refused != 0 {

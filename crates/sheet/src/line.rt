@@ -15,27 +15,27 @@ use text::put_decimal;
 
 // From R0 to the end of the line.
 fn put_machine(out: &mut [u8], at: usize, m: Machine) -> usize
-    requires { ⌜ at + 52 ≤ length (now out) ⌝ }
+    requires { ⌜ at + 58 ≤ length (now out) ⌝ }
     ensures { λ r.
         ⌜ (take r (now (out .exit)) ≡ take at (now (out .entry)) ++ machineText m)
-        × (r ≡ at + 52) × (drop r (now (out .exit)) ≡ drop r (now (out .entry))) ⌝ }
+        × (r ≡ at + 58) × (drop r (now (out .exit)) ≡ drop r (now (out .entry))) ⌝ }
 {
     let regs = m.regs;
     let r4 = put_words(out, at, regs[0], regs[1], regs[2], regs[3]);
     let psw = put_words(out, r4, regs[4], regs[5], regs[6], regs[7]);
     let cex = put_field(out, psw, 4, m.psw as u32);
     let lines = put_field(out, cex, 2, m.cex as u32);
-    let end = put_field(out, lines, 2, m.lines as u32);
+    let end = put_field(out, lines, 8, m.lines);
     put(out, end, b'\n')
 }
 
 // The line of a run that reached machine m in so many steps.
 pub fn put_line(out: &mut [u8], m: Machine, steps: u32) -> usize
-    requires { ⌜ length (now out) ≡ 64 ⌝ }
+    requires { ⌜ length (now out) ≡ 80 ⌝ }
     ensures line { λ r.
         ⌜ ((mem : List ℕ) → take r (now (out .exit)) ≡ lineOf (ran (stateOf m mem) steps)) ⌝ }
     ensures kept { λ r. ⌜ drop r (now (out .exit)) ≡ drop r (now (out .entry)) ⌝ }
-    ensures fits { λ r. ⌜ r ≤ 64 ⌝ }
+    ensures fits { λ r. ⌜ r ≤ 80 ⌝ }
 {
     let space = put(out, 0, 48 + m.halted as u8);
     let first = put(out, space, b' ');
@@ -45,10 +45,10 @@ pub fn put_line(out: &mut [u8], m: Machine, steps: u32) -> usize
 
 // The line of a refusal with this number.
 pub fn put_refusal(out: &mut [u8], refused: u64) -> usize
-    requires { ⌜ (length (now out) ≡ 64) × (refused ≤ 255) ⌝ }
+    requires { ⌜ (length (now out) ≡ 80) × (refused ≤ 255) ⌝ }
     ensures line { λ r. ⌜ take r (now (out .exit)) ≡ refusedLine refused ⌝ }
     ensures kept { λ r. ⌜ drop r (now (out .exit)) ≡ drop r (now (out .entry)) ⌝ }
-    ensures fits { λ r. ⌜ r ≤ 64 ⌝ }
+    ensures fits { λ r. ⌜ r ≤ 80 ⌝ }
 {
     let digits = put(out, 0, b'R');
     let end = put_decimal(out, digits, 6, refused as u32);

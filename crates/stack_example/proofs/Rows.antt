@@ -112,15 +112,15 @@ start-is : after ev s 0 ≡ known c0 0 1 program
 unfolding stateIn
 start-is = ap (λ x. x .state) (run-zero ev s)
 
-pub row0 : Row ev s 0 (known c0 0 1 program) (known c0 2 1 w1) c0 (acts.Accept 1) [] [] 1024
+pub row0 : Row ev s 0 (known c0 0 1 program) (known c0 0x10 1 w1) c0 (acts.Accept 1) [] [] 1024
 unfolding frames handlers opened stateIn deliverAt eventsFrom eventAt bestFrom interruptOf over
 row0 =
     record {
       state-is = start-is;
       due-is = ap (deliver ev) start-is
           ∙ event-known (record { step = 1; device = 1; byte = 0 }) c0 0 1 program 17 (lit< tt) refl refl;
-      plan-is = interrupt-plan (known c0 2 1 w1) (accepts 1) refl
-          (interrupt-is c0 2 1 2 (commit w1 zeros) refl (ap current (word-is w1 65476 (lit< tt))));
+      plan-is = interrupt-plan (known c0 0x10 1 w1) (accepts 1) refl
+          (interrupt-is c0 0x10 1 2 (commit w1 zeros) refl (ap current (word-is w1 65476 (lit< tt))));
       frames-are = refl;
       handlers-are = refl;
       opened-is = refl;
@@ -135,41 +135,41 @@ pub row1 : Row ev s 1 (known c1 0 2 w2) (known c1 0 2 w2) c2 acts.Plain (outerFr
 unfolding perform deliverAt eventsFrom eventAt bestFrom interruptOf over enteredPsw pushes
 row1 =
     next-row ev s w1 row0 refl (outcome c1 0 firstPush)
-    (ap (λ x. outcome x (fallen 2 1) (pushes c0))
+    (ap (λ x. outcome x (fallen 0x10 1) (pushes c0))
     (vectored-is c0 (commit w1 zeros) 1 0 false 1016 64 320 (word-is w1 65476 (lit< tt)) (word-is w1 65478 (lit< tt))))
     refl (known c1 0 2 w2) c2 acts.Plain
     refl
     take-first
 
-pub row2 : Row ev s 2 (known c2 0 3 w2) (known c2 4 3 w3) c2 (acts.Accept 2) (outerFrame ∷ []) (h1 ∷ []) 1024
+pub row2 : Row ev s 2 (known c2 0 3 w2) (known c2 0x100 3 w3) c2 (acts.Accept 2) (outerFrame ∷ []) (h1 ∷ []) 1024
 unfolding perform deliverAt eventsFrom eventAt bestFrom interruptOf over
 row2 =
     next-row ev s w2 row1 refl (outcome c2 0 [])
     refl
-    refl (known c2 4 3 w3) c2 (acts.Accept 2)
+    refl (known c2 0x100 3 w3) c2 (acts.Accept 2)
     (event-known (record { step = 3; device = 2; byte = 0 }) c2 0 3 w2 17 (lit< tt) refl refl)
-    (interrupt-plan (known c2 4 3 w3) (accepts 2) refl
-    (interrupt-is c2 4 2 5 (commit w3 zeros) refl (ap current (word-is w3 65480 (lit< tt)))))
+    (interrupt-plan (known c2 0x100 3 w3) (accepts 2) refl
+    (interrupt-is c2 0x100 2 5 (commit w3 zeros) refl (ap current (word-is w3 65480 (lit< tt)))))
 
 pub row3 : Row ev s 3 (known c3 0 4 w4) (known c3 0 4 w4) c4 acts.Plain (innerFrame ∷ outerFrame ∷ []) (h2 ∷ h1 ∷ []) 1024
 unfolding perform deliverAt eventsFrom eventAt bestFrom interruptOf over effectOf advanced decodeOf granted widthOf enteredPsw pushes
 row3 =
     next-row ev s w3 row2 refl (outcome c3 0 secondPush)
-    (ap (λ x. outcome x (fallen 4 2) (pushes c2))
+    (ap (λ x. outcome x (fallen 0x100 2) (pushes c2))
     (vectored-is c2 (commit w3 zeros) 2 2 false 1006 160 352 (word-is w3 65480 (lit< tt)) (word-is w3 65482 (lit< tt))))
     refl (known c3 0 4 w4) c4 acts.Plain
     refl
     (fetch-plan (known c3 0 4 w4) 0x4C2F refl refl refl refl refl (word-is w4 352 (lit< tt)))
 
-pub row4 : Row ev s 4 (known c4 0 5 w4) (known c4 8 5 w5) c4 (acts.Chain 3) (innerFrame ∷ outerFrame ∷ []) (h2 ∷ h1 ∷ []) 1024
+pub row4 : Row ev s 4 (known c4 0 5 w4) (known c4 0x1000 5 w5) c4 (acts.Chain 3) (innerFrame ∷ outerFrame ∷ []) (h2 ∷ h1 ∷ []) 1024
 unfolding perform deliverAt eventsFrom eventAt bestFrom interruptOf over
 row4 =
     next-row ev s w4 row3 refl (outcome c4 0 [])
     refl
-    refl (known c4 8 5 w5) c4 (acts.Chain 3)
+    refl (known c4 0x1000 5 w5) c4 (acts.Chain 3)
     (event-known (record { step = 5; device = 3; byte = 0 }) c4 0 5 w4 17 (lit< tt) refl refl)
-    (interrupt-plan (known c4 8 5 w5) (chains 3) refl
-    (interrupt-is c4 8 3 5 (commit w5 zeros) refl (ap current (word-is w5 65484 (lit< tt)))))
+    (interrupt-plan (known c4 0x1000 5 w5) (chains 3) refl
+    (interrupt-is c4 0x1000 3 5 (commit w5 zeros) refl (ap current (word-is w5 65484 (lit< tt)))))
 
 -- SUB $2,SP in the third handler
 take-third : planOf (known c5 0 6 w5) ≡ planned c6 acts.Plain
@@ -180,7 +180,7 @@ pub row5 : Row ev s 5 (known c5 0 6 w5) (known c5 0 6 w5) c6 acts.Plain (innerFr
 unfolding perform deliverAt eventsFrom eventAt bestFrom interruptOf over enteredPsw
 row5 =
     next-row ev s w5 row4 refl (outcome c5 0 [])
-    (ap (λ x. outcome x (fallen 8 3) [])
+    (ap (λ x. outcome x (fallen 0x1000 3) [])
     (vectored-is c4 (commit w5 zeros) 3 2 false 1006 160 384 (word-is w5 65484 (lit< tt)) (word-is w5 65486 (lit< tt))))
     refl (known c5 0 6 w5) c6 acts.Plain
     refl

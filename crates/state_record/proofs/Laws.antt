@@ -9,7 +9,7 @@ use lib.Seq.{sets, sets-eq}
 use Rattle.machine.specs.declared.Machine.{Machine}
 use Rattle.machine.specs.State.{stateOf}
 use Rattle.machine.specs.Record.{countByte, recordOf}
-use Rattle.state_record.specs.Bytes.{two, registerBytes, statusBytes, countBytes}
+use Rattle.state_record.specs.Bytes.{two, four, registerBytes, statusBytes, countsBytes}
 
 -- stores at every index leave what was stored
 all-set : (l vs : List ℕ) → length vs ≡ length l → sets l 0 vs ≡ vs
@@ -19,18 +19,18 @@ all-set l vs e =
     ∙ append-nil vs
 
 -- the bytes of a number's two halves are its four bytes
-pub halves : (n : ℕ) → two (n % 65536) (two (n / 65536) (two 0 (two 0 (two 0 [])))) ≡ countBytes n
-halves n =
+pub halves : (n : ℕ) (l : List ℕ) → two (n % 65536) (two (n / 65536) l) ≡ four n l
+halves n l =
     let b0 : n % 65536 % 256 ≡ countByte n 1 = omega arith in
     let b1 : n % 65536 / 256 % 256 ≡ countByte n 0x100 = omega arith in
     let b2 : n / 65536 % 256 ≡ countByte n 0x10000 = refl in
     let b3 : n / 65536 / 256 % 256 ≡ countByte n 0x1000000 = ap (λ (q : ℕ). q % 256) (div-div-eq-div-mul n 65536 256) in
-    λ i. b0 i ∷ b1 i ∷ b2 i ∷ b3 i ∷ two 0 (two 0 (two 0 []))
+    λ i. b0 i ∷ b1 i ∷ b2 i ∷ b3 i ∷ l
 
 pub whole-record : (l a b c : List ℕ) (m : Machine) (mem : List ℕ) → length l ≡ 32
     → a ≡ sets l 0 (registerBytes (m .regs))
-    → b ≡ sets a 16 (statusBytes (m .psw) (m .cex) (m .lines) (m .halted))
-    → c ≡ sets b 22 (countBytes (m .count))
+    → b ≡ sets a 16 (statusBytes (m .psw) (m .cex) (m .halted))
+    → c ≡ sets b 22 (countsBytes (m .count) (m .lines))
     → c ≡ recordOf (stateOf m mem)
 unfolding recordOf
 whole-record l a b c m mem h e1 e2 e3 =

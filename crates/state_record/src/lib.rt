@@ -6,15 +6,16 @@ ghost use lib.ListN.{length};
 ghost use lib.Seq.{sets};
 ghost use Rattle.machine.specs.State.{stateOf};
 ghost use Rattle.machine.specs.Record.{stateIn, recordOf};
-ghost use Rattle.state_record.specs.Bytes.{registerBytes, statusBytes, countBytes};
+ghost use Rattle.state_record.specs.Bytes.{registerBytes, statusBytes, countsBytes};
 use little_endian::four_at;
 use little_endian::put_four;
 use little_endian::put_two;
 use little_endian::two_at;
+use machine::Lines;
 use machine::Machine;
 
-// The machine that a record of 32 bytes holds. Bytes 26-31 are not looked at, nor is byte 21 beyond
-// being 1.
+// The machine that a record of 32 bytes holds. Bytes 20, 30 and 31 are not looked at, nor is byte 21
+// beyond being 1.
 pub fn read_record(r: &[u8]) -> Machine
     requires { ⌜ length (now r) ≡ 32 ⌝ }
     ensures { λ x. ⌜ ((mem : List ℕ) → stateOf x mem ≡ stateIn (now (r .entry)) mem) ⌝ }
@@ -33,13 +34,14 @@ pub fn read_record(r: &[u8]) -> Machine
         regs: regs,
         psw: two_at(r, 16),
         cex: two_at(r, 18),
-        lines: r[20],
+        lines: four_at(r, 26),
         halted: r[21] == 1,
         count: four_at(r, 22),
     }
 }
 
-// Bytes 0-15, the registers; 16-21, from PSW to the halted mark; 22-31, the step count and zeros.
+// Bytes 0-15, the registers; 16-21, from PSW to the halted mark; 22-31, the step count, the lines and
+// zeros.
 fn put_registers(r: &mut [u8], regs: [u16; 8])
     requires { ⌜ length (now r) ≡ 32 ⌝ }
     ensures { λ x. ⌜ now (r .exit) ≡ sets (now (r .entry)) 0 (registerBytes regs) ⌝ }
@@ -54,23 +56,22 @@ fn put_registers(r: &mut [u8], regs: [u16; 8])
     put_two(r, 14, regs[7]);
 }
 
-fn put_status(r: &mut [u8], psw: u16, cex: u16, lines: u8, halted: bool)
+fn put_status(r: &mut [u8], psw: u16, cex: u16, halted: bool)
     requires { ⌜ length (now r) ≡ 32 ⌝ }
-    ensures { λ x. ⌜ now (r .exit) ≡ sets (now (r .entry)) 16 (statusBytes psw cex lines halted) ⌝ }
+    ensures { λ x. ⌜ now (r .exit) ≡ sets (now (r .entry)) 16 (statusBytes psw cex halted) ⌝ }
 {
     put_two(r, 16, psw);
     put_two(r, 18, cex);
-    r[20] = lines;
+    r[20] = 0;
     r[21] = halted as u8;
 }
 
-fn put_count(r: &mut [u8], count: u32)
+fn put_counts(r: &mut [u8], count: u32, lines: Lines)
     requires { ⌜ length (now r) ≡ 32 ⌝ }
-    ensures { λ x. ⌜ now (r .exit) ≡ sets (now (r .entry)) 22 (countBytes count) ⌝ }
+    ensures { λ x. ⌜ now (r .exit) ≡ sets (now (r .entry)) 22 (countsBytes count lines) ⌝ }
 {
     put_four(r, 22, count);
-    put_two(r, 26, 0);
-    put_two(r, 28, 0);
+    put_four(r, 26, lines);
     put_two(r, 30, 0);
 }
 
@@ -81,6 +82,6 @@ pub fn write_record(r: &mut [u8], m: Machine)
 {
     let regs = m.regs;
     put_registers(r, regs);
-    put_status(r, m.psw, m.cex, m.lines, m.halted);
-    put_count(r, m.count);
+    put_status(r, m.psw, m.cex, m.halted);
+    put_counts(r, m.count, m.lines);
 }

@@ -25,6 +25,7 @@ use execute::Executed;
 use machine::Access;
 use machine::Act;
 use machine::ByteAddr;
+use machine::Lines;
 use machine::Machine;
 use machine::Rest;
 
@@ -178,7 +179,7 @@ fn instruction(regs: &mut [u16; 8], mem: &[u8], psw: u16, cex: u16) -> Planned
 }
 
 // Point 2, a return: a line above the previous priority is chained, else the frame is pulled.
-fn leave(mem: &[u8], lines: u8, psw: u16, cex: u16) -> Planned
+fn leave(mem: &[u8], lines: Lines, psw: u16, cex: u16) -> Planned
     requires { ⌜ length (now mem) ≡ 65536 ⌝ }
     ensures plan { λ r. ⌜ ((regs : List ℕ) (p : Plan) → planWith regs r ≡
         chosen (leaving (coreOf regs psw cex) lines (now (mem .entry))) (coreOf regs psw cex) p) ⌝ }
@@ -236,7 +237,7 @@ fn load(regs: &mut [u16; 8], mem: &mut [u8], cex: u16, byte: bool, at: ByteAddr,
 }
 
 // The machine that a step leaves: the count has gained 1.
-fn after(psw: u16, cex: u16, lines: u8, halted: bool, count: u32) -> Rest
+fn after(psw: u16, cex: u16, lines: Lines, halted: bool, count: u32) -> Rest
     requires { ⌜ count < 4294967295 ⌝ }
     ensures { λ r. ⌜ r ≡ record { psw = psw; cex = cex; lines = lines; halted = halted; count = count + 1 } ⌝ }
 {
@@ -250,7 +251,7 @@ fn after(psw: u16, cex: u16, lines: u8, halted: bool, count: u32) -> Rest
 }
 
 // The act of a plan done: what the step leaves. `lines` and `count` are from before the act.
-pub fn perform(regs: &mut [u16; 8], mem: &mut [u8], lines: u8, count: u32, p: Planned) -> Rest
+pub fn perform(regs: &mut [u16; 8], mem: &mut [u8], lines: Lines, count: u32, p: Planned) -> Rest
     requires { ⌜ (length (now mem) ≡ 65536) × (count < 4294967295) × Within (p .act) ⌝ }
     ensures { λ r. ⌜ stateWith (now (regs .exit)) r (now (mem .exit)) ≡
         closed (perform (p .act) (coreOf (now (regs .entry)) (p .psw) (p .cex)) lines

@@ -26,6 +26,7 @@ ghost use Rattle.stretch.specs.Served.{Taken};
 ghost use Rattle.stretch.specs.Stretch.{Undisturbed, Fetching, NoneAbove};
 ghost use Rattle.stretch.specs.Stretch.{Stepping, Passes, Reaches};
 use machine::ByteAddr;
+use machine::Lines;
 use machine::Rest;
 use operands::get;
 use operands::put;
@@ -350,7 +351,7 @@ fn fetching(regs: &[u16; 8], t: Rest) -> bool
 }
 
 // Does no line wait above the priority?
-fn unasked(mem: &[u8], lines: u8, psw: u16) -> bool
+fn unasked(mem: &[u8], lines: Lines, psw: u16) -> bool
     requires { ⌜ length (now mem) ≡ 65536 ⌝ }
     ensures { λ r. ⌜ (r ≡ true → NoneAbove (now (mem .entry)) lines (current psw)) ⌝ }
 {

@@ -24,8 +24,8 @@ const RULES: [(u8, &str, &str); 8] = [
     (
         4,
         "state record",
-        "Zero bits and bytes of the state record are zero: PSW bits 12-9, CEX bits 15-7, bytes 26-31. Halted is 0 or \
-         1.",
+        "Zero bits and bytes of the state record are zero: PSW bits 12-9, CEX bits 15-7, byte 20, bytes 30-31. \
+         Halted is 0 or 1.",
     ),
     (5, "events", "The events are a multiple of 8 bytes, and at most 4,096 records. No events are an empty list."),
     (
@@ -104,7 +104,7 @@ fn zero_bits(record: &[u8]) -> String {
     if record[21] > 1 {
         all.push(format!("the halted mark is {}", record[21]));
     }
-    let bytes = (26..record.len()).filter(|&i| record[i] != 0);
+    let bytes = [20, 30, 31].into_iter().filter(|&i| record[i] != 0);
     all.extend(bytes.map(|i| format!("byte {i} of the state record is {}", hex_byte(record[i]))));
     all.join("; ")
 }

@@ -3,7 +3,7 @@
 use super::{act_text, fault_name, grouped, hex, hex_byte, instruction, row};
 use crate::follow::{raises, Entered, Fate, Followed, Taken};
 use crate::listing::REGISTERS;
-use crate::machine::{current, Act, Event, Machine, DBA, ENA, INPUT, PC};
+use crate::machine::{current, Act, Event, Machine, DBA, ENA, FULL, INPUT, PC};
 use crate::page::{table, text, Block, Cell, Row, Section};
 
 /// The events that are listed at most, of the first and of the last.
@@ -120,13 +120,14 @@ fn fate_text(fate: &Fate) -> String {
     }
     parts.push(match (raises(status), waiting) {
         (false, _) => "no line, since IE is 0".to_string(),
-        (true, false) => "line raised".to_string(),
-        (true, true) => "line already waiting".to_string(),
+        (true, 0) => "line raised".to_string(),
+        (true, FULL) => "not counted, since 15 were waiting".to_string(),
+        (true, before) => format!("line raised, {} waiting", before + 1),
     });
     match entered {
         Some(Entered { count, chained: false }) => parts.push(format!("accepted at step {}", grouped(count.into()))),
         Some(Entered { count, chained: true }) => parts.push(format!("chained at step {}", grouped(count.into()))),
-        None if raises(status) => parts.push("still waiting".to_string()),
+        None if raises(status) && waiting < FULL => parts.push("still waiting".to_string()),
         None => {}
     }
     parts.join("; ")

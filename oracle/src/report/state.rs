@@ -82,29 +82,29 @@ pub fn devices(run: &Followed) -> Section {
         let (status, data) = (run.memory[at], run.memory[at + 1]);
         let bit = |mask: u8| u8::from(status & mask != 0).to_string();
         let kind = if status & INPUT != 0 { "input" } else { "output" };
-        let waits = if run.close.lines >> d & 1 == 1 { "waiting" } else { "-" };
+        let (waiting, before) = (run.close.lines.count(d), run.start.lines.count(d));
         let bits = [bit(ENA), bit(OF), bit(DBA), bit(IE)];
         let others = (status >> 5).to_string();
         let mut cells = row([&d.to_string(), &hex(2 * u16::from(d)), "", &others, &bits[0], &bits[1], &bits[2], kind]);
         cells[2] = Cell::strong_if(status != run.given[at], hex_byte(status));
         cells.push(bits[3].as_str().into());
         cells.push(Cell::strong_if(data != run.given[at + 1], data_text(data)));
-        cells.push(Cell::strong_if((run.close.lines ^ run.start.lines) >> d & 1 == 1, waits));
+        cells.push(Cell::strong_if(waiting != before, waiting.to_string()));
         cells
     };
     let columns =
-        ["Device", "Address", "Status", "7-5", "ENA, 4", "OF, 3", "DBA, 2", "Input, 1", "IE, 0", "Data", "Line"];
+        ["Device", "Address", "Status", "7-5", "ENA, 4", "OF, 3", "DBA, 2", "Input, 1", "IE, 0", "Data", "Waiting"];
     let caption = "The device registers: status at the address, data above it; bits 7-5 of the status have no name";
     Section::new(
         "devices",
-        format!("Lines #{:02X} and devices", run.close.lines),
+        format!("Lines #{} and devices", run.close.lines),
         vec![text(waiting(run)), table(caption, &columns, (0..8).map(line).collect())],
     )
 }
 
 fn waiting(run: &Followed) -> String {
     let Some((best, priority)) = run.close.best_line(&run.memory) else { return "No line is waiting.".to_string() };
-    let lines: Vec<String> = (0..8).filter(|d| run.close.lines >> d & 1 == 1).map(|d: u8| d.to_string()).collect();
+    let lines: Vec<String> = (0..8).filter(|&d| run.close.lines.waits(d)).map(|d: u8| d.to_string()).collect();
     let (kind, verb) = if lines.len() == 1 { ("Line", "is") } else { ("Lines", "are") };
     let own = current(run.close.psw);
     let above = if priority > own { "above" } else { "not above" };

@@ -10,7 +10,7 @@ returns c =
     let s = c6 .before .before .before .before .before .before .before .before in
     λ mem.
     whole-record (now (s .args .r)) _ _ _ (s .args .m) mem (s .pre)
-    (c6 .before .before .before .before .put-registers .ensures) (c6 .put-status .ensures) (c .before .before .put-count .ensures)
+    (c6 .before .before .before .before .put-registers .ensures) (c6 .put-status .ensures) (c .before .before .put-counts .ensures)
 
 pub write-record-spec : {M : Type 1} → statement M
 write-record-spec =

@@ -48,16 +48,13 @@ cast-put-field-2 c = search needs
 put-field-requires-2 : tie.Need-put-field-requires-2
 put-field-requires-2 c κs = search needs
 
-cast-put-field-3 : tie.Need-cast-put-field-3
-cast-put-field-3 c = search needs
-
 put-field-requires-3 : tie.Need-put-field-requires-3
 put-field-requires-3 c κs = search needs
 
 put-requires : tie.Need-put-requires
 put-requires c κs =
     let at-put-field3 = c .before .before .before in
-    let at-put-field2 = at-put-field3 .before .before .before .before .before in
+    let at-put-field2 = at-put-field3 .before .before .before .before in
     let at-put-field = at-put-field2 .before .before .before .before .before in
     let at-put-words2 = at-put-field .before .before .before .before .before in
     let at-put-words = at-put-words2 .before .before .before .before in
@@ -84,7 +81,7 @@ returns : tie.Need-returns
 returns c =
     let at-put = c .before .before in
     let at-put-field3 = at-put .before .before .before .before in
-    let at-put-field2 = at-put-field3 .before .before .before .before .before in
+    let at-put-field2 = at-put-field3 .before .before .before .before in
     let at-put-field = at-put-field2 .before .before .before .before .before in
     let at-put-words2 = at-put-field .before .before .before .before .before in
     let at-put-words = at-put-words2 .before .before .before .before in
@@ -144,7 +141,6 @@ put-machine-spec =
     put-field-requires
     cast-put-field-2
     put-field-requires-2
-    cast-put-field-3
     put-field-requires-3
     put-requires
     same-length

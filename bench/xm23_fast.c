@@ -5,28 +5,32 @@
  * In a quiet stretch (awake, PC even, no CEX block open, no line to accept, no event due) a step is its instruction
  * alone, so one countdown is all that is tested. What can end the stretch leaves it: an odd PC, SETPRI, SETCC, CEX, a
  * store to the vectors, a fault, SVC. Handlers are reached by the word's ten leading bits, and flags are kept apart
- * from the PSW until somebody asks for it.
+ * from the PSW until somebody asks for it. A store to a device is looked at before it is done: one that the log has no
+ * room for leaves the stretch, and the events of its step are taken back.
  */
 #include <stddef.h>
 #include <stdint.h>
 #include <string.h>
 
 uint64_t xm23_fast_run(uint8_t *memory, size_t memory_len, uint8_t *record, size_t record_len, const uint8_t *events,
-                       size_t events_len, uint64_t n);
+                       size_t events_len, uint8_t *log, size_t log_len, uint64_t n);
 
 enum { C = 1, Z = 2, N = 4, SLP = 8, V = 16, FLT = 256 };
 enum { IE = 1, INPUT = 2, DBA = 4, OF = 8, ENA = 16 };
 enum { LR = 5, SP = 6, PC = 7, DEVICES = 16, VECTORS = 0xFFC0 };
 
-/* Why a stretch of instructions ended: to be looked at again, a fault 8, 9 or 10, or SVC to vector code - TRAP. */
-enum { LOOK = 0, TRAP = 16 };
+/* Why a stretch of instructions ended: to be looked at again, a store that the log has no room for, a fault 8, 9 or 10,
+ * or SVC to vector code - TRAP. */
+enum { LOOK = 0, FULL = 1, TRAP = 16 };
 
 #define unlikely(x) __builtin_expect(!!(x), 0)
 
 struct machine {
     uint16_t r[8];
-    unsigned psw, cex, lines, halted; /* lines: eight counts of four bits, device 0 lowest */
+    unsigned psw, cex, lines, halted, full; /* lines: eight counts of four bits, device 0 lowest */
     uint8_t *mem;
+    uint8_t *log, *log_end; /* where the next record goes, and where the log ends */
+    uint32_t end;           /* the step count at the end of the stretch */
 };
 
 static unsigned two(const uint8_t *p)
@@ -70,11 +74,30 @@ static void store_device_byte(uint8_t *mem, unsigned a, unsigned v)
     }
 }
 
-static void store_device(uint8_t *mem, unsigned a, unsigned v, int byte)
+/* Adds a record of a byte that an output device shows on a step; 0 where there is no room. */
+static int show(struct machine *m, unsigned device, unsigned byte, uint32_t count)
 {
-    store_device_byte(mem, a, v & 0xFF);
+    uint8_t *at = m->log;
+    if (at == m->log_end)
+        return 0;
+    memcpy(at, &count, 4);
+    at[4] = (uint8_t)device;
+    at[5] = (uint8_t)byte;
+    at[6] = at[7] = 0;
+    m->log = at + 8;
+    return 1;
+}
+
+/* Stores and logs; 0, and nothing done, where the log has no room. `left` steps follow this one in the stretch. */
+static int store_device(struct machine *m, unsigned a, unsigned v, int byte, uint32_t left)
+{
+    unsigned data = byte ? v & 0xFF : v >> 8;
+    if ((!byte || a & 1) && (m->mem[a & ~1u] & (ENA | INPUT)) == ENA && !show(m, a / 2, data, m->end - left - 1))
+        return 0;
+    store_device_byte(m->mem, a, v & 0xFF);
     if (!byte)
-        store_device_byte(mem, a + 1, v >> 8);
+        store_device_byte(m->mem, a + 1, v >> 8);
+    return 1;
 }
 
 static void event_on(struct machine *m, const uint8_t *e)
@@ -278,9 +301,10 @@ static const uint16_t constants[8] = {0, 1, 2, 4, 8, 16, 32, 0xFFFF};
     }
 #define WRITE(a, v, byte)                                                                                              \
     do {                                                                                                               \
-        if (unlikely(a < DEVICES))                                                                                     \
-            store_device(mem, a, v, byte);                                                                             \
-        else if (byte)                                                                                                 \
+        if (unlikely(a < DEVICES)) {                                                                                   \
+            if (!store_device(m, a, v, byte, left))                                                                    \
+                goto full;                                                                                             \
+        } else if (byte)                                                                                               \
             mem[a] = (uint8_t)v;                                                                                       \
         else                                                                                                           \
             put_two(mem + a, v);                                                                                       \
@@ -530,6 +554,11 @@ illegal:
 odd:
     *code = 9;
     goto end;
+full:
+    *code = FULL;
+    left++;
+    pc = (uint16_t)(pc - 2);
+    goto end;
 jumped:
     pc = r[PC];
     cex = 0;
@@ -560,6 +589,7 @@ static uint32_t instructions(struct machine *m, uint32_t left)
             return left - 1;
         }
         pc = m->r[PC];
+        m->end -= left - 1;
         left -= 1 - execute(m, 1, &code);
     } else {
         left = execute(m, left, &code);
@@ -568,6 +598,11 @@ static uint32_t instructions(struct machine *m, uint32_t left)
     }
     if (code == LOOK)
         return left;
+    if (code == FULL) {
+        m->cex = cex;
+        m->full = 1;
+        return left;
+    }
     if (code < TRAP)
         fault(m, code, pc, cex);
     else if (vector_priority(m->mem, code - TRAP) > (m->psw >> 5 & 7))
@@ -602,7 +637,7 @@ static uint32_t steps(struct machine *m, uint32_t left)
 /* ---- the call */
 
 static unsigned refusal(size_t memory_len, const uint8_t *record, size_t record_len, const uint8_t *events,
-                        size_t events_len, uint64_t n)
+                        size_t events_len, size_t log_len, uint64_t n)
 {
     size_t i;
     unsigned devices = 0;
@@ -633,16 +668,42 @@ static unsigned refusal(size_t memory_len, const uint8_t *record, size_t record_
             return 13;
         devices |= 1u << events[i + 4];
     }
-    return 0;
+    return log_len % 8 ? 9 : 0;
+}
+
+/* Runs the stretches; gives how many of `left` steps are undone. */
+static uint32_t run(struct machine *m, const uint8_t *events, size_t events_len, uint32_t *count, uint32_t left)
+{
+    size_t next = 0;
+    while (next < events_len && four(events + next) < *count)
+        next += 8;
+    while (left && !m->halted && !m->full) {
+        uint32_t stretch = left, undone, first = *count;
+        unsigned lines = m->lines;
+        uint8_t devices[DEVICES];
+        memcpy(devices, m->mem, DEVICES);
+        for (; next < events_len && four(events + next) == *count; next += 8)
+            event_on(m, events + next);
+        if (next < events_len && four(events + next) - *count < stretch)
+            stretch = four(events + next) - *count;
+        m->end = *count + stretch;
+        undone = steps(m, stretch);
+        *count += stretch - undone;
+        left -= stretch - undone;
+        if (m->full && *count == first) { /* the events of the step that is not taken */
+            memcpy(m->mem, devices, DEVICES);
+            m->lines = lines;
+        }
+    }
+    return left;
 }
 
 uint64_t xm23_fast_run(uint8_t *memory, size_t memory_len, uint8_t *record, size_t record_len, const uint8_t *events,
-                       size_t events_len, uint64_t n)
+                       size_t events_len, uint8_t *log, size_t log_len, uint64_t n)
 {
-    unsigned refused = refusal(memory_len, record, record_len, events, events_len, n);
+    unsigned refused = refusal(memory_len, record, record_len, events, events_len, log_len, n);
     struct machine m;
-    size_t next = 0;
-    uint32_t count, left = (uint32_t)n, i;
+    uint32_t count, left, i;
     if (refused)
         return refused;
     for (i = 0; i < 8; i++)
@@ -651,20 +712,12 @@ uint64_t xm23_fast_run(uint8_t *memory, size_t memory_len, uint8_t *record, size
     m.cex = two(record + 18);
     m.lines = four(record + 26);
     m.halted = record[21];
+    m.full = 0;
     m.mem = memory;
+    m.log = log;
+    m.log_end = log + log_len;
     count = four(record + 22);
-    while (next < events_len && four(events + next) < count)
-        next += 8;
-    while (left && !m.halted) {
-        uint32_t stretch = left, undone;
-        for (; next < events_len && four(events + next) == count; next += 8)
-            event_on(&m, events + next);
-        if (next < events_len && four(events + next) - count < stretch)
-            stretch = four(events + next) - count;
-        undone = steps(&m, stretch);
-        count += stretch - undone;
-        left -= stretch - undone;
-    }
+    left = run(&m, events, events_len, &count, (uint32_t)n);
     for (i = 0; i < 8; i++)
         put_two(record + 2 * i, m.r[i]);
     put_two(record + 16, m.psw);
@@ -672,5 +725,5 @@ uint64_t xm23_fast_run(uint8_t *memory, size_t memory_len, uint8_t *record, size
     record[21] = (uint8_t)m.halted;
     memcpy(record + 22, &count, 4);
     memcpy(record + 26, &m.lines, 4);
-    return (uint64_t)m.halted << 8 | (n - left) << 16;
+    return (uint64_t)(m.log - log) / 8 << 40 | (n - left) << 16 | (m.full ? 2u : m.halted) << 8;
 }

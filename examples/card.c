@@ -120,7 +120,7 @@ static void prepare(uint16_t word, uint16_t r0, uint16_t r1, uint16_t psw)
 
 static void step(void)
 {
-    uint64_t reply = xm23_run(memory, sizeof memory, record, sizeof record, NULL, 0, 1);
+    uint64_t reply = xm23_run(memory, sizeof memory, record, sizeof record, NULL, 0, NULL, 0, 1);
     if (XM23_RUN_REFUSAL(reply) != XM23_ACCEPTED) {
         fprintf(stderr, "card: %s\n", xm23_refusal_text(XM23_RUN_REFUSAL(reply)));
         exit(1);

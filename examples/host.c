@@ -1,6 +1,8 @@
 /*
  * Keeps several machines open, over libxm23.a: each is advanced by slices of steps in turn, and in the end one line is
- * printed for each, the line of print_state.
+ * printed for each, the line of print_state. What the output devices show is read from a short log after each slice; a
+ * slice that the log has no room for goes on in the next turn. With SCREEN set in the environment, the bytes that a
+ * machine's devices showed are printed below its line.
  *
  *   host SLICE INPUT..      SLICE is how many steps at a time, an INPUT a file as print_state reads it
  */
@@ -13,6 +15,7 @@
 #define HEAD (4 + XM23_RECORD_SIZE)
 #define LEAST (HEAD + XM23_MEMORY_SIZE)
 #define MOST (LEAST + XM23_EVENT_SIZE * (XM23_MAX_EVENTS + 1))
+#define RECORDS 32 /* of the log; a host that wants no turn cut short lends as many as a slice has steps */
 
 /* An open machine: the input as it was read, of which record and memory are advanced, and how far it has come. */
 struct machine {
@@ -21,6 +24,8 @@ struct machine {
     size_t length;
     uint32_t steps;
     unsigned refusal, reason;
+    uint8_t *shown; /* device and byte, two bytes each */
+    size_t shown_len;
 };
 
 static uint32_t two(const uint8_t *at)
@@ -65,11 +70,30 @@ static int too_long(const struct machine *m)
     return asked(m) > XM23_MAX_STEPS || UINT32_MAX - count < asked(m) - m->steps;
 }
 
+/* Keeps what the records of the log say. */
+static void keep(struct machine *m, const uint8_t *log, uint32_t records)
+{
+    uint8_t *all = (uint8_t *)realloc(m->shown, m->shown_len + 2 * records + 1);
+    uint32_t i;
+    if (!all) {
+        perror(m->name);
+        exit(1);
+    }
+    m->shown = all;
+    for (i = 0; i < records; i++) {
+        all[m->shown_len++] = log[XM23_LOG_SIZE * i + XM23_LOG_DEVICE];
+        all[m->shown_len++] = log[XM23_LOG_SIZE * i + XM23_LOG_BYTE];
+    }
+}
+
 /* The machine's call: the whole list of events each time, those of earlier steps being passed over. */
 static uint64_t run(struct machine *m, uint64_t n)
 {
-    return xm23_run(m->input + HEAD, XM23_MEMORY_SIZE, m->input + 4, XM23_RECORD_SIZE, m->input + LEAST,
-                    m->length - LEAST, n);
+    uint8_t log[XM23_LOG_SIZE * RECORDS];
+    uint64_t reply = xm23_run(m->input + HEAD, XM23_MEMORY_SIZE, m->input + 4, XM23_RECORD_SIZE, m->input + LEAST,
+                              m->length - LEAST, log, sizeof log, n);
+    keep(m, log, XM23_RUN_ADDED(reply));
+    return reply;
 }
 
 /* Advances a machine by a slice. Gives whether it has more to do. */
@@ -83,7 +107,28 @@ static int advance(struct machine *m, uint32_t slice)
     m->refusal = XM23_RUN_REFUSAL(reply);
     m->reason = XM23_RUN_REASON(reply);
     m->steps += XM23_RUN_STEPS(reply);
-    return !m->refusal && m->reason == XM23_REASON_DONE && m->steps < asked(m);
+    return !m->refusal && m->reason != XM23_REASON_HALTED && m->steps < asked(m);
+}
+
+/* What a device showed; a byte that is no character as [0A]. */
+static void print_shown(const struct machine *m, unsigned device)
+{
+    size_t i;
+    int any = 0;
+    for (i = 0; i < m->shown_len; i += 2) {
+        unsigned byte = m->shown[i + 1];
+        if (m->shown[i] != device)
+            continue;
+        if (!any)
+            printf("  device %u: ", device);
+        any = 1;
+        if (byte >= ' ' && byte <= '~')
+            putchar((int)byte);
+        else
+            printf("[%02X]", byte);
+    }
+    if (any)
+        putchar('\n');
 }
 
 static void print_line(const struct machine *m)
@@ -122,7 +167,11 @@ int main(int argc, char **argv)
         for (busy = 0, i = 0; i < machines; i++)
             busy |= advance(open[i], slice);
     for (i = 0; i < machines; i++) {
+        unsigned device;
         print_line(open[i]);
+        for (device = 0; getenv("SCREEN") && device < 8; device++)
+            print_shown(open[i], device);
+        free(open[i]->shown);
         free(open[i]);
     }
     free(open);

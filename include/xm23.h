@@ -24,7 +24,7 @@ extern "C" {
 /* ---- version: of this header, as one number; xm23_version gives that of the library */
 
 #define XM23_VERSION_MAJOR 0
-#define XM23_VERSION_MINOR 13
+#define XM23_VERSION_MINOR 14
 #define XM23_VERSION_PATCH 0
 #define XM23_VERSION (XM23_VERSION_MAJOR * 65536 + XM23_VERSION_MINOR * 256 + XM23_VERSION_PATCH)
 
@@ -33,6 +33,7 @@ extern "C" {
 #define XM23_MEMORY_SIZE 65536 /* bytes of memory */
 #define XM23_RECORD_SIZE 32    /* bytes of a state record */
 #define XM23_EVENT_SIZE 8      /* bytes of an event record */
+#define XM23_LOG_SIZE 8        /* bytes of a log record */
 #define XM23_MAX_EVENTS 4096   /* event records of one run */
 #define XM23_MAX_STEPS 1000000 /* steps of one run */
 #define XM23_VECTORS_SIZE 64   /* bytes of the sixteen vectors, at XM23_VECTORS of memory */
@@ -75,6 +76,13 @@ extern "C" {
 #define XM23_EVENT_DATA 5   /* one byte */
 #define XM23_EVENT_ZERO 6   /* two bytes, both 0 */
 
+/* ---- a log record: 8 bytes, little-endian; where each part begins */
+
+#define XM23_LOG_STEP 0   /* four bytes: the step count before the step that stored the byte */
+#define XM23_LOG_DEVICE 4 /* one byte: 0 to 7 */
+#define XM23_LOG_BYTE 5   /* one byte: what the device showed */
+#define XM23_LOG_ZERO 6   /* two bytes, both 0 */
+
 /* ---- refusals: the papers' numbers; xm23_refusal_text has the sentence of each */
 
 #define XM23_ACCEPTED 0
@@ -86,6 +94,7 @@ extern "C" {
 #define XM23_REFUSED_EVENT_FIELDS 6
 #define XM23_REFUSED_EVENT_ORDER 7
 #define XM23_REFUSED_INSTRUCTION 8
+#define XM23_REFUSED_LOG 9
 #define XM23_REFUSED_SREC_FORM 10
 #define XM23_REFUSED_SREC_CHECKSUM 11
 #define XM23_REFUSED_SREC_ROOM 12
@@ -105,6 +114,7 @@ static inline const char *xm23_refusal_text(unsigned refusal)
     case XM23_REFUSED_EVENT_FIELDS: return "an event's device is above 7, or its bytes 6-7 are not zero";
     case XM23_REFUSED_EVENT_ORDER: return "an event's step is below the one before it";
     case XM23_REFUSED_INSTRUCTION: return "an instruction to encode is illegal, or has a field its format cannot hold";
+    case XM23_REFUSED_LOG: return "the log's length is not a multiple of 8";
     case XM23_REFUSED_SREC_FORM: return "a line is no S0, S1 or S9, has a wrong count, or S9 is not last or missing";
     case XM23_REFUSED_SREC_CHECKSUM: return "a line's checksum differs";
     case XM23_REFUSED_SREC_ROOM: return "data or span passes #FFFF, or the text does not fit its buffer";
@@ -358,40 +368,54 @@ uint64_t xm23_next(uint32_t operation, uint32_t word);
 #define XM23_NEXT_WORD(reply) ((uint16_t)((reply) >> 16))
 
 /*
- * Runs a machine for n steps, or until it halts. To advance a machine further, call again with the memory and the
- * record that the last call left, and with the same events or the rest of them: events of earlier steps are passed
- * over. A run of a + b steps closes as a run of a and then a run of b.
+ * Runs a machine for n steps, or until it halts, or until the log has no room. To advance a machine further, call again
+ * with the memory and the record that the last call left, and with the same events or the rest of them: events of
+ * earlier steps are passed over. A run of a + b steps closes as a run of a and then a run of b.
+ *
+ * The log takes what the output devices show, from its beginning on: a record for each store by an instruction (ST or
+ * STR, in handlers too) to the data byte of a device whose input bit is clear and whose ENA was set before the store.
+ * A step shows one byte at most, so 8 * n bytes are always enough. A step that would need a record past the end is not
+ * taken: the call gives XM23_REASON_LOG with memory and record as they were before that step, its events not applied,
+ * and a call with a fresh log and the same events takes it. The records of both logs, one after the other, are those of
+ * one run with a log long enough. A full log stops nothing by itself.
  *
  * memory, memory_len in-out: the machine's memory, XM23_MEMORY_SIZE bytes.
  * record, record_len in-out: its state record, XM23_RECORD_SIZE bytes.
  * events, events_len in: event records, in the order of their steps, at most one of a device on a step; those of one
  *                    step are applied in list order. No bytes are an empty list.
+ * log, log_len       in-out: room for log records, a multiple of XM23_LOG_SIZE bytes, 0 among them. Bytes past the last
+ *                    record stay.
  * n                  in: how many steps.
- * result             one reply: XM23_RUN_REFUSAL in bits 7-0, XM23_RUN_REASON in 15-8, XM23_RUN_STEPS in 39-16, 0 in
- *                    63-40. Accepted: memory and record hold the closing state.
+ * result             one reply: XM23_RUN_REFUSAL in bits 7-0, XM23_RUN_REASON in 15-8, XM23_RUN_STEPS in 39-16,
+ *                    XM23_RUN_ADDED in 63-40. Accepted: memory and record hold the closing state.
  * refusals           in the order tested: XM23_REFUSED_MEMORY; XM23_REFUSED_STEPS for n alone; XM23_REFUSED_RECORD;
  *                    XM23_REFUSED_STEPS for the sum, of a halted machine too; XM23_REFUSED_RECORD_BITS;
  *                    XM23_REFUSED_EVENTS; XM23_REFUSED_EVENT_FIELDS over the whole list; XM23_REFUSED_EVENT_ORDER;
- *                    XM23_REFUSED_EVENT_TWINS, of events that this run would not apply too.
- *                    Refused: reason and steps are 0, and memory, record and events are as they were.
+ *                    XM23_REFUSED_EVENT_TWINS, of events that this run would not apply too; XM23_REFUSED_LOG,
+ *                    whatever n is.
+ *                    Refused: reason, steps and records added are 0, and memory, record, events and log are as they
+ *                    were.
  * interrupts         where the premises of crates/resume/specs/Resume.antt hold of a call, its application does not
  *                    notice the devices' handlers: before and after each of its steps, those of its own SVC handlers
  *                    among them, and at the close, its registers, PSW, CEX state and bytes are those of the run with no
- *                    events, which takes the same traps. docs/RESUMPTION.md says it in words. The call does not check
- *                    the premises.
+ *                    events, which takes the same traps and has a log long enough. The run is the steps done, where the
+ *                    log had no room too. docs/RESUMPTION.md says it in words. The call does not check the premises.
  * defined            crates/machine/specs/Call.antt, runCallOf, for every length, content and number.
  */
 uint64_t xm23_run(uint8_t *memory, size_t memory_len, uint8_t *record, size_t record_len, const uint8_t *events,
-                  size_t events_len, uint64_t n);
+                  size_t events_len, uint8_t *log, size_t log_len, uint64_t n);
 
 /* The parts of a reply of xm23_run. */
 #define XM23_RUN_REFUSAL(reply) XM23_REFUSAL(reply)
 #define XM23_RUN_REASON(reply) ((unsigned)((reply) >> 8 & 0xFF))
 #define XM23_RUN_STEPS(reply) ((uint32_t)((reply) >> 16 & 0xFFFFFF))
+#define XM23_RUN_ADDED(reply) ((uint32_t)((reply) >> 40)) /* log records */
 
-/* Why a run ended: all its steps are done, or the machine is halted (which it may have been before). */
+/* Why a run ended: all its steps are done; the machine is halted (which it may have been before); the log has no room
+ * for what the next step would show. */
 #define XM23_REASON_DONE 0
 #define XM23_REASON_HALTED 1
+#define XM23_REASON_LOG 2
 
 /*
  * Loads a text of Motorola S-records: S0 is passed over, S1 is stored at its address, S9 is the last line and gives the

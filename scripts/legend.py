@@ -4,6 +4,10 @@ import sys
 
 from refusals import sentence
 
+# The line is of a run with a log long enough, so that reason 2, of a log without room, never stands in it.
+REASONS = {"0": "all steps are done", "1": "halted"}
+
+
 def named(bits, names):
     """The names of the bits that are set."""
     return " ".join(name for bit, name in names if bits >> bit & 1) or "none"
@@ -16,7 +20,7 @@ def legend(line):
         return [("refusal", line[1:], sentence(int(line[1:])))]
     reason, steps, *words = fields
     psw, cex, _ = (int(word, 16) for word in words[8:])
-    rows = [("reason", reason, "halted" if reason == "1" else "all steps are done"), ("steps", steps, "done")]
+    rows = [("reason", reason, REASONS[reason]), ("steps", steps, "done")]
     names = ["R0", "R1", "R2", "R3", "R4", "R5", "R6", "R7"]
     says = ["", "", "", "", "", "LR", "SP", "PC"]
     rows += zip(names, words, says)
@@ -34,7 +38,7 @@ def main():
     line = sys.stdin.readline()
     try:
         rows = legend(line.rstrip("\n"))
-    except (ValueError, IndexError):
+    except (ValueError, IndexError, KeyError):
         print(f"legend.py: not a line of print_state: {line.rstrip()!r}", file=sys.stderr)
         return 2
     print(line)

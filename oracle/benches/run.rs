@@ -18,16 +18,36 @@ use std::time::Instant;
 /// How often the fast engines are timed.
 const TURNS: usize = 15;
 
-type Call = unsafe extern "C" fn(*mut u8, usize, *mut u8, usize, *const u8, usize, u64) -> u64;
+type Call = unsafe extern "C" fn(*mut u8, usize, *mut u8, usize, *const u8, usize, *mut u8, usize, u64) -> u64;
 
 #[link(name = "xm23", kind = "static")]
 extern "C" {
-    fn xm23_run(m: *mut u8, ml: usize, r: *mut u8, rl: usize, e: *const u8, el: usize, n: u64) -> u64;
+    fn xm23_run(
+        m: *mut u8,
+        ml: usize,
+        r: *mut u8,
+        rl: usize,
+        e: *const u8,
+        el: usize,
+        l: *mut u8,
+        ll: usize,
+        n: u64,
+    ) -> u64;
 }
 
 #[link(name = "xm23_fast", kind = "static")]
 extern "C" {
-    fn xm23_fast_run(m: *mut u8, ml: usize, r: *mut u8, rl: usize, e: *const u8, el: usize, n: u64) -> u64;
+    fn xm23_fast_run(
+        m: *mut u8,
+        ml: usize,
+        r: *mut u8,
+        rl: usize,
+        e: *const u8,
+        el: usize,
+        l: *mut u8,
+        ll: usize,
+        n: u64,
+    ) -> u64;
 }
 
 #[derive(Clone, Copy)]
@@ -42,13 +62,13 @@ const ENGINES: [(&str, Engine); 3] =
 impl Engine {
     /// Runs an input in place.
     fn run(self, i: &mut Input) -> u64 {
-        let Input { memory, record, events, n } = i;
+        let Input { memory, record, events, log, n } = i;
         match self {
-            Engine::Oracle => machine::reply(machine::run(memory, *n, record, events)),
-            // Three buffers, each lent for its own length.
+            Engine::Oracle => machine::reply(machine::run(memory, *n, record, events, log)),
+            // Four buffers, each lent for its own length.
             Engine::C(call) => unsafe {
-                let (m, r) = (memory.as_mut_ptr(), record.as_mut_ptr());
-                call(m, memory.len(), r, record.len(), events.as_ptr(), events.len(), *n)
+                let (m, r, l) = (memory.as_mut_ptr(), record.as_mut_ptr(), log.as_mut_ptr());
+                call(m, memory.len(), r, record.len(), events.as_ptr(), events.len(), l, log.len(), *n)
             },
         }
     }
@@ -67,6 +87,23 @@ Loop    add R0,R1
         ld R2,R0
         st R1,R2
         sub $1,R4
+        bra Loop
+";
+
+/// Ten steps, one of them a character for device 0.
+const SCREEN: &str = "
+        org #0000
+        byte STATUS
+        org #1000
+Loop    str.b R1,R5,$1
+        add R0,R1
+        xor R3,R1
+        ld R2,R0
+        st R1,R2
+        sub $1,R4
+        add R0,R3
+        xor R4,R3
+        add $1,R4
         bra Loop
 ";
 
@@ -123,7 +160,7 @@ H2      st R0,-SP
 fn start(source: &str, n: u64) -> Input {
     let regs = [0x1234, 0x5678, 0x4000, 0x9ABC, 0x7777, 0, 0x0800, 0x1000];
     let record = Machine { regs, ..Machine::default() }.to_record().to_vec();
-    Input { memory: assemble(source).memory(), record, events: Vec::new(), n }
+    Input { memory: assemble(source).memory(), record, events: Vec::new(), log: Vec::new(), n }
 }
 
 /// Events in threes, 4 steps apart, so that each handler interrupts the one before it.
@@ -145,6 +182,12 @@ fn mixed(events: u64, n: u64) -> Input {
     i.memory[10] = 0x12;
     i.events = if events > 0 { spread(events, n) } else { Vec::new() };
     i
+}
+
+/// Characters on an output device, with ENA set and a log long enough, or with ENA clear.
+fn screen(logged: bool, n: u64) -> Input {
+    let source = SCREEN.replace("STATUS", if logged { "#10" } else { "#00" });
+    Input { log: machine::long_log(if logged { n } else { 0 }), ..start(&source, n) }
 }
 
 fn interrupts(n: u64) -> Input {
@@ -174,6 +217,8 @@ fn loops() -> Vec<Workload> {
         one("tight loop", start(TIGHT, 1_000_000)),
         one("mixed loop", mixed(0, 1_000_000)),
         one("interrupts", interrupts(160_000)),
+        one("screen, logged", screen(true, 1_000_000)),
+        one("screen, ENA clear", screen(false, 1_000_000)),
     ]
 }
 
@@ -237,7 +282,7 @@ fn print_counts() {
 fn once(engine: Engine, inputs: &[Input]) -> (f64, u64, Vec<Input>) {
     let mut work = inputs.to_vec();
     let clock = Instant::now();
-    let steps = work.iter_mut().map(|i| engine.run(i) >> 16).sum();
+    let steps = work.iter_mut().map(|i| machine::steps_of(engine.run(i))).sum();
     (clock.elapsed().as_secs_f64(), steps, work)
 }
 
@@ -252,9 +297,8 @@ fn best(inputs: &[Input]) -> [f64; 3] {
     best
 }
 
-/// How many times longer the proved library takes for a million steps with 4,096 events than with none.
-fn cost_of_events() -> f64 {
-    let inputs = [mixed(4_096, 1_000_000), mixed(0, 1_000_000)];
+/// How many times longer the proved library takes for one input than for another.
+fn ratio(inputs: [Input; 2]) -> f64 {
     let mut best = [f64::INFINITY; 2];
     for _ in 0..2 * TURNS {
         for (time, input) in best.iter_mut().zip(&inputs) {
@@ -306,6 +350,9 @@ fn main() {
         let [ours, c, oracle] = best(&workload.inputs).map(|time| steps / time);
         println!("{:20} {ours:9.1} {c:9.1} {oracle:9.1} {:10.2} {:12.2}", workload.name, ours / c, ours / oracle);
     }
-    println!("a million steps with 4,096 events take {:.2} times those with none", cost_of_events());
+    let events = ratio([mixed(4_096, 1_000_000), mixed(0, 1_000_000)]);
+    println!("a million steps with 4,096 events take {events:.2} times those with none");
+    let screen = ratio([screen(true, 1_000_000), screen(false, 1_000_000)]);
+    println!("a character every 10th step, logged, takes {screen:.2} times the same with ENA clear");
     print_counts();
 }

@@ -7,10 +7,15 @@
 //! `source`, `events` (`step device data` on each line, step in base ten; `x9` behind it is nine of them, each a step
 //! later), `n`, `line`, `bytes` (`0100=34`, afterwards), `printed`, `decides`. Every key but `start`, `events`, `bytes`
 //! and `printed` must be there in a case of the repository; an input is made of `source` and `n` alone.
+//!
+//! Of the output log: `log` is the length in bytes of the log that the library is lent, of long enough a one if it is not
+//! named; `reply` what the library then gives, `reason steps added` in base ten or `R9`, and `shown` the records that
+//! stand in the log, `step device byte` on each line. `line` is of a log long enough whatever `log` says, and so are
+//! `bytes` where `reply` is not there; with `reply` they are what the library leaves.
 
 use crate::asm::{try_assemble, Mistake};
 use crate::inputs::Input;
-use crate::machine::{event_record, Event, Lines, Machine, LR, PC, RECORD, SP};
+use crate::machine::{event_record, long_log, Event, Lines, Machine, Ran, Shown, LR, PC, RECORD, SP};
 use std::collections::HashMap;
 use std::path::PathBuf;
 
@@ -22,9 +27,15 @@ pub struct Case {
     pub line: String,
     /// Bytes of memory afterwards.
     pub bytes: Vec<(u16, u8)>,
+    /// What the library gives with the log that it is lent, and the records in it, where the case says so.
+    pub reply: Option<Result<Ran, u8>>,
+    pub shown: Option<Vec<Shown>>,
 }
 
-const KEYS: [&str; 10] = ["title", "from", "start", "source", "events", "n", "line", "bytes", "printed", "decides"];
+const KEYS: [&str; 13] =
+    ["title", "from", "start", "source", "events", "n", "line", "bytes", "log", "reply", "shown", "printed", "decides"];
+/// What the bytes of a log hold that a case lends.
+const UNTOUCHED: u8 = 0x5A;
 /// What an input is made of, and what a case of the repository has besides.
 const NEEDED: [&str; 2] = ["source", "n"];
 const OF_A_CASE: [&str; 4] = ["title", "from", "line", "decides"];
@@ -99,6 +110,31 @@ fn events(line: &str) -> Outcome<Vec<Event>> {
     Ok((0..times).map(|i| Event { step: first + i, device, data }).collect())
 }
 
+/// What the library gives: `reason steps added`, or `R9`.
+fn reply(text: &str) -> Outcome<Option<Result<Ran, u8>>> {
+    let wrong = || format!("'{text}' is no reply: reason steps added, or R and a refusal");
+    let numbers = |text: &str| text.split_whitespace().map(|part| part.parse().ok()).collect::<Option<Vec<u32>>>();
+    match (text.strip_prefix('R'), numbers(text).as_deref()) {
+        _ if text.is_empty() => Ok(None),
+        (Some(number), _) => Ok(Some(Err(number.parse().map_err(|_| wrong())?))),
+        (None, Some(&[reason, steps, added])) => Ok(Some(Ok(Ran { reason: fitting("reason", reason)?, steps, added }))),
+        _ => Err(wrong()),
+    }
+}
+
+/// A record of the log: `step device byte`.
+fn shown(line: &str) -> Outcome<Option<Shown>> {
+    let wrong = || format!("'{}' is no record of the log: step device byte", line.trim());
+    match line.split_whitespace().collect::<Vec<_>>()[..] {
+        [] => Ok(None),
+        [step, device, byte] => {
+            let (step, device) = (step.parse().map_err(|_| wrong())?, device.parse().map_err(|_| wrong())?);
+            Ok(Some(Shown { step, device, byte: fitting("byte", hex(byte)?)? }))
+        }
+        _ => Err(wrong()),
+    }
+}
+
 /// The keys of a file with their values, the lines of a value joined by line feeds.
 fn keys(text: &str) -> Result<Values, Mistake> {
     let mut all: Vec<(String, Value)> = Vec::new();
@@ -145,16 +181,28 @@ pub fn parse(name: &str, text: &str) -> Result<Case, Mistake> {
         list.extend(events(text).map_err(|text| Mistake::new(line("events") + place, text))?);
     }
     let n: u32 = get("n").parse().map_err(|_| wrong(("n", format!("'{}' is no number of steps", get("n")))))?;
+    let log = match get("log") {
+        "" => long_log(n.into()).len(),
+        text => text.parse().map_err(|_| wrong(("log", format!("'{text}' is no length of a log"))))?,
+    };
+    let mut records = Vec::new();
+    for (place, text) in get("shown").lines().enumerate() {
+        records.extend(shown(text).map_err(|text| Mistake::new(line("shown") + place, text))?);
+    }
+    let reply = reply(get("reply")).map_err(at("reply")).map_err(wrong)?;
     let input = Input {
         memory: program.memory(),
         record: start(get("start")).map_err(at("start")).map_err(wrong)?.to_vec(),
         events: list.into_iter().flat_map(event_record).collect(),
+        log: vec![UNTOUCHED; log],
         n: n.into(),
     };
     let byte = |(address, byte): (&str, u32)| Ok((fitting(address, hex(address)?)?, fitting(address, byte)?));
     let bytes: Outcome<_> = get("bytes").split_whitespace().map(|text| pair(text).and_then(byte)).collect();
     let bytes = bytes.map_err(at("bytes")).map_err(wrong)?;
-    Ok(Case { name: name.into(), title: get("title").into(), input, line: get("line").to_string() + "\n", bytes })
+    let (title, line) = (get("title").into(), get("line").to_string() + "\n");
+    let shown = values.contains_key("shown").then_some(records);
+    Ok(Case { name: name.into(), title, input, line, bytes, reply, shown })
 }
 
 /// The cases of 01's list, the example of its sheet, and its plausible misreadings.
@@ -187,7 +235,25 @@ pub const OF_01: [&str; 25] = [
 ];
 
 /// The cases of the change requests of 02.
-pub const OF_02: [&str; 22] = [
+pub const OF_02: [&str; 40] = [
+    "02-1-count-before-the-step",
+    "02-1-ena-clear",
+    "02-1-ena-set-by-the-same-store",
+    "02-1-full-log-goes-on",
+    "02-1-full-on-the-last-step",
+    "02-1-in-a-handler",
+    "02-1-input-device",
+    "02-1-length-of-the-log",
+    "02-1-line-accepted-instead",
+    "02-1-no-log",
+    "02-1-no-log-no-step",
+    "02-1-no-room-no-event",
+    "02-1-odd-word",
+    "02-1-push-by-st-is-shown",
+    "02-1-pushes-of-entry-are-not-shown",
+    "02-1-skipped-store",
+    "02-1-twins-before-the-log",
+    "02-1-word-store-shows-its-high-byte",
     "02-3-one-device-twice-on-a-step",
     "02-3-one-step-of-all-devices",
     "02-3-the-step-after",

@@ -1,9 +1,9 @@
-//! An engine beside the oracle on the same inputs: reply, record, all of memory and the events. A difference can be
-//! kept as a folder of files, to be read and to be run again.
+//! An engine beside the oracle on the same inputs: reply, record, all of memory, all of the log and the events. A
+//! difference can be kept as a folder of files, to be read and to be run again.
 
 use crate::coverage::Coverage;
 use crate::inputs::{input, Input, Kind};
-use crate::machine::{Machine, MEMORY, RECORD};
+use crate::machine::{added_of, shown_of, steps_of, Machine, MEMORY, RECORD, SHOWN};
 use std::fmt::Write;
 use std::io;
 use std::path::{Path, PathBuf};
@@ -58,14 +58,20 @@ pub fn difference(given: &Input, library: &Outcome, oracle: &Outcome) -> Option<
     if let Some((at, a, b)) = first(&got.memory, &right.memory) {
         return Some(format!("byte #{at:04X} is {a:02X}, oracle {b:02X}"));
     }
+    if let Some((at, a, b)) = first(&got.log, &right.log) {
+        return Some(format!("log byte {at} is {a:02X}, oracle {b:02X}"));
+    }
     if got.events != given.events {
         return Some("the events changed".into());
     }
     let refused = library.reply & 0xFF != 0;
-    if refused && (got != given || !matches!(library.reply, 1..=7 | 13)) {
+    if refused && (got != given || !matches!(library.reply, 1..=7 | 9 | 13)) {
         return Some("refused with a change".into());
     }
-    (library.reply >> 40 != 0 || library.reply >> 9 & 0x7F != 0).then(|| format!("reply {:016X}", library.reply))
+    let (reason, added) = (library.reply >> 8 & 0xFF, added_of(library.reply));
+    let full = added == (given.log.len() / SHOWN) as u64;
+    let fits = reason <= 2 && added <= steps_of(library.reply) && (reason != 2 || full);
+    (!fits).then(|| format!("reply {:016X}", library.reply))
 }
 
 // ---- many inputs
@@ -118,7 +124,7 @@ pub fn compare_many(engine: Engine, kind: Kind, first: u64, many: u64, tell: &(d
 // ---- differences as files
 
 /// The parts of an input, each a file of a saved one.
-const PARTS: [&str; 3] = ["memory.bin", "record.bin", "events.bin"];
+const PARTS: [&str; 4] = ["memory.bin", "record.bin", "events.bin", "log.bin"];
 
 /// Where differences are saved.
 pub fn folder() -> PathBuf {
@@ -132,8 +138,8 @@ impl Difference {
         let place = folder.join(name);
         fs::create_dir_all(&place)?;
         let put = |file: &str, bytes: &[u8]| fs::write(place.join(file), bytes);
-        let Input { memory, record, events, n } = &self.given;
-        for (file, bytes) in PARTS.into_iter().zip([memory, record, events]) {
+        let Input { memory, record, events, log, n } = &self.given;
+        for (file, bytes) in PARTS.into_iter().zip([memory, record, events, log]) {
             put(file, bytes)?;
         }
         put("n.txt", format!("{n}\n").as_bytes())?;
@@ -149,22 +155,29 @@ impl Difference {
 
 /// The input of a folder that `save` has written.
 pub fn saved(place: &Path) -> io::Result<Input> {
-    let [memory, record, events] = PARTS.map(|file| fs::read(place.join(file)));
+    let [memory, record, events, log] = PARTS.map(|file| fs::read(place.join(file)));
     let n = fs::read_to_string(place.join("n.txt"))?;
     let n = n.trim().parse().map_err(|_| io::Error::other("n.txt has no number"))?;
-    Ok(Input { memory: memory?, record: record?, events: events?, n })
+    Ok(Input { memory: memory?, record: record?, events: events?, log: log?, n })
 }
 
 impl Outcome {
-    /// The reply with its parts, the record, and each byte of memory that is not as it was given.
+    /// The reply with its parts, the record, what the log's records say, and each byte of memory that is not as it was
+    /// given.
     pub fn text(&self, given: &Input) -> String {
         let (reply, left) = (self.reply, &self.left);
-        let (refusal, reason, steps) = (reply & 0xFF, reply >> 8 & 0xFF, reply >> 16);
-        let mut text = format!("reply {reply:016X}: refusal {refusal}, reason {reason}, steps {steps}\n");
+        let (refusal, reason, steps, added) = (reply & 0xFF, reply >> 8 & 0xFF, steps_of(reply), added_of(reply));
+        let mut text =
+            format!("reply {reply:016X}: refusal {refusal}, reason {reason}, steps {steps}, added {added}\n");
         if left.record.len() == RECORD {
             writeln!(text, "{}", Machine::from_record(&left.record)).unwrap();
         }
         writeln!(text, "record {}", hex(&left.record)).unwrap();
+        let records = left.log.len() / SHOWN;
+        writeln!(text, "log of {} bytes, {records} records", left.log.len()).unwrap();
+        for shown in shown_of(&left.log).into_iter().take(added as usize) {
+            writeln!(text, "step {}: device {} shows {:02X}", shown.step, shown.device, shown.byte).unwrap();
+        }
         let changed = (0..left.memory.len()).filter(|&i| left.memory[i] != given.memory[i]);
         for at in changed {
             writeln!(text, "#{at:04X}: {:02X} became {:02X}", given.memory[at], left.memory[at]).unwrap();

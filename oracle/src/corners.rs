@@ -115,6 +115,25 @@ impl Seen<'_> {
         which.iter().copied().filter(|&a| a < DEVICES).collect()
     }
 
+    /// The devices whose data byte the step writes, with the status before the act.
+    fn data_written(&self) -> impl Iterator<Item = (usize, u8)> + '_ {
+        let data = self.trace.written.iter().filter(|&&a| a < DEVICES && a & 1 == 1);
+        data.map(|&a| (usize::from(a / 2), self.trace.devices[usize::from(a - 1)]))
+    }
+
+    /// A store to the data byte of an output device that shows nothing, since ENA is clear; of a byte, or of a word that
+    /// sets it.
+    fn hidden(&self, byte: bool) -> bool {
+        let hidden = |status: u8| status & (ENA | INPUT) == 0;
+        self.stores() == Some(byte) && self.data_written().any(|(_, status)| hidden(status))
+    }
+
+    /// The status of the device that a word store writes, after it.
+    fn status_left(&self) -> u8 {
+        let status = self.trace.written.first().filter(|&&a| a < DEVICES);
+        status.map_or(0, |&a| self.memory[usize::from(a & !1)])
+    }
+
     /// The operand of BIC or BIS: cut to the width, and whole; then the number of bits of the width.
     fn bit_number(&self) -> Option<(u16, u16, u16)> {
         let Instr::Alu { op: 10 | 11, rc, wb, src, .. } = self.instr()? else { return None };
@@ -291,6 +310,9 @@ const ENTRIES: &[Corner] = &[
     }),
     ("an odd word of a device", |s| s.odd_access().is_some() && s.word_address().is_some_and(|a| a < DEVICES)),
     ("an odd word access with FLT set", |s| s.halts() && s.odd_access().is_some()),
+    ("pushes onto the data of an output device with ENA set", |s| {
+        s.pushes().is_some() && s.data_written().any(|(_, status)| status & (ENA | INPUT) == ENA)
+    }),
 ];
 
 const INSTRUCTIONS: &[Corner] = &[
@@ -370,6 +392,18 @@ const ACCESSES: &[Corner] = &[
     ("a word store to a device", |s| !s.device_stores(false).is_empty()),
     ("a store to the data of an input device", |s| to_data(s, true)),
     ("a store to the data of an output device", |s| to_data(s, false)),
+    ("a byte shown", |s| s.trace.shown.is_some() && s.stores() == Some(true)),
+    ("the high byte of a word shown", |s| s.trace.shown.is_some() && s.stores() == Some(false)),
+    ("a word that is shown and clears ENA", |s| {
+        s.trace.shown.is_some() && s.stores() == Some(false) && s.status_left() & ENA == 0
+    }),
+    ("a word that sets ENA and is not shown", |s| s.hidden(false) && s.status_left() & ENA != 0),
+    ("a byte that is not shown, since ENA is clear", |s| s.hidden(true)),
+    ("a byte for an input device with ENA set", |s| {
+        let input = |status: u8| status & (ENA | INPUT) == ENA | INPUT;
+        s.stores() == Some(true) && s.data_written().any(|(_, status)| input(status))
+    }),
+    ("a byte shown on a step with events", |s| s.trace.shown.is_some() && !s.trace.due.is_empty()),
     ("a store to a vector", |s| s.stores().is_some() && s.trace.written.iter().any(|&a| a >= VECTORS)),
 ];
 

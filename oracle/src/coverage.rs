@@ -5,7 +5,7 @@ use crate::case;
 use crate::corners::{Seen, GROUPS};
 use crate::inputs::Input;
 use crate::isa::{decode, Instr};
-use crate::machine::{event_of, events_of, twins, Ran, ENA, MEMORY};
+use crate::machine::{added_of, event_of, events_of, twins, Ran, ENA, MEMORY, SHOWN};
 use crate::machine::{
     reply, run_watched, word_at, Act, Machine, Trace, DBA, EVENT, FULL, IE, INPUT, MAX_EVENTS, MAX_STEPS, PC,
 };
@@ -73,6 +73,27 @@ pub enum Item {
     TwinsOnDisabled,
     /// Refused with 6 or 7 though two records are twins.
     TwinsNotReached(u8),
+    /// Refused with another number though the log's length is not a multiple of 8.
+    LogNotReached(u8),
+    /// A byte shown by a device; by a store of a byte or of a word, in a handler or not.
+    Shown(u8),
+    ShownBy { byte: bool, handler: bool },
+    /// A log of no bytes in which nothing is missing; one that is full and whose run goes on; one that the last step
+    /// fills; one with bytes past the last record; one that is full where the machine halts.
+    EmptyLog,
+    FullGoesOn,
+    FullAtTheEnd,
+    PastTheLast,
+    FullAndHalted,
+    /// No room for what the next step would show: before the first step; with events due, or none; with a line that these
+    /// would have raised; in a handler; in a CEX block.
+    NoRoomAtOnce,
+    NoRoom { due: bool },
+    NoRoomRaised,
+    NoRoomInHandler,
+    NoRoomInBlock,
+    /// The log would have no room for it, but a line is accepted instead of the store.
+    AcceptedInstead,
     /// Refused with 4 by a byte of the record that is to be zero, of an old record where it is 20.
     RefusedByte(usize),
     /// The counts of a start: one of this size; every one full.
@@ -89,6 +110,13 @@ pub fn owed() -> Vec<Item> {
     all.extend([Item::HaltedAtTheStart, Item::NoStep, Item::NoEvent, Item::FullList, Item::EventOnDisabled]);
     all.extend([Item::PassedOver, Item::NeverDue, Item::TwinsPassedOver, Item::TwinsNeverDue, Item::TwinsOnDisabled]);
     all.extend([6, 7].map(Item::TwinsNotReached));
+    all.extend([1, 2, 3, 4, 5, 6, 7, 13].map(Item::LogNotReached));
+    all.extend((0..8).map(Item::Shown));
+    all.extend((0..4).map(|i| Item::ShownBy { byte: i & 1 == 1, handler: i & 2 != 0 }));
+    all.extend([Item::EmptyLog, Item::FullGoesOn, Item::FullAtTheEnd, Item::PastTheLast, Item::FullAndHalted]);
+    all.extend([Item::NoRoomAtOnce, Item::NoRoomRaised, Item::NoRoomInHandler, Item::NoRoomInBlock]);
+    all.extend(both.map(|due| Item::NoRoom { due }));
+    all.push(Item::AcceptedInstead);
     all.extend([20, 30, 31].map(Item::RefusedByte));
     all.extend((0..=FULL).map(Item::Waiting).chain([Item::AllFull]));
     all.extend((0..4).map(|i| Item::Twins { apart: i & 1 == 1, same_data: i & 2 != 0 }));
@@ -114,10 +142,27 @@ pub fn owed() -> Vec<Item> {
     all.extend((8..11).flat_map(|v| [Item::Fault(v), Item::Halt(v)]));
     all.extend((0..8).map(|i| Item::Event { input: i & 1 == 1, dba: i & 2 != 0, ie: i & 4 != 0 }));
     all.extend((0..16).map(Item::Trap));
-    all.extend((1..8).chain([13]).map(Item::Refused));
+    all.extend((1..8).chain([9, 13]).map(Item::Refused));
     all.extend(GROUPS.iter().flat_map(|group| group.rows).map(|row| Item::Corner(row.0)));
     all.extend(case::OF_01.into_iter().chain(case::OF_02).map(Item::Case));
     all
+}
+
+/// What a run has shown so far, whether its last step showed something, and the frames that are open.
+#[derive(Default)]
+struct Way {
+    added: usize,
+    last: bool,
+    open: u32,
+}
+
+/// Whether the instruction at the PC of a step that a line took is a store to a device by its offset from 0, of a device
+/// that would have shown it.
+fn would_show(seen: &Seen) -> bool {
+    let word = word_at(seen.memory, seen.before.regs[PC]);
+    let Instr::Str { offset, wb, dst, .. } = decode(word) else { return false };
+    let a = usize::from(seen.before.regs[usize::from(dst)].wrapping_add(offset as u16)) | usize::from(wb == 0);
+    a < 16 && a % 2 == 1 && seen.trace.devices[a - 1] & (ENA | INPUT) == ENA
 }
 
 #[derive(Default)]
@@ -171,22 +216,71 @@ impl Coverage {
 
     /// Runs an input in place by the oracle, counting what it reaches, and gives the reply.
     pub fn run(&mut self, input: &mut Input) -> u64 {
-        let Input { memory, record, events, n } = input;
+        let Input { memory, record, events, log, n } = input;
         let start = (record.len() == 32).then(|| Machine::from_record(record));
-        let result = run_watched(memory, *n, record, events, |trace, before, after, memory| {
-            self.step(&Seen { trace, before, after, memory });
+        let (room, mut way) = (log.len() / SHOWN, Way::default());
+        let result = run_watched(memory, *n, record, events, log, |trace, before, after, memory| {
+            let seen = Seen { trace, before, after, memory };
+            self.step(&seen);
+            self.shown(&seen, room, &mut way);
         });
         match (result, start) {
-            (Ok(ran), Some(start)) => self.accepted(&start, ran, events, *n),
+            (Ok(ran), Some(start)) => {
+                self.accepted(&start, ran, events, *n);
+                self.logged(ran, input, &way);
+            }
             (result, _) => {
                 let number = result.expect_err("a whole record in an accepted run");
                 self.mark(Item::Refused(number));
                 self.mark_if(number == 2 && *n <= MAX_STEPS, Item::RefusedSum);
+                self.mark_if(number != 9 && log.len() % SHOWN != 0, Item::LogNotReached(number));
                 self.zeros(number, input);
                 self.twins(number, input);
             }
         }
         reply(result)
+    }
+
+    /// Counts what a step showed, and what it did while the log was full.
+    fn shown(&mut self, seen: &Seen, room: usize, way: &mut Way) {
+        let (full, due) = (way.added == room, !seen.trace.due.is_empty());
+        self.mark_if(full && room > 0, Item::FullGoesOn);
+        self.mark_if(
+            full && due && matches!(seen.trace.act, Act::Accept(_)) && would_show(seen),
+            Item::AcceptedInstead,
+        );
+        if let Some(shown) = seen.trace.shown {
+            way.added += 1;
+            self.mark(Item::Shown(shown.device));
+            let byte = seen.trace.written.len() == 1;
+            self.mark(Item::ShownBy { byte, handler: way.open > 0 });
+        }
+        way.last = seen.trace.shown.is_some();
+        match seen.trace.act {
+            Act::Accept(_) | Act::Fault(_) | Act::Trap(_) => way.open += 1,
+            Act::Pull => way.open = way.open.saturating_sub(1),
+            _ => {}
+        }
+    }
+
+    /// Counts how an accepted run left its log.
+    fn logged(&mut self, ran: Ran, left: &Input, way: &Way) {
+        let m = Machine::from_record(&left.record);
+        let (added, room) = (ran.added as usize, left.log.len() / SHOWN);
+        assert!(added == way.added && added_of(reply(Ok(ran))) == u64::from(ran.added));
+        self.mark_if(room == 0 && ran.reason == 0 && left.n > 0, Item::EmptyLog);
+        self.mark_if(added > 0 && added == room && way.last && ran.reason == 0, Item::FullAtTheEnd);
+        self.mark_if(added > 0 && added < room, Item::PastTheLast);
+        self.mark_if(added > 0 && added == room && m.halted, Item::FullAndHalted);
+        if ran.reason == 2 {
+            let due: Vec<_> = events_of(&left.events).into_iter().filter(|e| e.step == m.count).collect();
+            let raises = |status: u8| status & (ENA | IE) == ENA | IE;
+            self.mark(Item::NoRoom { due: !due.is_empty() });
+            self.mark_if(due.iter().any(|e| raises(left.memory[2 * usize::from(e.device)])), Item::NoRoomRaised);
+            self.mark_if(ran.steps == 0, Item::NoRoomAtOnce);
+            self.mark_if(way.open > 0, Item::NoRoomInHandler);
+            self.mark_if(m.cex & 0x3F != 0, Item::NoRoomInBlock);
+        }
     }
 
     /// Counts which byte of a refused record is not zero.

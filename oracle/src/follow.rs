@@ -1,9 +1,8 @@
 //! A run followed step by step: its last steps, its entries and returns, the frames that are open at its close, what
 //! became of its events.
 
-use crate::machine::{
-    cut, even, events_of, refusal, word_at, Act, Event, Machine, Parts, Ran, Trace, ENA, FULL, IE, PC, SP,
-};
+use crate::machine::{cut, even, events_of, refusal, word_at, Act, Event, Machine, Parts, Ran, Shown, Trace};
+use crate::machine::{ENA, FULL, IE, PC, SP};
 use std::collections::VecDeque;
 
 /// How many of the newest steps are kept.
@@ -122,6 +121,8 @@ pub struct Followed {
     pub events: Vec<Event>,
     /// What became of each event.
     pub fates: Vec<Fate>,
+    /// What the output devices showed, in the order of the run.
+    pub shown: Vec<Shown>,
     /// The waiting events of each device, the oldest first, by their places in the list; none for one that waited at
     /// the start.
     waiting: [VecDeque<Option<usize>>; 8],
@@ -145,10 +146,10 @@ pub fn raises(status: u8) -> bool {
     status & ENA != 0 && status & IE != 0
 }
 
-/// Follows the run of an input of the program; a refused one gives its number.
+/// Follows the run of an input of the program, with room for all that it shows; a refused one gives its number.
 pub fn follow(input: &[u8]) -> Result<Followed, u8> {
     let Parts { n, record, memory, events } = cut(input)?;
-    if let Some(number) = refusal(memory, n.into(), record, events) {
+    if let Some(number) = refusal(memory, n.into(), record, events, &[]) {
         return Err(number);
     }
     let mut run = Followed::new(n, Machine::from_record(record), memory.to_vec(), events_of(events));
@@ -166,9 +167,10 @@ impl Followed {
             close: start,
             given: memory.clone(),
             memory,
-            ran: Ran { reason: 0, steps: 0 },
+            ran: Ran { reason: 0, steps: 0, added: 0 },
             fates: events.iter().map(fate).collect(),
             events,
+            shown: Vec::new(),
             waiting: start.lines.0.map(|count| (0..count).map(|_| None).collect()),
             frames: Vec::new(),
             opened: 0,
@@ -185,6 +187,7 @@ impl Followed {
         let before = self.close;
         let Some(trace) = self.close.step(&mut self.memory, &self.events) else { return false };
         self.ran.steps += 1;
+        self.shown.extend(trace.shown);
         self.apply(&before, &trace);
         match trace.act {
             Act::Accept(device) => {

@@ -1,11 +1,12 @@
-//! Inputs of the run call, by kind and seed: wild, plausible, at the corners, broken. The same kind and seed give the
-//! same input.
+//! Inputs of the run call, by kind and seed: wild, plausible, at the corners, broken, with a screen. The same kind and
+//! seed give the same input.
 
 use crate::isa::{encode, Instr};
-use crate::machine::{event_record, events_of, without_twins};
+use crate::machine::{event_record, events_of, long_log, run, without_twins, SHOWN};
 use crate::machine::{Event, Lines, Machine, Setup, EVENT, MAX_EVENTS, MAX_STEPS, MEMORY, PC, RECORD, SP};
 use crate::programs::setup;
 use crate::random::Random;
+use crate::screens::screen;
 
 /// What the run call is handed.
 #[derive(Clone, Debug, PartialEq, Eq)]
@@ -13,6 +14,7 @@ pub struct Input {
     pub memory: Vec<u8>,
     pub record: Vec<u8>,
     pub events: Vec<u8>,
+    pub log: Vec<u8>,
     pub n: u64,
 }
 
@@ -22,6 +24,7 @@ impl From<Setup> for Input {
             memory: setup.memory,
             record: setup.machine.to_record().to_vec(),
             events: setup.events.into_iter().flat_map(event_record).collect(),
+            log: Vec::new(),
             n: setup.n.into(),
         }
     }
@@ -34,7 +37,7 @@ impl Input {
         [&n, &self.record[..], &self.memory, &self.events].concat()
     }
 
-    fn put_word(&mut self, at: u16, value: u16) {
+    pub fn put_word(&mut self, at: u16, value: u16) {
         let at = usize::from(at & !1);
         self.memory[at..at + 2].copy_from_slice(&value.to_le_bytes());
     }
@@ -50,18 +53,39 @@ pub enum Kind {
     Corner,
     /// One rule broken or more, or nearly.
     Broken,
+    /// A program that stores to its output devices, with a log that may be too short for what they show.
+    Screen,
 }
 
-pub const KINDS: [Kind; 4] = [Kind::Wild, Kind::Plausible, Kind::Corner, Kind::Broken];
+pub const KINDS: [Kind; 5] = [Kind::Wild, Kind::Plausible, Kind::Corner, Kind::Broken, Kind::Screen];
 
 pub fn input(kind: Kind, seed: u64) -> Input {
     let mut random = Random::new(seed.wrapping_mul(0x9E37_79B9_7F4A_7C15) ^ kind as u64);
-    match kind {
+    let mut input = match kind {
         Kind::Wild => wild(&mut random),
         Kind::Plausible => setup(seed).into(),
         Kind::Corner => corner(&mut random),
-        Kind::Broken => broken(&mut random, seed),
-    }
+        Kind::Broken => return broken(&mut random, seed),
+        Kind::Screen => screen(&mut random),
+    };
+    lend_log(&mut input, &mut random);
+    input
+}
+
+/// A log of whole records and of any bytes: none, few, as many as steps or more, as many as the run needs, or one less.
+fn lend_log(input: &mut Input, random: &mut Random) {
+    let records = match random.below(8) {
+        0 => 0,
+        1 | 2 => random.below(6),
+        3 => input.n.min(MAX_STEPS) + random.below(3),
+        4 => random.below(input.n.min(200) + 1),
+        k => {
+            let Input { memory, record, events, n, .. } = &mut input.clone();
+            let needed = run(memory, *n, record, events, &mut long_log(*n)).map_or(0, |ran| ran.added);
+            u64::from(needed).saturating_sub(u64::from(k == 7))
+        }
+    };
+    input.log = (0..SHOWN * records as usize).map(|_| random.byte()).collect();
 }
 
 /// Counts of waiting events: any, or most of them zero, or full or nearly so.
@@ -111,7 +135,8 @@ fn wild(random: &mut Random) -> Input {
     if random.one_in(2) {
         m.lines = Lines::default();
     }
-    Input { memory, record: m.to_record().to_vec(), events: events(random, m.count, n, 12), n }
+    let record = m.to_record().to_vec();
+    Input { memory, record, events: events(random, m.count, n, 12), log: Vec::new(), n }
 }
 
 /// Addresses where something changes: the devices' ends, the vectors' ends, the ends of memory and of the signs.
@@ -180,7 +205,7 @@ fn corner(random: &mut Random) -> Input {
         (m.lines, m.cex) = (Lines::default(), 0);
     }
     let (record, events) = (m.to_record().to_vec(), events(random, m.count, n, 10));
-    let mut input = Input { memory: vec![0; MEMORY], record, events, n };
+    let mut input = Input { memory: vec![0; MEMORY], record, events, log: Vec::new(), n };
     furnish(&mut input, random);
     plant(&mut input, random, m.regs[PC], m.regs[SP]);
     input
@@ -225,12 +250,13 @@ fn plant(input: &mut Input, random: &mut Random, pc: u16, sp: u16) {
 }
 
 /// How many ways of breaking a rule there are, and of nearly breaking one.
-const BREAKS: u64 = 14;
+const BREAKS: u64 = 15;
 const NEARLY: u64 = 9;
 
 /// One to three rules broken, with near misses beside them, or near misses alone.
 fn broken(random: &mut Random, seed: u64) -> Input {
     let mut input = if random.one_in(2) { wild(random) } else { setup(seed).into() };
+    lend_log(&mut input, random);
     for _ in 0..random.below(3) {
         nearly(&mut input, random);
     }
@@ -290,6 +316,7 @@ fn break_rule(input: &mut Input, random: &mut Random, rule: u64) {
             break_rule(input, random, 12);
             break_rule(input, random, 10 + u64::from(any & 1));
         }
+        14 => input.log.resize(input.log.len() / SHOWN * SHOWN + 1 + usize::from(any) % 7, any),
         _ => {}
     }
 }

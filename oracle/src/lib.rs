@@ -19,6 +19,7 @@ pub mod programs;
 pub mod random;
 pub mod report;
 pub mod resume;
+pub mod screens;
 pub mod srec;
 pub mod srec_compare;
 pub mod srec_inputs;

@@ -9,6 +9,7 @@ use std::fmt;
 pub const MEMORY: usize = 65_536;
 pub const RECORD: usize = 32;
 pub const EVENT: usize = 8;
+pub const SHOWN: usize = 8;
 pub const MAX_EVENTS: usize = 4_096;
 pub const MAX_STEPS: u64 = 1_000_000;
 
@@ -106,6 +107,14 @@ pub struct Event {
     pub data: u8,
 }
 
+/// A byte that an output device showed: the step count before the step that stored it. (02, §1)
+#[derive(Clone, Copy, Debug, PartialEq, Eq)]
+pub struct Shown {
+    pub step: u32,
+    pub device: u8,
+    pub byte: u8,
+}
+
 /// What a step was.
 #[derive(Clone, Copy, Debug, PartialEq, Eq)]
 pub enum Act {
@@ -140,6 +149,10 @@ pub struct Trace {
     pub loaded: Vec<u16>,
     /// Bytes written by a store or a push, of the same value too.
     pub written: Vec<u16>,
+    /// The device bytes before the act, the due events applied.
+    pub devices: [u8; DEVICES as usize],
+    /// What it showed. (02, §1)
+    pub shown: Option<Shown>,
 }
 
 pub fn current(psw: u16) -> u16 {
@@ -252,6 +265,8 @@ struct Step<'a> {
     word: Option<u16>,
     loaded: Vec<u16>,
     written: Vec<u16>,
+    /// The device and the byte that a store showed. (02, §1)
+    shown: Option<(u8, u8)>,
     /// A write to R7 or a branch taken.
     moved_pc: bool,
 }
@@ -270,12 +285,14 @@ impl Machine {
             due.push((event.device, memory[2 * usize::from(event.device)]));
             self.apply(memory, *event);
         }
+        let devices = std::array::from_fn(|i| memory[i]);
         let (loaded, written) = (Vec::new(), Vec::new());
-        let mut step = Step { m: self, memory, word: None, loaded, written, moved_pc: false };
+        let mut step = Step { m: self, memory, word: None, loaded, written, shown: None, moved_pc: false };
         let (act, fetched) = step.act();
         let (word, loaded, written) = (step.word, step.loaded, step.written);
+        let shown = step.shown.map(|(device, byte)| Shown { step: count, device, byte });
         self.count += 1;
-        Some(Trace { act, due, fetched, word, loaded, written })
+        Some(Trace { act, due, fetched, word, loaded, written, devices, shown })
     }
 
     /// An event on a device.
@@ -447,12 +464,23 @@ impl Step<'_> {
         Ok(value)
     }
 
-    /// Stores a byte or a word, as ST and STR do.
+    /// Stores a byte or a word, as ST and STR do. What it shows goes by the statuses before the whole access.
     fn store(&mut self, address: u16, value: u16, byte: bool) -> Result<(), Faulted> {
-        for (a, part) in touched(address, byte)?.into_iter().zip(value.to_le_bytes()) {
+        let parts: Vec<(u16, u8)> = touched(address, byte)?.into_iter().zip(value.to_le_bytes()).collect();
+        self.shown = parts.iter().find_map(|&(a, part)| self.shows(a, part));
+        for (a, part) in parts {
             self.store_byte(a, part);
         }
         Ok(())
+    }
+
+    /// What a store of this byte shows: to the data byte of an output device with ENA set. (02, §1)
+    fn shows(&self, a: u16, value: u8) -> Option<(u8, u8)> {
+        if a >= DEVICES || is_status(a) {
+            return None;
+        }
+        let status = self.memory[usize::from(a - 1)];
+        (status & ENA != 0 && status & INPUT == 0).then_some(((a / 2) as u8, value))
     }
 
     /// A store to status changes bits 0 and 4 only. A store to data clears DBA on an output device.
@@ -678,6 +706,18 @@ pub fn event_record(event: Event) -> [u8; EVENT] {
     [a, b, c, d, event.device, event.data, 0, 0]
 }
 
+/// The record of 8 bytes of what was shown.
+pub fn shown_record(shown: Shown) -> [u8; SHOWN] {
+    let [a, b, c, d] = shown.step.to_le_bytes();
+    [a, b, c, d, shown.device, shown.byte, 0, 0]
+}
+
+/// What the records of a log hold.
+pub fn shown_of(log: &[u8]) -> Vec<Shown> {
+    let one = |r: &[u8]| Shown { step: u32::from_le_bytes([r[0], r[1], r[2], r[3]]), device: r[4], byte: r[5] };
+    log.chunks_exact(SHOWN).map(one).collect()
+}
+
 /// The records without those that share step and device with one before them.
 pub fn without_twins(mut events: Vec<Event>) -> Vec<Event> {
     let mut seen = HashSet::new();
@@ -691,8 +731,8 @@ pub fn twins(events: &[Event]) -> Option<(usize, usize)> {
     (0..events.len()).find_map(|j| (0..j).find(|&i| same(i, j)).map(|i| (i, j)))
 }
 
-/// The refusal of a run, 1 to 7 or 13, or nothing.
-pub fn refusal(memory: &[u8], n: u64, record: &[u8], events: &[u8]) -> Option<u8> {
+/// The refusal of a run, 1 to 7, 13 or 9, or nothing. Of the log the length alone is tried.
+pub fn refusal(memory: &[u8], n: u64, record: &[u8], events: &[u8], log: &[u8]) -> Option<u8> {
     if memory.len() != MEMORY {
         return Some(1);
     }
@@ -724,7 +764,7 @@ pub fn refusal(memory: &[u8], n: u64, record: &[u8], events: &[u8]) -> Option<u8
     if without_twins(listed.clone()).len() != listed.len() {
         return Some(13);
     }
-    None
+    (!log.len().is_multiple_of(SHOWN)).then_some(9)
 }
 
 /// What a run is handed: a machine with its memory, events in the order of their steps, and how many steps.
@@ -736,16 +776,23 @@ pub struct Setup {
     pub n: u32,
 }
 
-/// How a run ended: reason 1 if halted, else 0, and the steps done.
+/// How a run ended: reason 1 if halted, 2 if the log had no room for what the next step would show, else 0; the steps
+/// done, and the records added to the log.
 #[derive(Clone, Copy, Debug, PartialEq, Eq)]
 pub struct Ran {
     pub reason: u8,
     pub steps: u32,
+    pub added: u32,
 }
 
-/// A run of n steps. A refused one gives its number and leaves memory and record as they were.
-pub fn run(memory: &mut [u8], n: u64, record: &mut [u8], events: &[u8]) -> Result<Ran, u8> {
-    run_watched(memory, n, record, events, |_, _, _, _| ())
+/// A run of n steps. A refused one gives its number and leaves memory, record and log as they were.
+pub fn run(memory: &mut [u8], n: u64, record: &mut [u8], events: &[u8], log: &mut [u8]) -> Result<Ran, u8> {
+    run_watched(memory, n, record, events, log, |_, _, _, _| ())
+}
+
+/// A log that no run of n steps can fill: a step shows one byte at most.
+pub fn long_log(n: u64) -> Vec<u8> {
+    vec![0; SHOWN * n.min(MAX_STEPS) as usize]
 }
 
 /// A run whose every step is shown: what it did, the machine before and after it, and the memory after it.
@@ -754,30 +801,58 @@ pub fn run_watched(
     n: u64,
     record: &mut [u8],
     events: &[u8],
+    log: &mut [u8],
     mut watch: impl FnMut(&Trace, &Machine, &Machine, &[u8]),
 ) -> Result<Ran, u8> {
-    if let Some(number) = refusal(memory, n, record, events) {
+    if let Some(number) = refusal(memory, n, record, events, log) {
         return Err(number);
     }
     let events = events_of(events);
     let mut m = Machine::from_record(record);
-    let mut steps = 0;
-    while u64::from(steps) < n {
+    let mut ran = Ran { reason: 0, steps: 0, added: 0 };
+    let mut room = log.chunks_exact_mut(SHOWN);
+    while u64::from(ran.steps) < n {
         let before = m;
+        let devices: [u8; DEVICES as usize] = std::array::from_fn(|i| memory[i]);
         let Some(trace) = m.step(memory, &events) else { break };
+        if let Some(shown) = trace.shown {
+            let Some(place) = room.next() else {
+                // The step is not taken. It has written device bytes alone: its events', and its own.
+                assert!(trace.written.iter().all(|&a| a < DEVICES));
+                memory[..DEVICES.into()].copy_from_slice(&devices);
+                (m, ran.reason) = (before, 2);
+                break;
+            };
+            place.copy_from_slice(&shown_record(shown));
+            ran.added += 1;
+        }
         watch(&trace, &before, &m, memory);
-        steps += 1;
+        ran.steps += 1;
+    }
+    if m.halted {
+        ran.reason = 1;
     }
     record.copy_from_slice(&m.to_record());
-    Ok(Ran { reason: u8::from(m.halted), steps })
+    Ok(ran)
 }
 
-/// The one number that the call replies: the refusal in bits 7-0, the reason in 15-8, the steps done in 39-16.
+/// The one number that the call replies: the refusal in bits 7-0, the reason in 15-8, the steps done in 39-16, the
+/// records added to the log in 63-40.
 pub fn reply(result: Result<Ran, u8>) -> u64 {
     match result {
         Err(number) => number.into(),
-        Ok(ran) => u64::from(ran.reason) << 8 | u64::from(ran.steps) << 16,
+        Ok(ran) => u64::from(ran.reason) << 8 | u64::from(ran.steps) << 16 | u64::from(ran.added) << 40,
     }
+}
+
+/// The steps done that a reply tells.
+pub fn steps_of(reply: u64) -> u64 {
+    reply >> 16 & 0xFF_FFFF
+}
+
+/// The records added that a reply tells.
+pub fn added_of(reply: u64) -> u64 {
+    reply >> 40
 }
 
 /// What the program reads, cut into its parts.
@@ -813,11 +888,12 @@ pub fn line_of(closed: Result<(Ran, Machine), u8>) -> String {
     }
 }
 
-/// The line that the program prints for its input, and the memory afterwards where nothing was refused.
+/// The line that the program prints for its input, as if the run were lent a log long enough, and the memory afterwards
+/// where nothing was refused.
 pub fn sheet(input: &[u8]) -> (String, Option<Vec<u8>>) {
     let closed = cut(input).and_then(|Parts { n, record, memory, events }| {
         let (mut record, mut memory) = (record.to_vec(), memory.to_vec());
-        let ran = run(&mut memory, n.into(), &mut record, events)?;
+        let ran = run(&mut memory, n.into(), &mut record, events, &mut long_log(n.into()))?;
         Ok((ran, Machine::from_record(&record), memory))
     });
     match closed {

@@ -3,9 +3,10 @@
 //! page, and every text is escaped where it is put in.
 
 /// The sections in their order; two in one entry stand beside each other where there is room.
-const ORDER: [&[&str]; 13] = [
+const ORDER: [&[&str]; 14] = [
     &["refusal"],
     &["run"],
+    &["screen"],
     &["registers", "psw"],
     &["cex"],
     &["changed"],
@@ -71,6 +72,8 @@ pub struct Table {
 pub enum Block {
     Text(String),
     Table(Table),
+    /// Bytes as a screen shows them: those that are no printable character stand in a box, in hexadecimal.
+    Screen(Vec<u8>),
 }
 
 pub struct Section {
@@ -115,6 +118,10 @@ impl Section {
 
 pub fn text(text: impl Into<String>) -> Block {
     Block::Text(text.into())
+}
+
+pub fn screen(bytes: Vec<u8>) -> Block {
+    Block::Screen(bytes)
 }
 
 pub fn table(caption: impl Into<String>, columns: &[&'static str], rows: Vec<Row>) -> Block {
@@ -203,7 +210,18 @@ fn block(block: &Block) -> String {
     match block {
         Block::Text(text) => format!("<p>{}</p>\n", escape(text)),
         Block::Table(table) => format!("<div class=\"wide\">\n{}</div>\n", table_of(table)),
+        Block::Screen(bytes) => format!("<pre class=\"screen\">{}</pre>\n", screen_of(bytes)),
     }
+}
+
+/// The bytes as text. A line feed ends a line, its box included; the first newline of a <pre> would be dropped.
+fn screen_of(bytes: &[u8]) -> String {
+    let one = |&byte: &u8| match byte {
+        0x20..=0x7E => escape(&char::from(byte).to_string()),
+        0x0A => "<b class=\"byte\">0A</b>\n".to_string(),
+        _ => format!("<b class=\"byte\">{byte:02X}</b>"),
+    };
+    bytes.iter().map(one).collect()
 }
 
 fn table_of(table: &Table) -> String {

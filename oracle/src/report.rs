@@ -5,6 +5,7 @@
 mod memory;
 mod refused;
 mod run;
+mod screen;
 mod stack;
 mod state;
 
@@ -68,6 +69,7 @@ pub fn report(input: &[u8], printed: &str, wanted: &Wanted) -> Result<String, Di
 fn accepted(run: &Followed) -> Vec<Section> {
     vec![
         run::course(run),
+        screen::section(run),
         run::events(run),
         run::turns(run),
         run::last_steps(run),

@@ -7,13 +7,13 @@ use oracle::coverage::Coverage;
 use oracle::inputs::{input, Input, Kind, KINDS};
 use oracle::isa::Instr;
 use oracle::machine::{event_record, events_of, reply, run, without_twins, word_at, Act, Event, Machine, Trace};
-use oracle::machine::{DBA, DEVICES, EVENT, MEMORY, OF, PC, RECORD, SP, VECTORS};
+use oracle::machine::{steps_of, DBA, DEVICES, EVENT, MEMORY, OF, PC, RECORD, SHOWN, SP, VECTORS};
 use std::fs;
 use std::path::{Path, PathBuf};
 
 /// The oracle itself, as an engine.
 fn honest(i: &mut Input) -> u64 {
-    reply(run(&mut i.memory, i.n, &mut i.record, &i.events))
+    reply(run(&mut i.memory, i.n, &mut i.record, &i.events, &mut i.log))
 }
 
 /// The oracle, with a change where the run is accepted.
@@ -31,12 +31,14 @@ type Change = fn(&Trace, &Machine, &mut Machine, &mut [u8]);
 
 /// The oracle step by step, with a change after each.
 fn by_steps(i: &mut Input, change: Change) -> u64 {
-    let whole = honest(&mut i.clone());
+    let mut right = i.clone();
+    let whole = honest(&mut right);
     if whole & 0xFF != 0 {
         return whole;
     }
+    i.log = right.log;
     let (mut m, events) = (Machine::from_record(&i.record), events_of(&i.events));
-    for _ in 0..i.n {
+    for _ in 0..steps_of(whole) {
         let before = m;
         let Some(trace) = m.step(&mut i.memory, &events) else { break };
         change(&trace, &before, &mut m, &mut i.memory);
@@ -76,12 +78,13 @@ fn dba_cleared_before_the_fault(trace: &Trace, before: &Machine, after: &mut Mac
 /// The oracle step by step, with another count of each device: from those before and after the step, and whether one of
 /// its events falls on the step.
 fn counting(i: &mut Input, count: fn(u8, u8, bool) -> u8) -> u64 {
-    let (whole, n) = (honest(&mut i.clone()), i.n);
+    let (mut right, n) = (i.clone(), i.n);
+    let whole = honest(&mut right);
     if whole & 0xFF != 0 {
         return whole;
     }
-    i.n = 1;
-    for _ in 0..whole >> 16 {
+    (i.n, i.log) = (1, vec![0; SHOWN]);
+    for _ in 0..steps_of(whole) {
         let before = Machine::from_record(&i.record);
         let due: Vec<u8> =
             events_of(&i.events).into_iter().filter(|e| e.step == before.count).map(|e| e.device).collect();
@@ -93,7 +96,7 @@ fn counting(i: &mut Input, count: fn(u8, u8, bool) -> u8) -> u64 {
         }
         i.record = after.to_record().to_vec();
     }
-    i.n = n;
+    (i.n, i.log) = (n, right.log);
     whole
 }
 
@@ -118,7 +121,7 @@ fn any_two(list: &[Event], alike: fn(&Event, &Event) -> bool) -> bool {
 
 /// Engines that are wrong, the impostors of 01 first, each with a kind of input that shows it.
 #[rustfmt::skip]
-const WRONG: [(&str, Kind, Engine); 26] = [
+const WRONG: [(&str, Kind, Engine); 28] = [
     ("takes the first step truly and then only counts", Kind::Plausible, |i| {
         let n = std::mem::replace(&mut i.n, 1);
         let number = honest(i);
@@ -165,7 +168,6 @@ const WRONG: [(&str, Kind, Engine); 26] = [
         if let (true, Some(byte)) = (number & 0xFF != 0, i.memory.first_mut()) { *byte ^= 1 }
         number
     }),
-    ("replies with more than there is", Kind::Wild, |i| accepted(i, |_, number| number | 1 << 40)),
     ("lets a count of 15 wrap to 0", Kind::Corner, |i| counting(i, |before, after, due| {
         if due && before == 15 && after == 15 { 0 } else { after }
     })),
@@ -184,6 +186,18 @@ const WRONG: [(&str, Kind, Engine); 26] = [
         let number = honest(i);
         if number & 0xFF != 0 && old != 0 { i.record[20] = old }
         number
+    }),
+    ("replies with records that are not there", Kind::Wild, |i| accepted(i, |_, number| number | 1 << 63)),
+    ("cuts the log's length to whole records", Kind::Broken, |i| {
+        let mut whole = Input { log: i.log[..i.log.len() / SHOWN * SHOWN].to_vec(), ..i.clone() };
+        let number = honest(&mut whole);
+        i.log[..whole.log.len()].copy_from_slice(&whole.log);
+        (i.memory, i.record) = (whole.memory, whole.record);
+        number
+    }),
+    ("tells of the log before it tells of twins", Kind::Broken, |i| {
+        let number = honest(i);
+        if number == 13 && i.log.len() % SHOWN != 0 { 9 } else { number }
     }),
     ("works on a byte where SWPB has its ignored bit set", Kind::Corner, |i| by_steps(i, swpb_by_the_ignored_bit)),
     ("faults on an entry at an odd SP", Kind::Plausible, |i| by_steps(i, entry_at_an_odd_sp_faults)),
@@ -265,7 +279,7 @@ fn an_input_of_wrong_lengths_is_saved_too() {
         ("memory", Input { memory: vec![7; MEMORY - 1], ..input(Kind::Wild, 4) }),
         ("record", Input { record: vec![7; RECORD + 1], ..input(Kind::Wild, 4) }),
         ("n", Input { n: u64::MAX, ..input(Kind::Wild, 4) }),
-        ("nothing", Input { memory: vec![], record: vec![], events: vec![], n: 1 << 32 }),
+        ("nothing", Input { memory: vec![], record: vec![], events: vec![], log: vec![], n: 1 << 32 }),
     ] {
         let wrong = faked(&given, |outcome| outcome.reply = 0);
         let place = wrong.save(&empty("parts"), name).expect("saved");

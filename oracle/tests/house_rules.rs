@@ -114,14 +114,17 @@ fn words_at_even_places_from_odd_registers() {
 fn limits_of_a_run() {
     let (m, mut memory) = start("Here BRA Here", 0);
     let mut record = m.to_record();
-    assert_eq!(run(&mut memory, 1_000_001, &mut record, &[]), Err(2));
-    assert_eq!(run(&mut memory, 0, &mut record, &[]), Ok(Ran { reason: 0, steps: 0 }));
+    assert_eq!(run(&mut memory, 1_000_001, &mut record, &[], &mut []), Err(2));
+    assert_eq!(run(&mut memory, 0, &mut record, &[], &mut []), Ok(Ran { reason: 0, steps: 0, added: 0 }));
     assert_eq!(record, m.to_record());
-    assert_eq!(run(&mut memory, 1_000_000, &mut record, &[]), Ok(Ran { reason: 0, steps: 1_000_000 }));
+    assert_eq!(
+        run(&mut memory, 1_000_000, &mut record, &[], &mut []),
+        Ok(Ran { reason: 0, steps: 1_000_000, added: 0 })
+    );
     assert_eq!(Machine::from_record(&record), Machine { count: 1_000_000, ..m });
     let events = |n: u32| (0..n).flat_map(|i| event_record(event(i, 0, 0))).collect::<Vec<u8>>();
-    assert_eq!(run(&mut memory, 1, &mut record, &events(4096)), Ok(Ran { reason: 0, steps: 1 }));
-    assert_eq!(run(&mut memory, 1, &mut record, &events(4097)), Err(5));
+    assert_eq!(run(&mut memory, 1, &mut record, &events(4096), &mut []), Ok(Ran { reason: 0, steps: 1, added: 0 }));
+    assert_eq!(run(&mut memory, 1, &mut record, &events(4097), &mut []), Err(5));
 }
 
 // ---- plausible misreadings
@@ -177,8 +180,8 @@ fn a_halted_machine_takes_no_step_and_no_event() {
     assert_eq!(m.step(&mut memory, &[event(0, 0, 9)]), None);
     assert_eq!((m, &memory), (was, &bytes));
     let mut record = m.to_record();
-    assert_eq!(run(&mut memory, 0, &mut record, &[]), Ok(Ran { reason: 1, steps: 0 }));
-    assert_eq!(run(&mut memory, 5, &mut record, &[]), Ok(Ran { reason: 1, steps: 0 }));
+    assert_eq!(run(&mut memory, 0, &mut record, &[], &mut []), Ok(Ran { reason: 1, steps: 0, added: 0 }));
+    assert_eq!(run(&mut memory, 5, &mut record, &[], &mut []), Ok(Ran { reason: 1, steps: 0, added: 0 }));
 }
 
 #[test]
@@ -746,22 +749,23 @@ struct Input {
     n: u64,
     record: Vec<u8>,
     events: Vec<u8>,
+    log: Vec<u8>,
 }
 
 fn accepted() -> Input {
     let events = [event(0, 0, 1), event(0, 7, 2), event(9, 3, 3)].iter().flat_map(|&e| event_record(e)).collect();
-    Input { memory: vec![0; MEMORY], n: 10, record: vec![0; RECORD], events }
+    Input { memory: vec![0; MEMORY], n: 10, record: vec![0; RECORD], events, log: vec![7; 16] }
 }
 
 /// The refusal of the input that `break_it` makes of an accepted one; nothing may change when it is refused.
 fn refused(break_it: impl Fn(&mut Input)) -> Option<u8> {
     let mut i = accepted();
     break_it(&mut i);
-    let (memory, record) = (i.memory.clone(), i.record.clone());
-    match run(&mut i.memory, i.n, &mut i.record, &i.events) {
+    let (memory, record, log) = (i.memory.clone(), i.record.clone(), i.log.clone());
+    match run(&mut i.memory, i.n, &mut i.record, &i.events, &mut i.log) {
         Ok(_) => None,
         Err(number) => {
-            assert!(i.memory == memory && i.record == record);
+            assert!(i.memory == memory && i.record == record && i.log == log);
             Some(number)
         }
     }
@@ -837,7 +841,7 @@ fn twins_are_refused_wherever_they_stand() {
 fn refusals_in_their_order() {
     // All at once, then mended one by one.
     type Break = fn(&mut Input);
-    let all: [(Break, u8); 8] = [
+    let all: [(Break, u8); 9] = [
         (|i| i.memory.push(0), 1),
         (|i| i.n = 1_000_001, 2),
         (|i| i.record[22..26].copy_from_slice(&u32::MAX.to_le_bytes()), 2),
@@ -846,6 +850,7 @@ fn refusals_in_their_order() {
         (|i| i.events[23] = 1, 6),
         (|i| i.events[0] = 200, 7),
         (|i| i.events[12] = i.events[4], 13),
+        (|i| i.log.push(0), 9),
     ];
     for from in 0..all.len() {
         let broken = |i: &mut Input| all[from..].iter().for_each(|(break_it, _)| break_it(i));

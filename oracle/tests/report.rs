@@ -34,6 +34,7 @@ fn program(source: &str, events: &[(u32, u8, u8)], n: u64, change: impl FnOnce(&
         memory: assemble(source).memory(),
         record: m.to_record().to_vec(),
         events: events.iter().flat_map(record).collect(),
+        log: Vec::new(),
         n,
     }
     .to_bytes()
@@ -524,4 +525,56 @@ fn the_checksum_is_that_of_cksum() {
     assert_eq!(cksum(b""), 4_294_967_295);
     assert_eq!(cksum(b"123456789"), 930_766_865);
     assert_eq!(cksum(&[0; 65_536]), 4_215_202_376);
+}
+
+/// Two screens: device 2 shows A and B, device 3 a line feed, a < and a byte that is no character.
+const SCREENS: &str = "
+            org #0004
+            byte #10
+            org #0006
+            byte #10
+            org #0008
+            byte #11
+            org #1000
+            movlz #41,R1
+            str.b R1,R0,$5
+            add $1,R1
+            str.b R1,R0,$5
+            movlz #3C,R1
+            str.b R1,R0,$7
+            movlz #0A,R1
+            str.b R1,R0,$7
+            movlz #FF,R1
+            str.b R1,R0,$7
+Here        bra Here
+";
+
+#[test]
+fn the_screen_of_each_output_device() {
+    let page = page_of(&program(SCREENS, &[], 12, |m| m.count = 1_000));
+    assert!(page.contains("<h2 id=\"screen\">The screen</h2>"));
+    assert!(page.contains("<p>Device 2 showed 2 bytes.</p>\n<pre class=\"screen\">AB</pre>"));
+    assert!(page.contains(
+        "<p>Device 3 showed 3 bytes. A byte that is no printable character stands in a box, in hexadecimal.</p>"
+    ));
+    let boxed = |byte: &str| format!("<b class=\"byte\">{byte}</b>");
+    assert!(page.contains(&format!("<pre class=\"screen\">&lt;{}\n{}</pre>", boxed("0A"), boxed("FF"))));
+    assert!(page.contains("<p>Output device 4 has ENA set at the close and showed nothing.</p>"));
+    let shown = rows(&page, "screen");
+    assert_eq!(shown[0], ["1", "1,001", "#41 &#39;A&#39;"]);
+    assert_eq!(shown[1], ["2", "1,003", "#42 &#39;B&#39;"]);
+    assert!(page.contains("<td>2 by device 2, 3 by device 3</td>"));
+    // The screen stands before the registers.
+    assert!(page.find("id=\"screen\"") < page.find("id=\"registers\""));
+}
+
+#[test]
+fn nothing_shown_and_much_shown() {
+    let page = page_of(&program("            org #1000\nHere        bra Here\n", &[], 4, |_| ()));
+    assert!(page.contains("<p>Nothing was shown: no instruction stored to the data byte"));
+    let much = "            org #0000\n            byte #10\n            org #1000\nHere        str.b R1,R0,$1\n            bra Here\n";
+    let page = page_of(&program(much, &[], 10_000, |m| m.regs[1] = 0x61));
+    assert!(page.contains("<p>Device 0 showed 5,000 bytes. The last 3,000 are left out here.</p>"));
+    let shown = rows(&page, "screen");
+    assert_eq!((shown.len(), &shown[48][2][..], &shown[96][1][..]), (97, "4,904 more are left out", "9,998"));
 }

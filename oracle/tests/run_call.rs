@@ -1,5 +1,5 @@
-//! libxm23.a's run call beside the oracle: reply, record and all 65,536 bytes, on inputs of every kind. `make fuzz`
-//! goes on from new seeds.
+//! libxm23.a's run call beside the oracle: reply, record, all 65,536 bytes and all of the log, on inputs of every kind.
+//! `make fuzz` goes on from new seeds.
 
 mod library;
 
@@ -8,7 +8,8 @@ use oracle::case;
 use oracle::compare::{compare, compare_many, folder, Difference};
 use oracle::coverage::{owed, Coverage};
 use oracle::inputs::{input, Input, Kind, KINDS};
-use oracle::machine::{event_record, Event, Machine, MEMORY, PC, RECORD};
+use oracle::machine::{added_of, event_record, long_log, reply, shown_of, steps_of};
+use oracle::machine::{Event, Machine, MEMORY, PC, RECORD, SHOWN};
 use oracle::random::Random;
 
 /// Saves a difference and ends the test with it.
@@ -32,6 +33,7 @@ fn count(kind: Kind) -> u64 {
         Kind::Plausible => 70_000,
         Kind::Corner => 60_000,
         Kind::Broken => 40_000,
+        Kind::Screen => 40_000,
     }
 }
 
@@ -61,7 +63,7 @@ fn counting(n: u64) -> Input {
     m.regs[PC] = 0x1000;
     let mut memory = vec![0; MEMORY];
     memory[0x1000..0x1004].copy_from_slice(&[0x88, 0x40, 0xFE, 0x3F]);
-    Input { memory, record: m.to_record().to_vec(), events: Vec::new(), n }
+    Input { memory, record: m.to_record().to_vec(), events: Vec::new(), log: Vec::new(), n }
 }
 
 /// The cases of 01's list that are no program, and those about lengths and numbers.
@@ -90,6 +92,10 @@ fn limits() {
         assert_eq!(reply("events", &Input { events, ..counting(1) }), number);
         let number = if number != 5 && length > 8 { 13 } else { number };
         assert_eq!(reply("twins", &Input { events: vec![0; length], ..counting(1) }), number);
+        let number = if length % SHOWN != 0 { 9 } else { 1 << 16 };
+        assert_eq!(reply("log", &Input { log: vec![3; length], ..counting(1) }), number);
+        let twins = Input { events: vec![0; 16], log: vec![3; length], ..counting(1) };
+        assert_eq!(reply("twins and log", &twins), 13);
     }
 }
 
@@ -114,7 +120,8 @@ fn bits_by_their_number() {
             m.cex = random.word() & 0x40;
             let mut memory = vec![0; MEMORY];
             memory[0x1000..0x1002].copy_from_slice(&(word as u16).to_le_bytes());
-            let given = Input { memory, record: m.to_record().to_vec(), events: Vec::new(), n: 1 };
+            let record = m.to_record().to_vec();
+            let given = Input { memory, record, events: Vec::new(), log: Vec::new(), n: 1 };
             same(&format!("word {word:04X}"), &given, &mut seen);
         }
     }
@@ -125,7 +132,7 @@ fn bits_by_their_number() {
 fn null_where_there_is_nothing() {
     let mut i = counting(3);
     let (none, no) = (std::ptr::null_mut(), std::ptr::null());
-    let call = |m: *mut u8, ml, r: *mut u8, rl, n| unsafe { xm23_run(m, ml, r, rl, no, 0, n) };
+    let call = |m: *mut u8, ml, r: *mut u8, rl, n| unsafe { xm23_run(m, ml, r, rl, no, 0, none, 0, n) };
     assert_eq!(call(none, 0, none, 0, 3), 1);
     assert_eq!(call(i.memory.as_mut_ptr(), MEMORY, none, 0, 3), 3);
     assert_eq!(call(i.memory.as_mut_ptr(), MEMORY, i.record.as_mut_ptr(), RECORD, 3), 3 << 16);
@@ -138,19 +145,50 @@ fn slices_close_as_the_whole_run() {
     let mut random = Random::new(12);
     for seed in 1..=4_000 {
         let kind = if seed % 4 == 0 { Kind::Corner } else { Kind::Plausible };
-        let given = input(kind, seed);
+        let given = Input { log: Vec::new(), ..input(kind, seed) };
+        let given = Input { log: long_log(given.n), ..given };
         let (whole, closed) = same(&format!("{kind:?} {seed}"), &given, &mut seen);
         let (mut slices, mut steps, mut left) = (given.clone(), 0, given.n);
         while left > 0 {
             slices.n = random.below(left + 1).min(1 + random.below(40));
             let reply = library(&mut slices);
             assert_eq!(reply & 0xFF, 0);
-            steps += reply >> 16;
+            steps += steps_of(reply);
             left -= slices.n;
         }
-        slices.n = given.n;
-        assert!(slices == closed && steps == whole >> 16, "{kind:?} {seed}: slices close otherwise");
+        (slices.n, slices.log) = (given.n, closed.log.clone());
+        assert!(slices == closed && steps == steps_of(whole), "{kind:?} {seed}: slices close otherwise");
     }
+}
+
+/// A run with a log too short, then again with a fresh one and the same list, and so on: the logs joined are the one log
+/// of the one run, and the close is its close. A log of no bytes takes the run to the next step that shows something.
+#[test]
+fn logs_joined_are_the_one_log() {
+    let (mut seen, mut random, mut short) = (Coverage::default(), Random::new(15), 0);
+    for seed in 1..=4_000 {
+        let kind = if seed % 4 == 0 { Kind::Plausible } else { Kind::Screen };
+        let mut given = input(kind, seed);
+        given.log = long_log(given.n);
+        let (whole, closed) = same(&format!("{kind:?} {seed}"), &given, &mut seen);
+        let (mut slices, mut joined, mut steps, mut last) = (given.clone(), Vec::<u8>::new(), 0, 2);
+        while last == 2 {
+            slices.log = vec![random.byte(); SHOWN * random.below(4) as usize];
+            slices.n = given.n - steps;
+            let reply = library(&mut slices);
+            let (added, full) = (SHOWN * added_of(reply) as usize, slices.log.len());
+            last = reply >> 8 & 0xFF;
+            assert!(reply & 0xFF == 0 && (last != 2 || added == full), "{kind:?} {seed}: reply {reply:016X}");
+            joined.extend(&slices.log[..added]);
+            steps += steps_of(reply);
+            short += u32::from(last == 2);
+        }
+        (slices.n, slices.log) = (given.n, closed.log.clone());
+        assert!(slices == closed && steps == steps_of(whole), "{kind:?} {seed}: slices close otherwise");
+        assert_eq!(joined, closed.log[..SHOWN * added_of(whole) as usize], "{kind:?} {seed}");
+        assert_eq!(last, whole >> 8 & 0xFF, "{kind:?} {seed}");
+    }
+    assert!(short > 4_000, "{short} times a log was too short");
 }
 
 /// 4,096 events over a run of many steps, all of them due.
@@ -165,6 +203,7 @@ fn a_long_list_over_a_long_run() {
         let list = (0..4_096).map(|i| Event { step: step(i), device: random.below(8) as u8, data: random.byte() });
         given.events = list.flat_map(event_record).collect();
         given.n = 20_500;
+        given.log = long_log(given.n);
         same(&format!("long list {seed}"), &given, &mut seen);
     }
 }
@@ -175,9 +214,16 @@ fn readable_cases() {
     let cases = case::all();
     assert!(cases.len() >= 20, "{} cases", cases.len());
     for case in cases {
-        let (_, closed) = same(&case.name, &case.input, &mut seen);
+        let (number, closed) = same(&case.name, &case.input, &mut seen);
         for (at, byte) in case.bytes {
             assert_eq!(closed.memory[usize::from(at)], byte, "{}: byte #{at:04X}", case.name);
+        }
+        if let Some(expected) = case.reply {
+            assert_eq!(number, reply(expected), "{}: reply {number:016X}", case.name);
+        }
+        if let Some(expected) = case.shown {
+            let added = SHOWN * added_of(number) as usize;
+            assert_eq!(shown_of(&closed.log[..added]), expected, "{}", case.name);
         }
     }
 }

@@ -103,7 +103,7 @@ static void sentences(void)
         XM23_ACCEPTED,           XM23_REFUSED_MEMORY,      XM23_REFUSED_STEPS,
         XM23_REFUSED_RECORD,     XM23_REFUSED_RECORD_BITS, XM23_REFUSED_EVENTS,
         XM23_REFUSED_EVENT_FIELDS, XM23_REFUSED_EVENT_ORDER, XM23_REFUSED_INSTRUCTION,
-        XM23_REFUSED_EVENT_TWINS, XM23_REFUSED_STACK,
+        XM23_REFUSED_EVENT_TWINS, XM23_REFUSED_STACK,      XM23_REFUSED_LOG,
         XM23_REFUSED_SREC_FORM,  XM23_REFUSED_SREC_CHECKSUM, XM23_REFUSED_SREC_ROOM,
     };
     const char *const none = xm23_refusal_text(0xFF);
@@ -218,7 +218,8 @@ static void parts(void)
 static uint8_t memory[XM23_MEMORY_SIZE + 1], record[XM23_RECORD_SIZE + 1];
 static uint8_t events[XM23_EVENT_SIZE * (XM23_MAX_EVENTS + 1)];
 static uint8_t memory_before[sizeof memory], record_before[sizeof record], events_before[sizeof events];
-static size_t memory_len, record_len, events_len;
+static uint8_t screen[XM23_LOG_SIZE * 4], log_before[sizeof screen];
+static size_t memory_len, record_len, events_len, log_len;
 
 static void put_two(uint8_t *at, unsigned value)
 {
@@ -250,6 +251,8 @@ static void example(void)
     memory_len = XM23_MEMORY_SIZE;
     record_len = XM23_RECORD_SIZE;
     events_len = 0;
+    memset(screen, 0x5A, sizeof screen);
+    log_len = 0;
     put_two(record + XM23_RECORD_REGISTER(7), 0x0801);
     put_two(record + XM23_RECORD_REGISTER(6), 0x0800);
     put_two(record + XM23_RECORD_PSW, 0x60E0);
@@ -260,7 +263,8 @@ static uint64_t run(uint64_t n)
     memcpy(memory_before, memory, sizeof memory);
     memcpy(record_before, record, sizeof record);
     memcpy(events_before, events, sizeof events);
-    return xm23_run(memory, memory_len, record, record_len, events, events_len, n);
+    memcpy(log_before, screen, sizeof screen);
+    return xm23_run(memory, memory_len, record, record_len, events, events_len, screen, log_len, n);
 }
 
 /* The run is refused with the number alone, and every buffer is as it was. */
@@ -272,16 +276,25 @@ static void turned_back(const char *what, uint64_t n, unsigned refusal)
     same(what, (uint64_t)memcmp(memory, memory_before, sizeof memory), 0);
     same(what, (uint64_t)memcmp(record, record_before, sizeof record), 0);
     same(what, (uint64_t)memcmp(events, events_before, sizeof events), 0);
+    same(what, (uint64_t)memcmp(screen, log_before, sizeof screen), 0);
+}
+
+/* The run goes so far and adds so many records; the rest of the log is as it was. */
+static void ran_logging(const char *what, uint64_t n, unsigned reason, uint32_t steps, uint32_t added)
+{
+    uint64_t reply = run(n);
+    size_t used = XM23_LOG_SIZE * added;
+    same(what, XM23_RUN_REFUSAL(reply), XM23_ACCEPTED);
+    same(what, XM23_RUN_REASON(reply), reason);
+    same(what, XM23_RUN_STEPS(reply), steps);
+    same(what, XM23_RUN_ADDED(reply), added);
+    same(what, (uint64_t)memcmp(events, events_before, sizeof events), 0);
+    same(what, (uint64_t)memcmp(screen + used, log_before + used, sizeof screen - used), 0);
 }
 
 static void ran(const char *what, uint64_t n, unsigned reason, uint32_t steps)
 {
-    uint64_t reply = run(n);
-    same(what, XM23_RUN_REFUSAL(reply), XM23_ACCEPTED);
-    same(what, XM23_RUN_REASON(reply), reason);
-    same(what, XM23_RUN_STEPS(reply), steps);
-    same(what, reply >> 40, 0);
-    same(what, (uint64_t)memcmp(events, events_before, sizeof events), 0);
+    ran_logging(what, n, reason, steps, 0);
 }
 
 static void accepted_runs(void)
@@ -351,6 +364,75 @@ static void accepted_runs(void)
     same("halted", record[XM23_RECORD_HALTED], 1);
     ran("halted", 9, XM23_REASON_HALTED, 0);
     ran("halted, no step", 0, XM23_REASON_HALTED, 0);
+}
+
+/* A record of the log: its step, device and byte, and two bytes of 0. */
+static void logged(const char *what, size_t i, uint32_t step, unsigned device, unsigned byte)
+{
+    const uint8_t *at = screen + XM23_LOG_SIZE * i;
+    same(what, two(at + XM23_LOG_STEP) | (uint32_t)two(at + XM23_LOG_STEP + 2) << 16, step);
+    same(what, at[XM23_LOG_DEVICE], device);
+    same(what, at[XM23_LOG_BYTE], byte);
+    same(what, two(at + XM23_LOG_ZERO), 0);
+}
+
+/* A program that shows the characters from A on, one every third step, on device 2 from step count 65,536 on. */
+static void typewriter(void)
+{
+    example();
+    put_two(record + XM23_RECORD_REGISTER(0), 4);
+    put_two(record + XM23_RECORD_REGISTER(1), 'A');
+    put_two(record + XM23_RECORD_REGISTER(7), 0x1000);
+    put_two(record + XM23_RECORD_COUNT + 2, 1);
+    put_two(memory + 0x1000, 0xC0C8); /* STR.B R1,R0,$1 */
+    put_two(memory + 0x1002, 0x4089); /* ADD $1,R1 */
+    put_two(memory + 0x1004, 0x3FFD); /* BRA to the store */
+    memory[4] = 0x10;                 /* device 2: output, ENA */
+}
+
+static void logs(void)
+{
+    typewriter();
+    log_len = 3 * XM23_LOG_SIZE;
+    ran_logging("three characters", 7, XM23_REASON_DONE, 7, 3);
+    logged("the first", 0, 65536, 2, 'A');
+    logged("the second", 1, 65539, 2, 'B');
+    logged("the third", 2, 65542, 2, 'C');
+    same("data", memory[5], 'C');
+
+    /* The log is full; the run goes on to the step that would show the fourth. */
+    typewriter();
+    log_len = 3 * XM23_LOG_SIZE;
+    put_event(0, 65545, 2, 0);
+    events_len = XM23_EVENT_SIZE;
+    ran_logging("no room for the fourth", 30, XM23_REASON_LOG, 9, 3);
+    same("step count", two(record + XM23_RECORD_COUNT), 9);
+    same("PC", two(record + XM23_RECORD_REGISTER(7)), 0x1000);
+    same("no event is applied", two(memory + 4), 'C' * 256 + 0x10);
+    ran_logging("with a fresh log", 1, XM23_REASON_DONE, 1, 1);
+    logged("the fourth", 0, 65545, 2, 'D');
+    same("the event, and the store", two(memory + 4), 'D' * 256 + 0x10);
+
+    /* No log at all, n 0, a device that is not enabled, an input device. */
+    typewriter();
+    ran_logging("no log", 5, XM23_REASON_LOG, 0, 0);
+    ran_logging("no log and no step", 0, XM23_REASON_DONE, 0, 0);
+    memory[4] = 0x00;
+    ran_logging("ENA clear", 5, XM23_REASON_DONE, 5, 0);
+    typewriter();
+    memory[4] = 0x12;
+    ran_logging("an input device", 5, XM23_REASON_DONE, 5, 0);
+
+    /* Refusal 9 comes last, and whatever n is. */
+    typewriter();
+    for (log_len = 1; log_len < 8; log_len++)
+        turned_back("half a log record", 5, XM23_REFUSED_LOG);
+    log_len = 9;
+    turned_back("no step asked for", 0, XM23_REFUSED_LOG);
+    events_len = 2 * XM23_EVENT_SIZE;
+    turned_back("twins and the log", 5, XM23_REFUSED_EVENT_TWINS);
+    put_event(1, 1, 0, 0);
+    turned_back("the log alone", 5, XM23_REFUSED_LOG);
 }
 
 /* The far side of each rule that still passes. */
@@ -441,9 +523,9 @@ static void refused_runs(void)
 static void nothing_lent(void)
 {
     example();
-    same("no events", XM23_RUN_STEPS(xm23_run(memory, memory_len, record, record_len, NULL, 0, 1)), 1);
-    same("no record", xm23_run(memory, memory_len, NULL, 0, NULL, 0, 1), XM23_REFUSED_RECORD);
-    same("nothing", xm23_run(NULL, 0, NULL, 0, NULL, 0, UINT64_MAX), XM23_REFUSED_MEMORY);
+    same("no events", XM23_RUN_STEPS(xm23_run(memory, memory_len, record, record_len, NULL, 0, NULL, 0, 1)), 1);
+    same("no record", xm23_run(memory, memory_len, NULL, 0, NULL, 0, NULL, 0, 1), XM23_REFUSED_RECORD);
+    same("nothing", xm23_run(NULL, 0, NULL, 0, NULL, 0, NULL, 0, UINT64_MAX), XM23_REFUSED_MEMORY);
 }
 
 /* ---- S-records */
@@ -628,6 +710,7 @@ int main(void)
     accepted_runs();
     near_misses();
     refused_runs();
+    logs();
     nothing_lent();
     loads();
     writes();

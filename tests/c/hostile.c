@@ -73,8 +73,9 @@ static int guarded(const struct lent *b)
     return all_guards(b->room, b->at) && all_guards(b->at + b->length, b->room + b->size);
 }
 
-static struct lent memory, record, events, text;
-static uint8_t memory_before[ROOM], record_before[ROOM], events_before[ROOM], text_before[TEXT_ROOM];
+static struct lent memory, record, events, screen, text;
+static uint8_t memory_before[ROOM], record_before[ROOM], events_before[ROOM], log_before[ROOM];
+static uint8_t text_before[TEXT_ROOM];
 
 static uint64_t next_random = 1;
 
@@ -94,6 +95,24 @@ static void scatter(struct lent *b)
         b->at[i] = (uint8_t)(draw() >> 32);
 }
 
+/* The records that a call added are whole and in the order of their steps, and the log past them is as it was. */
+static void check_log(uint64_t reply)
+{
+    size_t used = XM23_LOG_SIZE * (size_t)XM23_RUN_ADDED(reply), i;
+    uint32_t before = 0;
+    int full = used == screen.length;
+    check("added", used <= screen.length && XM23_RUN_ADDED(reply) <= XM23_RUN_STEPS(reply));
+    check("no room", XM23_RUN_REASON(reply) != XM23_REASON_LOG || full);
+    check("past the log's records", memcmp(screen.at + used, log_before + used, screen.length - used) == 0);
+    for (i = 0; i < used; i += XM23_LOG_SIZE) {
+        const uint8_t *r = screen.at + i, *s = r + XM23_LOG_STEP;
+        uint32_t step = s[0] | (uint32_t)s[1] << 8 | (uint32_t)s[2] << 16 | (uint32_t)s[3] << 24;
+        check("log record", r[XM23_LOG_DEVICE] < 8 && !r[XM23_LOG_ZERO] && !r[XM23_LOG_ZERO + 1]);
+        check("log's order", i == 0 || before < step);
+        before = step;
+    }
+}
+
 /* Calls, and checks that what is not lent stands, that the reply is well formed and that a refusal changes nothing. */
 static uint64_t call(uint64_t n)
 {
@@ -102,21 +121,25 @@ static uint64_t call(uint64_t n)
     memcpy(memory_before, memory.at, memory.length);
     memcpy(record_before, record.at, record.length);
     memcpy(events_before, events.at, events.length);
-    reply = xm23_run(memory.at, memory.length, record.at, record.length, events.at, events.length, n);
-    check("guard bytes", guarded(&memory) && guarded(&record) && guarded(&events));
+    memcpy(log_before, screen.at, screen.length);
+    reply = xm23_run(memory.at, memory.length, record.at, record.length, events.at, events.length, screen.at,
+                     screen.length, n);
+    check("guard bytes", guarded(&memory) && guarded(&record) && guarded(&events) && guarded(&screen));
     check("events", memcmp(events.at, events_before, events.length) == 0);
     if (XM23_RUN_REFUSAL(reply)) {
         check("refusal", (reply >= XM23_REFUSED_MEMORY && reply <= XM23_REFUSED_EVENT_ORDER) ||
-                             reply == XM23_REFUSED_EVENT_TWINS);
+                             reply == XM23_REFUSED_EVENT_TWINS || reply == XM23_REFUSED_LOG);
         check("memory as it was", memcmp(memory.at, memory_before, memory.length) == 0);
         check("record as it was", memcmp(record.at, record_before, record.length) == 0);
+        check("log as it was", memcmp(screen.at, log_before, screen.length) == 0);
     } else {
-        check("reply", reply >> 40 == 0 && XM23_RUN_REASON(reply) <= XM23_REASON_HALTED && XM23_RUN_STEPS(reply) <= n);
+        check("reply", XM23_RUN_REASON(reply) <= XM23_REASON_LOG && XM23_RUN_STEPS(reply) <= n);
+        check_log(reply);
     }
     return reply;
 }
 
-static unsigned expected(size_t memory_len, size_t record_len, size_t events_len, uint64_t n)
+static unsigned expected(size_t memory_len, size_t record_len, size_t events_len, size_t log_len, uint64_t n)
 {
     if (memory_len != XM23_MEMORY_SIZE)
         return XM23_REFUSED_MEMORY;
@@ -126,7 +149,7 @@ static unsigned expected(size_t memory_len, size_t record_len, size_t events_len
         return XM23_REFUSED_RECORD;
     if (events_len % XM23_EVENT_SIZE || events_len > XM23_EVENT_SIZE * XM23_MAX_EVENTS)
         return XM23_REFUSED_EVENTS;
-    return XM23_ACCEPTED;
+    return log_len % XM23_LOG_SIZE ? XM23_REFUSED_LOG : XM23_ACCEPTED;
 }
 
 /* Whole records of a list that is accepted: every device on each step, one step after the other. */
@@ -142,35 +165,91 @@ static void list_events(void)
 }
 
 /*
- * Every combination of lengths and numbers, all other bytes 0: the refusal goes by lengths and n alone. Where nothing is
- * refused, a list of equal records is.
+ * The four buffers of these lengths, all bytes 0: the refusal goes by lengths and n alone. Where nothing before the log
+ * is refused, a list of equal records is, before the log.
  */
+static void by_lengths(const size_t length[4], uint64_t n, int at_end)
+{
+    unsigned refusal = expected(length[0], length[1], length[2], length[3], n);
+    lend(&memory, length[0], at_end);
+    lend(&record, length[1], at_end);
+    lend(&events, length[2], at_end);
+    lend(&screen, length[3], at_end);
+    memset(memory.at, 0, memory.length);
+    memset(record.at, 0, record.length);
+    scatter(&screen);
+    list_events();
+    check("refusal by lengths", XM23_RUN_REFUSAL(call(n)) == refusal);
+    if ((refusal == XM23_ACCEPTED || refusal == XM23_REFUSED_LOG) && events.length > XM23_EVENT_SIZE) {
+        memset(events.at, 0, events.length);
+        check("twins", call(n) == XM23_REFUSED_EVENT_TWINS);
+    }
+}
+
+/* Every combination of lengths and numbers, with a log of a length of its own for each. */
 static void lengths(int at_end, int brief)
 {
     static const size_t memories[] = {0, 1, 35, 65535, 65536, 65537, 131072};
     static const size_t records[] = {0, 1, 17, 21, 25, 31, 32, 33, 64};
     static const size_t lists[] = {0, 1, 7, 8, 9, 32760, 32767, 32768, 32769, 32776, 65536};
+    static const size_t logs[] = {0, 1, 7, 8, 9, 16, 63, 64, 65536, 65537, 131072};
     static const uint64_t numbers[] = {0, 1, 2, 1000000, 1000001, 0xFFFFFFFF, (uint64_t)1 << 32, UINT64_MAX};
-    size_t m, r, e, n;
+    size_t m, r, e, n, l = 0;
     for (m = 0; m < sizeof memories / sizeof *memories; m++)
         for (r = 0; r < sizeof records / sizeof *records; r++)
             for (e = 0; e < sizeof lists / sizeof *lists; e++)
                 for (n = 0; n < sizeof numbers / sizeof *numbers; n++) {
-                    unsigned refusal = expected(memories[m], records[r], lists[e], numbers[n]);
-                    if (brief && (numbers[n] == 1000000 || (m + r + e + n) % 5))
-                        continue;
-                    lend(&memory, memories[m], at_end);
-                    lend(&record, records[r], at_end);
-                    lend(&events, lists[e], at_end);
-                    memset(memory.at, 0, memory.length);
-                    memset(record.at, 0, record.length);
-                    list_events();
-                    check("refusal by lengths", XM23_RUN_REFUSAL(call(numbers[n])) == refusal);
-                    if (refusal == XM23_ACCEPTED && events.length > XM23_EVENT_SIZE) {
-                        memset(events.at, 0, events.length);
-                        check("twins", call(numbers[n]) == XM23_REFUSED_EVENT_TWINS);
-                    }
+                    const size_t log = logs[l++ % (sizeof logs / sizeof *logs)];
+                    const size_t length[4] = {memories[m], records[r], lists[e], log};
+                    if (!brief || (numbers[n] != 1000000 && (m + r + e + n) % 5 == 0))
+                        by_lengths(length, numbers[n], at_end);
                 }
+    for (l = 0; l < sizeof logs / sizeof *logs; l++)
+        for (e = 0; e < sizeof lists / sizeof *lists; e++)
+            for (n = 0; n < 3; n++) {
+                const size_t length[4] = {XM23_MEMORY_SIZE, XM23_RECORD_SIZE, lists[e], logs[l]};
+                if (!brief || (l + e + n) % 5 == 0)
+                    by_lengths(length, numbers[n], at_end);
+            }
+}
+
+static void put_two(uint8_t *at, unsigned value)
+{
+    at[0] = (uint8_t)value;
+    at[1] = (uint8_t)(value >> 8);
+}
+
+/* A program that shows a byte every third step, with a log of every length up to the bytes that it needs, and more. */
+static void screens(int at_end, int brief)
+{
+    size_t length;
+    uint64_t n;
+    for (length = 0; length <= 100; length += brief ? 6 : 1)
+        for (n = 0; n < 34; n += brief ? 11 : 1 + n / 4) {
+            uint32_t records = (uint32_t)(length / 8), needed = (uint32_t)((n + 2) / 3);
+            uint32_t added = records < needed ? records : needed;
+            uint64_t reply;
+            lend(&memory, XM23_MEMORY_SIZE, at_end);
+            lend(&record, XM23_RECORD_SIZE, at_end);
+            lend(&events, 0, at_end);
+            lend(&screen, length, at_end);
+            memset(memory.at, 0, memory.length);
+            memset(record.at, 0, record.length);
+            scatter(&screen);
+            put_two(memory.at + 14, 0x10);       /* device 7: output, ENA */
+            put_two(memory.at + 0x1000, 0xC7C8); /* STR.B R1,R0,$15 */
+            put_two(memory.at + 0x1002, 0x4089); /* ADD $1,R1 */
+            put_two(memory.at + 0x1004, 0x3FFD); /* BRA to the store */
+            put_two(record.at + XM23_RECORD_REGISTER(7), 0x1000);
+            reply = call(n);
+            if (length % 8) {
+                check("log's length", reply == XM23_REFUSED_LOG);
+                continue;
+            }
+            check("added", XM23_RUN_ADDED(reply) == added);
+            check("reason", XM23_RUN_REASON(reply) == (added < needed ? XM23_REASON_LOG : XM23_REASON_DONE));
+            check("steps", XM23_RUN_STEPS(reply) == (added < needed ? 3 * added : n));
+        }
 }
 
 /* Junk in every buffer, with lengths that are mostly right. */
@@ -185,6 +264,8 @@ static void junk(int at_end, int rounds)
         scatter(&memory);
         scatter(&record);
         scatter(&events);
+        lend(&screen, pick / 7 % 3 ? 8 * (pick >> 33 & 15) : pick >> 33 & 255, at_end);
+        scatter(&screen);
         if (record.length == 32 && pick >> 40 & 3) {
             record.at[XM23_RECORD_PSW + 1] &= 0xE1;
             record.at[XM23_RECORD_CEX] &= 0x7F;
@@ -338,6 +419,7 @@ int main(int argc, char **argv)
     make(&memory, ROOM);
     make(&record, ROOM);
     make(&events, ROOM);
+    make(&screen, ROOM);
     make(&text, TEXT_ROOM);
     for (at_end = 0; at_end < 2; at_end++) {
         unsigned before = wrong;
@@ -345,6 +427,9 @@ int main(int argc, char **argv)
         wrong == before ? passed++ : failed++;
         before = wrong;
         junk(at_end, brief ? 20 : 1000);
+        wrong == before ? passed++ : failed++;
+        before = wrong;
+        screens(at_end, brief);
         wrong == before ? passed++ : failed++;
         before = wrong;
         spans(at_end, brief);

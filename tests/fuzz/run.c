@@ -1,9 +1,11 @@
 /*
  * A target of libFuzzer: xm23_run beside the C interpreter of bench/, which is compiled with the fuzzer's counters and
  * so shows it what is new. Held for every string of commands (setup.h):
- * - reply, record, all of memory and the events are the interpreter's;
+ * - reply, record, all of memory, all of the log and the events are the interpreter's;
  * - a refused call leaves every byte as handed over; the parts of a reply fit each other and the record;
- * - a run of m and then one of n - m closes as the run of n;
+ * - a run of m and then one of n - m, with what is left of the log, closes as the run of n;
+ * - a run with a short log, and again with a fresh one as long as there is no room, closes as the run with a log long
+ *   enough, and the logs joined are its log;
  * - nothing around the lent buffers changes, and nothing behind them is touched.
  * A difference is saved in a folder of its own (XM23_FOUND, or build/fuzz) for 'make replay', and ends the target.
  */
@@ -21,7 +23,7 @@
 #include "xm23.h"
 
 uint64_t xm23_fast_run(uint8_t *memory, size_t memory_len, uint8_t *record, size_t record_len, const uint8_t *events,
-                       size_t events_len, uint64_t n);
+                       size_t events_len, uint8_t *log, size_t log_len, uint64_t n);
 size_t LLVMFuzzerMutate(uint8_t *data, size_t size, size_t room);
 int LLVMFuzzerTestOneInput(const uint8_t *data, size_t size);
 size_t LLVMFuzzerCustomMutator(uint8_t *data, size_t size, size_t room, unsigned seed);
@@ -68,7 +70,7 @@ static int holds(const struct lent *b, const uint8_t *bytes)
 /* ---- a call and what it leaves */
 
 struct outcome {
-    struct lent memory, record, events;
+    struct lent memory, record, events, log;
     uint64_t reply;
 };
 
@@ -80,6 +82,7 @@ static void make_all(struct outcome *o)
     make(&o->memory, LONGEST_MEMORY);
     make(&o->record, LONGEST_RECORD);
     make(&o->events, LONGEST_EVENTS);
+    make(&o->log, LONGEST_LOG);
 }
 
 static void lend_all(struct outcome *o)
@@ -87,17 +90,19 @@ static void lend_all(struct outcome *o)
     lend(&o->memory, setup.memory, setup.memory_len);
     lend(&o->record, setup.record, setup.record_len);
     lend(&o->events, setup.events, setup.events_len);
+    lend(&o->log, setup.log, setup.log_len);
 }
 
 static void advance(struct outcome *o, uint64_t n)
 {
     o->reply = xm23_run(o->memory.at, o->memory.length, o->record.at, o->record.length, o->events.at,
-                        o->events.length, n);
+                        o->events.length, o->log.at, o->log.length, n);
 }
 
 static int as_handed_over(const struct outcome *o)
 {
-    return holds(&o->memory, setup.memory) && holds(&o->record, setup.record) && holds(&o->events, setup.events);
+    return holds(&o->memory, setup.memory) && holds(&o->record, setup.record) && holds(&o->events, setup.events) &&
+           holds(&o->log, setup.log);
 }
 
 /* ---- a difference */
@@ -125,6 +130,7 @@ static void differ(const char *what)
     save_part(folder, "memory.bin", setup.memory, setup.memory_len);
     save_part(folder, "record.bin", setup.record, setup.record_len);
     save_part(folder, "events.bin", setup.events, setup.events_len);
+    save_part(folder, "log.bin", setup.log, setup.log_len);
     save_part(folder, "n.txt", (uint8_t *)text, (size_t)snprintf(text, sizeof text, "%" PRIu64 "\n", setup.n));
     save_part(folder, "difference.txt", (const uint8_t *)what, strlen(what));
     fprintf(stderr, "%s: reply %016" PRIX64, what, library.reply);
@@ -150,32 +156,70 @@ static void check_reply(void)
 {
     const uint8_t *record = library.record.at;
     unsigned refusal = XM23_RUN_REFUSAL(library.reply), reason = XM23_RUN_REASON(library.reply);
-    uint32_t steps = XM23_RUN_STEPS(library.reply);
-    check("the reply has more than its parts", library.reply >> 40 == 0);
+    uint32_t steps = XM23_RUN_STEPS(library.reply), added = XM23_RUN_ADDED(library.reply);
     check("the events are changed", holds(&library.events, setup.events));
     if (refusal) {
-        check("a refusal has a reason or steps", library.reply == refusal);
-        check("a refusal that the call does not have", refusal < 8 || refusal == XM23_REFUSED_EVENT_TWINS);
+        check("a refusal has a reason, steps or records", library.reply == refusal);
+        check("a refusal that the call does not have",
+              refusal < 8 || refusal == XM23_REFUSED_EVENT_TWINS || refusal == XM23_REFUSED_LOG);
         check("a refused call changes a byte", as_handed_over(&library));
         return;
     }
-    check("the reason is not the halted mark", reason == record[21] && reason < 2);
+    check("the reason is not the halted mark", (reason == XM23_REASON_HALTED) == record[21] && reason < 3);
     check("the steps are not those of the count", count_in(record) - count_in(setup.record) == steps);
     check("too few steps, or too many", reason ? steps <= setup.n : steps == setup.n);
+    check("more records than steps, or than there is room", added <= steps && XM23_LOG_SIZE * added <= setup.log_len);
+    check("there was room", reason != XM23_REASON_LOG || XM23_LOG_SIZE * added == setup.log_len);
 }
 
+/* Two slices over one log: the second is lent what the first has left of it. */
 static void check_slices(void)
 {
     uint64_t m = setup.slice % (setup.n + 1), steps;
+    size_t used;
     lend_all(&slices);
     advance(&slices, m);
     steps = XM23_RUN_STEPS(slices.reply);
-    advance(&slices, setup.n - m);
+    used = XM23_LOG_SIZE * XM23_RUN_ADDED(slices.reply);
+    slices.log.at += used;
+    slices.log.length -= used;
+    advance(&slices, setup.n - steps);
     steps += XM23_RUN_STEPS(slices.reply);
+    slices.log.at -= used;
+    slices.log.length += used;
+    used += XM23_LOG_SIZE * XM23_RUN_ADDED(slices.reply);
     check("slices leave another memory", holds(&slices.memory, library.memory.at));
     check("slices leave another record", holds(&slices.record, library.record.at));
+    check("slices leave another log", holds(&slices.log, library.log.at));
     check("slices give another reply", steps == XM23_RUN_STEPS(library.reply) &&
+                                           used == XM23_LOG_SIZE * XM23_RUN_ADDED(library.reply) &&
                                            (slices.reply & 0xFFFF) == (library.reply & 0xFFFF));
+}
+
+/* Fresh logs of few records, each for a slice that ends where there is no more room, against one log long enough. */
+static void check_joined(void)
+{
+    static uint8_t whole[XM23_LOG_SIZE * 1024], joined[sizeof whole];
+    size_t records = 1 + setup.slice % 3, used = 0;
+    uint64_t reply, steps = 0;
+    if (setup.n > 1024)
+        return;
+    lend_all(&interpreter);
+    reply = xm23_fast_run(interpreter.memory.at, setup.memory_len, interpreter.record.at, setup.record_len,
+                          interpreter.events.at, setup.events_len, whole, sizeof whole, setup.n);
+    lend_all(&slices);
+    do {
+        lend(&slices.log, setup.log, XM23_LOG_SIZE * records);
+        advance(&slices, setup.n - steps);
+        steps += XM23_RUN_STEPS(slices.reply);
+        memcpy(joined + used, slices.log.at, XM23_LOG_SIZE * XM23_RUN_ADDED(slices.reply));
+        used += XM23_LOG_SIZE * XM23_RUN_ADDED(slices.reply);
+    } while (XM23_RUN_REASON(slices.reply) == XM23_REASON_LOG && used < sizeof joined);
+    check("short logs leave another memory", holds(&slices.memory, interpreter.memory.at));
+    check("short logs leave another record", holds(&slices.record, interpreter.record.at));
+    check("the logs joined are another", used == XM23_LOG_SIZE * XM23_RUN_ADDED(reply) && !memcmp(joined, whole, used));
+    check("short logs give another reply",
+          steps == XM23_RUN_STEPS(reply) && (slices.reply & 0xFFFF) == (reply & 0xFFFF));
 }
 
 int LLVMFuzzerTestOneInput(const uint8_t *data, size_t size)
@@ -195,15 +239,19 @@ int LLVMFuzzerTestOneInput(const uint8_t *data, size_t size)
         library.memory.at[0x8000] ^= 1;
 #endif
     interpreter.reply = xm23_fast_run(interpreter.memory.at, setup.memory_len, interpreter.record.at, setup.record_len,
-                                      interpreter.events.at, setup.events_len, setup.n);
+                                      interpreter.events.at, setup.events_len, interpreter.log.at, setup.log_len,
+                                      setup.n);
     check("another reply", library.reply == interpreter.reply);
     check("another record", holds(&library.record, interpreter.record.at));
     check("another memory", holds(&library.memory, interpreter.memory.at));
+    check("another log", holds(&library.log, interpreter.log.at));
     check("bytes around a buffer are changed",
-          guarded(&library.memory) && guarded(&library.record) && guarded(&library.events));
+          guarded(&library.memory) && guarded(&library.record) && guarded(&library.events) && guarded(&library.log));
     check_reply();
-    if (XM23_RUN_REFUSAL(library.reply) == XM23_ACCEPTED)
+    if (XM23_RUN_REFUSAL(library.reply) == XM23_ACCEPTED) {
         check_slices();
+        check_joined();
+    }
     return 0;
 }
 
@@ -215,9 +263,10 @@ static unsigned draw(unsigned *seed, unsigned limit)
     return (*seed >> 16) % limit;
 }
 
-/* Words that random bytes seldom make: returns, faults, SVC, SETPRI, SETCC, CEX, the stack, devices. */
+/* Words that random bytes seldom make: returns, faults, SVC, SETPRI, SETCC, CEX, the stack, devices, a screen. */
 static const uint16_t words[] = {0x4C2F, 0x4E00, 0x4DA0, 0x4DAA, 0x4D80, 0x4D83, 0x4DC8, 0x4DDF, 0x4DFF, 0x5009,
-                                 0x5349, 0x53BF, 0x5F06, 0x589E, 0x5F2E, 0x58B7, 0x77FF, 0x4D5B, 0x4D64, 0x4CFA};
+                                 0x5349, 0x53BF, 0x5F06, 0x589E, 0x5F2E, 0x58B7, 0x77FF, 0x4D5B, 0x4D64, 0x4CFA,
+                                 0xC1C8, 0xC108};
 
 static void any_command(uint8_t *c, unsigned *seed)
 {

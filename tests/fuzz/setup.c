@@ -36,6 +36,9 @@ static void start(struct setup *s)
     memset(s, 0, sizeof *s);
     s->memory_len = MEMORY;
     s->record_len = RECORD;
+    s->log_len = 8 * 64;
+    for (size_t i = 0; i < LONGEST_LOG; i++)
+        s->log[i] = (uint8_t)(0x5A ^ i);
     s->n = 64;
     put_two(s->record + 12, 0x0800);
     put_two(s->record + 14, 0x1000);
@@ -122,6 +125,10 @@ static void fill_list(struct setup *s, int over, int twins)
 /* Breaks a rule of refusal, or goes to its edge. */
 static void break_rule(struct setup *s, unsigned what, unsigned a, unsigned b)
 {
+    if (what == 8) { /* a log of another length, whole records or not */
+        s->log_len = (a | (size_t)b << 8) % (LONGEST_LOG + 1);
+        return;
+    }
     switch (what & 7) {
     case 0: /* memory of another length */
         s->memory_len = a & 1 ? (size_t)b : MEMORY - 8 + b % 16;

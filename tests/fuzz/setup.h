@@ -2,9 +2,9 @@
  * A call of xm23_run as a short string of commands, so that a fuzzer has little to change and much to reach.
  *
  * A command is three bytes: its kind in bits 3-0 of the first and k in bits 7-4, then a and b; ab is a + 256 * b. Bytes
- * left over at the end are ignored. The machine starts awake at PC #1000 with SP #0800 and the rest 0, n is 64, every
- * device is enabled with IE (even ones for input), and vector v leads, at priority 1 + v mod 7, to a handler of one
- * return at #2000 + #40 * v. Commands are done in order and may undo each other.
+ * left over at the end are ignored. The machine starts awake at PC #1000 with SP #0800 and the rest 0, n is 64, the log
+ * has room for 64 records, every device is enabled with IE (even ones for input), and vector v leads, at priority
+ * 1 + v mod 7, to a handler of one return at #2000 + #40 * v. Commands are done in order and may undo each other.
  */
 #ifndef SETUP_H
 #define SETUP_H
@@ -28,14 +28,14 @@ enum command {
     FILL,     /* all of memory is drawn at random, with ab as the seed */
     EMPTY,    /* all of memory is 0 */
     RAW,      /* byte k of the record, or 16 + k where a is odd, is b, whatever it may be */
-    BREAK     /* k mod 8 says what: see setup.c */
+    BREAK     /* k mod 8 says what, or 8 that the log has ab mod (LONGEST_LOG + 1) bytes: see setup.c */
 };
 
-enum { LONGEST_MEMORY = 65536 + 8, LONGEST_RECORD = 40, LONGEST_EVENTS = 8 * 4097 + 8 };
+enum { LONGEST_MEMORY = 65536 + 8, LONGEST_RECORD = 40, LONGEST_EVENTS = 8 * 4097 + 8, LONGEST_LOG = 8 * 64 + 8 };
 
 struct setup {
-    uint8_t memory[LONGEST_MEMORY], record[LONGEST_RECORD], events[LONGEST_EVENTS];
-    size_t memory_len, record_len, events_len;
+    uint8_t memory[LONGEST_MEMORY], record[LONGEST_RECORD], events[LONGEST_EVENTS], log[LONGEST_LOG];
+    size_t memory_len, record_len, events_len, log_len;
     uint64_t n;
     unsigned slice;
 };

@@ -54,6 +54,11 @@ expect 'no line' 2 '' "report.sh: $input: print_state printed no line" \
     env XM23_BIN="$room/bin" scripts/report.sh "$input" "$page"
 gone 'no line'
 
+# The screen: what the output devices of a program showed.
+scripts/input.sh tests/cases/003-clock-and-screen-interrupts.txt "$room/screen.in" > /dev/null
+expect 'a page with a screen' 0 "$page" '' scripts/report.sh "$room/screen.in" "$page"
+same 'what device 2 showed' "$(grep -c '<pre class="screen">AB</pre>' "$page")" 1
+
 # Nothing is compiled again, though the C interpreter of bench/ was not built.
 same 'what cargo has to do' "$(cargo build --offline --locked --release --manifest-path oracle/Cargo.toml \
     --target-dir oracle/target --example report 2>&1 | grep -c Compiling)" 0

@@ -35,6 +35,9 @@ wrong 1 "'nothing' has no key" 'nothing\n'
 wrong 2 'R9 is no part of the start' 'n: 5\nstart: R9=1\nsource:\n'
 wrong 2 'R1=12345 does not fit' 'n: 5\nstart: R1=12345\nsource:\n'
 wrong 4 "'7 0' is no event: .*" 'n: 5\nsource:\nevents:\n    7 0\n'
+wrong 3 "'many' is no length of a log" 'n: 5\nsource:\nlog: many\n'
+wrong 3 "'2 1' is no reply: .*" 'n: 5\nsource:\nreply: 2 1\n'
+wrong 4 "'7 0' is no record of the log: .*" 'n: 5\nsource:\nshown:\n    7 0\n'
 printf 'n: 5\nsource:\n            org #1000\n    Here    bra Here\n' > "$room/case.txt"
 expect 'the least case' 0 "$room/case.in" '' scripts/input.sh "$room/case.txt" "$room/case.in"
 same 'runs' "$(target/bin/print_state < "$room/case.in")" '0 5 0000 0000 0000 0000 0000 0000 0800 1000 0000 00 00000000'
@@ -53,6 +56,7 @@ for n in $(sed -n 's/^#define XM23_REFUSED_[A-Z_]* \([0-9]*\)$/\1/p' include/xm2
 done
 expect 'no line' 2 '' 'legend.py: not a line of print_state: .*' legend ''
 expect 'another line' 2 '' 'legend.py: not a line of print_state: .*' legend 'hello world'
+expect 'a reason that no line has' 2 '' 'legend.py: not a line of print_state: .*' legend "2 ${line#* }"
 expect 'a line that is cut' 2 '' 'legend.py: not a line of print_state: .*' legend '0 120 00E7'
 
 expect 'no kit' 2 '' 'prove.py: rt is not here: .*' env PATH="$room" \

@@ -9,6 +9,8 @@ pub mod Entry
 pub mod Effect
 pub mod Step
 pub mod Run
+pub mod Log
+pub mod Logged
 pub mod Uneventful
 pub mod Refusal
 pub mod Call

@@ -1,14 +1,14 @@
--- Which runs are turned back (document 01, "Who can be turned back"; document 02, §3): a definition over the raw buffers
+-- Which runs are turned back (document 01, "Who can be turned back"; document 02, §1, §3): a definition over the raw buffers
 -- and numbers.
 -- Assumes nothing.
 use Prim.Native.Nat.{ℕ, zero, suc, _+_, _*_, _/_, _%_}
 use mathlib.Core.Bool.{Bool, true, false, cond, not, _&&_, _||_}
-use mathlib.Core.List.{List, [], _∷_}
+use mathlib.Core.List.{List, [], _∷_, _++_}
 use lib.Dec.{eqb, ltb, leb}
 use lib.ListN.{length}
 use Rattle.machine.specs.declared.Verdict.{Verdict}
 use Rattle.machine.specs.declared.Verdict.the-variants.{Accepted, MemoryLength, StepCount, RecordLength, RecordBits}
-use Rattle.machine.specs.declared.Verdict.the-variants.{EventsLength, EventFields, EventOrder, EventTwins}
+use Rattle.machine.specs.declared.Verdict.the-variants.{EventsLength, EventFields, EventOrder, EventTwins, LogLength}
 use Rattle.machine.specs.Memory.{byteAt}
 use Rattle.machine.specs.Record.{twoAt, fourAt}
 use Rattle.machine.specs.Events.{eventAt, eventCount}
@@ -64,8 +64,8 @@ pub record Rule : Type 0 where
 abbrev pub rule : Bool → Verdict → Rule
 rule t v = record { broken = t; verdict = v }
 
--- The rules in the order in which they are tested. The sum of 2 is compared once 3 has passed; 13 comes "after 7".
--- [01 Who can be turned back; 02 §3]
+-- The rules of a start in the order in which they are tested. The sum of 2 is compared once 3 has passed; 13 comes
+-- "after 7 and before 9". [01 Who can be turned back; 02 §3]
 abbrev pub rulesOf : (memory r events : List ℕ) (n : ℕ) → List Rule
 rulesOf memory r events n =
     rule (not (eqb (length memory) 65536)) MemoryLength
@@ -79,15 +79,23 @@ rulesOf memory r events n =
     ∷ rule (twinsBelow events (eventCount events)) EventTwins
     ∷ []
 
+-- The rules of a run call: those of its start, and last "9 when the log's length is not a multiple of 8". [02 §1]
+abbrev pub callRules : (memory r events log : List ℕ) (n : ℕ) → List Rule
+callRules memory r events log n =
+    rulesOf memory r events n ++ (rule (not (eqb (length log % 8) 0)) LogLength ∷ [])
+
 abbrev pub firstBroken : List Rule → Verdict
 firstBroken [] = Accepted
 firstBroken (x ∷ xs) = cond (x .broken) (x .verdict) (firstBroken xs)
 
--- The first rule that is broken. [01 Who can be turned back]
+-- The first rule that is broken: of a start, and of a run call. [01 Who can be turned back]
 unfoldable pub verdictOf : (memory r events : List ℕ) (n : ℕ) → Verdict
 verdictOf memory r events n = firstBroken (rulesOf memory r events n)
 
--- The papers' number of each case; 0 stands for none. [01 Who can be turned back; 02 §3]
+unfoldable pub callVerdict : (memory r events log : List ℕ) (n : ℕ) → Verdict
+callVerdict memory r events log n = firstBroken (callRules memory r events log n)
+
+-- The papers' number of each case; 0 stands for none. [01 Who can be turned back; 02 §1; 02 §3]
 abbrev pub refusalNumber : Verdict → ℕ
 refusalNumber Accepted = 0
 refusalNumber MemoryLength = 1
@@ -98,6 +106,7 @@ refusalNumber EventsLength = 5
 refusalNumber EventFields = 6
 refusalNumber EventOrder = 7
 refusalNumber EventTwins = 13
+refusalNumber LogLength = 9
 
 abbrev pub accepted? : Verdict → Bool
 accepted? v = eqb (refusalNumber v) 0

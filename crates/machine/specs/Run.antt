@@ -5,7 +5,7 @@ use Prim.Native.Nat.{ℕ, zero, suc}
 use mathlib.Core.Bool.{Bool, true, false, cond}
 use mathlib.Core.List.{List}
 use Rattle.machine.specs.declared.Reason.{Reason}
-use Rattle.machine.specs.declared.Reason.the-variants.{Done, Halted}
+use Rattle.machine.specs.declared.Reason.the-variants.{Done, Halted, NoRoom}
 use Rattle.machine.specs.State.{State}
 use Rattle.machine.specs.Events.{Event}
 use Rattle.machine.specs.Step.{stepOf}
@@ -31,6 +31,8 @@ runOf ev s (suc n) = further ev (runOf ev s n)
 abbrev pub reasonOf : Run → Reason
 reasonOf r = cond (r .state .halted) Halted Done
 
+-- The papers' number of each reason. [01 One step, in order; 02 §1]
 abbrev pub reasonNumber : Reason → ℕ
 reasonNumber Done = 0
 reasonNumber Halted = 1
+reasonNumber NoRoom = 2

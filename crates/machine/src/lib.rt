@@ -48,10 +48,12 @@ pub enum Access {
     Trap(u8),
 }
 
-// Why a run ended: all its steps were done, or the machine is halted.
+// Why a run ended: all its steps were done, the machine is halted, or the log had no room for what
+// the next step would show.
 pub enum Reason {
     Done,
     Halted,
+    NoRoom,
 }
 
 // Whether a run's buffers and step count are accepted, or the first rule that they break.
@@ -65,6 +67,7 @@ pub enum Verdict {
     EventFields,
     EventOrder,
     EventTwins,
+    LogLength,
 }
 
 // What a step does. A halted machine takes none. A line or a vector is named by its number; a load

@@ -11,4 +11,3 @@ pub mod Writes
 pub mod Twins
 pub mod Vectors
 pub mod Records
-pub mod Calls

@@ -6,20 +6,25 @@ use mathlib.Core.Logic.{_≢_}
 use mathlib.Core.Path.{_≡_, refl, sym, ap, _∙_}
 use native.Mathlib.Omega.{arith}
 use mir.Val.{boolByte}
+use lib.ListN.{length}
+use Rattle.machine.specs.declared.Reason.{Reason}
 use Rattle.machine.specs.declared.Reason.the-variants.{Done, Halted}
 use Rattle.machine.specs.declared.Verdict.{Verdict}
 use Rattle.machine.specs.State.{State}
 use Rattle.machine.specs.Record.{fourAt, recordOf}
 use Rattle.machine.specs.Events.{eventsOf}
 use Rattle.machine.specs.Step.{stepOf}
-use Rattle.machine.specs.Refusal.{verdictOf, refusalNumber}
+use Rattle.machine.specs.Refusal.{verdictOf, callVerdict, refusalNumber}
 use Rattle.machine.specs.Run.{Run, ran, runOf, reasonOf, reasonNumber}
-use Rattle.machine.specs.Call.{replyNumber}
+use Rattle.machine.specs.Logged.{Logged, runLogged, reasonLogged}
+use Rattle.machine.specs.Call.{replyNumber, roomOf, logAfter}
 use Rattle.machine_laws.specs.Passed.{Passed}
 use Rattle.machine_laws.proofs.Cases.{bool-cases, is-eq, not-eq}
-use Rattle.machine_laws.proofs.Records.{four-back}
+use Rattle.machine_laws.proofs.Records.{four-back, passed, is-accepted}
 use Rattle.machine_laws.proofs.Runs.{step-halted, run-zero, run-next, run-halted}
-use Rattle.open_machine.specs.Advance.{Advance, leftAlone, advancedBy, advanceFor, advanceOf}
+use Rattle.run_laws.proofs.Room.{logged-le, records-le}
+use Rattle.run.proofs.Calls.{call-passed}
+use Rattle.open_machine.specs.Advance.{Advance, leftAlone, advancedBy, advanceFor, advanceOf, Taken, stepFor, stepAdvance}
 
 -- ---- the step count
 
@@ -36,16 +41,59 @@ count-fits s memory r events n p e h =
 
 -- ---- the advance of a verdict
 
-abbrev reached : ℕ → State → Advance
-reached k s = record { reply = k; state = s }
+abbrev reached : ℕ → State → List ℕ → Advance
+reached k s log = record { reply = k; state = s; log = log }
 
-refused : (v : Verdict) (s : State) (x : Run) → refusalNumber v ≢ 0 → advanceFor v s x ≡ reached (refusalNumber v) s
-refused v s x h =
-    let reply : replyNumber (refusalNumber v) 0 0 ≡ refusalNumber v = omega arith in
-    ap (λ t. cond t (advancedBy x) (leftAlone v s)) (not-eq h) ∙ ap (λ k. reached k s) reply
+refused : (v : Verdict) (s : State) (log : List ℕ) (x : Logged) → refusalNumber v ≢ 0
+    → advanceFor v s log x ≡ reached (refusalNumber v) s log
+refused v s log x h =
+    let reply : replyNumber (refusalNumber v) 0 0 0 ≡ refusalNumber v = omega arith in
+    ap (λ t. cond t (advancedBy log x) (leftAlone v s log)) (not-eq h) ∙ ap (λ k. reached k s log) reply
 
-accepted : (v : Verdict) (s : State) (x : Run) → refusalNumber v ≡ 0 → advanceFor v s x ≡ advancedBy x
-accepted v s x e = ap (λ t. cond t (advancedBy x) (leftAlone v s)) (is-eq e)
+accepted : (v : Verdict) (s : State) (log : List ℕ) (x : Logged) → refusalNumber v ≡ 0 → advanceFor v s log x ≡ advancedBy log x
+accepted v s log x e = ap (λ t. cond t (advancedBy log x) (leftAlone v s log)) (is-eq e)
+
+module _
+    (s : State) (r events log : List ℕ) (n k : ℕ) (v : Verdict) (w : r ≡ recordOf s) (e : v ≡ callVerdict (s .mem) r events log n)
+    (f : k ≡ refusalNumber v) where
+  on-record : v ≡ callVerdict (s .mem) (recordOf s) events log n
+  on-record = e ∙ ap (λ (b : List ℕ). callVerdict (s .mem) b events log n) w
+
+  pub advance-refused : k ≢ 0 → reached k s log ≡ advanceOf s events log n
+  unfolding advanceOf
+  advance-refused h =
+      let x = runLogged (eventsOf events) s (roomOf log) n in
+      ap (λ j. reached j s log) f ∙ sym (refused v s log x (λ q. h (f ∙ q))) ∙ ap (λ u. advanceFor u s log x) on-record
+
+  module _ (h : k ≡ 0) where
+    abbrev gone : Logged
+    gone = runLogged (eventsOf events) s (roomOf log) n
+
+    -- few steps and few records, so that each has its bits
+    pub few-steps : gone .steps ≤ 1000000
+    few-steps =
+        let l = logged-le (eventsOf events) s (roomOf log) n in
+        let p = call-passed (s .mem) r events log n k v e f h .few-steps in
+        omega arith
+
+    pub few-records : length (gone .records) ≤ 1000000
+    few-records = let l = records-le (eventsOf events) s (roomOf log) n in let p = few-steps in omega arith
+
+    pub advance-ran :
+        (t : State) (log′ : List ℕ) (a : Reason) (steps added reply : ℕ) →
+        t ≡ gone .state → a ≡ reasonLogged gone → steps ≡ gone .steps → added ≡ length (gone .records) → log′ ≡ logAfter log gone →
+        reply ≡ replyNumber 0 (reasonNumber a) steps added →
+        reached reply t log′ ≡ advanceOf s events log n
+    unfolding advanceOf
+    advance-ran t log′ a steps added reply es ea en ek el sum =
+        (λ i. reached ((sum ∙ (λ j. replyNumber 0 (reasonNumber (ea j)) (en j) (ek j))) i) (es i) (el i))
+        ∙ sym (accepted v s log gone (sym f ∙ h))
+        ∙ ap (λ u. advanceFor u s log gone) on-record
+
+-- ---- one step
+
+abbrev took : ℕ → State → Taken
+took k s = record { reply = k; state = s }
 
 -- the reason's number is the halted mark
 mark : (h : Bool) → boolByte h ≡ reasonNumber (cond h Halted Done)
@@ -53,32 +101,38 @@ mark true = refl
 mark false = refl
 
 module _
-    (s : State) (r events : List ℕ) (n k : ℕ) (v : Verdict) (w : r ≡ recordOf s) (e : v ≡ verdictOf (s .mem) r events n)
+    (s : State) (r events : List ℕ) (k : ℕ) (v : Verdict) (w : r ≡ recordOf s) (e : v ≡ verdictOf (s .mem) r events 1)
     (f : k ≡ refusalNumber v) where
-  on-record : v ≡ verdictOf (s .mem) (recordOf s) events n
-  on-record = e ∙ ap (λ (b : List ℕ). verdictOf (s .mem) b events n) w
+  step-record : v ≡ verdictOf (s .mem) (recordOf s) events 1
+  step-record = e ∙ ap (λ (b : List ℕ). verdictOf (s .mem) b events 1) w
 
-  pub advance-refused : k ≢ 0 → reached k s ≡ advanceOf s events n
-  unfolding advanceOf
-  advance-refused h =
-      let x = runOf (eventsOf events) s n in
-      ap (λ j. reached j s) f ∙ sym (refused v s x (λ q. h (f ∙ q))) ∙ ap (λ u. advanceFor u s x) on-record
+  pub step-passed : k ≡ 0 → Passed (s .mem) r events 1
+  step-passed h = passed (s .mem) r events 1 (sym e ∙ is-accepted v (sym f ∙ h))
 
-  pub advance-ran :
-      (t : State) (steps : ℕ) → k ≡ 0 → ran t steps ≡ runOf (eventsOf events) s n →
-      reached (256 * boolByte (t .halted) + 65536 * steps) t ≡ advanceOf s events n
-  unfolding advanceOf
-  advance-ran t steps h went =
-      let x = runOf (eventsOf events) s n in
+  pub step-refused : k ≢ 0 → took k s ≡ stepAdvance s events
+  unfolding stepAdvance
+  step-refused h =
+      let x = runOf (eventsOf events) s 1 in
+      let reply : replyNumber (refusalNumber v) 0 0 0 ≡ refusalNumber v = omega arith in
+      ap (λ j. took j s) (f ∙ sym reply)
+      ∙ sym (ap (λ t. cond t (took (replyNumber 0 (reasonNumber (reasonOf x)) (x .steps) 0) (x .state))
+      (took (replyNumber (refusalNumber v) 0 0 0) s)) (not-eq (λ q. h (f ∙ q))))
+      ∙ ap (λ u. stepFor u s x) step-record
+
+  pub step-ran :
+      (t : State) (steps : ℕ) → k ≡ 0 → ran t steps ≡ runOf (eventsOf events) s 1 →
+      took (256 * boolByte (t .halted) + 65536 * steps) t ≡ stepAdvance s events
+  unfolding stepAdvance
+  step-ran t steps h went =
+      let x = runOf (eventsOf events) s 1 in
       let j = mark (t .halted) in
-      let q : 256 * boolByte (t .halted) + 65536 * steps ≡ 0 + 256 * reasonNumber (reasonOf (ran t steps)) + 65536 * steps =
+      let q : 256 * boolByte (t .halted) + 65536 * steps ≡ replyNumber 0 (reasonNumber (reasonOf (ran t steps))) steps 0 =
       rw (← j) (omega arith) in
-      ap (λ i. reached i t) q
-      ∙ ap advancedBy went
-      ∙ sym (accepted v s x (sym f ∙ h))
-      ∙ ap (λ u. advanceFor u s x) on-record
-
--- ---- one step
+      ap (λ i. took i t) q
+      ∙ ap (λ z. took (replyNumber 0 (reasonNumber (reasonOf z)) (z .steps) 0) (z .state)) went
+      ∙ sym (ap (λ b. cond b (took (replyNumber 0 (reasonNumber (reasonOf x)) (x .steps) 0) (x .state))
+      (took (replyNumber (refusalNumber v) 0 0 0) s)) (is-eq (sym f ∙ h)))
+      ∙ ap (λ u. stepFor u s x) step-record
 
 -- a run of 1 is the step, counted where it is taken
 pub run-one : (s : State) (b : List ℕ) (t : State) → t ≡ stepOf (eventsOf b) s

@@ -1,46 +1,55 @@
-// A machine that is held open and advanced by calls, each a run of some steps over the memory lent
-// to it: by value, and in place.
+// A machine that is held open and advanced by calls, each a run of some steps over the memory and
+// the log lent to it: by value, and in place.
 ghost use mathlib.Core.Path.{_≡_};
 ghost use Rattle.machine.specs.State.{stateOf};
-ghost use Rattle.open_machine.specs.Advance.{advanceOf};
+ghost use Rattle.open_machine.specs.Advance.{advanceOf, stepAdvance};
 use machine::Machine;
 
 // The machine that an advance leaves, and its reply: bits 7-0 the refusal (0: none), 15-8 the
-// reason, from 16 on the steps done.
+// reason, 39-16 the steps done, 63-40 the log records added.
 pub struct Advanced {
     pub machine: Machine,
     pub reply: u64,
 }
 
-// A machine advanced by n steps, fewer if it halts. It is turned back as the run call is on the
-// machine's record; machine and memory are then as handed over.
-pub fn advance_by_value(m: Machine, memory: &mut [u8], events: &[u8], n: u64) -> Advanced
-    ensures { λ r. ⌜ (r .reply
-        ≡ advanceOf (stateOf m (now (memory .entry))) (now (events .entry)) n .reply)
-        × (stateOf (r .machine) (now (memory .exit))
-        ≡ advanceOf (stateOf m (now (memory .entry))) (now (events .entry)) n .state) ⌝ }
+// A machine advanced by n steps, fewer if it halts or the log is full. It is turned back as the run
+// call is on the machine's record; machine, memory and log are then as handed over.
+pub fn advance_by_value(
+    m: Machine,
+    memory: &mut [u8],
+    events: &[u8],
+    log: &mut [u8],
+    n: u64,
+) -> Advanced
+    ensures { λ r. ⌜ (r .reply ≡ advanceOf (stateOf m (now (memory .entry)))
+        (now (events .entry)) (now (log .entry)) n .reply)
+        × (stateOf (r .machine) (now (memory .exit)) ≡ advanceOf (stateOf m (now (memory .entry)))
+        (now (events .entry)) (now (log .entry)) n .state)
+        × (now (log .exit) ≡ advanceOf (stateOf m (now (memory .entry)))
+        (now (events .entry)) (now (log .entry)) n .log) ⌝ }
 {
     let mut record: [u8; 32] = [0; 32];
     state_record::write_record(&mut record, m);
-    let refused = refusal::refusal_number(refusal::verdict(memory, &record, events, n));
+    let verdict = refusal::call_verdict(memory, &record, events, log, n);
+    let refused = refusal::refusal_number(verdict);
     if refused != 0 {
         return Advanced {
             machine: m,
             reply: refused,
         };
     }
-    let r = run::run(m, memory, events, n as u32);
+    let r = run::run(m, memory, events, 0, log, n as u32);
     let machine = r.machine;
-    let reply = 256 * machine.halted as u64 + 65536 * r.steps as u64;
+    let reply = run::reply_of(r);
     Advanced { machine, reply }
 }
 
-// A machine advanced by one step, as `advance_by_value` of 1 but over the by-value step.
+// A machine advanced by one step over the by-value step, with no log: what it shows is not kept.
 pub fn step_by_value(m: Machine, memory: &mut [u8], events: &[u8]) -> Advanced
     ensures { λ r. ⌜ (r .reply
-        ≡ advanceOf (stateOf m (now (memory .entry))) (now (events .entry)) 1 .reply)
+        ≡ stepAdvance (stateOf m (now (memory .entry))) (now (events .entry)) .reply)
         × (stateOf (r .machine) (now (memory .exit))
-        ≡ advanceOf (stateOf m (now (memory .entry))) (now (events .entry)) 1 .state) ⌝ }
+        ≡ stepAdvance (stateOf m (now (memory .entry))) (now (events .entry)) .state) ⌝ }
 {
     let mut record: [u8; 32] = [0; 32];
     state_record::write_record(&mut record, m);
@@ -61,16 +70,18 @@ pub fn step_by_value(m: Machine, memory: &mut [u8], events: &[u8]) -> Advanced
     }
 }
 
-// The open machine, advanced in place by n steps, fewer if it halts. Turned back, machine and
-// memory are as handed over.
-pub fn advance(m: &mut Machine, memory: &mut [u8], events: &[u8], n: u64) -> u64
-    ensures { λ r. ⌜ (r
-        ≡ advanceOf (stateOf (now (m .entry)) (now (memory .entry))) (now (events .entry)) n .reply)
+// The open machine, advanced in place by n steps, fewer if it halts or the log is full. Turned back,
+// machine, memory and log are as handed over.
+pub fn advance(m: &mut Machine, memory: &mut [u8], events: &[u8], log: &mut [u8], n: u64) -> u64
+    ensures { λ r. ⌜ (r ≡ advanceOf (stateOf (now (m .entry)) (now (memory .entry)))
+        (now (events .entry)) (now (log .entry)) n .reply)
         × (stateOf (now (m .exit)) (now (memory .exit))
-        ≡ advanceOf (stateOf (now (m .entry)) (now (memory .entry))) (now (events .entry)) n
-        .state) ⌝ }
+        ≡ advanceOf (stateOf (now (m .entry)) (now (memory .entry))) (now (events .entry))
+        (now (log .entry)) n .state)
+        × (now (log .exit) ≡ advanceOf (stateOf (now (m .entry)) (now (memory .entry)))
+        (now (events .entry)) (now (log .entry)) n .log) ⌝ }
 {
-    let r = advance_by_value(*m, memory, events, n);
+    let r = advance_by_value(*m, memory, events, log, n);
     *m = r.machine;
     r.reply
 }

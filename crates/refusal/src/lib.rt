@@ -7,7 +7,7 @@ ghost use lib.ListN.{length};
 ghost use Rattle.word.specs.Psw.{bitOf, putBit};
 ghost use Rattle.machine.specs.Record.{fourAt};
 ghost use Rattle.machine.specs.Events.{eventAt, eventCount};
-ghost use Rattle.machine.specs.Refusal.{recordFits, eventsFit, verdictOf, refusalNumber};
+ghost use Rattle.machine.specs.Refusal.{recordFits, eventsFit, verdictOf, callVerdict, refusalNumber};
 ghost use Rattle.machine.specs.Refusal.{eventFits, eventsFitBelow, inOrder, inOrderBelow};
 ghost use Rattle.machine.specs.Refusal.{twinsBelow};
 ghost use Rattle.devices.specs.Cursor.{Ordered};
@@ -157,7 +157,7 @@ fn count_of(r: &[u8]) -> u32
     four_at(r, 22)
 }
 
-// The first rule that is broken, in the order in which they are tested.
+// The first rule of a start that is broken, in the order in which they are tested.
 pub fn verdict(memory: &[u8], state: &[u8], events: &[u8], n: u64) -> Verdict
     ensures { λ r. ⌜ r
         ≡ verdictOf (now (memory .entry)) (now (state .entry)) (now (events .entry)) n ⌝ }
@@ -211,5 +211,21 @@ pub fn refusal_number(v: Verdict) -> u64
         Verdict::EventFields => 6,
         Verdict::EventOrder => 7,
         Verdict::EventTwins => 13,
+        Verdict::LogLength => 9,
     }
+}
+
+// The first rule of a run call that is broken: those of its start, and then that of its log.
+pub fn call_verdict(memory: &[u8], state: &[u8], events: &[u8], log: &[u8], n: u64) -> Verdict
+    ensures { λ r. ⌜ r ≡ callVerdict (now (memory .entry)) (now (state .entry))
+        (now (events .entry)) (now (log .entry)) n ⌝ }
+{
+    let start = verdict(memory, state, events, n);
+    if refusal_number(start) != 0 {
+        return start;
+    }
+    if log.len() % 8 != 0 {
+        return Verdict::LogLength;
+    }
+    Verdict::Accepted
 }

@@ -1,5 +1,5 @@
 -- Demand 3, across the application's own traps, at one run call: of the buffers that the call was handed, and of the
--- memory and the state record that it leaves.
+-- memory and the state record that it leaves (document 01, "Resumption"; document 02, §1, §13).
 -- Assumes nothing.
 use Prim.Native.Nat.{ℕ, suc, _<_}
 use mathlib.Core.Bool.{true, false}
@@ -9,11 +9,14 @@ use Rattle.machine.specs.Memory.{byteAt}
 use Rattle.machine.specs.Record.{stateIn}
 use Rattle.machine.specs.Events.{eventsOf}
 use Rattle.machine.specs.Devices.{device?}
+use Rattle.machine.specs.Refusal.{callVerdict}
+use Rattle.machine.specs.Call.{runOn}
+use Rattle.machine.specs.declared.Verdict.the-variants.{Accepted}
 use Rattle.machine.specs.declared.Act.the-variants as acts
 use Rattle.resume.specs.Frames.{NoChain, act, application?, applicationSteps, foreign?}
 use Rattle.resume.specs.Resume.{Premises, alone, Agree, ReadAfterPull}
 
--- The call was handed memory, r, events and n, and leaves memory′ and r′. [01 Resumption]
+-- The call was handed memory, r and events, did n steps, and leaves memory′ and r′. [01 Resumption; 02 §1]
 module _ (memory r events : List ℕ) (n : ℕ) (memory′ r′ : List ℕ) where
   -- "at the run's close": what the call leaves, beside the run with no events. [01 Resumption]
   pub record CloseAgrees : Type 0 where
@@ -41,6 +44,10 @@ module _ (memory r events : List ℕ) (n : ℕ) (memory′ r′ : List ℕ) wher
         → act (eventsOf events) (stateIn r memory) k ≡ acts.Chain d
         → act [] (stateIn r memory) (applicationSteps (eventsOf events) (stateIn r memory) k) ≡ acts.Pull
 
-  -- Demand 3, whole, of this call. [01 Resumption; 02 §13]
-  abbrev pub Resumption : Type 0
-  Resumption = Premises memory r events n → CallResumes
+-- Demand 3, whole, of an accepted call: its run is the steps done, and the run with no events that it is compared with
+-- is the one with no limit, "lent a log long enough". [01 Resumption; 02 §1; 02 §13]
+abbrev pub Resumption : (memory r events log : List ℕ) (n : ℕ) (memory′ r′ : List ℕ) → Type 0
+Resumption memory r events log n memory′ r′ =
+    callVerdict memory r events log n ≡ Accepted →
+    Premises memory r events (runOn memory r events log n .steps) →
+    CallResumes memory r events (runOn memory r events log n .steps) memory′ r′

@@ -5,18 +5,24 @@ use mathlib.Core.List.{List}
 use mathlib.Core.Logic.{_≢_}
 use mathlib.Core.Path.{_≡_, refl, sym, ap, _∙_}
 use native.Mathlib.Omega.{arith}
+use lib.ListN.{length}
 use Rattle.machine.specs.declared.Machine.{Machine}
 use Rattle.machine.specs.declared.Reason.{Reason}
 use Rattle.machine.specs.declared.Verdict.{Verdict}
+use Rattle.machine.specs.declared.Verdict.the-variants.{Accepted}
 use Rattle.machine.specs.State.{State, stateOf}
 use Rattle.machine.specs.Record.{fourAt, stateIn, recordOf}
 use Rattle.machine.specs.Events.{eventAt, eventCount, eventsOf}
-use Rattle.machine.specs.Refusal.{eventFits, eventsFitBelow, inOrder, inOrderBelow, verdictOf, refusalNumber}
-use Rattle.machine.specs.Run.{Run, ran, runOf, reasonOf, reasonNumber}
-use Rattle.machine.specs.Call.{Closing, replyNumber, turnedBack, closing, closingOf, runCallOf}
+use Rattle.machine.specs.Refusal.{eventFits, eventsFitBelow, inOrder, inOrderBelow, callVerdict, refusalNumber}
+use Rattle.machine.specs.Run.{reasonNumber}
+use Rattle.machine.specs.Logged.{Logged, runLogged, reasonLogged}
+use Rattle.machine.specs.Call.{Closing, replyNumber, roomOf, logAfter, turnedBack, closing, closingOf, runOn, runCallOf}
 use Rattle.machine_laws.specs.Passed.{Passed}
 use Rattle.machine_laws.proofs.Cases.{and-both, is-lt, is-eq, is-le, not-eq}
 use Rattle.machine_laws.proofs.Records.{passed, is-accepted}
+use Rattle.run_laws.proofs.Room.{logged-le, records-le}
+use Rattle.run_laws.proofs.Verdicts.{call-start}
+use Rattle.run_laws.proofs.Calls.{accepted-call}
 use Rattle.devices.specs.Cursor.{Ordered}
 
 -- ---- what an accepted run asks of its events
@@ -50,41 +56,60 @@ module _ (memory r events : List ℕ) (n : ℕ) (p : Passed memory r events n) w
 
 -- ---- a verdict by its number
 
-abbrev closed : ℕ → (memory r : List ℕ) → Closing
-closed k memory r = record { reply = k; memory = memory; state = r }
+abbrev closed : ℕ → (memory r log : List ℕ) → Closing
+closed k memory r log = record { reply = k; memory = memory; state = r; log = log }
 
-refused : (v : Verdict) (memory r : List ℕ) (x : Run) → refusalNumber v ≢ 0 → closingOf v memory r x ≡ closed (refusalNumber v) memory r
-refused v memory r x h =
-    let reply : replyNumber (refusalNumber v) 0 0 ≡ refusalNumber v = omega arith in
-    ap (λ t. cond t (closing x) (turnedBack v memory r)) (not-eq h) ∙ ap (λ k. closed k memory r) reply
+refused : (v : Verdict) (memory r log : List ℕ) (x : Logged) → refusalNumber v ≢ 0
+    → closingOf v memory r log x ≡ closed (refusalNumber v) memory r log
+refused v memory r log x h =
+    let reply : replyNumber (refusalNumber v) 0 0 0 ≡ refusalNumber v = omega arith in
+    ap (λ t. cond t (closing log x) (turnedBack v memory r log)) (not-eq h) ∙ ap (λ k. closed k memory r log) reply
 
-module _ (memory r events : List ℕ) (n k : ℕ) (v : Verdict) (e : v ≡ verdictOf memory r events n) (f : k ≡ refusalNumber v) where
+module _
+    (memory r events log : List ℕ) (n k : ℕ) (v : Verdict) (e : v ≡ callVerdict memory r events log n) (f : k ≡ refusalNumber v) where
+  accepted : k ≡ 0 → callVerdict memory r events log n ≡ Accepted
+  accepted h = sym e ∙ is-accepted v (sym f ∙ h)
+
   pub call-passed : k ≡ 0 → Passed memory r events n
-  call-passed h = passed memory r events n (sym e ∙ is-accepted v (sym f ∙ h))
+  call-passed h = passed memory r events n (call-start memory r events log n (accepted h))
 
-  pub call-refused : k ≢ 0 → closed k memory r ≡ runCallOf memory r events n
+  pub call-refused : k ≢ 0 → closed k memory r log ≡ runCallOf memory r events log n
   unfolding runCallOf
   call-refused h =
-      let x = runOf (eventsOf events) (stateIn r memory) n in
-      ap (λ j. closed j memory r) f
-      ∙ sym (refused v memory r x (λ q. h (f ∙ q)))
-      ∙ ap (λ w. closingOf w memory r x) e
+      let x = runOn memory r events log n in
+      ap (λ j. closed j memory r log) f
+      ∙ sym (refused v memory r log x (λ q. h (f ∙ q)))
+      ∙ ap (λ w. closingOf w memory r log x) e
 
-  pub call-ran :
-      (m l : Machine) (memory′ r′ : List ℕ) (a : Reason) (i steps reply : ℕ) → k ≡ 0 →
-      ((mem : List ℕ) → stateOf m mem ≡ stateIn r mem) →
-      ran (stateOf l memory′) steps ≡ runOf (eventsOf events) (stateOf m memory) n →
-      a ≡ reasonOf (runOf (eventsOf events) (stateOf m memory) n) →
-      ((mem : List ℕ) → r′ ≡ recordOf (stateOf l mem)) →
-      i ≡ reasonNumber a → reply ≡ 256 * i + 65536 * steps →
-      closed reply memory′ r′ ≡ runCallOf memory r events n
-  unfolding runCallOf
-  call-ran m l memory′ r′ a i steps reply h read went why write number sum =
-      let x = runOf (eventsOf events) (stateIn r memory) n in
-      let y = ran (stateOf l memory′) steps in
-      let s : y ≡ x = went ∙ ap (λ t. runOf (eventsOf events) t n) (read memory) in
-      let j : i ≡ reasonNumber (reasonOf y) = number ∙ ap reasonNumber (why ∙ ap reasonOf (sym went)) in
-      let q : reply ≡ 0 + 256 * reasonNumber (reasonOf y) + 65536 * steps = rw (← j) (omega arith) in
-      (λ t. closed (q t) memory′ (write memory′ t))
-      ∙ ap closing s
-      ∙ ap (λ w. closingOf w memory r x) (sym (is-accepted v (sym f ∙ h)) ∙ e)
+  -- the run from the machine that the record holds
+  module _ (h : k ≡ 0) (m : Machine) (read : (mem : List ℕ) → stateOf m mem ≡ stateIn r mem) where
+    abbrev ran : Logged
+    ran = runLogged (eventsOf events) (stateOf m memory) (roomOf log) n
+
+    run-is : ran ≡ runOn memory r events log n
+    run-is = ap (λ t. runLogged (eventsOf events) t (roomOf log) n) (read memory)
+
+    -- few steps and few records, so that each has its bits
+    pub few-steps : ran .steps ≤ 1000000
+    few-steps =
+        let l = logged-le (eventsOf events) (stateOf m memory) (roomOf log) n in
+        let p = call-passed h .few-steps in
+        omega arith
+
+    pub few-records : length (ran .records) ≤ 1000000
+    few-records = let l = records-le (eventsOf events) (stateOf m memory) (roomOf log) n in let p = few-steps in omega arith
+
+    pub call-ran :
+        (l : Machine) (memory′ r′ log′ : List ℕ) (a : Reason) (steps added reply : ℕ) →
+        stateOf l memory′ ≡ ran .state → a ≡ reasonLogged ran → steps ≡ ran .steps → added ≡ length (ran .records) →
+        log′ ≡ logAfter log ran → ((mem : List ℕ) → r′ ≡ recordOf (stateOf l mem)) →
+        reply ≡ replyNumber 0 (reasonNumber a) steps added →
+        closed reply memory′ r′ log′ ≡ runCallOf memory r events log n
+    call-ran l memory′ r′ log′ a steps added reply es ea en ek el write sum =
+        (λ i. closed
+        ((sum ∙ (λ j. replyNumber 0 (reasonNumber (ea j)) (en j) (ek j))) i)
+        (es i .mem)
+        ((write memory′ ∙ ap recordOf es) i)
+        (el i))
+        ∙ ap (closing log) run-is
+        ∙ sym (accepted-call memory r events log n (accepted h))

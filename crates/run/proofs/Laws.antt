@@ -1,31 +1,47 @@
--- A run as its loop goes: steps with no event due, a stretch, one step, and the two ways in which it ends.
--- Assumes nothing.
-use Prim.Native.Nat.{ℕ, _+_, _-_, _<_, _≤_}
-use mathlib.Core.Bool.{Bool, true, false, _||_}
-use mathlib.Core.List.{List}
-use mathlib.Core.Path.{_≡_, sym, ap, _∙_}
+-- A run with its log as its loop goes: steps with no event due, a stretch, one step that is taken or given up, and the ways in
+-- which it ends. Assumes nothing.
+use Prim.Native.Nat.{ℕ, zero, suc, _+_, _-_, _*_, _/_, _<_, _≤_}
+use mathlib.Core.Bool.{Bool, true, false, cond, _&&_, _||_}
+use mathlib.Core.List.{List, [], _∷_, _++_}
+use mathlib.Core.Path.{_≡_, refl, sym, ap, subst, _∙_}
+use native.Mathlib.Numerals.{add-one}
 use native.Mathlib.Omega.{arith}
-use lib.Dec.{eqb}
+use lib.Dec.{eqb, ltb, leb}
+use lib.ListN.{length, take, length-append}
+use lib.Seq.{sets, length-sets}
 use mathlib.Mathlib.Data.Bool.Basic.{or-eq-false-eq-eq-false-and-eq-false}
 use borrow.Author.Tests.{lt-ltb, eqb-false}
-use Rattle.machine.specs.State.{State}
-use Rattle.machine.specs.Events.{Event, eventAt, eventCount, eventsOf}
-use Rattle.machine.specs.Devices.{deliver}
-use Rattle.machine.specs.Step.{finished}
+use Rattle.machine.specs.declared.Rest.{Rest}
+use Rattle.machine.specs.State.{Core, State}
+use Rattle.machine.specs.Rest.{coreWith, stateWith}
+use Rattle.machine.specs.Events.{Event, eventAt, eventsFrom, eventCount, eventsOf}
+use Rattle.machine.specs.Devices.{deliver, deliverAt}
+use Rattle.machine.specs.Step.{Plan, planOf, perform, closed, finished}
 use Rattle.machine.specs.Run.{ran, runOf}
-use Rattle.machine_laws.proofs.Cases.{bool-cases, eq-of}
-use Rattle.machine_laws.proofs.Runs.{run-zero, run-stays, run-append, run-turn}
-use Rattle.devices.specs.Cursor.{Ordered}
-use Rattle.devices.proofs.Laws.{behind-later, index-quiet}
+use Rattle.machine.specs.Log.{Shown, loggedOf, logBytes}
+use Rattle.machine.specs.Logged.{Logged, logged, runLogged}
+use Rattle.machine.specs.Refusal.{eventsFitBelow}
+use Rattle.machine.specs.Uneventful.{Uneventful}
+use Rattle.machine_laws.specs.Bounds.{Each}
+use Rattle.machine_laws.proofs.Cases.{bool-cases, eq-of, is-eq, is-le, not-le, le-of, gt-of, lt-of, ge-of}
+use Rattle.run_laws.proofs.Room.{logged-one, records-fit}
+use Rattle.run_laws.proofs.LogBytes.{log-stored}
+use Rattle.run_laws.proofs.Turns.{turn-start, turn-taken, turn-short, turn-stretch, turn-full, turn-halted, OfDevice, given-back}
+use Rattle.output_log.specs.declared.Showing.{Showing}
+use Rattle.output_log.specs.Showing.{listed}
+use Rattle.devices.specs.Cursor.{Behind, Ordered, stateFrom}
+use Rattle.devices.proofs.Laws.{behind-later, index-quiet, device-lt}
 use Rattle.stretch.specs.Stretch.{Undisturbed}
 use Rattle.run.specs.Due.{dueOf, Awaits}
+use Rattle.run.specs.Reached.{Reached}
 
 due-in : (b : List ℕ) (k : ℕ) → k < eventCount b → dueOf b k ≡ eventAt b k .step
 unfolding dueOf
 due-in b k h = rw (lt-ltb k (eventCount b) h)
 
-pub awaits-first : (b : List ℕ) (due k : ℕ) → due ≡ dueOf b 0 → Awaits b 0 due k
-awaits-first b due k e = ((omega arith, λ j h. absurd (omega arith)), e)
+-- no record is behind before the first
+pub behind-none : (b : List ℕ) (k : ℕ) → Behind b 0 k
+behind-none b k = (omega arith, λ j h. absurd (omega arith))
 
 module _ (b : List ℕ) (next due k : ℕ) (a : Awaits b next due k) where
   pub awaits-later : (j : ℕ) → k ≤ j → Awaits b next due j
@@ -36,42 +52,224 @@ module _ (b : List ℕ) (next due k : ℕ) (a : Awaits b next due k) where
   undisturbed o j h l s =
       index-quiet b j next s o (awaits-later j h .0) (λ q. let e : due ≡ eventAt b next .step = a .1 ∙ due-in b next q in omega arith)
 
--- ---- a run
+-- the devices of a list that rule 6 accepts
+from-devices : (b : List ℕ) (n k : ℕ) → ((j : ℕ) → j < k + n → OfDevice (eventAt b j)) → Each OfDevice (eventsFrom b k n)
+unfolding eventsFrom
+from-devices b zero k h = tt
+from-devices b (suc n) k h = (h k (omega arith), from-devices b n (suc k) (λ j l. h j (omega arith)))
 
-module _ (ev : List Event) (s₀ : State) where
-  pub run-start : ran s₀ 0 ≡ runOf ev s₀ 0
-  run-start = sym (run-zero ev s₀)
+pub of-devices : (b : List ℕ) → eventsFitBelow b (eventCount b) ≡ true → Each OfDevice (eventsOf b)
+unfolding eventAt
+of-devices b f = from-devices b (eventCount b) 0 (λ j h. device-lt b (eventCount b) j f (omega arith))
 
-  -- a stretch of j steps, from a state that the run reaches
-  pub run-on : (s v : State) (k j : ℕ) → ran s k ≡ runOf ev s₀ k → ran v j ≡ runOf ev s j → ran v (k + j) ≡ runOf ev s₀ (k + j)
-  run-on s v k j e r =
-      sym
-      (run-append ev s₀ k j
-      ∙ ap (λ x. ran (runOf ev (x .state) j .state) (x .steps + runOf ev (x .state) j .steps)) (sym e)
-      ∙ ap (λ x. ran (x .state) (k + x .steps)) (sym r))
+-- ---- what the loop holds
 
-  -- one step: its events, and then what they begin
-  pub run-step :
-      (s t u : State) (k : ℕ) → ran s k ≡ runOf ev s₀ k → s .halted ≡ false → t ≡ deliver ev s → u ≡ finished t →
-      ran u (k + 1) ≡ runOf ev s₀ (k + 1)
-  run-step s t u k e h p q = run-turn ev s₀ s t u k e h p q
+module _ (ev : List Event) (s₀ : State) (k : ℕ) (lent : List ℕ) where
+  abbrev at : ℕ → Logged
+  at n = runLogged ev s₀ k n
 
-  -- all steps done, and halted before that
-  pub run-full : (s : State) (k n : ℕ) → ran s k ≡ runOf ev s₀ k → k ≤ n → n ≤ k → ran s k ≡ runOf ev s₀ n
-  run-full s k n e h l = let q : k ≡ n = omega arith in e ∙ ap (runOf ev s₀) q
+  pub reached-start : Reached (at 0) lent s₀ 0 0 lent false
+  unfolding logBytes
+  reached-start =
+      subst (λ x. Reached x lent s₀ 0 0 lent false) (turn-start ev s₀ k)
+      (record { state = refl; steps = refl; added = refl; log = refl; short = refl })
 
-  pub run-stopped : (s : State) (k n : ℕ) → ran s k ≡ runOf ev s₀ k → k ≤ n → s .halted ≡ true → ran s k ≡ runOf ev s₀ n
-  run-stopped s k n e h l =
-      let q : k + (n - k) ≡ n = omega arith in
-      e ∙ sym (run-stays ev s₀ k (n - k) (sym (ap (λ x. x .state .halted) e) ∙ l)) ∙ ap (runOf ev s₀) q
+  module _ (s : State) (done added : ℕ) (log : List ℕ) (h : Reached (at done) lent s done added log false) where
+    -- it is the definition's run itself
+    abbrev held : Logged
+    held = logged s done (at done .records) false
 
-  -- a turn breaks off after its stretch
-  pub run-left : (s : State) (k n : ℕ) → ran s k ≡ runOf ev s₀ k → k ≤ n → (s .halted || eqb k n) ≡ true → ran s k ≡ runOf ev s₀ n
-  run-left s k n e h l =
-      bool-cases (s .halted)
-      (λ q. run-stopped s k n e h q)
-      (λ q. let f = eq-of (sym (ap (λ (b : Bool). b || eqb k n) q) ∙ l) in e ∙ ap (runOf ev s₀) f)
+    held-is : held ≡ at done
+    held-is = λ i. logged (h .state i) (h .steps i) (at done .records) (h .short i)
 
--- or goes on
+    as-held : Reached held lent s done added log false
+    as-held = record { state = refl; steps = refl; added = h .added; log = h .log; short = refl }
+
+    -- the records fit the room, and the log keeps its length
+    pub added-fit : added ≤ k
+    added-fit = let f = records-fit ev s₀ k done in let e = h .added in omega arith
+
+    pub log-size : length log ≡ length lent
+    log-size = ap length (h .log) ∙ length-sets lent 0 (logBytes (at done .records))
+
+    -- a stretch of j steps
+    pub reached-stretch : (v : State) (j : ℕ) → ran v j ≡ runOf ev s j → Uneventful ev s j
+        → Reached (at (done + j)) lent v (done + j) added log false
+    reached-stretch v j e f =
+        subst (λ x. Reached x lent v (done + j) added log false) (turn-stretch ev s₀ k held held-is refl v j e f)
+        (record { state = refl; steps = refl; added = h .added; log = h .log; short = refl })
+
+    -- all steps done, or halted before that
+    pub reached-full : (n : ℕ) → done ≤ n → n ≤ done → Reached (at n) lent s done added log false
+    reached-full n l m =
+        subst (λ x. Reached x lent s done added log false) (turn-full ev s₀ k held held-is refl n l m) as-held
+
+    pub reached-left : (n : ℕ) → done ≤ n → (s .halted || eqb done n) ≡ true → Reached (at n) lent s done added log false
+    reached-left n l b =
+        bool-cases (s .halted)
+        (λ q. subst (λ x. Reached x lent s done added log false) (turn-halted ev s₀ k held held-is refl n l q) as-held)
+        (λ q.
+        let e : done ≡ n = eq-of (sym (ap (λ (c : Bool). c || eqb done n) q) ∙ b) in
+        reached-full n l (omega arith))
+
+    -- one step: its events, what it shows, and whether there is room for that
+    module _
+        (live : s .halted ≡ false) (t : State) (delivered : t ≡ deliver ev s) (xs : List Shown)
+        (told : xs ≡ loggedOf (planOf t .act) t) (lacks : Bool) (test : lacks ≡ ltb k (added + length xs)) where
+      fits-is : added + length xs ≡ length (held .records) + length xs
+      fits-is = ap (λ i. i + length xs) (h .added)
+
+      -- it is taken
+      pub reached-step : (u : State) → u ≡ finished t → lacks ≡ false → (added′ : ℕ) → added′ ≡ added + length xs
+          → (log′ : List ℕ) → log′ ≡ sets log (8 * added) (logBytes xs)
+          → Reached (at (done + 1)) lent u (done + 1) added′ log′ false
+      reached-step u e b added′ ea log′ el =
+          let fits : length (held .records) + length xs ≤ k = subst (λ i. i ≤ k) fits-is (ge-of (sym test ∙ b)) in
+          let w = turn-taken ev s₀ k held held-is refl live t delivered xs told u e fits in
+          rw (add-one done)
+          (subst (λ x. Reached x lent u (suc done) added′ log′ false) w
+          (record {
+            state = refl;
+            steps = refl;
+            added = ea ∙ fits-is ∙ sym (length-append (held .records) xs);
+            log = el ∙ (λ i. sets (h .log i) (8 * h .added i) (logBytes xs)) ∙ log-stored lent (held .records) xs;
+            short = refl;
+          }))
+
+      -- it is not taken: the run ends with what it was before
+      pub reached-short : (n : ℕ) → done < n → lacks ≡ true → Reached (at n) lent s done added log true
+      reached-short n l b =
+          let past : k < length (held .records) + length xs = subst (λ i. k < i) fits-is (lt-of (sym test ∙ b)) in
+          subst (λ x. Reached x lent s done added log true) (turn-short ev s₀ k held held-is refl live t delivered xs told n l past)
+          (record { state = refl; steps = refl; added = h .added; log = h .log; short = refl })
+
+      -- and the log is full
+      pub short-full : lacks ≡ true → eqb added k ≡ true
+      short-full b =
+          let past : k < added + length xs = lt-of (sym test ∙ b) in
+          let one : length xs ≤ 1 = subst (λ ys. length ys ≤ 1) (sym told) (logged-one (planOf t .act) t) in
+          let fit = added-fit in
+          is-eq {m = added} {n = k} (omega arith)
+
+-- ---- one step of the loop, in the order of its calls
+
+-- the same where what is held is equal part by part
+pub carried : {x : Logged} {lent regs regs′ m m′ log : List ℕ} {t t′ : Rest} {d d′ a : ℕ} {b b′ : Bool}
+    → m′ ≡ m → regs′ ≡ regs → t′ ≡ t → d′ ≡ d → b′ ≡ b
+    → Reached x lent (stateWith regs t m) d a log b → Reached x lent (stateWith regs′ t′ m′) d′ a log b′
+carried em er et ed eb h =
+    record {
+      state = (λ i. stateWith (er i) (et i) (em i)) ∙ h .state;
+      steps = ed ∙ h .steps;
+      added = h .added;
+      log = h .log;
+      short = eb ∙ h .short;
+    }
+
+module _
+    (ev : List Event) (s₀ : State) (k : ℕ) (lent regs : List ℕ) (t : Rest) (mem : List ℕ) (done added : ℕ) (log : List ℕ)
+    (h : Reached (runLogged ev s₀ k done) lent (stateWith regs t mem) done added log false)
+    (live : t .halted ≡ false)
+    (l : ℕ) (m : List ℕ)
+    (delivered : (c : Core) (b : Bool) → stateFrom c l b (t .count) m ≡ deliverAt (t .count) ev (stateFrom c (t .lines) b (t .count) mem))
+    (w : Rest) (lines : w ≡ record { psw = t .psw; cex = t .cex; lines = l; halted = t .halted; count = t .count })
+    (q : Plan) (planned : q ≡ planOf (stateWith regs w m))
+    (x : Showing) (shows : (s : State) → s .mem ≡ m → listed (s .count) x ≡ loggedOf (q .act) s)
+    (lacks : Bool) (test : (n : ℕ) → lacks ≡ ltb k (added + length (listed n x))) where
+  abbrev begun : State
+  begun = stateFrom (coreWith regs t) l (t .halted) (t .count) m
+
+  begun-is : begun ≡ deliver ev (stateWith regs t mem)
+  begun-is = delivered (coreWith regs t) (t .halted)
+
+  plan-is : q ≡ planOf begun
+  plan-is = planned ∙ ap (λ v. planOf (stateWith regs v m)) lines
+
+  told : listed (t .count) x ≡ loggedOf (planOf begun .act) begun
+  told = shows begun refl ∙ ap (λ v. loggedOf (v .act) begun) plan-is
+
+  -- taken
+  pub step-taken : (u : State) → u ≡ closed (perform (q .act) (q .core) l m) (t .count) m → lacks ≡ false
+      → (added′ : ℕ) → added′ ≡ added + length (listed (t .count) x)
+      → (log′ : List ℕ) → log′ ≡ sets log (8 * added) (logBytes (listed (t .count) x))
+      → Reached (runLogged ev s₀ k (done + 1)) lent u (done + 1) added′ log′ false
+  step-taken u e b added′ ea log′ el =
+      reached-step ev s₀ k lent (stateWith regs t mem) done added log h live begun begun-is (listed (t .count) x) told lacks
+      (test (t .count)) u (e ∙ ap (λ (v : Plan). closed (perform (v .act) (v .core) l m) (t .count) m) plan-is) b added′ ea log′ el
+
+  -- given up
+  pub step-short : (n : ℕ) → done < n → lacks ≡ true
+      → Reached (runLogged ev s₀ k n) lent (stateWith regs t mem) done added log true
+  step-short n d b =
+      reached-short ev s₀ k lent (stateWith regs t mem) done added log h live begun begun-is (listed (t .count) x) told lacks
+      (test (t .count)) n d b
+
+  pub step-full : lacks ≡ true → eqb added k ≡ true
+  step-full b =
+      short-full ev s₀ k lent (stateWith regs t mem) done added log h live begun begun-is (listed (t .count) x) told lacks
+      (test (t .count)) b
+
+  pub step-memory : m ≡ deliver ev (stateWith regs t mem) .mem
+  step-memory = ap (λ (v : State). v .mem) begun-is
+
+-- a turn goes on
 pub goes-on : (h : Bool) (k n : ℕ) → (h || eqb k n) ≡ false → (h ≡ false) × (k ≡ n → ⊥)
 goes-on h k n e = let p = or-eq-false-eq-eq-false-and-eq-false h (eqb k n) .0 e in (p .0, eqb-false k n (p .1))
+
+-- ---- a step given up
+
+-- The device bytes kept, where an event was due, give back the memory before the events of the step.
+pub restored : (b : List ℕ) (next due : ℕ) (s : State) → Awaits b next due (s .count) → Ordered b
+    → eventsFitBelow b (eventCount b) ≡ true → 16 ≤ length (s .mem)
+    → (full wanted : Bool) → full ≡ true → wanted ≡ full && leb due (s .count)
+    → (kept m : List ℕ) → (wanted ≡ true → kept ≡ take 16 (s .mem)) → m ≡ deliver (eventsOf b) s .mem
+    → cond wanted (sets m 0 kept) m ≡ s .mem
+restored b next due s a o f l full wanted ef ew kept m ek em =
+    let w : wanted ≡ leb due (s .count) = ew ∙ ap (λ c. c && leb due (s .count)) ef in
+    bool-cases (leb due (s .count))
+    (λ q.
+    let y : wanted ≡ true = w ∙ q in
+    ap (λ c. cond c (sets m 0 kept) m) y
+    ∙ (λ i. sets (em i) 0 (ek y i))
+    ∙ given-back (eventsOf b) s (of-devices b f) l)
+    (λ q.
+    let y : wanted ≡ false = w ∙ q in
+    let late : s .count < due = gt-of q in
+    ap (λ c. cond c (sets m 0 kept) m) y
+    ∙ em
+    ∙ ap (λ t. t .mem) (undisturbed b next due (s .count) a o (s .count) (omega arith) late s))
+
+-- a step given up, from what the loop holds before its events: memory is put back, and the run ends
+module _
+    (b : List ℕ) (s₀ : State) (k : ℕ) (lent regs : List ℕ) (t : Rest) (mem : List ℕ) (done added : ℕ) (log : List ℕ)
+    (h : Reached (runLogged (eventsOf b) s₀ k done) lent (stateWith regs t mem) done added log false)
+    (live : t .halted ≡ false)
+    (l : ℕ) (m : List ℕ)
+    (delivered : (c : Core) (g : Bool)
+    → stateFrom c l g (t .count) m ≡ deliverAt (t .count) (eventsOf b) (stateFrom c (t .lines) g (t .count) mem))
+    (w : Rest) (lines : w ≡ record { psw = t .psw; cex = t .cex; lines = l; halted = t .halted; count = t .count })
+    (q : Plan) (planned : q ≡ planOf (stateWith regs w m))
+    (x : Showing) (shows : (s : State) → s .mem ≡ m → listed (s .count) x ≡ loggedOf (q .act) s)
+    (lacks : Bool) (test : (n : ℕ) → lacks ≡ ltb k (added + length (listed n x)))
+    (up : lacks ≡ true)
+    (next due : ℕ) (awaits : Awaits b next due (t .count)) (ordered : Ordered b) (fits : eventsFitBelow b (eventCount b) ≡ true)
+    (size : 16 ≤ length mem)
+    (kept : List ℕ) (keeps : eqb added k && leb due (t .count) ≡ true → kept ≡ take 16 mem) where
+  pub undone-memory : cond (eqb added k && leb due (t .count)) (sets m 0 kept) m ≡ mem
+  undone-memory =
+      let ev = eventsOf b in
+      restored b next due (stateWith regs t mem) awaits ordered fits size (eqb added k) (eqb added k && leb due (t .count))
+      (step-full ev s₀ k lent regs t mem done added log h live l m delivered w lines q planned x shows lacks test up) refl kept m keeps
+      (step-memory ev s₀ k lent regs t mem done added log h live l m delivered w lines q planned x shows lacks test)
+
+  pub undone : (n : ℕ) → done < n → Reached (runLogged (eventsOf b) s₀ k n) lent (stateWith regs t mem) done added log true
+  undone n d =
+      step-short (eventsOf b) s₀ k lent regs t mem done added log h live l m delivered w lines q planned x shows lacks test n d up
+
+-- what is shown has room
+pub room-for : (n : ℕ) (x : Showing) (added : ℕ) (lent log : List ℕ) (lacks : Bool)
+    → lacks ≡ ltb (length lent / 8) (added + length (listed n x)) → lacks ≡ false → length log ≡ length lent
+    → 8 * (added + length (listed n x)) ≤ length log
+room-for n x added lent log lacks e b size =
+    let fits : added + length (listed n x) ≤ length lent / 8 = ge-of (sym e ∙ b) in
+    omega arith

@@ -2,3 +2,4 @@ pub mod Texts
 pub mod Inputs
 pub mod Laws
 pub mod Counts
+pub mod Sliced

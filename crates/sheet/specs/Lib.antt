@@ -1,3 +1,4 @@
 pub mod Sheet
 pub mod Parts
+pub mod Slices
 pub mod Counts

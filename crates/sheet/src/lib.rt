@@ -2,6 +2,7 @@
 mod cut;
 mod fields;
 mod line;
+mod slices;
 
 ghost use mathlib.Core.Path.{_≡_};
 ghost use Prim.Native.Nat.{_≤_};
@@ -22,7 +23,7 @@ fn put_run(input: &[u8], memory: &mut [u8], out: &mut [u8]) -> usize
     let n = little_endian::four_at(input, 0);
     let m = state_record::read_record(cut::part(input, 4, 36));
     let events = cut::part(input, 65572, input.len());
-    let done = run::run(m, memory, events, n);
+    let done = slices::run_whole(m, memory, events, n);
     line::put_line(out, done.machine, done.steps)
 }
 

@@ -27,4 +27,4 @@ pub use Rattle.stack_need.specs.Need.{needOf, needReply}
 
 -- xm23_version replies versionNumber: major, minor and patch, which are those of the header.
 abbrev pub versionNumber : ℕ
-versionNumber = 0 * 65536 + 13 * 256 + 0
+versionNumber = 0 * 65536 + 14 * 256 + 0

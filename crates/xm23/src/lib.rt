@@ -23,7 +23,7 @@ use isa_ranges::operation_of;
 pub extern "C" fn xm23_version() -> u32
     ensures reply { λ r. ⌜ r ≡ versionNumber ⌝ }
 {
-    0x000D00
+    0x000E00
 }
 
 // The number of the instruction that a word means; that of the illegal one is 0.
@@ -80,20 +80,29 @@ pub extern "C" fn xm23_next(operation: u32, word: u32) -> u64
     }
 }
 
-// A run of n steps of the machine that the state record holds, with the event list: refusal in bits
-// 7-0, reason in bits 15-8, steps done in bits 39-16. Refused, memory and record stay as they were.
+// A run of n steps of the machine that the state record holds, with the event list and a log of
+// what its output devices show: refusal in bits 7-0, reason in bits 15-8, steps done in bits 39-16,
+// log records added in bits 63-40. Refused, memory, record and log stay as they were.
 #[no_mangle]
-pub extern "C" fn xm23_run(memory: &mut [u8], state: &mut [u8], events: &[u8], n: u64) -> u64
-    ensures reply { λ r. ⌜ r
-        ≡ runCallOf (now (memory .entry)) (now (state .entry)) (now (events .entry)) n .reply ⌝ }
-    ensures memory { λ r. ⌜ now (memory .exit)
-        ≡ runCallOf (now (memory .entry)) (now (state .entry)) (now (events .entry)) n .memory ⌝ }
-    ensures state { λ r. ⌜ now (state .exit)
-        ≡ runCallOf (now (memory .entry)) (now (state .entry)) (now (events .entry)) n .state ⌝ }
+pub extern "C" fn xm23_run(
+    memory: &mut [u8],
+    state: &mut [u8],
+    events: &[u8],
+    log: &mut [u8],
+    n: u64,
+) -> u64
+    ensures reply { λ r. ⌜ r ≡ runCallOf (now (memory .entry)) (now (state .entry))
+        (now (events .entry)) (now (log .entry)) n .reply ⌝ }
+    ensures memory { λ r. ⌜ now (memory .exit) ≡ runCallOf (now (memory .entry))
+        (now (state .entry)) (now (events .entry)) (now (log .entry)) n .memory ⌝ }
+    ensures state { λ r. ⌜ now (state .exit) ≡ runCallOf (now (memory .entry))
+        (now (state .entry)) (now (events .entry)) (now (log .entry)) n .state ⌝ }
+    ensures log { λ r. ⌜ now (log .exit) ≡ runCallOf (now (memory .entry))
+        (now (state .entry)) (now (events .entry)) (now (log .entry)) n .log ⌝ }
     ensures resumption { λ r. ⌜ Resumption (now (memory .entry)) (now (state .entry))
-        (now (events .entry)) n (now (memory .exit)) (now (state .exit)) ⌝ }
+        (now (events .entry)) (now (log .entry)) n (now (memory .exit)) (now (state .exit)) ⌝ }
 {
-    run::run_call(memory, state, events, n)
+    run::run_call(memory, state, events, log, n)
 }
 
 // The text of S-records loaded into memory: refusal in bits 7-0, PC in bits 31-16, the line at

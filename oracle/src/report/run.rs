@@ -1,6 +1,6 @@
 //! How a run went: its verdict, its events, its entries, returns and faults, its last steps.
 
-use super::{act_text, fault_name, grouped, hex, hex_byte, instruction, row};
+use super::{act_text, fault_name, grouped, hex, hex_byte, instruction, row, screen};
 use crate::follow::{raises, Entered, Fate, Followed, Taken};
 use crate::listing::REGISTERS;
 use crate::machine::{current, Act, Event, Machine, DBA, ENA, FULL, INPUT, PC};
@@ -50,6 +50,7 @@ pub fn course(run: &Followed) -> Section {
         row(["Halted mark", &u8::from(close.halted).to_string(), marks]),
         row(["Step count", &grouped(close.count.into()), &at_start]),
         row(["Events listed", &run.events.len().to_string(), &fates(run)]),
+        row(["Bytes shown", &grouped(run.shown.len() as u64), &screen::remark(run)]),
         row(["Frames opened", &run.opened.to_string(), &frame_remark(run)]),
     ];
     Section::new("run", "The run", vec![table("How far the run went", &["Item", "Value", "Remark"], rows)])

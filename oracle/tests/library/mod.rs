@@ -11,13 +11,15 @@ extern "C" {
         record_len: usize,
         events: *const u8,
         events_len: usize,
+        log: *mut u8,
+        log_len: usize,
         n: u64,
     ) -> u64;
 }
 
 /// Runs an input in place by the proved library.
 pub fn library(i: &mut Input) -> u64 {
-    let (memory, record, events) = (&mut i.memory, &mut i.record, &i.events);
+    let (memory, record, events, log) = (&mut i.memory, &mut i.record, &i.events, &mut i.log);
     // Each buffer is lent for its own length, and none overlaps another.
     unsafe {
         xm23_run(
@@ -27,6 +29,8 @@ pub fn library(i: &mut Input) -> u64 {
             record.len(),
             events.as_ptr(),
             events.len(),
+            log.as_mut_ptr(),
+            log.len(),
             i.n,
         )
     }

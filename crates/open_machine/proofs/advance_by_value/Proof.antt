@@ -1,113 +1,79 @@
 -- Turned back, nothing is changed; else what the run needs is what the verdict on the machine's record has settled.
 -- Assumes nothing.
+use Prim.Native.Nat.{_≤_}
 use mathlib.Core.List.{[]}
-use mathlib.Core.Path.{ap}
+use mathlib.Core.Path.{ap, sym, subst}
 use native.Mathlib.Omega.{arith}
+use denote.Ref.{now}
 use denote.Struct.Laws as LL
 use borrow.Author.Needs.{needs}
-use Rattle.word.proofs.Laws.{bit-le}
 use Rattle.machine.specs.State.{stateOf}
 use Rattle.machine.proofs.Machine as T
 use Rattle.machine.proofs.Machine.Laws as T′
+use Rattle.run.proofs.Laws.{behind-none}
 use Rattle.run.proofs.Calls.{events-fit, events-ordered, call-passed}
-use Rattle.open_machine.proofs.Laws.{count-fits, advance-refused, advance-ran}
+use Rattle.open_machine.proofs.Laws.{count-fits, advance-refused, advance-ran, few-steps, few-records}
 use Rattle.open_machine.proofs.advance_by_value.Statement.{statement}
 use Rattle.open_machine.proofs.advance_by_value.Tie as tie
 
-slice-aggregate-write-record : tie.Need-slice-aggregate-write-record
-slice-aggregate-write-record c = search needs
-
-write-record-requires : tie.Need-write-record-requires
-write-record-requires c κs = search needs
-
-slice-aggregate-verdict : tie.Need-slice-aggregate-verdict
-slice-aggregate-verdict c = search needs
-
-verdict-requires : tie.Need-verdict-requires
-verdict-requires c κs = search needs
-
-refusal-number-requires : tie.Need-refusal-number-requires
-refusal-number-requires c κs = search needs
-
-same-length : tie.Need-same-length
-same-length c = search needs
-
 returns : tie.Need-returns
 returns c =
-    let v = c .before .before in
-    let e =
-    advance-refused _ _ _ _ _ _ (v .before .before .before .before .write-record .ensures _) (v .verdict .ensures)
-    (c .before .refusal-number .ensures .0) (c .if1 .taken) in
-    (ap (λ x. x .reply) e, ap (λ x. x .state) e)
+    let e = advance-refused _ _ _ _ _ _ _ (c .before .before .before .before .before .before .before .write-record .ensures _) (c .before .before .call-verdict .ensures) (c .before .refusal-number .ensures .0) (c .if1 .taken) in
+    (ap (λ x. x .reply) e, ap (λ x. x .state) e, ap (λ x. x .log) e)
 
 cast-run : tie.Need-cast-run
 cast-run c =
-    let f = c .before in
-    let p = call-passed _ _ _ _ _ _ (f .before .before .verdict .ensures) (f .before .refusal-number .ensures .0) (f .if1 .left) in
+    let p = call-passed _ _ _ _ _ _ _ (c .before .before .before .before .call-verdict .ensures) (c .before .before .before .refusal-number .ensures .0) (c .before .before .if1 .left) in
     let few = p .few-steps in
     omega arith
 
 run-requires : tie.Need-run-requires
 run-requires c κs =
-    let f = c .before in
-    let g = f .before .before .before .before .before .before .before .before .before .before in
-    let p = call-passed _ _ _ _ _ _ (f .before .before .verdict .ensures) (f .before .refusal-number .ensures .0) (f .if1 .left) in
+    let g = c .before .before .before .before .before .before .before .before .before .before .before .before .before .before in
+    let p = call-passed _ _ _ _ _ _ _ (c .before .before .before .before .call-verdict .ensures) (c .before .before .before .refusal-number .ensures .0) (c .before .before .if1 .left) in
     let k = LL.owed T.the-type T′.the-laws (g .args .m) _ (g .good .0) .1 .1 .1 .1 .1 .0 .1 in (
       p .memory-size,
-      count-fits (stateOf (g .args .m) []) _ _ _ _ p (f .before .before .before .before .before .before .write-record .ensures []) k,
+      count-fits (stateOf (g .args .m) []) _ _ _ _ p (c .before .before .before .before .before .before .before .before .before .write-record .ensures []) k,
       events-ordered _ _ _ _ p,
       events-fit _ _ _ _ p,
+      behind-none _ _,
     )
 
-cast-reply : tie.Need-cast-reply
-cast-reply c = search needs
-
-mul-reply : tie.Need-mul-reply
-mul-reply c =
-    let h = bit-le (c .before .before .before .before .run .result .machine .halted) in
-    omega arith
-
-cast-reply-2 : tie.Need-cast-reply-2
-cast-reply-2 c = search needs
-
-mul-reply-2 : tie.Need-mul-reply-2
-mul-reply-2 c = search needs
-
-add-reply : tie.Need-add-reply
-add-reply c =
-    let h = bit-le (c .before .before .before .before .before .run .result .machine .halted) in
-    omega arith
-
-same-length-2 : tie.Need-same-length-2
-same-length-2 c = search needs
+reply-of-requires : tie.Need-reply-of-requires
+reply-of-requires c κs =
+    let r = c .before .before .before .before .before .run .ensures in
+    let a = c .before .before .before .before .before .before .before .before .before .before .before .before .before .before .before .before .before .before .before .before .args in
+    let s = stateOf (a .m) (now (a .memory)) in
+    let w = c .before .before .before .before .before .before .before .before .before .before .before .before .before .before .before .write-record .ensures (now (a .memory)) in (
+      subst (λ j. j ≤ 1000000) (sym (r .1 .1 .0)) (few-steps s _ _ _ _ _ _ w (c .before .before .before .before .before .before .before .before .before .before .call-verdict .ensures) (c .before .before .before .before .before .before .before .before .before .refusal-number .ensures .0) (c .before .before .before .before .before .before .before .before .if1 .left)),
+      subst (λ j. j ≤ 1000000) (sym (r .1 .1 .1 .0)) (few-records s _ _ _ _ _ _ w (c .before .before .before .before .before .before .before .before .before .before .call-verdict .ensures) (c .before .before .before .before .before .before .before .before .before .refusal-number .ensures .0) (c .before .before .before .before .before .before .before .before .if1 .left)),
+    )
 
 returns-2 : tie.Need-returns-2
 returns-2 c =
-    let r = c .before .before .before .before .before in
-    let f = r .before .before in
-    let v = f .before .before in
+    let r = c .before .before .before .before .before .before .run .ensures in
+    let a = c .before .before .before .before .before .before .before .before .before .before .before .before .before .before .before .before .before .before .before .before .before .args in
+    let s = stateOf (a .m) (now (a .memory)) in
     let e =
-    advance-ran _ _ _ _ _ _ (v .before .before .before .before .write-record .ensures _) (v .verdict .ensures)
-    (f .before .refusal-number .ensures .0) _ _ (f .if1 .left) (r .run .ensures .0) in
-    (ap (λ x. x .reply) e, ap (λ x. x .state) e)
+    advance-ran s _ _ _ _ _ _ (c .before .before .before .before .before .before .before .before .before .before .before .before .before .before .before .before .write-record .ensures _) (c .before .before .before .before .before .before .before .before .before .before .before .call-verdict .ensures) (c .before .before .before .before .before .before .before .before .before .before .refusal-number .ensures .0) (c .before .before .before .before .before .before .before .before .before .if1 .left)
+    _ _ _ _ _ _ (r .0) (r .1 .0) (r .1 .1 .0) (r .1 .1 .1 .0) (r .1 .1 .1 .1 .0) (c .reply-of .ensures) in
+    (ap (λ x. x .reply) e, ap (λ x. x .state) e, ap (λ x. x .log) e)
 
 pub advance-by-value-spec : {M : Type 1} → statement M
 advance-by-value-spec =
     tie.close
     (tie.spec
-    slice-aggregate-write-record
-    write-record-requires
-    slice-aggregate-verdict
-    verdict-requires
-    refusal-number-requires
-    same-length
+    (λ c. search needs)
+    (λ c κs. search needs)
+    (λ c. search needs)
+    (λ c κs. search needs)
+    (λ c κs. search needs)
+    (λ c. search needs)
+    (λ c. search needs)
     returns
     cast-run
     run-requires
-    cast-reply
-    mul-reply
-    cast-reply-2
-    mul-reply-2
-    add-reply
-    same-length-2
+    reply-of-requires
+    (λ c. search needs)
+    (λ c. search needs)
     returns-2)

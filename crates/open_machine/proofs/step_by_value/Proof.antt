@@ -11,8 +11,8 @@ use Rattle.word.proofs.Laws.{bit-le}
 use Rattle.machine.specs.State.{stateOf}
 use Rattle.machine.proofs.Machine as T
 use Rattle.machine.proofs.Machine.Laws as T′
-use Rattle.run.proofs.Calls.{events-fit, events-ordered, call-passed}
-use Rattle.open_machine.proofs.Laws.{count-fits, advance-refused, advance-ran, run-one}
+use Rattle.run.proofs.Calls.{events-fit, events-ordered}
+use Rattle.open_machine.proofs.Laws.{count-fits, step-passed, step-refused, step-ran, run-one}
 use Rattle.open_machine.proofs.step_by_value.Statement.{statement}
 use Rattle.open_machine.proofs.step_by_value.Tie as tie
 
@@ -38,7 +38,7 @@ returns : tie.Need-returns
 returns c =
     let v = c .before .before in
     let e =
-    advance-refused _ _ _ _ _ _ (v .before .before .before .before .write-record .ensures _) (v .verdict .ensures)
+    step-refused _ _ _ _ _ (v .before .before .before .before .write-record .ensures _) (v .verdict .ensures)
     (c .before .refusal-number .ensures .0) (c .if1 .taken) in
     (ap (λ x. x .reply) e, ap (λ x. x .state) e)
 
@@ -46,7 +46,10 @@ step-requires : tie.Need-step-requires
 step-requires c κs =
     let f = c .before in
     let g = f .before .before .before .before .before .before .before .before .before .before in
-    let p = call-passed _ _ _ _ _ _ (f .before .before .verdict .ensures) (f .before .refusal-number .ensures .0) (f .if1 .left) in
+    let a = g .args in
+    let p =
+    step-passed (stateOf (a .m) (now (a .memory))) _ _ _ _ (f .before .before .before .before .before .before .write-record .ensures _)
+    (f .before .before .verdict .ensures) (f .before .refusal-number .ensures .0) (f .if1 .left) in
     let k = LL.owed T.the-type T′.the-laws (g .args .m) _ (g .good .0) .1 .1 .1 .1 .1 .0 .1 in
     let w = f .before .before .before .before .before .before .write-record .ensures [] in
     let h = count-fits (stateOf (g .args .m) []) _ _ _ _ p w k in (
@@ -70,16 +73,14 @@ cast-reply-2 c = search needs
 
 mul-reply-2 : tie.Need-mul-reply-2
 mul-reply-2 c =
-    let q = c .before .before .before .before .before .before .before .before in
-    let s = q .before .before .before .before .before .before .before .before .before in
+    let s = c .before .before .before .before .before .before .before .before .before .before .before .before .before .before .before .before .before in
     let h = bit-le (not (s .args .m .halted)) in
     omega arith
 
 add-reply : tie.Need-add-reply
 add-reply c =
     let h = bit-le (c .before .before .before .before .before .step .result .machine .halted) in
-    let q = c .before .before .before .before .before .before .before .before in
-    let s = q .before .before .before .before .before .before .before .before .before in
+    let s = c .before .before .before .before .before .before .before .before .before .before .before .before .before .before .before .before .before in
     let k = bit-le (not (s .args .m .halted)) in
     omega arith
 
@@ -93,7 +94,7 @@ returns-2 c =
     let v = f .before .before in
     let a = v .before .before .before .before .before .before .before .before .args in
     let e =
-    advance-ran _ _ _ _ _ _ (v .before .before .before .before .write-record .ensures _) (v .verdict .ensures)
+    step-ran _ _ _ _ _ (v .before .before .before .before .write-record .ensures _) (v .verdict .ensures)
     (f .before .refusal-number .ensures .0) _ _ (f .if1 .left)
     (run-one (stateOf (a .m) (now (a .memory))) (now (a .events)) _ (r .step .ensures .0)) in
     (ap (λ x. x .reply) e, ap (λ x. x .state) e)

@@ -1,164 +1,258 @@
--- The loop's invariant: the state reached and the steps done are those of the definition's run of as many steps, the count has
--- gained them, and the index awaits the next event. Assumes nothing.
-use Prim.Native.Nat.{_+_, _-_, _≤_}
+-- The loop's invariant: what it holds is the definition's run of as many steps with the log's room, the count has gained them,
+-- and the index awaits the next event. Assumes nothing.
+use Prim.Native.Nat.{_+_, _-_, _/_, _≤_}
+use mathlib.Core.Bool.{Bool, false, cond}
+use mathlib.Core.List.{[]}
 use mathlib.Core.Logic.{⊎-elim}
-use mathlib.Core.Path.{_≡_, refl, ap, _∙_}
+use mathlib.Core.Path.{_≡_, refl, sym, ap, subst, _∙_}
 use native.Mathlib.Omega.{arith}
 use denote.Ref.{now}
 use lib.ListN.{length}
+use borrow.Author.Needs.{needs}
+use Rattle.machine.specs.declared.Reason.the-variants.{Done, Halted, NoRoom}
+use Rattle.machine.specs.declared.Rest.{Rest}
 use Rattle.machine.specs.State.{State, stateOf}
 use Rattle.machine.specs.Events.{eventsOf}
-use Rattle.machine.specs.Step.{Plan, perform, closed}
-use Rattle.machine.specs.Run.{ran, runOf, reasonOf}
+use Rattle.machine.specs.Logged.{runLogged}
 use Rattle.machine.specs.Rest.{stateWith}
+use Rattle.devices.specs.Cursor.{Behind}
 use Rattle.run.specs.Due.{Awaits}
-use Rattle.run.proofs.Laws.{awaits-first, awaits-later, undisturbed, run-start, run-on, run-step, run-full, run-left, goes-on}
+use Rattle.run.specs.Reached.{Reached}
+use Rattle.run.proofs.Laws.{awaits-later, undisturbed, reached-start, added-fit, log-size, reached-stretch, reached-full}
+use Rattle.run.proofs.Laws.{reached-left, carried, step-taken, goes-on, undone-memory, undone, room-for}
 use Rattle.run.proofs.run.Statement.{statement}
 use Rattle.run.proofs.run.Tie as tie
 
 abbrev Inv-loop : tie.InvT-loop
-Inv-loop memory₀ events n regs₀ t₀ next₀ due₀ done₀ memory regs t next due done =
+Inv-loop memory₀ events from log₀ n room regs₀ t₀ kept₀ next₀ due₀ done₀ added₀ short₀ memory log regs t kept next due done added short =
     (done ≤ n)
     × (length memory ≡ length memory₀)
     × (t .count ≡ t₀ .count + done)
     × Awaits events next due (t .count)
-    × (ran (stateWith regs t memory) done ≡ runOf (eventsOf events) (stateWith regs₀ t₀ memory₀) done)
+    × Reached (runLogged (eventsOf events) (stateWith regs₀ t₀ memory₀) room done) log₀ (stateWith regs t memory) done added log false
+    × (short ≡ false)
+    × (length kept ≡ 16)
 
 abbrev μ-loop : tie.MeasureT-loop
-μ-loop memory₀ events n regs₀ t₀ next₀ due₀ done₀ memory regs t next due done = n - done
-
-due-at-requires : tie.Need-due-at-requires Inv-loop μ-loop
-due-at-requires c κs = tt
+μ-loop memory₀ events from log₀ n room regs₀ t₀ kept₀ next₀ due₀ done₀ added₀ short₀ memory log regs t kept next due done added short =
+    n - done
 
 loop-holds : tie.Need-loop-holds Inv-loop μ-loop
-loop-holds c = (omega arith, refl, omega arith, awaits-first _ _ _ (c .due-at .ensures), run-start _ _)
-
-sub-stretch : tie.Need-sub-stretch Inv-loop μ-loop
-sub-stretch c = omega arith
+loop-holds c =
+    let s = c .before .before .before .before .before .before in
+    let r = c .before .rest-of .ensures [] in
+    let e = ap (λ (x : State). x .count) r in
+    (omega arith, refl, omega arith, (subst (Behind _ _) (sym e) (s .pre .4), c .due-at .ensures), reached-start _ _ _ _, refl, refl)
 
 stretch-requires : tie.Need-stretch-requires Inv-loop μ-loop
 stretch-requires c κs =
-    let l = c .before .before .before in
-    let s = l .before .before .before .before .before .pre in
-    (omega (arith, s .0), omega (arith, s .1, l .loop .inv .2))
-
-sub-done : tie.Need-sub-done Inv-loop μ-loop
-sub-done c = omega arith
+    let s = c .before .before .before .before .before .before .before .before .before .before in
+    let l = c .before .before .before .loop in
+    let r = c .before .before .before .before .before .rest-of in
+    let e = ap (λ (x : State). x .count) (r .ensures []) in
+    (omega (arith, s .pre .0, l .inv .1), omega (arith, s .pre .1, l .inv .2, e))
 
 add-done : tie.Need-add-done Inv-loop μ-loop
 add-done c =
-    let f = c .before .before .before .stretch .ensures .1 .1 in
-    let l = c .before .before .before .before .before .before .before in
-    omega (arith, f, l .loop .inv .0)
+    let l = c .before .before .before .before .before .before .before .loop in
+    let f = c .before .before .before .stretch in
+    omega (arith, f .ensures .1 .1, l .inv .0)
+
+slice-aggregate-keep : tie.Need-slice-aggregate-keep Inv-loop μ-loop
+slice-aggregate-keep c = omega (arith, c .before .before .before .before .before .before .before .before .before .before .before .before .loop .inv .6)
+
+keep-requires : tie.Need-keep-requires Inv-loop μ-loop
+keep-requires c κs =
+    let s = c .before .before .before .before .before .before .before .before .before .before .before .before .before .before .before .before .before .before .before in
+    let l = c .before .before .before .before .before .before .before .before .before .before .before .before .loop in
+    (omega (arith, s .pre .0, l .inv .1), omega (arith, l .inv .6))
 
 deliver-due-requires : tie.Need-deliver-due-requires Inv-loop μ-loop
 deliver-due-requires c κs =
-    let l = c .before .before .before .before .before .before .before .before .before .before in
-    let s = l .before .before .before .before .before .pre in
-    (omega arith, awaits-later _ _ _ _ (l .loop .inv .3) _ (omega arith), s .2, s .3)
+    let s = c .before .before .before .before .before .before .before .before .before .before .before .before .before .before .before .before .before .before .before .before .before .before in
+    let l = c .before .before .before .before .before .before .before .before .before .before .before .before .before .before .before .loop in
+    let f = c .before .before .before .before .before .before .before .before .before .before .before .stretch in
+    (omega (arith, s .pre .0, l .inv .1), awaits-later _ _ _ _ (l .inv .3) _ (omega (arith, f .ensures .1 .1)), s .pre .2, s .pre .3)
 
 plan-requires : tie.Need-plan-requires Inv-loop μ-loop
 plan-requires c κs =
-    let d = c .before .before .before .before .before .before in
-    let f = d .before .before .before .before .before .stretch .result in
-    let l = d .before .before .before .before .before .before .before .before .before in
-    let s = l .before .before .before .before .before in
-    (omega (arith, s .pre .0), goes-on (f .halted) (l .loop .done + (f .count - l .loop .t .count)) (s .args .n) (d .if1 .left) .0)
+    let s = c .before .before .before .before .before .before .before .before .before .before .before .before .before .before .before .before .before .before .before .before .before .before .before .before .before .before .before .before in
+    let l = c .before .before .before .before .before .before .before .before .before .before .before .before .before .before .before .before .before .before .before .before .before .loop in
+    let f = c .before .before .before .before .before .before .before .before .before .before .before .before .before .before .before .before .before .stretch in
+    let i = c .before .before .before .before .before .before .before .before .before .before .before .before .if1 in
+    let w = c .with-lines in
+    let on = goes-on (f .result .halted) (l .done + (f .result .count - l .t .count)) (s .args .n) (i .left) in
+    (omega (arith, s .pre .0, l .inv .1), ap (λ (x : Rest). x .halted) (w .ensures) ∙ on .0)
+
+shown-by-requires : tie.Need-shown-by-requires Inv-loop μ-loop
+shown-by-requires c κs = plan-requires (c .before .before) (c .before .plan .lifetimes) .0
+
+lacks-room-requires : tie.Need-lacks-room-requires Inv-loop μ-loop
+lacks-room-requires c κs =
+    let l = c .before .before .before .before .before .before .before .before .before .before .before .before .before .before .before .before .before .before .before .before .before .before .before .before .loop in
+    added-fit _ _ _ _ _ _ _ _ (l .inv .4)
+
+slice-aggregate-put-back : tie.Need-slice-aggregate-put-back Inv-loop μ-loop
+slice-aggregate-put-back c = omega (arith, c .before .before .before .before .before .before .before .before .before .before .before .before .before .before .before .keep .ensures .1)
+
+put-back-requires : tie.Need-put-back-requires Inv-loop μ-loop
+put-back-requires c κs = (plan-requires (c .before .before .before .before .before .before .before) (c .before .before .before .before .before .before .plan .lifetimes) .0, omega (arith, c .before .before .before .before .before .before .before .before .before .before .before .before .before .before .before .keep .ensures .1))
+
+add-requires : tie.Need-add-requires Inv-loop μ-loop
+add-requires c κs =
+    let l = c .before .before .before .before .before .before .before .before .before .before .before .before .before .before .before .before .before .before .before .before .before .before .before .before .before .before .before .loop in
+    let f = c .before .before .before .before .before .before .before .before .before .before .before .before .before .before .before .before .before .before .before .before .before .before .before .stretch in
+    let x = c .before .before .before .shown-by in
+    let r = c .before .before .lacks-room in
+    let i = c .before .if2 in
+    room-for (f .result .count) (x .result) (l .added) (now (c .before .before .before .before .before .before .before .before .before .before .before .before .before .before .before .before .before .before .before .before .before .before .before .before .before .before .before .before .before .before .before .before .before .before .args .log)) (l .log) _ (r .ensures (f .result .count)) (i .left)
+    (log-size _ _ _ _ _ _ _ _ (l .inv .4))
 
 perform-requires : tie.Need-perform-requires Inv-loop μ-loop
 perform-requires c κs =
-    let d = c .before .before .before .before .before .before .before .before .before in
-    let l = d .before .before .before .before .before .before .before .before .before in
-    let f = d .before .before .before .before .before .stretch in
-    let k = l .loop .done + (f .result .count - l .loop .t .count) in
-    let more = goes-on (f .result .halted) k (l .before .before .before .before .before .args .n) (d .if1 .left) .1 in
-    let s = l .before .before .before .before .before in (
-      plan-requires (c .before .before .before) κs .0,
-      omega (arith, more, f .ensures .1 .1, l .loop .inv .0, l .loop .inv .2, s .pre .1),
-      c .before .before .plan .ensures .1,
+    let s = c .before .before .before .before .before .before .before .before .before .before .before .before .before .before .before .before .before .before .before .before .before .before .before .before .before .before .before .before .before .before .before .before .before .before .before .before .before .before .before in
+    let l = c .before .before .before .before .before .before .before .before .before .before .before .before .before .before .before .before .before .before .before .before .before .before .before .before .before .before .before .before .before .before .before .before .loop in
+    let f = c .before .before .before .before .before .before .before .before .before .before .before .before .before .before .before .before .before .before .before .before .before .before .before .before .before .before .before .before .stretch in
+    let i = c .before .before .before .before .before .before .before .before .before .before .before .before .before .before .before .before .before .before .before .before .before .before .before .if1 in
+    let on = goes-on (f .result .halted) (l .done + (f .result .count - l .t .count)) (s .args .n) (i .left) in
+    let p = c .before .before .before .before .before .before .before .before .before .before .plan in
+    let r = c .before .before .before .before .before .before .before .before .before .before .before .before .before .before .before .before .before .before .before .before .before .before .before .before .before .before .before .before .before .before .before .before .before .before .rest-of in
+    let e = ap (λ (x : State). x .count) (r .ensures []) in (
+      plan-requires (c .before .before .before .before .before .before .before .before .before .before .before) (p .lifetimes) .0,
+      omega (arith, on .1, f .ensures .1 .1, l .inv .0, l .inv .2, s .pre .1, e),
+      p .ensures .1,
     )
 
 add-done-2 : tie.Need-add-done-2 Inv-loop μ-loop
 add-done-2 c =
-    let d = c .before .before .before .before .before .before .before .before .before .before .before .before in
-    let l = d .before .before .before .before .before .before .before .before .before in
-    let f = d .before .before .before .before .before .stretch in
-    let k = l .loop .done + (f .result .count - l .loop .t .count) in
-    let more = goes-on (f .result .halted) k (l .before .before .before .before .before .args .n) (d .if1 .left) .1 in
-    omega (arith, more, f .ensures .1 .1, l .loop .inv .0)
+    let s = c .before .before .before .before .before .before .before .before .before .before .before .before .before .before .before .before .before .before .before .before .before .before .before .before .before .before .before .before .before .before .before .before .before .before .before .before .before .before .before .before .before .before in
+    let l = c .before .before .before .before .before .before .before .before .before .before .before .before .before .before .before .before .before .before .before .before .before .before .before .before .before .before .before .before .before .before .before .before .before .before .before .loop in
+    let f = c .before .before .before .before .before .before .before .before .before .before .before .before .before .before .before .before .before .before .before .before .before .before .before .before .before .before .before .before .before .before .before .stretch in
+    let i = c .before .before .before .before .before .before .before .before .before .before .before .before .before .before .before .before .before .before .before .before .before .before .before .before .before .before .if1 in
+    let on = goes-on (f .result .halted) (l .done + (f .result .count - l .t .count)) (s .args .n) (i .left) in
+    omega (arith, on .1, f .ensures .1 .1, l .inv .0)
 
 loop-less : tie.Need-loop-less Inv-loop μ-loop
 loop-less c =
-    let d = c .before .before .before .before .before .before .before .before .before .before .before .before in
-    let l = d .before .before .before .before .before .before .before .before .before in
-    let f = d .before .before .before .before .before .stretch in
-    let k = l .loop .done + (f .result .count - l .loop .t .count) in
-    let more = goes-on (f .result .halted) k (l .before .before .before .before .before .args .n) (d .if1 .left) .1 in
-    omega (arith, more, f .ensures .1 .1, l .loop .inv .0)
+    let s = c .before .before .before .before .before .before .before .before .before .before .before .before .before .before .before .before .before .before .before .before .before .before .before .before .before .before .before .before .before .before .before .before .before .before .before .before .before .before .before .before .before .before in
+    let l = c .before .before .before .before .before .before .before .before .before .before .before .before .before .before .before .before .before .before .before .before .before .before .before .before .before .before .before .before .before .before .before .before .before .before .before .loop in
+    let f = c .before .before .before .before .before .before .before .before .before .before .before .before .before .before .before .before .before .before .before .before .before .before .before .before .before .before .before .before .before .before .before .stretch in
+    let i = c .before .before .before .before .before .before .before .before .before .before .before .before .before .before .before .before .before .before .before .before .before .before .before .before .before .before .if1 in
+    let on = goes-on (f .result .halted) (l .done + (f .result .count - l .t .count)) (s .args .n) (i .left) in
+    omega (arith, on .1, f .ensures .1 .1, l .inv .0)
 
 loop-again : tie.Need-loop-again Inv-loop μ-loop
 loop-again c =
-    let p = c .before .before .perform in
-    let q = c .before .before .before .before .before .plan in
-    let g = c .before .before .before .before .before .before .before .before .before .before in
-    let d = g .deliver-due in
-    let i = g .before .before .if1 .left in
-    let f = g .before .before .before .before .before .before .before .stretch in
-    let l = g .before .before .before .before .before .before .before .before .before .before .before in
-    let s = l .before .before .before .before .before in
+    let s = c .before .before .before .before .before .before .before .before .before .before .before .before .before .before .before .before .before .before .before .before .before .before .before .before .before .before .before .before .before .before .before .before .before .before .before .before .before .before .before .before .before .before in
+    let l = c .before .before .before .before .before .before .before .before .before .before .before .before .before .before .before .before .before .before .before .before .before .before .before .before .before .before .before .before .before .before .before .before .before .before .before .loop in
+    let f = c .before .before .before .before .before .before .before .before .before .before .before .before .before .before .before .before .before .before .before .before .before .before .before .before .before .before .before .before .before .before .before .stretch in
+    let i = c .before .before .before .before .before .before .before .before .before .before .before .before .before .before .before .before .before .before .before .before .before .before .before .before .before .before .if1 in
+    let on = goes-on (f .result .halted) (l .done + (f .result .count - l .t .count)) (s .args .n) (i .left) in
+    let d = c .before .before .before .before .before .before .before .before .before .before .before .before .before .before .before .before .before .before .before .deliver-due in
+    let w = c .before .before .before .before .before .before .before .before .before .before .before .before .before .before .with-lines in
+    let p = c .before .before .before .before .before .before .before .before .before .before .before .before .before .plan in
+    let x = c .before .before .before .before .before .before .before .before .before .before .before .shown-by in
+    let r = c .before .before .before .before .before .before .before .before .before .before .lacks-room in
+    let j = c .before .before .before .before .before .before .before .before .before .if2 in
+    let g = c .before .before .before .before .before .before .before .add in
+    let q = c .before .before .perform in
     let b = now (s .args .events) in
-    let a = l .loop .inv in
-    let m = d .last .0 in
     let n = f .result .count in
-    let k : p .result .count ≡ n + 1 = ap (λ (x : State). x .count) (p .ensures) in
-    let u = undisturbed b (l .loop .next) (l .loop .due) (l .loop .t .count) (a .3) (s .pre .2) in
-    let r = run-on (eventsOf b) _ _ _ _ _ (a .4) (f .ensures .0 (eventsOf b) u) in
-    let on = goes-on (f .result .halted) (l .loop .done + (n - l .loop .t .count)) (s .args .n) i in (
-      omega (arith, on .1, f .ensures .1 .1, a .0),
-      omega arith,
-      omega (arith, k, f .ensures .1 .1, a .2),
+    let k : q .result .count ≡ n + 1 = ap (λ (y : State). y .count) (q .ensures) in
+    let u = undisturbed b (l .next) (l .due) (l .t .count) (l .inv .3) (s .pre .2) in
+    let h = reached-stretch _ _ _ _ _ _ _ _ (l .inv .4) _ _ (f .ensures .0 (eventsOf b) u) (f .ensures .1 .0 (eventsOf b) u) in (
+      omega (arith, on .1, f .ensures .1 .1, l .inv .0),
+      (let m = plan-requires (c .before .before .before .before .before .before .before .before .before .before .before .before .before .before) (p .lifetimes) .0 in omega (arith, m, s .pre .0)),
+      omega (arith, k, f .ensures .1 .1, l .inv .2),
       awaits-later b (d .result .next) (d .result .due) (n + 1) (d .ensures .1) _ (omega (arith, k)),
-      run-step (eventsOf b) _ _ _ _ _ r (on .0) (d .ensures .0 _ _)
-          (p .ensures ∙ ap (λ (x : Plan). closed (perform (x .act) (x .core) (d .result .lines) m) n m) (q .ensures .0)),
+      step-taken _ _ _ _ _ _ _ _ _ _ h (on .0) _ _ (d .ensures .0) _ (w .ensures) _ (p .ensures .0) (x .result) (x .ensures) _ (r .ensures)
+          _ (q .ensures) (j .left) _ (g .ensures .0) _ (g .ensures .1),
+      l .inv .5,
+      omega (arith, c .before .before .before .before .before .before .before .before .before .before .before .before .before .before .before .before .before .before .before .before .before .before .keep .ensures .1),
     )
 
-put-together-requires : tie.Need-put-together-requires Inv-loop μ-loop
-put-together-requires c κs = tt
-
-reason-of-requires : tie.Need-reason-of-requires Inv-loop μ-loop
-reason-of-requires c κs = tt
+-- the three ways out: all steps done, left after a stretch, a step given up
+exits : (c : tie.Left-loop Inv-loop μ-loop)
+    → let x = c .loop-test in
+    let l = c .before .loop in
+    let s = c .before .before .before .before .before .before .before .before in
+    let r = c .before .before .before .rest-of in
+    Reached (runLogged (eventsOf (now (s .args .events))) (stateWith (s .args .m .regs) (r .result) (now (s .args .memory)))
+    (length (now (s .args .log)) / 8) (s .args .n)) (now (s .args .log)) (stateWith (x .regs) (x .t) (x .memory)) (x .done) (l .added)
+    (l .log) (x .short)
+    × Awaits (now (s .args .events)) (l .next) (l .due) (x .t .count)
+    × (length (x .memory) ≡ length (l .memory))
+exits c =
+    let x = c .loop-test in
+    let l = c .before .loop in
+    let s = c .before .before .before .before .before .before .before .before in
+    let a = s .args in
+    let b = now (a .events) in
+    let u = undisturbed b (l .next) (l .due) (l .t .count) (l .inv .3) (s .pre .2) in
+    ⊎-elim
+    (λ w. (
+      carried (w .1) (w .2) (w .3) (w .4) (w .5 ∙ l .inv .5)
+          (reached-full _ _ _ _ _ _ _ _ (l .inv .4) (a .n) (l .inv .0) (w .0 .left)),
+      subst (λ (t : Rest). Awaits b (l .next) (l .due) (t .count)) (sym (w .3)) (l .inv .3),
+      ap length (w .1),
+    ))
+    (⊎-elim
+    (λ w.
+    let f = w .3 in
+    let h = reached-stretch _ _ _ _ _ _ _ _ (l .inv .4) _ _ (f .ensures .0 (eventsOf b) u) (f .ensures .1 .0 (eventsOf b) u) in (
+      carried (w .9) (w .10) (w .11) (w .12) (w .13 ∙ l .inv .5)
+          (reached-left _ _ _ _ _ _ _ _ h (a .n) (omega (arith, f .ensures .1 .1, l .inv .0)) (w .8 .taken)),
+      subst (λ (t : Rest). Awaits b (l .next) (l .due) (t .count)) (sym (w .11))
+          (awaits-later b _ _ _ (l .inv .3) _ (omega (arith, f .ensures .1 .1))),
+      ap length (w .9) ∙ omega arith,
+    ))
+    (λ w.
+    let f = w .3 in
+    let on = goes-on (f .result .halted) (l .done + (f .result .count - l .t .count)) (a .n) (w .8 .left) in
+    let h = reached-stretch _ _ _ _ _ _ _ _ (l .inv .4) _ _ (f .ensures .0 (eventsOf b) u) (f .ensures .1 .0 (eventsOf b) u) in
+    let later = awaits-later b _ _ _ (l .inv .3) _ (omega (arith, f .ensures .1 .1)) in
+    let back =
+    undone-memory b _ _ _ _ _ _ _ _ _ h (on .0) _ _ (w .15 .ensures .0) _ (w .20 .ensures) _ (w .21 .ensures .0) (w .23 .result)
+    (w .23 .ensures) _ (w .24 .ensures) (w .25 .taken) (l .next) (l .due) later (s .pre .2) (s .pre .3)
+    (omega (arith, s .pre .0, l .inv .1)) _ (w .12 .ensures .0) in
+    let kept = w .31 ∙ w .28 .ensures ∙ back in (
+      carried kept (w .32) (w .33) (w .34) (w .35)
+          (undone b _ _ _ _ _ _ _ _ _ h (on .0) _ _ (w .15 .ensures .0) _ (w .20 .ensures) _ (w .21 .ensures .0) (w .23 .result)
+          (w .23 .ensures) _ (w .24 .ensures) (w .25 .taken) (l .next) (l .due) later (s .pre .2) (s .pre .3)
+          (omega (arith, s .pre .0, l .inv .1)) _ (w .12 .ensures .0)
+          (a .n) (omega (arith, on .1, f .ensures .1 .1, l .inv .0))),
+      subst (λ (t : Rest). Awaits b (l .next) (l .due) (t .count)) (sym (w .33)) later,
+      ap length kept ∙ omega arith,
+    )))
+    (x .came)
 
 same-length : tie.Need-same-length Inv-loop μ-loop
 same-length c =
-    let l = c .before .before .before in
-    let e : length (c .before .before .loop-test .memory) ≡ length (l .loop .memory) =
-    ⊎-elim (λ w. ap length (w .1)) (λ w. ap length (w .9) ∙ omega arith) (c .before .before .loop-test .came) in
-    omega (arith, e, l .loop .inv .1)
+    let e = exits (c .before .before) .2 in
+    let i = c .before .before .before .loop .inv .1 in
+    omega (arith, e, i)
+
+same-length-2 : tie.Need-same-length-2 Inv-loop μ-loop
+same-length-2 c = log-size _ _ _ _ _ _ _ _ (c .before .before .before .loop .inv .4)
 
 returns : tie.Need-returns Inv-loop μ-loop
 returns c =
-    let l = c .before .before .before .loop in
     let x = c .before .before .loop-test in
-    let s = c .before .before .before .before .before .before .before .before in
+    let l = c .before .before .before .loop in
+    let s = c .before .before .before .before .before .before .before .before .before .before in
     let a = s .args in
-    let ev = eventsOf (now (a .events)) in
-    let s₀ = stateOf (a .m) (now (a .memory)) in
-    let e : (ran (stateWith (x .regs) (x .t) (x .memory)) (x .done) ≡ runOf ev s₀ (a .n)) × (x .done ≤ a .n) =
-    ⊎-elim
-    (λ w. (
-      (λ i. ran (stateWith (w .2 i) (w .3 i) (w .1 i)) (w .4 i)) ∙ run-full ev s₀ _ _ _ (l .inv .4) (l .inv .0) (w .0 .left),
-      omega (arith, w .4, l .inv .0),
-    ))
-    (λ w.
-    let u = undisturbed (now (a .events)) (l .next) (l .due) (l .t .count) (l .inv .3) (s .pre .2) in
-    let r = run-on ev s₀ _ _ _ _ (l .inv .4) (w .3 .ensures .0 ev u) in
-    let h = w .3 .ensures .1 .1 in (
-      (λ i. ran (stateWith (w .10 i) (w .11 i) (w .9 i)) (w .12 i)) ∙ run-left ev s₀ _ _ _ r (omega (arith, h, l .inv .0)) (w .8 .taken),
-      omega (arith, w .12, h, l .inv .0),
-    ))
-    (x .came) in
-    let p = c .before .put-together .ensures (x .memory) in
-    (ap (λ y. ran y (x .done)) p ∙ e .0, (c .reason-of .ensures ∙ ap reasonOf (e .0), e .1))
+    let g = exits (c .before .before) in
+    let e = c .before .before .before .before .before .rest-of .ensures (now (a .memory)) in
+    let h =
+    subst (λ (z : State). Reached (runLogged (eventsOf (now (a .events))) z (length (now (a .log)) / 8) (a .n)) (now (a .log))
+    (stateWith (x .regs) (x .t) (x .memory)) (x .done) (l .added) (l .log) (x .short)) e (g .0) in
+    let p = c .before .put-together .ensures (x .memory) in (
+      p ∙ h .state,
+      (
+        c .reason-of .ensures ∙ (λ i. cond (h .short i) NoRoom (cond (h .state i .halted) Halted Done)),
+        (h .steps, (h .added, (h .log, subst (Behind (now (a .events)) (l .next)) (sym (ap (λ (z : State). z .count) p)) (g .1 .0)))),
+      ),
+    )
 
 pub run-spec : {M : Type 1} → statement M
 run-spec =
@@ -166,19 +260,30 @@ run-spec =
     (tie.spec
     Inv-loop
     μ-loop
-    due-at-requires
+    (λ c κs. search needs)
+    (λ c κs. search needs)
     loop-holds
-    sub-stretch
+    (λ c. omega arith)
     stretch-requires
-    sub-done
+    (λ c. omega arith)
     add-done
+    (λ c. search needs)
+    slice-aggregate-keep
+    keep-requires
     deliver-due-requires
+    (λ c κs. search needs)
     plan-requires
+    shown-by-requires
+    lacks-room-requires
+    slice-aggregate-put-back
+    put-back-requires
+    add-requires
     perform-requires
     add-done-2
     loop-less
     loop-again
-    put-together-requires
-    reason-of-requires
+    (λ c κs. search needs)
+    (λ c κs. search needs)
     same-length
+    same-length-2
     returns)

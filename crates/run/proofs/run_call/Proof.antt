@@ -1,48 +1,58 @@
 -- Refused, nothing is changed; else what the callees need is what the verdict has settled. Assumes nothing.
-use mathlib.Core.Path.{ap, refl}
+use Prim.Native.Nat.{_≤_}
+use mathlib.Core.Path.{ap, sym, subst}
 use native.Mathlib.Omega.{arith}
 use borrow.Author.Needs.{needs}
-use Rattle.run.proofs.Calls.{events-fit, events-ordered, count-fits, call-passed, call-refused, call-ran}
+use Rattle.run.proofs.Laws.{behind-none}
+use Rattle.run.proofs.Calls.{events-fit, events-ordered, count-fits, call-passed, call-refused, call-ran, few-steps, few-records}
 use Rattle.run.proofs.run_call.Statement.{statement}
 use Rattle.run.proofs.run_call.Tie as tie
 
 returns : tie.Need-returns
 returns c =
-    let e = call-refused _ _ _ _ _ _ (c .before .before .verdict .ensures) (c .before .refusal-number .ensures .0) (c .if1 .taken) in
-    (ap (λ x. x .reply) e, (ap (λ x. x .memory) e, ap (λ x. x .state) e))
+    let e = call-refused _ _ _ _ _ _ _ (c .before .before .call-verdict .ensures) (c .before .refusal-number .ensures .0) (c .if1 .taken) in
+    (ap (λ x. x .reply) e, (ap (λ x. x .memory) e, (ap (λ x. x .state) e, ap (λ x. x .log) e)))
 
 read-record-requires : tie.Need-read-record-requires
 read-record-requires c κs =
-    let f = c .before in
-    call-passed _ _ _ _ _ _ (f .before .before .verdict .ensures) (f .before .refusal-number .ensures .0) (f .if1 .left) .record-size
+    let p = call-passed _ _ _ _ _ _ _ (c .before .before .before .call-verdict .ensures) (c .before .before .refusal-number .ensures .0) (c .before .if1 .left) in
+    p .record-size
 
 cast-run : tie.Need-cast-run
 cast-run c =
-    let f = c .before .before .before in
-    let p = call-passed _ _ _ _ _ _ (f .before .before .verdict .ensures) (f .before .refusal-number .ensures .0) (f .if1 .left) in
+    let p = call-passed _ _ _ _ _ _ _ (c .before .before .before .before .before .before .call-verdict .ensures) (c .before .before .before .before .before .refusal-number .ensures .0) (c .before .before .before .before .if1 .left) in
     let few = p .few-steps in
     omega arith
 
 run-requires : tie.Need-run-requires
 run-requires c κs =
-    let f = c .before .before .before in
-    let p = call-passed _ _ _ _ _ _ (f .before .before .verdict .ensures) (f .before .refusal-number .ensures .0) (f .if1 .left) in
-    (p .memory-size, count-fits _ _ _ _ p _ (c .before .read-record .ensures), events-ordered _ _ _ _ p, events-fit _ _ _ _ p)
+    let p = call-passed _ _ _ _ _ _ _ (c .before .before .before .before .before .before .call-verdict .ensures) (c .before .before .before .before .before .refusal-number .ensures .0) (c .before .before .before .before .if1 .left) in
+    (p .memory-size, count-fits _ _ _ _ p _ (c .before .before .read-record .ensures), events-ordered _ _ _ _ p, events-fit _ _ _ _ p, behind-none _ _)
 
 write-record-requires : tie.Need-write-record-requires
 write-record-requires c κs =
-    let f = c .before .before .before .before .before .before .before in
-    call-passed _ _ _ _ _ _ (f .before .before .verdict .ensures) (f .before .refusal-number .ensures .0) (f .if1 .left) .record-size
+    let p = call-passed _ _ _ _ _ _ _ (c .before .before .before .before .before .before .before .before .before .before .before .before .call-verdict .ensures) (c .before .before .before .before .before .before .before .before .before .before .before .refusal-number .ensures .0) (c .before .before .before .before .before .before .before .before .before .before .if1 .left) in
+    p .record-size
+
+reply-of-requires : tie.Need-reply-of-requires
+reply-of-requires c κs =
+    let r = c .before .before .before .before .before .before .before .before .run .ensures in
+    let v = c .before .before .before .before .before .before .before .before .before .before .before .before .before .before .before .call-verdict .ensures in
+    let k = c .before .before .before .before .before .before .before .before .before .before .before .before .before .before .refusal-number .ensures .0 in
+    let i = c .before .before .before .before .before .before .before .before .before .before .before .before .before .if1 .left in
+    let m = c .before .before .before .before .before .before .before .before .before .before .before .read-record in (
+      subst (λ j. j ≤ 1000000) (sym (r .1 .1 .0)) (few-steps _ _ _ _ _ _ _ v k i (m .result) (m .ensures)),
+      subst (λ j. j ≤ 1000000) (sym (r .1 .1 .1 .0)) (few-records _ _ _ _ _ _ _ v k i (m .result) (m .ensures)),
+    )
 
 returns-2 : tie.Need-returns-2
 returns-2 c =
-    let r = c .before .before .before .before .before .before .before .before in
-    let f = r .before .before .before .before in
+    let r = c .before .before .before .before .before .before .before .before .before .run .ensures in
+    let m = c .before .before .before .before .before .before .before .before .before .before .before .before .read-record in
     let e =
-    call-ran _ _ _ _ _ _ (f .before .before .verdict .ensures) (f .before .refusal-number .ensures .0) _ _ _ _ _ _ _ _ (f .if1 .left)
-    (r .before .before .read-record .ensures) (r .run .ensures .0) (r .run .ensures .1 .0)
-    (c .before .before .before .before .write-record .ensures) (c .before .reason-number .ensures .0) refl in
-    (ap (λ x. x .reply) e, (ap (λ x. x .memory) e, ap (λ x. x .state) e))
+    call-ran _ _ _ _ _ _ _ (c .before .before .before .before .before .before .before .before .before .before .before .before .before .before .before .before .call-verdict .ensures) (c .before .before .before .before .before .before .before .before .before .before .before .before .before .before .before .refusal-number .ensures .0) (c .before .before .before .before .before .before .before .before .before .before .before .before .before .before .if1 .left) (m .result) (m .ensures)
+    _ _ _ _ _ _ _ _ (r .0) (r .1 .0) (r .1 .1 .0) (r .1 .1 .1 .0) (r .1 .1 .1 .1 .0) (c .before .before .before .write-record .ensures) (c .reply-of .ensures) in
+    (ap (λ x. x .reply) e, (ap (λ x. x .memory) e, (ap (λ x. x .state) e, ap (λ x. x .log) e)))
 
 pub run-call-spec : {M : Type 1} → statement M
 run-call-spec =
@@ -52,15 +62,13 @@ run-call-spec =
     (λ c κs. search needs)
     (λ c. search needs)
     (λ c. search needs)
+    (λ c. search needs)
     returns
     read-record-requires
     cast-run
     run-requires
     write-record-requires
-    (λ c κs. search needs)
-    (λ c. search needs)
-    (λ c. search needs)
-    (λ c. search needs)
+    reply-of-requires
     (λ c. search needs)
     (λ c. search needs)
     (λ c. search needs)

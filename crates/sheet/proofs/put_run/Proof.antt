@@ -39,8 +39,8 @@ part-requires-3 c κs =
     let entry = c .before .before .before .before .before .before .before .before .before .before .before in
     let h = ready (entry .args .input .now) (entry .pre .0) .size in (omega arith, omega arith)
 
-run-requires : tie.Need-run-requires
-run-requires c κs =
+run-whole-requires : tie.Need-run-whole-requires
+run-whole-requires c κs =
     let at-part3 = c .before in
     let at-read-record = at-part3 .before in
     let at-part2 = at-read-record .before in
@@ -78,13 +78,13 @@ returns c =
     let at-part = at-copy .before .before in
     let entry = at-part .before .before .before .before in
     let done =
-    run-of-parts (entry .args .input .now) (at-read-record .read-record .result) (at-run .run .result .machine)
+    run-of-parts (entry .args .input .now) (at-read-record .read-record .result) (at-run .run-whole .result .machine)
     (at-copy .copy .ensures ∙ at-part .part .ensures)
     (at-four-at .four-at .ensures)
     (at-part2 .part2 .ensures)
     (at-read-record .read-record .ensures)
     (at-part3 .part3 .ensures)
-    (at-run .run .ensures .0)
+    (at-run .run-whole .ensures)
     (at-put-line .put-line .ensures .0) in
     (done .0, (done .1, at-put-line .put-line .ensures .1))
 
@@ -98,7 +98,7 @@ put-run-spec =
     part-requires-2
     read-record-requires
     part-requires-3
-    run-requires
+    run-whole-requires
     put-line-requires
     same-length
     same-length-2

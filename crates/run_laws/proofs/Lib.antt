@@ -1,0 +1,5 @@
+pub mod Room
+pub mod LogBytes
+pub mod Turns
+pub mod Verdicts
+pub mod Calls

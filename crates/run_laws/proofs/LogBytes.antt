@@ -1,0 +1,105 @@
+-- The log as bytes: eight a record, from the start, the rest as it was. Assumes nothing.
+use Prim.Native.Nat.{ℕ, zero, suc, _+_, _-_, _*_, _<_, _≤_}
+use native.Mathlib.Nat.{add-suc, add-zero, zero-add, suc-add}
+use native.Mathlib.Omega.{arith}
+use mathlib.Core.List.{List, [], _∷_, _++_}
+use mathlib.Core.Path.{_≡_, refl, sym, ap, subst, _∙_}
+use lib.ListN.{length, getD, set, drop, length-append, length-set, List·getD-append}
+use lib.Seq.{sets, sets-eq, length-sets, set-append-left, getD-append-add, getD-drop}
+use Rattle.machine.specs.Memory.{byteAt}
+use Rattle.machine.specs.Log.{Shown, shownBytes, logBytes}
+
+pub log-length : (xs : List Shown) → length (logBytes xs) ≡ 8 * length xs
+unfolding logBytes
+log-length [] = omega arith
+log-length (x ∷ xs) = let h = log-length xs in omega arith
+
+pub log-append : (xs ys : List Shown) → logBytes (xs ++ ys) ≡ logBytes xs ++ logBytes ys
+unfolding logBytes
+log-append [] ys = refl
+log-append (x ∷ xs) ys = ap (λ l. shownBytes x ++ l) (log-append xs ys)
+
+-- ---- stores into a buffer
+
+pub sets-append : (m : List ℕ) (i : ℕ) (a b : List ℕ) → sets m i (a ++ b) ≡ sets (sets m i a) (i + length a) b
+sets-append m i [] b = rw add-zero refl
+sets-append m i (x ∷ a) b =
+    let e : suc i + length a ≡ i + suc (length a) = omega arith in
+    sets-append (set m i x) (suc i) a b ∙ ap (λ (n : ℕ). sets (sets (set m i x) (suc i) a) n b) e
+
+set-past : (a b : List ℕ) (i v : ℕ) → set (a ++ b) (length a + i) v ≡ a ++ set b i v
+set-past [] b i v = rw (zero-add i) refl
+set-past (x ∷ a) b i v = rw (suc-add (length a) i) (ap (λ l. x ∷ l) (set-past a b i v))
+
+pub sets-before : (a b : List ℕ) (i : ℕ) (vs : List ℕ) → i + length vs ≤ length a → sets (a ++ b) i vs ≡ sets a i vs ++ b
+sets-before a b i [] h = refl
+sets-before a b i (v ∷ vs) h =
+    ap (λ l. sets l (suc i) vs) (set-append-left a b i v (omega arith))
+    ∙ sets-before (set a i v) b (suc i) vs (rw (length-set a i v) (omega arith))
+
+sets-past : (a b : List ℕ) (i : ℕ) (vs : List ℕ) → sets (a ++ b) (length a + i) vs ≡ a ++ sets b i vs
+sets-past a b i [] = refl
+sets-past a b i (v ∷ vs) =
+    ap (λ l. sets l (suc (length a + i)) vs) (set-past a b i v)
+    ∙ ap (λ n. sets (a ++ set b i v) n vs) (sym (add-suc (length a) i))
+    ∙ sets-past a (set b i v) (suc i) vs
+
+-- two buffers, the first of which is filled
+pub sets-joined : (a b vs ws : List ℕ) → length vs ≡ length a → sets (a ++ b) 0 (vs ++ ws) ≡ sets a 0 vs ++ sets b 0 ws
+sets-joined a b vs ws h =
+    let l = length-sets a 0 vs in
+    let e : 0 + length vs ≡ length (sets a 0 vs) + 0 = omega arith in
+    sets-append (a ++ b) 0 vs ws
+    ∙ ap (λ m. sets m (0 + length vs) ws) (sets-before a b 0 vs (omega arith))
+    ∙ ap (λ n. sets (sets a 0 vs ++ b) n ws) e
+    ∙ sets-past (sets a 0 vs) b 0 ws
+
+-- ---- the log that a run leaves
+
+-- records stored behind those that the log has
+pub log-stored : (log : List ℕ) (xs ys : List Shown)
+    → sets (sets log 0 (logBytes xs)) (8 * length xs) (logBytes ys) ≡ sets log 0 (logBytes (xs ++ ys))
+log-stored log xs ys =
+    let l = log-length xs in
+    let e : 8 * length xs ≡ 0 + length (logBytes xs) = omega arith in
+    sym (ap (sets log 0) (log-append xs ys)
+    ∙ sets-append log 0 (logBytes xs) (logBytes ys)
+    ∙ ap (λ n. sets (sets log 0 (logBytes xs)) n (logBytes ys)) (sym e))
+
+module _ (log : List ℕ) (xs : List Shown) (fits : 8 * length xs ≤ length log) where
+  log-is : sets log 0 (logBytes xs) ≡ logBytes xs ++ drop (0 + length (logBytes xs)) log
+  log-is = let l = log-length xs in sets-eq (logBytes xs) log 0 (omega arith)
+
+  -- bytes past the last record keep what they held
+  pub log-tail : (i : ℕ) → 8 * length xs ≤ i → byteAt (sets log 0 (logBytes xs)) i ≡ byteAt log i
+  log-tail i h =
+      let l = log-length xs in
+      let j = i - length (logBytes xs) in
+      let e : length (logBytes xs) + j ≡ i = omega arith in
+      let d : 0 + length (logBytes xs) + j ≡ i = omega arith in
+      ap (λ m. byteAt m i) log-is
+      ∙ ap (λ n. byteAt (logBytes xs ++ drop (0 + length (logBytes xs)) log) n) (sym e)
+      ∙ getD-append-add (logBytes xs) (drop (0 + length (logBytes xs)) log) j 0
+      ∙ getD-drop (0 + length (logBytes xs)) log j 0
+      ∙ ap (byteAt log) d
+
+-- byte i of record k of what stands before a tail
+record-byte : (xs : List Shown) (tail : List ℕ) (x0 : Shown) (k i : ℕ) → k < length xs → i < 8
+    → byteAt (logBytes xs ++ tail) (8 * k + i) ≡ byteAt (shownBytes (getD xs k x0)) i
+unfolding logBytes
+record-byte [] tail x0 k i h l = absurd (omega arith)
+record-byte (x ∷ xs) tail x0 zero i h l =
+    let e : 8 * 0 + i ≡ i = omega arith in
+    ap (λ n. byteAt (shownBytes x ++ (logBytes xs ++ tail)) n) e ∙ List·getD-append (shownBytes x) (logBytes xs ++ tail) 0 i l
+record-byte (x ∷ xs) tail x0 (suc k) i h l =
+    let e : 8 * suc k + i ≡ 8 + (8 * k + i) = omega arith in
+    ap (λ n. byteAt (shownBytes x ++ (logBytes xs ++ tail)) n) e
+    ∙ getD-append-add (shownBytes x) (logBytes xs ++ tail) (8 * k + i) 0
+    ∙ record-byte xs tail x0 k i (omega arith) l
+
+-- record k stands at bytes 8 × k to 8 × k + 7
+pub log-record : (log : List ℕ) (xs : List Shown) → 8 * length xs ≤ length log → (x0 : Shown) (k i : ℕ) → k < length xs → i < 8
+    → byteAt (sets log 0 (logBytes xs)) (8 * k + i) ≡ byteAt (shownBytes (getD xs k x0)) i
+log-record log xs f x0 k i h l =
+    ap (λ m. byteAt m (8 * k + i)) (log-is log xs f)
+    ∙ record-byte xs (drop (0 + length (logBytes xs)) log) x0 k i h l

@@ -40,8 +40,8 @@ install: target/bin/print_state $(ARCHIVE) $(SHARED)
 uninstall:
 	@scripts/install.sh uninstall $(call quoted,$(PREFIX)) $(call quoted,$(DESTDIR))
 
-# print_state's input, of a readable case.
-input:
+# print_state's input, of a readable case, whose source the library assembles.
+input: $(if $(CASE),$(ARCHIVE))
 	@scripts/input.sh $(call quoted,$(CASE)) $(if $(filter command%,$(origin OUT)),$(call quoted,$(OUT)))
 
 # Nothing is built for an input that is not there.
@@ -72,18 +72,19 @@ replay: $(if $(FOUND),$(ARCHIVE))
 	@[ -n $(call quoted,$(FOUND)) ] || { echo 'make replay: FOUND=build/fuzz/.. is missing: a saved difference' >&2; exit 2; }
 	@scripts/oracle.sh fuzz replay $(call quoted,$(FOUND))
 
-bench: $(ARCHIVE) target/staticlib/libprobe.a build/libxm23_fast.a build/srec
+bench: $(ARCHIVE) target/staticlib/libprobe.a build/libxm23_fast.a build/srec build/assemble
 	@cargo bench $(ORACLE) --bench decode
 	@cargo bench $(ORACLE) --bench operations
 	@cargo bench $(ORACLE) --bench run
 	@cargo bench $(ORACLE) --bench srec
 	@cargo bench $(ORACLE) --bench stack
+	@cargo bench $(ORACLE) --bench assemble
 
 clean:
 	rm -rf target build oracle/target
 
 # The example's input, after a change of its source.
-$(EXAMPLE).in: $(EXAMPLE).txt
+$(EXAMPLE).in: $(EXAMPLE).txt | $(ARCHIVE)
 	@scripts/input.sh $< $@
 
 build/%: examples/%.c include/xm23.h $(ARCHIVE)

@@ -32,15 +32,15 @@ struct operation {
 
 static const struct operation operations[] = {
     {"illegal", "", "", 0, 0, 0, 0, 0},
-    {"BL", "target", "BL #1006", 2, 0, 0, 0, TARGET | LINK},
-    {"BEQ", "target", "BEQ #1006", 2, 0, 0, Z, FLAGS | TARGET},
-    {"BNE", "target", "BNE #1006", 2, 0, 0, Z, FLAGS | TARGET},
-    {"BC", "target", "BC #1006", 2, 0, 0, C, FLAGS | TARGET},
-    {"BNC", "target", "BNC #1006", 2, 0, 0, C, FLAGS | TARGET},
-    {"BN", "target", "BN #1006", 2, 0, 0, N, FLAGS | TARGET},
-    {"BGE", "target", "BGE #1006", 2, 0, 0, N | V, FLAGS | TARGET},
-    {"BLT", "target", "BLT #1006", 2, 0, 0, N, FLAGS | TARGET},
-    {"BRA", "target", "BRA #1006", 2, 0, 0, 0, TARGET},
+    {"BL", "target", "BL $1006", 2, 0, 0, 0, TARGET | LINK},
+    {"BEQ", "target", "BEQ $1006", 2, 0, 0, Z, FLAGS | TARGET},
+    {"BNE", "target", "BNE $1006", 2, 0, 0, Z, FLAGS | TARGET},
+    {"BC", "target", "BC $1006", 2, 0, 0, C, FLAGS | TARGET},
+    {"BNC", "target", "BNC $1006", 2, 0, 0, C, FLAGS | TARGET},
+    {"BN", "target", "BN $1006", 2, 0, 0, N, FLAGS | TARGET},
+    {"BGE", "target", "BGE $1006", 2, 0, 0, N | V, FLAGS | TARGET},
+    {"BLT", "target", "BLT $1006", 2, 0, 0, N, FLAGS | TARGET},
+    {"BRA", "target", "BRA $1006", 2, 0, 0, 0, TARGET},
     {"ADD", "src,dst", "ADD R0,R1", 1, 0x0001, 0x7FFF, 0, REGISTERS | FLAGS},
     {"ADDC", "src,dst", "ADDC R0,R1", 1, 0x00FF, 0x1200, C, REGISTERS | FLAGS},
     {"SUB", "src,dst", "SUB R0,R1", 1, 0x0003, 0x0002, 0, REGISTERS | FLAGS},
@@ -60,19 +60,19 @@ static const struct operation operations[] = {
     {"COMP", "dst", "COMP R1", 1, 0, 0x0F0F, 0, REGISTERS | FLAGS},
     {"SWPB", "dst", "SWPB R1", 1, 0, 0x1234, 0, REGISTERS | FLAGS},
     {"SXT", "dst", "SXT R1", 1, 0, 0x1280, 0, REGISTERS | FLAGS},
-    {"SETPRI", "level", "SETPRI $2", 2, 0, 0, 5 << 5, LEVEL},
-    {"SVC", "vector", "SVC $3", 3, 0, 0, 0, TARGET | STACK | LEVEL},
+    {"SETPRI", "level", "SETPRI #2", 2, 0, 0, 5 << 5, LEVEL},
+    {"SVC", "vector", "SVC #3", 3, 0, 0, 0, TARGET | STACK | LEVEL},
     {"SETCC", "flags", "SETCC VC", V | C, 0, 0, 0, FLAGS},
     {"CLRCC", "flags", "CLRCC NZ", N | Z, 0, 0, V | N | Z | C, FLAGS},
-    {"CEX", "cond,true,false", "CEX EQ,$1,$2", 0x0A, 0, 0, Z, FLAGS | COUNTS},
+    {"CEX", "cond,true,false", "CEX EQ,#1,#2", 0x0A, 0, 0, Z, FLAGS | COUNTS},
     {"LD", "address,dst", "LD R0+,R1", 0x81, PLACE, 0x0000, 0, REGISTERS | MEMORY},
     {"ST", "src,address", "ST R0,-R1", 0x301, 0x1234, PLACE + 2, 0, REGISTERS | MEMORY},
-    {"MOVL", "byte,dst", "MOVL #80,R1", 0x401, 0, 0x1234, 0, REGISTERS},
-    {"MOVLZ", "byte,dst", "MOVLZ #80,R1", 0x401, 0, 0x1234, 0, REGISTERS},
-    {"MOVLS", "byte,dst", "MOVLS #80,R1", 0x401, 0, 0x1234, 0, REGISTERS},
-    {"MOVH", "byte,dst", "MOVH #80,R1", 0x401, 0, 0x1234, 0, REGISTERS},
-    {"LDR", "addr,offset,dst", "LDR R0,$4,R1", 0x201, PLACE - 4, 0x0000, 0, REGISTERS | MEMORY},
-    {"STR", "src,addr,offset", "STR R0,R1,$-2", 0x3F01, 0x1234, PLACE + 2, 0, REGISTERS | MEMORY},
+    {"MOVL", "byte,dst", "MOVL $80,R1", 0x401, 0, 0x1234, 0, REGISTERS},
+    {"MOVLZ", "byte,dst", "MOVLZ $80,R1", 0x401, 0, 0x1234, 0, REGISTERS},
+    {"MOVLS", "byte,dst", "MOVLS $80,R1", 0x401, 0, 0x1234, 0, REGISTERS},
+    {"MOVH", "byte,dst", "MOVH $80,R1", 0x401, 0, 0x1234, 0, REGISTERS},
+    {"LDR", "addr,offset,dst", "LDR R0,#4,R1", 0x201, PLACE - 4, 0x0000, 0, REGISTERS | MEMORY},
+    {"STR", "src,addr,offset", "STR R0,R1,#-2", 0x3F01, 0x1234, PLACE + 2, 0, REGISTERS | MEMORY},
 };
 
 /* The fields of each format, in the order of its number's bytes; the offset has bytes 6 and 7 to itself. */
@@ -335,12 +335,12 @@ static void rows(void)
 static void legend(void)
 {
     printf("<p><b>w</b> 0 word, 1 byte: the name ends in .B. <b>r</b> 0 register, 1 constant: src 0 to 7 is "
-           "$0 $1 $2 $4 $8 $16 $32 $-1. <b>&middot;</b> is ignored.\n"
+           "#0 #1 #2 #4 #8 #16 #32 #-1. <b>&middot;</b> is ignored.\n"
            "Registers 0 to 7: R0 R1 R2 R3 R4 LR SP PC. <b>p d i</b> of LD and ST: 001 R+, 010 R-, 101 +R, 110 -R.\n"
            "Conditions of CEX, 0 to 15: EQ NE CS CC MI PL VS VC HI LS GE LT GT LE TR FL. "
            "Target: the branch's own address, plus 2, plus twice the offset.\n"
            "In examples: numbers in base sixteen, [2000] the word at that address, a flag's letter where it is set, "
-           "bold what the step changes. # base sixteen, $ base ten.</p>\n");
+           "bold what the step changes. In statements $ base sixteen, # base ten.</p>\n");
 }
 
 /* The ranges of words that mean nothing, from range to range. */

@@ -3,7 +3,7 @@
  *
  *   decode_image FILE [ORIGIN]      ORIGIN is the address of the first byte, in hexadecimal (0 if left out)
  *
- * Instructions are written as 003 writes them: # hexadecimal, $ decimal. A comment says where the ignored bit is set.
+ * Instructions are written as 02 writes them: $ hexadecimal, # decimal. A comment says where the ignored bit is set.
  */
 
 #include <stdio.h>
@@ -14,7 +14,7 @@
 static const char *const branches[] = {"BEQ", "BNE", "BC", "BNC", "BN", "BGE", "BLT", "BRA"};
 static const char *const operations[] = {"ADD", "ADDC", "SUB", "SUBC", "DADD", "CMP",
                                          "XOR", "AND",  "OR",  "BIT",  "BIC",  "BIS"};
-static const char *const constants[] = {"$0", "$1", "$2", "$4", "$8", "$16", "$32", "$-1"};
+static const char *const constants[] = {"#0", "#1", "#2", "#4", "#8", "#16", "#32", "#-1"};
 static const char *const registers[] = {"R0", "R1", "R2", "R3", "R4", "LR", "SP", "PC"};
 static const char *const unaries[] = {"SRA", "RRC", "COMP"};
 static const char *const moves[] = {"MOVL", "MOVLZ", "MOVLS", "MOVH"};
@@ -51,7 +51,7 @@ static void flags(const char *name, unsigned bits)
 static void branch(const char *name, unsigned address, uint64_t i)
 {
     mnemonic(name, 0);
-    printf("#%04X", (unsigned)((int)address + 2 + 2 * XM23_OFFSET(i)) & 0xFFFF);
+    printf("$%04X", (unsigned)((int)address + 2 + 2 * XM23_OFFSET(i)) & 0xFFFF);
 }
 
 /* Prints the formats that touch memory. */
@@ -71,15 +71,15 @@ static void memory(uint64_t i)
         break;
     case XM23_FORMAT_LDR:
         mnemonic("LDR", XM23_FIELD(i, 1));
-        printf("%s,$%d,%s", f2, XM23_OFFSET(i), f3);
+        printf("%s,#%d,%s", f2, XM23_OFFSET(i), f3);
         break;
     default:
         mnemonic("STR", XM23_FIELD(i, 1));
-        printf("%s,%s,$%d", f2, f3, XM23_OFFSET(i));
+        printf("%s,%s,#%d", f2, f3, XM23_OFFSET(i));
     }
 }
 
-/* Says of SWAP, SWPB and SXT that their ignored bit is set, for which 003 has no notation. */
+/* Says of SWAP, SWPB and SXT that their ignored bit is set, for which there is no notation. */
 static void ignored(unsigned bit)
 {
     if (bit)
@@ -109,7 +109,7 @@ static void arithmetic(uint64_t i)
         break;
     case XM23_FORMAT_MOVIMM:
         mnemonic(moves[XM23_FIELD(i, 1)], 0);
-        printf("#%02X,%s", XM23_FIELD(i, 2), registers[XM23_FIELD(i, 3)]);
+        printf("$%02X,%s", XM23_FIELD(i, 2), registers[XM23_FIELD(i, 3)]);
         break;
     default:
         mnemonic(XM23_FORMAT(i) == XM23_FORMAT_SWPB ? "SWPB" : "SXT", 0);
@@ -134,7 +134,7 @@ static void instruction(unsigned address, uint16_t word)
     case XM23_FORMAT_SETPRI:
     case XM23_FORMAT_SVC:
         mnemonic(XM23_FORMAT(i) == XM23_FORMAT_SVC ? "SVC" : "SETPRI", 0);
-        printf("$%u", XM23_FIELD(i, 1));
+        printf("#%u", XM23_FIELD(i, 1));
         break;
     case XM23_FORMAT_SETCC:
         flags("SETCC", XM23_FIELD(i, 1));
@@ -144,7 +144,7 @@ static void instruction(unsigned address, uint16_t word)
         break;
     case XM23_FORMAT_CEX:
         mnemonic("CEX", 0);
-        printf("%s,$%u,$%u", conditions[XM23_FIELD(i, 1)], XM23_FIELD(i, 2), XM23_FIELD(i, 3));
+        printf("%s,#%u,#%u", conditions[XM23_FIELD(i, 1)], XM23_FIELD(i, 2), XM23_FIELD(i, 3));
         break;
     case XM23_FORMAT_LD:
     case XM23_FORMAT_ST:

@@ -24,7 +24,7 @@ extern "C" {
 /* ---- version: of this header, as one number; xm23_version gives that of the library */
 
 #define XM23_VERSION_MAJOR 0
-#define XM23_VERSION_MINOR 14
+#define XM23_VERSION_MINOR 15
 #define XM23_VERSION_PATCH 0
 #define XM23_VERSION (XM23_VERSION_MAJOR * 65536 + XM23_VERSION_MINOR * 256 + XM23_VERSION_PATCH)
 
@@ -100,6 +100,9 @@ extern "C" {
 #define XM23_REFUSED_SREC_ROOM 12
 #define XM23_REFUSED_EVENT_TWINS 13
 #define XM23_REFUSED_STACK 16
+#define XM23_REFUSED_SOURCE_FORM 17
+#define XM23_REFUSED_SOURCE_NAME 18
+#define XM23_REFUSED_SOURCE_VALUE 19
 
 /* What a refusal says, in the papers' words. Every number gives a text, which is there for good and never NULL. */
 static inline const char *xm23_refusal_text(unsigned refusal)
@@ -120,6 +123,9 @@ static inline const char *xm23_refusal_text(unsigned refusal)
     case XM23_REFUSED_SREC_ROOM: return "data or span passes #FFFF, or the text does not fit its buffer";
     case XM23_REFUSED_EVENT_TWINS: return "two events share step and device";
     case XM23_REFUSED_STACK: return "a use is above 1,024, the priority above 7, or the vectors are not 64 bytes or the uses not 16";
+    case XM23_REFUSED_SOURCE_FORM: return "a line fits no statement, brackets go deeper than 16, or END is missing";
+    case XM23_REFUSED_SOURCE_NAME: return "a name is unknown, already given or the 1,025th";
+    case XM23_REFUSED_SOURCE_VALUE: return "a value leaves 32 bits, divides by zero or does not fit, or an address is odd or past #FFFF";
     default: return "no refusal has this number";
     }
 }
@@ -481,6 +487,26 @@ uint32_t xm23_stack(const uint8_t *vectors, size_t vectors_len, uint8_t devices,
 
 /* The bytes in a reply of xm23_stack that refuses nothing. */
 #define XM23_STACK_BYTES(reply) ((uint32_t)((reply) >> 8))
+
+/*
+ * Assembles a source into memory. A line holds at most a name, a statement and a `;` comment; docs/FORMATS.md has the
+ * language. The whole source is judged before a byte of memory changes; lines after END are not read. No byte changes
+ * but those of the assembled instructions, WORDs and BYTEs; of two statements on one byte the later wins.
+ *
+ * memory, memory_len in-out: the machine's memory, XM23_MEMORY_SIZE bytes.
+ * source, source_len in: the source, of any length and content.
+ * result             one reply: XM23_REFUSAL in bits 7-0, 0 in 31-8, XM23_ASSEMBLE_LINE in 63-32. Accepted: 0. Where
+ *                    the program starts is the caller's to know.
+ * refusals           XM23_REFUSED_MEMORY, with line 0; then, each over the whole source and with the number of the first
+ *                    line at fault, XM23_REFUSED_SOURCE_FORM, the number of lines plus 1 where END is missing;
+ *                    XM23_REFUSED_SOURCE_NAME; XM23_REFUSED_SOURCE_VALUE, an ORG, EQU or BSS before every other line.
+ *                    Refused: memory is as it was.
+ * defined            crates/asm_call/specs/Call.antt, assembleCallOf, for every length and content.
+ */
+uint64_t xm23_assemble(uint8_t *memory, size_t memory_len, const uint8_t *source, size_t source_len);
+
+/* The line at fault, from 1, in a reply of xm23_assemble, 0 for none; 4,294,967,295 stands for a line beyond it. */
+#define XM23_ASSEMBLE_LINE(reply) ((uint32_t)((reply) >> 32))
 
 #ifdef __cplusplus
 }

@@ -1,8 +1,8 @@
 #!/usr/bin/env bash
 # Coverage-guided fuzzing of the calls of libxm23.a by libFuzzer, for so many seconds: fuzz.sh [SECONDS [SEED]]. What is
 # new is told by a C judge compiled with the fuzzer's counters (tests/fuzz). The corpus starts from the example and the
-# readable cases, that of S-records from tests/srec; both are kept in build/fuzz. A difference is saved there too, and the
-# exit status is then 1.
+# readable cases, that of S-records from tests/srec, that of sources from tests/sources; all are kept in build/fuzz. A
+# difference is saved there too, and the exit status is then 1.
 set -eu -o pipefail
 cd "$(dirname "$0")/.."
 
@@ -16,7 +16,8 @@ clang=${CLANG:-clang}
 out=build/fuzz
 oracle='--release --offline --locked --manifest-path oracle/Cargo.toml --target-dir oracle/target'
 warn='-std=gnu11 -g -O2 -Wall -Wextra -Werror -Iinclude'
-mkdir -p "$out/seeds" "$out/corpus" "$out/corpus_words" "$out/corpus_srec" "$out/corpus_stack"
+mkdir -p "$out/seeds" "$out/corpus" "$out/corpus_words" "$out/corpus_srec" "$out/corpus_stack" "$out/corpus_sources" \
+    "$out/sources"
 
 # The compiler and its runtime may not be here: the rest of 'make fuzz' does without.
 if ! command -v "$clang" > /dev/null; then
@@ -102,4 +103,10 @@ search srec $((seconds / 6 + 1)) "$out/corpus_srec" tests/srec
 options=(-max_len=83)
 "$clang" $warn -fsanitize=fuzzer -o "$out/stack" tests/fuzz/stack.c target/staticlib/libxm23.a
 search stack $((seconds / 6 + 1)) "$out/corpus_stack"
+options=(-max_len=400)
+for case in tests/sources/*.txt; do
+    sed '1,/^source:$/d; s/^    //' "$case" > "$out/sources/$(basename "$case")"
+done
+"$clang" $warn -fsanitize=fuzzer -o "$out/source" tests/fuzz/assemble.c target/staticlib/libxm23.a
+search source $((seconds / 6 + 1)) "$out/corpus_sources" "$out/sources"
 echo "coverage-guided fuzzing: no difference"

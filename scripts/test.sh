@@ -134,5 +134,6 @@ part 'reference card' count_line card
 part 'the program' count_line tests/shell/program.sh
 part 'installing' count_line tests/shell/install.sh
 part 'the report' count_line tests/shell/report.sh
+part 'the assembler' count_line tests/shell/assemble.sh
 part 'mistakes and the legend' count_line tests/shell/tools.sh
 part 'S-records beside srec_cat and objcopy' count_line scripts/peers.sh

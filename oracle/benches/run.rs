@@ -9,7 +9,7 @@ mod callgrind;
 mod rows;
 
 use callgrind::instructions;
-use oracle::asm::assemble;
+use oracle::assemble::assemble;
 use oracle::inputs::{input, Input, KINDS};
 use oracle::machine::{self, event_record, Event, Machine};
 use oracle::random::Random;
@@ -81,86 +81,86 @@ struct Workload {
 
 /// The loop of every application here: R1 is kept in memory, R2 points at it.
 const MIXED: &str = "
-        org #1000
-Loop    add R0,R1
-        xor R3,R1
-        ld R2,R0
-        st R1,R2
-        sub $1,R4
-        bra Loop
+        ORG $1000
+LOOP    ADD R0,R1
+        XOR R3,R1
+        LD R2,R0
+        ST R1,R2
+        SUB #1,R4
+        BRA LOOP
 ";
 
 /// Ten steps, one of them a character for device 0.
 const SCREEN: &str = "
-        org #0000
-        byte STATUS
-        org #1000
-Loop    str.b R1,R5,$1
-        add R0,R1
-        xor R3,R1
-        ld R2,R0
-        st R1,R2
-        sub $1,R4
-        add R0,R3
-        xor R4,R3
-        add $1,R4
-        bra Loop
+        ORG $0000
+        BYTE STATUS
+        ORG $1000
+LOOP    STR.B R1,R5,#1
+        ADD R0,R1
+        XOR R3,R1
+        LD R2,R0
+        ST R1,R2
+        SUB #1,R4
+        ADD R0,R3
+        XOR R4,R3
+        ADD #1,R4
+        BRA LOOP
 ";
 
 const TIGHT: &str = "
-        org #1000
-Loop    add $1,R0
-        bra Loop
+        ORG $1000
+LOOP    ADD #1,R0
+        BRA LOOP
 ";
 
 /// Three devices at priorities 3, 4 and 5. Each handler saves two registers, reads its device and adds up its data.
 const HANDLERS: &str = "
-        org #0000
-        word #0013
-        word #0013
-        word #0013
-        org #2000
-H0      st R0,-SP
-        st R1,-SP
-        movlz #00,R0
-        ldr R0,$0,R1
-        movlz #80,R0
-        st R1,R0+
-        st R1,R0
-        ld SP+,R1
-        ld SP+,R0
-        mov LR,PC
-        org #2100
-H1      st R0,-SP
-        st R1,-SP
-        movlz #00,R0
-        ldr R0,$2,R1
-        movlz #90,R0
-        ldr R0,$0,R1
-        add $1,R1
-        str R1,R0,$0
-        ld SP+,R1
-        ld SP+,R0
-        mov LR,PC
-        org #2200
-H2      st R0,-SP
-        movlz #00,R0
-        ldr.b R0,$4,R0
-        ld SP+,R0
-        mov LR,PC
-        org #FFC0
-        word #0060
-        word H0
-        word #0080
-        word H1
-        word #00A0
-        word H2
+        ORG $0000
+        WORD $0013
+        WORD $0013
+        WORD $0013
+        ORG $2000
+H0      ST R0,-SP
+        ST R1,-SP
+        MOVLZ $00,R0
+        LDR R0,#0,R1
+        MOVLZ $80,R0
+        ST R1,R0+
+        ST R1,R0
+        LD SP+,R1
+        LD SP+,R0
+        MOV LR,PC
+        ORG $2100
+H1      ST R0,-SP
+        ST R1,-SP
+        MOVLZ $00,R0
+        LDR R0,#2,R1
+        MOVLZ $90,R0
+        LDR R0,#0,R1
+        ADD #1,R1
+        STR R1,R0,#0
+        LD SP+,R1
+        LD SP+,R0
+        MOV LR,PC
+        ORG $2200
+H2      ST R0,-SP
+        MOVLZ $00,R0
+        LDR.B R0,#4,R0
+        LD SP+,R0
+        MOV LR,PC
+        ORG $FFC0
+        WORD $0060
+        WORD H0
+        WORD $0080
+        WORD H1
+        WORD $00A0
+        WORD H2
 ";
 
 fn start(source: &str, n: u64) -> Input {
     let regs = [0x1234, 0x5678, 0x4000, 0x9ABC, 0x7777, 0, 0x0800, 0x1000];
     let record = Machine { regs, ..Machine::default() }.to_record().to_vec();
-    Input { memory: assemble(source).memory(), record, events: Vec::new(), log: Vec::new(), n }
+    Input { memory: assemble(&format!("{source}\n END")).memory(), record, events: Vec::new(), log: Vec::new(), n }
 }
 
 /// Events in threes, 4 steps apart, so that each handler interrupts the one before it.
@@ -186,7 +186,7 @@ fn mixed(events: u64, n: u64) -> Input {
 
 /// Characters on an output device, with ENA set and a log long enough, or with ENA clear.
 fn screen(logged: bool, n: u64) -> Input {
-    let source = SCREEN.replace("STATUS", if logged { "#10" } else { "#00" });
+    let source = SCREEN.replace("STATUS", if logged { "$10" } else { "$00" });
     Input { log: machine::long_log(if logged { n } else { 0 }), ..start(&source, n) }
 }
 
@@ -250,7 +250,7 @@ fn calls(name: &'static str, each: u64) -> Workload {
 
 /// What is only counted.
 fn counted() -> Vec<Workload> {
-    let row = |(name, source)| one(name, start(&format!(" org #1000\n{source}\n"), 100_000));
+    let row = |(name, source)| one(name, start(&format!(" ORG $1000\n{source}\n"), 100_000));
     let mut all = vec![one("a line waiting", waiting(100_000)), calls("calls of 1 step", 1), calls("calls of 10", 10)];
     all.extend(rows::ROWS.map(row));
     all

@@ -1,17 +1,21 @@
 //! Compares the library with the oracle on more inputs than the gate does. `fuzz INPUTS [SEED]` runs so many of each
-//! kind, a quarter as many of each kind of S-record file, and as many calls for stack bytes, from a seed of the clock if
-//! none is given, and saves the first difference under build/fuzz. `fuzz replay FOLDER` runs a saved input again, or a
-//! saved call for S-records. The exit status is 1 where there is a difference, and 2, with one line, where the command
-//! cannot be carried out.
+//! kind, a quarter as many of each kind of S-record file and of source, and as many calls for stack bytes, from a seed of
+//! the clock if none is given, and saves the first difference under build/fuzz. `fuzz replay FOLDER` runs a saved input
+//! again, or a saved call for S-records or source. The exit status is 1 where there is a difference, and 2, with one
+//! line, where the command cannot be carried out.
 
 #[path = "../tests/library/mod.rs"]
 mod library;
+#[path = "../tests/library/assemble.rs"]
+mod library_assemble;
 #[path = "../tests/library/srec.rs"]
 mod library_srec;
 #[path = "../tests/library/stack.rs"]
 mod library_stack;
 
 use library::library;
+use oracle::assemble_compare;
+use oracle::assemble_inputs;
 use oracle::compare::{compare, compare_many, folder, saved, Found};
 use oracle::coverage::Coverage;
 use oracle::inputs::KINDS;
@@ -75,7 +79,28 @@ fn fuzz(inputs: u64, seed: u64) -> bool {
         }
         println!("{kind:?}: {inputs} of {inputs}, no difference, {:.1} s", start.elapsed().as_secs_f64());
     }
-    srec(inputs / 4, seed) && stack(inputs, seed)
+    srec(inputs / 4, seed) && sources(inputs / 4, seed) && stack(inputs, seed)
+}
+
+/// Compares sources of every kind, those of the repository mutated among them.
+fn sources(inputs: u64, seed: u64) -> bool {
+    let (start, mut reached) = (Instant::now(), assemble_compare::Reached::default());
+    let kinds = assemble_inputs::KINDS;
+    let mut one = |kind| {
+        let many = if kind == assemble_inputs::Kind::Names { inputs / 10 } else { inputs };
+        assemble_compare::compare_many(library_assemble::assemble, kind, seed, many, &mut reached)
+    };
+    let Some(found) = kinds.into_iter().find_map(|kind| one(kind).err()) else {
+        let time = start.elapsed().as_secs_f64();
+        println!("sources: {inputs} of each of {} kinds, no difference, {time:.1} s", kinds.len());
+        return true;
+    };
+    println!("{}: {}", found.name, found.difference.what);
+    match found.difference.save(&folder(), &found.name) {
+        Ok(place) => println!("saved in {}", place.display()),
+        Err(e) => println!("not saved: {e}"),
+    }
+    false
 }
 
 /// Compares calls for stack bytes with every choice of devices tried. A difference is printed whole.
@@ -123,6 +148,9 @@ fn report(found: Found, first: u64) -> bool {
 
 /// Runs a saved input again, and tells what both leave where they differ.
 fn replay(place: &Path) -> Outcome {
+    if assemble_compare::is_saved(place) {
+        return replay_source(place);
+    }
     if srec_compare::is_saved(place) {
         return replay_srec(place);
     }
@@ -138,6 +166,19 @@ fn replay(place: &Path) -> Outcome {
             Ok(false)
         }
     }
+}
+
+/// Assembles a saved source again, and tells where the two differ.
+fn replay_source(place: &Path) -> Outcome {
+    let input = assemble_compare::saved(place).map_err(|e| format!("{}: {e}", place.display()))?;
+    match assemble_compare::compare(library_assemble::assemble, &input, &mut assemble_compare::Reached::default()) {
+        Ok(reply) => println!("no difference; both reply {reply:016X}"),
+        Err(difference) => {
+            println!("{}", difference.what);
+            return Ok(false);
+        }
+    }
+    Ok(true)
 }
 
 /// Makes a saved call for S-records again, and tells where the two differ.

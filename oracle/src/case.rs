@@ -4,7 +4,7 @@
 //! A file is a list of `key: value`; lines that start with a blank belong to the key above them. Keys: `title`, `from`,
 //! `start` (`R0=00FF PSW=60E0 CEX=.. LINES=00000012 HALTED=1 COUNT=..`, hexadecimal; PC #1000 and SP #0800 if not
 //! named; `BYTE20=01` is byte 20 of the record whatever it means),
-//! `source`, `events` (`step device data` on each line, step in base ten; `x9` behind it is nine of them, each a step
+//! `source` (02 §12), `events` (`step device data` on each line, step in base ten; `x9` behind it is nine of them, each a step
 //! later), `n`, `line`, `bytes` (`0100=34`, afterwards), `printed`, `decides`. Every key but `start`, `events`, `bytes`
 //! and `printed` must be there in a case of the repository; an input is made of `source` and `n` alone.
 //!
@@ -13,15 +13,31 @@
 //! stand in the log, `step device byte` on each line. `line` is of a log long enough whatever `log` says, and so are
 //! `bytes` where `reply` is not there; with `reply` they are what the library leaves.
 
-use crate::asm::{try_assemble, Mistake};
+use crate::assemble::judge;
 use crate::inputs::Input;
 use crate::machine::{event_record, long_log, Event, Lines, Machine, Ran, Shown, LR, PC, RECORD, SP};
+use crate::report::sentence;
 use std::collections::HashMap;
 use std::path::PathBuf;
+
+/// A mistake in a text: the line that has it, from 1, and what is wrong.
+#[derive(Clone, Debug, PartialEq, Eq)]
+pub struct Mistake {
+    pub line: usize,
+    pub text: String,
+}
+
+impl Mistake {
+    fn new(line: usize, text: impl Into<String>) -> Mistake {
+        Mistake { line, text: text.into() }
+    }
+}
 
 pub struct Case {
     pub name: String,
     pub title: String,
+    /// What the memory of the input is assembled of.
+    pub source: Vec<u8>,
     pub input: Input,
     /// The printed line, LF included.
     pub line: String,
@@ -173,9 +189,9 @@ pub fn parse(name: &str, text: &str) -> Result<Case, Mistake> {
     let line = |key: &str| values.get(key).map_or(0, |value| value.line);
     let at = |key: &'static str| move |text: String| (key, text);
     let wrong = |(key, text): (&str, String)| Mistake::new(line(key), text);
-    // A line of source starts in its fifth column, so that labels do.
-    let program = try_assemble(&get("source").replace("\n    ", "\n"))
-        .map_err(|m| Mistake::new(line("source") + m.line - 1, m.text))?;
+    let source = get("source").as_bytes().to_vec();
+    let refused = |number| format!("refused with {number}: {}", sentence(number));
+    let program = judge(&source).map_err(|f| Mistake::new(line("source") + f.line as usize - 1, refused(f.number)))?;
     let mut list = Vec::new();
     for (place, text) in get("events").lines().enumerate() {
         list.extend(events(text).map_err(|text| Mistake::new(line("events") + place, text))?);
@@ -202,7 +218,7 @@ pub fn parse(name: &str, text: &str) -> Result<Case, Mistake> {
     let bytes = bytes.map_err(at("bytes")).map_err(wrong)?;
     let (title, line) = (get("title").into(), get("line").to_string() + "\n");
     let shown = values.contains_key("shown").then_some(records);
-    Ok(Case { name: name.into(), title, input, line, bytes, reply, shown })
+    Ok(Case { name: name.into(), title, source, input, line, bytes, reply, shown })
 }
 
 /// The cases of 01's list, the example of its sheet, and its plausible misreadings.

@@ -2,7 +2,9 @@
 //! change requests, and 003, the ISA paper. It shares no text with the proved crates. Simple comes before fast.
 
 pub mod alu;
-pub mod asm;
+pub mod assemble;
+pub mod assemble_compare;
+pub mod assemble_inputs;
 pub mod case;
 pub mod compare;
 pub mod corners;
@@ -20,6 +22,7 @@ pub mod random;
 pub mod report;
 pub mod resume;
 pub mod screens;
+pub mod source_case;
 pub mod srec;
 pub mod srec_compare;
 pub mod srec_inputs;

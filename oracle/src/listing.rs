@@ -1,7 +1,7 @@
-//! Instructions as 003 writes them: `#` hexadecimal, `$` decimal, a branch with the address that it goes to. What an
+//! Instructions as 02 §12 writes them: `$` hexadecimal, `#` decimal, a branch with the address that it goes to. What the
 //! assembler has no notation for is said behind the statement: an ignored bit that is set, in a comment.
 
-use crate::asm::{ALU, BRANCHES, CONDITIONS, CONSTANTS, MOVES, UNARY};
+use crate::assemble::words::{ALU, BRANCHES, CONDITIONS, CONSTANTS, MOVES, UNARY};
 use crate::isa::Instr;
 
 pub const REGISTERS: [&str; 8] = ["R0", "R1", "R2", "R3", "R4", "LR", "SP", "PC"];
@@ -39,7 +39,7 @@ fn flags(bits: u8) -> String {
 
 /// Where a branch at an address goes.
 fn target(address: u16, offset: i16) -> String {
-    format!("#{:04X}", address.wrapping_add(2).wrapping_add((2 * offset) as u16))
+    format!("${:04X}", address.wrapping_add(2).wrapping_add((2 * offset) as u16))
 }
 
 /// The instruction that stands at an address.
@@ -48,11 +48,11 @@ pub fn text(instr: Instr, address: u16) -> String {
         Instr::Illegal => "illegal".to_string(),
         Instr::Bl { offset } => format!("BL {}", target(address, offset)),
         Instr::Branch { cond, offset } => format!("{} {}", name(&BRANCHES, cond), target(address, offset)),
-        Instr::SetPri { level } => format!("SETPRI ${level}"),
-        Instr::Svc { vector } => format!("SVC ${vector}"),
+        Instr::SetPri { level } => format!("SETPRI #{level}"),
+        Instr::Svc { vector } => format!("SVC #{vector}"),
         Instr::SetCc { flags: bits } => format!("SETCC {}", flags(bits)).trim_end().to_string(),
         Instr::ClrCc { flags: bits } => format!("CLRCC {}", flags(bits)).trim_end().to_string(),
-        Instr::Cex { cond, if_true, if_false } => format!("CEX {},${if_true},${if_false}", name(&CONDITIONS, cond)),
+        Instr::Cex { cond, if_true, if_false } => format!("CEX {},#{if_true},#{if_false}", name(&CONDITIONS, cond)),
         Instr::Ld { .. } | Instr::St { .. } | Instr::Ldr { .. } | Instr::Str { .. } => access(instr),
         _ => work(instr),
     }
@@ -68,16 +68,16 @@ fn access(instr: Instr) -> String {
             format!("{} {},{}", form("ST", wb), register(src), indexed(prpo, dec, inc, dst))
         }
         Instr::Ldr { offset, wb, src, dst } => {
-            format!("{} {},${offset},{}", form("LDR", wb), register(src), register(dst))
+            format!("{} {},#{offset},{}", form("LDR", wb), register(src), register(dst))
         }
         Instr::Str { offset, wb, src, dst } => {
-            format!("{} {},{},${offset}", form("STR", wb), register(src), register(dst))
+            format!("{} {},{},#{offset}", form("STR", wb), register(src), register(dst))
         }
         _ => unreachable!(),
     }
 }
 
-/// SWAP, SWPB and SXT, whose ignored bit is 0 where an assembler writes them.
+/// SWAP, SWPB and SXT, whose ignored bit is 0 where the assembler writes them.
 fn ignoring(statement: String, ignored: u8) -> String {
     statement + if ignored == 1 { " ; bit 6 set" } else { "" }
 }
@@ -86,7 +86,7 @@ fn ignoring(statement: String, ignored: u8) -> String {
 fn work(instr: Instr) -> String {
     match instr {
         Instr::Alu { op, rc, wb, src, dst } => {
-            let constant = || format!("${}", CONSTANTS[usize::from(src)]);
+            let constant = || format!("#{}", CONSTANTS[usize::from(src)]);
             let source = if rc == 1 { constant() } else { register(src).to_string() };
             format!("{} {source},{}", form(name(&ALU, op), wb), register(dst))
         }
@@ -95,7 +95,7 @@ fn work(instr: Instr) -> String {
         Instr::Unary { op, wb, dst } => format!("{} {}", form(name(&UNARY, op), wb), register(dst)),
         Instr::Swpb { dst, ignored } => ignoring(format!("SWPB {}", register(dst)), ignored),
         Instr::Sxt { dst, ignored } => ignoring(format!("SXT {}", register(dst)), ignored),
-        Instr::MovImm { op, byte, dst } => format!("{} #{byte:02X},{}", name(&MOVES, op), register(dst)),
+        Instr::MovImm { op, byte, dst } => format!("{} ${byte:02X},{}", name(&MOVES, op), register(dst)),
         _ => unreachable!(),
     }
 }
@@ -103,7 +103,7 @@ fn work(instr: Instr) -> String {
 #[cfg(test)]
 mod tests {
     use super::*;
-    use crate::asm::assemble;
+    use crate::assemble::assemble;
     use crate::isa::decode;
 
     /// What the assembler cannot write: an adjustment that moves nothing, and no flag at all.
@@ -127,8 +127,8 @@ mod tests {
     fn the_text_of_every_word_assembles_to_it_with_its_ignored_bit_0() {
         let words: Vec<u16> = (0..=u16::MAX).filter(|&w| writable(decode(w))).collect();
         for part in words.chunks(1 << 12) {
-            let line = |w: &u16| format!(" ORG #8000\n {}\n", text(decode(*w), 0x8000));
-            let source: String = part.iter().map(line).collect();
+            let line = |w: &u16| format!(" ORG $8000\n {}\n", text(decode(*w), 0x8000));
+            let source: String = part.iter().map(line).chain([" END".into()]).collect();
             let bytes: Vec<u8> = assemble(&source).bytes.into_iter().map(|b| b.1).collect();
             let expected: Vec<u8> = part.iter().flat_map(|&w| written(w).to_le_bytes()).collect();
             assert!(bytes == expected, "from {:04X}", part[0]);
@@ -143,7 +143,7 @@ mod tests {
             text(Instr::Ld { prpo: 0, dec: 1, inc: 1, wb: 1, src: 2, dst: 7 }, 0),
             "LD.B R2 (adjusts nothing),PC"
         );
-        assert_eq!(text(Instr::Branch { cond: 7, offset: -2 }, 0), "BRA #FFFE");
+        assert_eq!(text(Instr::Branch { cond: 7, offset: -2 }, 0), "BRA $FFFE");
         assert_eq!(text(decode(0x4CD3), 0), "SWAP R2,R3 ; bit 6 set");
         assert_eq!(text(decode(0x4D5E), 0), "SWPB SP ; bit 6 set");
         assert_eq!(text(decode(0x4D61), 0), "SXT R1 ; bit 6 set");

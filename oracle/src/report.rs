@@ -14,6 +14,7 @@ use crate::isa::decode;
 use crate::listing;
 use crate::machine::{line_of, Act};
 use crate::page::{page, Cell, Document, Expected, Field, Row, Section};
+pub use refused::sentence;
 
 /// The fields of the printed line.
 const FIELDS: [&str; 13] =

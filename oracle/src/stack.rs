@@ -1,7 +1,7 @@
 //! 02 §9: the stack bytes that a paper will need, by trying every choice of devices; and what 02 claims of them, judged
 //! along a run.
 
-use crate::asm::assemble;
+use crate::assemble::assemble;
 use crate::machine::{current, vector, Act, Event, Machine, Setup, LR, PC, SP, VECTORS};
 use crate::random::Random;
 use crate::resume::{Reading, Walk};
@@ -166,25 +166,25 @@ pub fn judge(setup: &Setup, call: &Stack, below: Below) -> Judged {
 
 /// A run at random with handlers that push and pull, and the call that asks for its figure.
 pub fn random_run(random: &mut Random) -> (Setup, Stack) {
-    let mut source = String::from(" org #1000\nLoop ADD $1,R0\n BRA Loop\n");
+    let mut source = String::from(" ORG $1000\nLOOP ADD #1,R0\n BRA LOOP\n");
     let mut uses = Vec::new();
     for d in 0..8 {
         let words = [0, 0, 1, 1, 2, 3][random.below(6) as usize];
-        source += &format!("H{d} ADD $0,R0\n");
+        source += &format!("H{d} ADD #0,R0\n");
         source += &" ST R0,-SP\n".repeat(words);
-        source += &" ADD $1,R1\n".repeat(random.below(5) as usize);
+        source += &" ADD #1,R1\n".repeat(random.below(5) as usize);
         source += &" LD SP+,R0\n".repeat(words);
-        source += [" MOV LR,PC\n", " ADD $1,R0\n MOV LR,PC\n"][random.below(2) as usize];
+        source += [" MOV LR,PC\n", " ADD #1,R0\n MOV LR,PC\n"][random.below(2) as usize];
         let spare = if random.one_in(12) { random.below(4) as u16 } else { 0 };
         uses.extend((2 * words as u16 + spare).to_le_bytes());
     }
     if random.one_in(10) {
-        source = source.replacen(" ADD $1,R1\n", " SUB $1,SP\n ADD $1,SP\n", 1);
+        source = source.replacen(" ADD #1,R1\n", " SUB #1,SP\n ADD #1,SP\n", 1);
     }
-    let program = assemble(&source);
+    let program = assemble(&(source + " END"));
     let mut memory = program.memory();
     for d in 0..8u8 {
-        let (psw, entry) = ((random.below(8) as u16) << 5, program.labels[&format!("H{d}")] as u16);
+        let (psw, entry) = ((random.below(8) as u16) << 5, program.names[&format!("H{d}")] as u16);
         let at = usize::from(vector(d));
         memory[at..at + 2].copy_from_slice(&psw.to_le_bytes());
         memory[at + 2..at + 4].copy_from_slice(&entry.to_le_bytes());

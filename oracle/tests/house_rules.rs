@@ -2,7 +2,7 @@
 //! program can show.
 
 use oracle::alu::{C, FLT, N, SLP, V, Z};
-use oracle::asm::assemble;
+use oracle::assemble::assemble;
 use oracle::isa::Instr;
 use oracle::machine::*;
 
@@ -11,7 +11,7 @@ fn start(source: &str, priority: u16) -> (Machine, Vec<u8>) {
     let mut m = Machine { psw: priority << 5, ..Machine::default() };
     m.regs[SP] = 0x0800;
     m.regs[PC] = 0x1000;
-    let memory = assemble(&format!(" org #1000\n{source}")).memory();
+    let memory = assemble(&format!(" ORG $1000\n{source}\n END")).memory();
     (m, memory)
 }
 
@@ -68,7 +68,7 @@ fn entry_with_sp_0() {
 
 #[test]
 fn branch_to_itself() {
-    let (mut m, mut memory) = start("Here BRA Here", 0);
+    let (mut m, mut memory) = start("HERE BRA HERE", 0);
     assert_eq!(word_at(&memory, 0x1000), 0x3FFF);
     assert_eq!(act(&mut m, &mut memory, &[]), Act::Execute(Instr::Branch { cond: 7, offset: -1 }));
     assert_eq!(m.regs[PC], 0x1000);
@@ -88,7 +88,7 @@ fn branches_wrap_around_zero() {
 
 #[test]
 fn word_accesses_at_odd_addresses() {
-    for source in [" LD R0+,R1", " ST R1,-R0", " LDR R0,$0,R1", " STR R1,R0,$2", " LDR R2,$1,R1"] {
+    for source in [" LD R0+,R1", " ST R1,-R0", " LDR R0,#0,R1", " STR R1,R0,#2", " LDR R2,#1,R1"] {
         let (mut m, mut memory) = start(source, 0);
         (m.regs[0], m.regs[2], m.cex) = (0x0101, 0x0200, 0x49);
         let mut expected = memory.clone();
@@ -103,7 +103,7 @@ fn word_accesses_at_odd_addresses() {
 
 #[test]
 fn words_at_even_places_from_odd_registers() {
-    let (mut m, mut memory) = start(" LDR R0,$1,R1\n LD.B R0,R2", 0);
+    let (mut m, mut memory) = start(" LDR R0,#1,R1\n LD.B R0,R2", 0);
     m.regs[0] = 0x0101;
     memory[0x101..0x104].copy_from_slice(&[0x99, 0x34, 0x12]);
     steps(&mut m, &mut memory, 2);
@@ -112,7 +112,7 @@ fn words_at_even_places_from_odd_registers() {
 
 #[test]
 fn limits_of_a_run() {
-    let (m, mut memory) = start("Here BRA Here", 0);
+    let (m, mut memory) = start("HERE BRA HERE", 0);
     let mut record = m.to_record();
     assert_eq!(run(&mut memory, 1_000_001, &mut record, &[], &mut []), Err(2));
     assert_eq!(run(&mut memory, 0, &mut record, &[], &mut []), Ok(Ran { reason: 0, steps: 0, added: 0 }));
@@ -131,7 +131,7 @@ fn limits_of_a_run() {
 
 #[test]
 fn setpri_3_after_reset_leaves_both_3() {
-    let (mut m, mut memory) = start(" SETPRI $3", 0);
+    let (mut m, mut memory) = start(" SETPRI #3", 0);
     m.psw = 0x60E0;
     steps(&mut m, &mut memory, 1);
     assert_eq!(m.psw, 0x6060);
@@ -140,7 +140,7 @@ fn setpri_3_after_reset_leaves_both_3() {
 
 #[test]
 fn a_skipped_word_is_not_decoded() {
-    let (mut m, mut memory) = start(" CEX FL,$1,$1\n WORD #4E00\n MOVLZ #07,R0", 0);
+    let (mut m, mut memory) = start(" CEX FL,#1,#1\n WORD $4E00\n MOVLZ $07,R0", 0);
     assert!(matches!(act(&mut m, &mut memory, &[]), Act::Execute(_)));
     let trace = m.step(&mut memory, &[]).unwrap();
     assert_eq!((trace.act, trace.fetched), (Act::Skip, None));
@@ -173,7 +173,7 @@ fn asleep_at_ffff_is_no_return_and_awake_is() {
 
 #[test]
 fn a_halted_machine_takes_no_step_and_no_event() {
-    let (mut m, mut memory) = start(" MOVLZ #01,R0", 0);
+    let (mut m, mut memory) = start(" MOVLZ $01,R0", 0);
     m.halted = true;
     memory[0] = 0x13;
     let (was, bytes) = (m, memory.clone());
@@ -186,7 +186,7 @@ fn a_halted_machine_takes_no_step_and_no_event() {
 
 #[test]
 fn events_of_the_count_are_applied_and_earlier_ones_passed_over() {
-    let (mut m, mut memory) = start("Here BRA Here", 7);
+    let (mut m, mut memory) = start("HERE BRA HERE", 7);
     m.count = 5;
     memory[2] = 0x12;
     memory[4] = 0x16;
@@ -199,7 +199,7 @@ fn events_of_the_count_are_applied_and_earlier_ones_passed_over() {
 
 #[test]
 fn a_line_raised_in_a_step_is_accepted_in_it() {
-    let (mut m, mut memory) = start("Here BRA Here", 3);
+    let (mut m, mut memory) = start("HERE BRA HERE", 3);
     memory[4] = 0x11;
     set_vector(&mut memory, 2, 0x0080, 0x2000);
     assert_eq!(act(&mut m, &mut memory, &[event(0, 2, 0)]), Act::Accept(2));
@@ -208,7 +208,7 @@ fn a_line_raised_in_a_step_is_accepted_in_it() {
 
 #[test]
 fn lines_above_the_priority_only_best_first() {
-    let (mut m, mut memory) = start("Here BRA Here", 4);
+    let (mut m, mut memory) = start("HERE BRA HERE", 4);
     m.lines = Lines::of(&[1, 2, 3]);
     for (v, priority) in [(1, 4u16), (2, 5), (3, 5)] {
         set_vector(&mut memory, v, priority << 5, 0x2000);
@@ -223,7 +223,7 @@ fn lines_above_the_priority_only_best_first() {
 
 #[test]
 fn a_vector_of_priority_0_is_never_accepted() {
-    let (mut m, mut memory) = start("Here BRA Here", 0);
+    let (mut m, mut memory) = start("HERE BRA HERE", 0);
     m.lines = Lines::of(&[0]);
     assert!(matches!(act(&mut m, &mut memory, &[]), Act::Execute(_)));
     assert_eq!(m.lines, Lines::of(&[0]));
@@ -257,7 +257,7 @@ fn sleep_comes_before_odd_pc_and_changes_only_the_count() {
 
 #[test]
 fn cex_runs_one_part_and_skips_the_other() {
-    let program = " CEX NE,$2,$2\n ADD $1,R0\n ADD $1,R0\n ADD $1,R1\n ADD $1,R1\n ADD $1,R2";
+    let program = " CEX NE,#2,#2\n ADD #1,R0\n ADD #1,R0\n ADD #1,R1\n ADD #1,R1\n ADD #1,R2";
     for (psw, expected, held) in [(0, [2, 0, 1], 0x40), (Z, [0, 2, 1], 0)] {
         let (mut m, mut memory) = start(program, 0);
         m.psw = psw;
@@ -305,7 +305,7 @@ fn branches_by_their_conditions() {
 
 #[test]
 fn cex_in_a_block_lowers_the_old_count_and_then_replaces() {
-    let (mut m, mut memory) = start(" CEX TR,$3,$0\n CEX FL,$0,$0", 0);
+    let (mut m, mut memory) = start(" CEX TR,#3,#0\n CEX FL,#0,#0", 0);
     steps(&mut m, &mut memory, 1);
     assert_eq!(m.cex, 0x58);
     steps(&mut m, &mut memory, 1);
@@ -319,30 +319,30 @@ fn a_write_to_r7_clears_cex_whatever_the_value() {
         " SWAP PC,PC",
         " SWAP R0,PC",
         " SWAP PC,R0",
-        " ADD $0,PC",
-        " ADD.B $0,PC",
-        " BIS $0,PC",
-        " BIS $-1,PC",
+        " ADD #0,PC",
+        " ADD.B #0,PC",
+        " BIS #0,PC",
+        " BIS #-1,PC",
         " SXT PC",
         " SWPB PC",
         " SRA PC",
-        " MOVL #02,PC",
+        " MOVL $02,PC",
         " LD R0,PC",
         " LD PC+,R0",
         " ST R0,PC+",
-        " LDR R0,$0,PC",
-        " BRA Next\nNext ADD $1,R0",
-        " BL Next\nNext ADD $1,R0",
+        " LDR R0,#0,PC",
+        " BRA NEXT\nNEXT ADD #1,R0",
+        " BL NEXT\nNEXT ADD #1,R0",
     ];
     let keeps = [
-        " CMP $0,PC",
-        " BIT $0,PC",
+        " CMP #0,PC",
+        " BIT #0,PC",
         " ST PC,R0",
         " LD PC,R0",
-        " STR R0,PC,$0",
-        " LDR PC,$0,R0",
+        " STR R0,PC,#0",
+        " LDR PC,#0,R0",
         " MOV PC,R0",
-        " BN #1234",
+        " BN $1234",
     ];
     for (programs, expected) in [(&clears[..], 0), (&keeps[..], 0x42)] {
         for program in programs {
@@ -372,7 +372,7 @@ fn up_and_down_together_move_nothing() {
 
 #[test]
 fn entry_pushes_pc_lr_psw_cex_and_takes_the_vector() {
-    let (mut m, mut memory) = start("Here BRA Here", 2);
+    let (mut m, mut memory) = start("HERE BRA HERE", 2);
     m.psw |= C | V | 3 << 13;
     m.regs[LR] = 0xABCD;
     m.cex = 0x59;
@@ -387,7 +387,7 @@ fn entry_pushes_pc_lr_psw_cex_and_takes_the_vector() {
 
 #[test]
 fn the_vector_is_read_before_the_pushes() {
-    let (mut m, mut memory) = start("Here BRA Here", 0);
+    let (mut m, mut memory) = start("HERE BRA HERE", 0);
     m.regs[SP] = 0xFFC8;
     m.lines = Lines::of(&[0]);
     set_vector(&mut memory, 0, 0x0020, 0x2000);
@@ -397,7 +397,7 @@ fn the_vector_is_read_before_the_pushes() {
 
 #[test]
 fn an_odd_sp_keeps_its_bit() {
-    let (mut m, mut memory) = start("Here BRA Here", 0);
+    let (mut m, mut memory) = start("HERE BRA HERE", 0);
     m.regs[SP] = 0x0801;
     m.lines = Lines::of(&[0]);
     set_vector(&mut memory, 0, 0x0020, 0xFFFF);
@@ -438,7 +438,7 @@ fn a_chained_entry_keeps_the_previous_priority_and_pushes_nothing() {
 #[test]
 fn faults_push_their_pc_and_set_flt() {
     for (program, pc, fault, pushed_pc) in
-        [(" WORD #4E00", 0x1000, 8, 0x1002), ("", 0x1001, 9, 0x1001), (" SETPRI $5", 0x1000, 10, 0x1002)]
+        [(" WORD $4E00", 0x1000, 8, 0x1002), ("", 0x1001, 9, 0x1001), (" SETPRI #5", 0x1000, 10, 0x1002)]
     {
         let (mut m, mut memory) = start(program, 4);
         m.regs[PC] = pc;
@@ -455,7 +455,7 @@ fn faults_push_their_pc_and_set_flt() {
 #[test]
 fn a_fault_with_flt_set_halts_and_changes_nothing_else() {
     for (program, pc, fault) in
-        [(" WORD #4E00", 0x1000, 8), ("", 0x1001, 9), (" SETPRI $5", 0x1000, 10), (" SVC $3", 0x1000, 10)]
+        [(" WORD $4E00", 0x1000, 8), ("", 0x1001, 9), (" SETPRI #5", 0x1000, 10), (" SVC #3", 0x1000, 10)]
     {
         let (mut m, mut memory) = start(program, 4);
         m.psw |= FLT;
@@ -471,7 +471,7 @@ fn a_fault_with_flt_set_halts_and_changes_nothing_else() {
 
 #[test]
 fn an_interrupt_keeps_flt_and_a_handler_of_a_fault_has_it() {
-    let (mut m, mut memory) = start("Here BRA Here", 0);
+    let (mut m, mut memory) = start("HERE BRA HERE", 0);
     m.psw = FLT;
     m.lines = Lines::of(&[0]);
     set_vector(&mut memory, 0, 0x0020, 0x2000);
@@ -482,7 +482,7 @@ fn an_interrupt_keeps_flt_and_a_handler_of_a_fault_has_it() {
 #[test]
 fn svc_needs_a_priority_above_and_lowers_no_line() {
     for (priority, expected) in [(3, Act::Trap(2)), (4, Act::Fault(10)), (5, Act::Fault(10))] {
-        let (mut m, mut memory) = start(" SVC $2", priority);
+        let (mut m, mut memory) = start(" SVC #2", priority);
         m.cex = 0x49;
         m.lines = Lines::of(&[2]);
         set_vector(&mut memory, 2, 4 << 5, 0x2000);
@@ -500,7 +500,7 @@ fn svc_needs_a_priority_above_and_lowers_no_line() {
 
 #[test]
 fn svc_to_the_last_vector() {
-    let (mut m, mut memory) = start(" SVC $15", 0);
+    let (mut m, mut memory) = start(" SVC #15", 0);
     set_vector(&mut memory, 15, 0x00E0, 0x0800);
     assert_eq!(act(&mut m, &mut memory, &[]), Act::Trap(15));
     assert_eq!((m.psw, m.regs[PC]), (0x00E0, 0x0800));
@@ -508,7 +508,7 @@ fn svc_to_the_last_vector() {
 
 #[test]
 fn setpri_to_the_same_is_no_fault() {
-    let (mut m, mut memory) = start(" SETPRI $4", 4);
+    let (mut m, mut memory) = start(" SETPRI #4", 4);
     m.psw |= 6 << 13 | N;
     let psw = m.psw;
     assert!(matches!(act(&mut m, &mut memory, &[]), Act::Execute(_)));
@@ -550,7 +550,7 @@ fn events_by_the_status_bits() {
         (0xF0, 0xF4, false, false),
     ];
     for (before, after, taken, raised) in rows {
-        let (mut m, mut memory) = start("Here BRA Here", 7);
+        let (mut m, mut memory) = start("HERE BRA HERE", 7);
         memory[6] = before;
         memory[7] = 0xAA;
         act(&mut m, &mut memory, &[event(0, 3, 0x55)]);
@@ -564,7 +564,7 @@ fn events_by_the_status_bits() {
 
 #[test]
 fn a_count_gains_one_an_event_and_stays_at_15() {
-    let (mut m, mut memory) = start("Here BRA Here", 7);
+    let (mut m, mut memory) = start("HERE BRA HERE", 7);
     memory[6] = 0x13;
     for (step, count) in (1..=40).map(|k: u8| (u32::from(k) - 1, k.min(15))) {
         act(&mut m, &mut memory, &[event(step, 3, step as u8)]);
@@ -582,7 +582,7 @@ fn a_count_gains_one_an_event_and_stays_at_15() {
 
 #[test]
 fn an_entry_takes_one_from_its_own_count() {
-    let (mut m, mut memory) = start("Here BRA Here", 3);
+    let (mut m, mut memory) = start("HERE BRA HERE", 3);
     m.lines = Lines([15, 3, 15, 1, 2, 0, 15, 15]);
     set_vector(&mut memory, 2, 0x0080, 0xFFFF);
     assert_eq!(act(&mut m, &mut memory, &[]), Act::Accept(2));
@@ -600,7 +600,7 @@ fn an_entry_takes_one_from_its_own_count() {
 fn an_event_and_an_acceptance_in_one_step() {
     // The event comes first, so one that falls on a full count is lost though the step then takes one.
     for (before, after) in [(0, 0), (1, 1), (14, 14), (15, 14)] {
-        let (mut m, mut memory) = start("Here BRA Here", 3);
+        let (mut m, mut memory) = start("HERE BRA HERE", 3);
         m.lines.0[2] = before;
         memory[4] = 0x11;
         set_vector(&mut memory, 2, 0x0080, 0x2000);
@@ -612,8 +612,8 @@ fn an_event_and_an_acceptance_in_one_step() {
 #[test]
 fn forty_ticks_enter_the_handler_fifteen_times_more() {
     // The handler of device 0 runs 51 steps and a return; 40 ticks fall in its first ones.
-    let handler = " ORG #2000\n ADD $1,R1\n MOVL $24,R0\nNext SUB $1,R0\n BNE Next\n MOV LR,PC";
-    let (mut m, mut memory) = start(&format!("Here BRA Here\n{handler}"), 3);
+    let handler = " ORG $2000\n ADD #1,R1\n MOVL #24,R0\nNEXT SUB #1,R0\n BNE NEXT\n MOV LR,PC";
+    let (mut m, mut memory) = start(&format!("HERE BRA HERE\n{handler}"), 3);
     memory[0] = 0x13;
     set_vector(&mut memory, 0, 0x0080, 0x2000);
     let ticks: Vec<Event> = (0..41).map(|step| event(step, 0, 0)).collect();
@@ -639,8 +639,8 @@ fn loads_of_status_clear_dba_and_of() {
         (" LD.B R0,R1", 5, 0x0077, 0xFF),
         (" LD R0,R1", 4, 0x77FF, 0xF3),
         (" LD R0,R1", 5, 0x0000, 0xFF),
-        (" LDR.B R0,$0,R1", 4, 0x00FF, 0xF3),
-        (" LDR R0,$0,R1", 4, 0x77FF, 0xF3),
+        (" LDR.B R0,#0,R1", 4, 0x00FF, 0xF3),
+        (" LDR R0,#0,R1", 4, 0x77FF, 0xF3),
     ] {
         let (mut m, mut memory) = start(program, 7);
         m.regs[0] = address;
@@ -723,7 +723,7 @@ fn steps_are_1_for_bytes_and_2_for_words() {
 
 #[test]
 fn relative_addresses_are_even_by_their_sum() {
-    let (mut m, mut memory) = start(" LDR R0,$1,R1\n LDR R0,$-63,R2\n STR.B R3,R0,$63", 0);
+    let (mut m, mut memory) = start(" LDR R0,#1,R1\n LDR R0,#-63,R2\n STR.B R3,R0,#63", 0);
     m.regs[0] = 0x0301;
     m.regs[3] = 0xAB;
     memory[0x302..0x304].copy_from_slice(&[1, 2]);
@@ -734,7 +734,7 @@ fn relative_addresses_are_even_by_their_sum() {
 
 #[test]
 fn addresses_wrap() {
-    let (mut m, mut memory) = start(" LDR R0,$-2,R1\n LD R2+,R3\n ST R3,-R4", 0);
+    let (mut m, mut memory) = start(" LDR R0,#-2,R1\n LD R2+,R3\n ST R3,-R4", 0);
     m.regs[..5].copy_from_slice(&[0, 0, 0xFFFE, 0, 0]);
     memory[0xFFFE..].copy_from_slice(&[0x78, 0x56]);
     steps(&mut m, &mut memory, 3);

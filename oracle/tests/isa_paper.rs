@@ -1,7 +1,7 @@
 //! The worked examples of 003's chapters 6, 8, 10 and 11 as programs, with 01's corrections where the two differ.
 
 use oracle::alu::{C, N, V, Z};
-use oracle::asm::{assemble, Assembled};
+use oracle::assemble::{assemble, Assembled};
 use oracle::machine::*;
 
 const FLAGS: u16 = C | Z | N | V;
@@ -18,20 +18,20 @@ impl Done {
     }
 
     fn word(&self, label: &str) -> u16 {
-        word_at(&self.memory, self.program.labels[label] as u16)
+        word_at(&self.memory, self.program.names[label] as u16)
     }
 }
 
 /// Runs a program from its label START, at priority 0 with SP #0800, until it reaches its label DONE.
 fn run_to_done(source: &str, prepare: impl Fn(&mut Machine, &mut [u8])) -> Done {
-    let program = assemble(source);
+    let program = assemble(&format!("{source}\n END"));
     let mut memory = program.memory();
     let mut m = Machine::default();
-    m.regs[PC] = program.labels["START"] as u16;
+    m.regs[PC] = program.names["START"] as u16;
     m.regs[SP] = 0x0800;
     prepare(&mut m, &mut memory);
     for _ in 0..10_000 {
-        if i32::from(m.regs[PC]) == program.labels["DONE"] {
+        if i32::from(m.regs[PC]) == program.names["DONE"] {
             return Done { m, memory, program };
         }
         m.step(&mut memory, &[]).expect("a step");
@@ -49,16 +49,16 @@ fn done(source: &str) -> Done {
 fn register_initialization() {
     let d = done(
         "
-        org #1000
-Array   bss $16
-        org #2000
-Start   movl #10,R0
-        movh #20,R0
-        movls #FF,R4
-        movlz $0,R3
-        movl Array,R1
-        movh Array,R1
-Done
+        ORG $1000
+ARRAY   BSS #16
+        ORG $2000
+START   MOVL $10,R0
+        MOVH $20,R0
+        MOVLS $FF,R4
+        MOVLZ #0,R3
+        MOVL ARRAY,R1
+        MOVH ARRAY,R1
+DONE
 ",
     );
     assert_eq!((d.m.regs[0], d.m.regs[1], d.m.regs[3], d.m.regs[4]), (0x2010, 0x1000, 0, 0xFFFF));
@@ -68,17 +68,17 @@ Done
 fn direct_addressing() {
     let d = done(
         "
-        org #1000
-Data1   word #1234
-Data2   bss $2
-        org #2000
-Start   movl Data1,R0
-        movh Data1,R0
-        movl Data2,R1
-        movh Data2,R1
-        ld R0,R2
-        st R2,R1
-Done
+        ORG $1000
+DATA1   WORD $1234
+DATA2   BSS #2
+        ORG $2000
+START   MOVL DATA1,R0
+        MOVH DATA1,R0
+        MOVL DATA2,R1
+        MOVH DATA2,R1
+        LD R0,R2
+        ST R2,R1
+DONE
 ",
     );
     assert_eq!((d.word("DATA1"), d.word("DATA2")), (0x1234, 0x1234));
@@ -89,33 +89,33 @@ Done
 fn indexed_and_relative_addressing() {
     let d = done(
         "
-        org #1000
-Data1   bss #2
-        org #2000
-Start   movl Data1,R0
-        movh Data1,R0
-        movlz #F0,R1
-        st.b R1,R0+
-        movlz #0F,R1
-        st.b R1,R0-
-        ld.w R0,R2
-Done
+        ORG $1000
+DATA1   BSS $2
+        ORG $2000
+START   MOVL DATA1,R0
+        MOVH DATA1,R0
+        MOVLZ $F0,R1
+        ST.B R1,R0+
+        MOVLZ $0F,R1
+        ST.B R1,R0-
+        LD.W R0,R2
+DONE
 ",
     );
     assert_eq!((d.m.regs[0], d.m.regs[2]), (0x1000, 0x0FF0));
     let d = done(
         "
-        org #1000
-Data1   bss #2
-        org #2000
-Start   movl Data1,R0
-        movh Data1,R0
-        movlz #F0,R1
-        str.b R1,R0,#0
-        movlz #0F,R1
-        str.b R1,R0,#1
-        ldr.w R0,#0,R2
-Done
+        ORG $1000
+DATA1   BSS $2
+        ORG $2000
+START   MOVL DATA1,R0
+        MOVH DATA1,R0
+        MOVLZ $F0,R1
+        STR.B R1,R0,$0
+        MOVLZ $0F,R1
+        STR.B R1,R0,$1
+        LDR.W R0,$0,R2
+DONE
 ",
     );
     assert_eq!(d.m.regs[2], 0x0FF0);
@@ -125,20 +125,20 @@ Done
 fn ten_words_copied() {
     let d = run_to_done(
         "
-        org #100
-AR1     bss $20
-AR2     bss $20
-        org #1000
-Start   movl AR1,R2
-        movh AR1,R2
-        movl AR2,R3
-        movh AR2,R3
-        movlz $10,R0
-Loop    ld R2+,R1
-        st R1,R3+
-        sub $1,R0
-        bnz Loop
-Done
+        ORG $100
+AR1     BSS #20
+AR2     BSS #20
+        ORG $1000
+START   MOVL AR1,R2
+        MOVH AR1,R2
+        MOVL AR2,R3
+        MOVH AR2,R3
+        MOVLZ #10,R0
+LOOP    LD R2+,R1
+        ST R1,R3+
+        SUB #1,R0
+        BNZ LOOP
+DONE
 ",
         |_, memory| (0..20).for_each(|i| memory[0x100 + i] = 7 * i as u8 + 1),
     );
@@ -150,19 +150,19 @@ Done
 fn bytes_of_a_string_counted() {
     let d = run_to_done(
         "
-NUL     equ #0
-        org #200
-Str     bss $80
-        org #1000
-Start   movl Str,R1
-        movh Str,R1
-        movlz $0,R0
-Loop    ld.b R1+,R2
-        cmp.b NUL,R2
-        bz Done
-        add $1,R0
-        bra Loop
-Done
+NUL     EQU $0
+        ORG $200
+STRG    BSS #80
+        ORG $1000
+START   MOVL STRG,R1
+        MOVH STRG,R1
+        MOVLZ #0,R0
+LOOP    LD.B R1+,R2
+        CMP.B NUL,R2
+        BZ DONE
+        ADD #1,R0
+        BRA LOOP
+DONE
 ",
         |_, memory| memory[0x200..0x205].copy_from_slice(b"hello"),
     );
@@ -173,11 +173,11 @@ Done
 fn push_and_pull() {
     let d = run_to_done(
         "
-        org #1000
-Start   st R2,-SP
-        movlz $0,R2
-        ld SP+,R2
-Done
+        ORG $1000
+START   ST R2,-SP
+        MOVLZ #0,R2
+        LD SP+,R2
+DONE
 ",
         |m, _| {
             m.regs[SP] = 0xFFC0;
@@ -189,7 +189,7 @@ Done
 
 #[test]
 fn byte_addition_keeps_the_high_byte() {
-    let d = done(" org #1000\nStart MOVLS $-1,R0\n MOVLZ $2,R1\n ADD.B R1,R0\nDone");
+    let d = done(" ORG $1000\nSTART MOVLS #-1,R0\n MOVLZ #2,R1\n ADD.B R1,R0\nDONE");
     assert_eq!((d.m.regs[0], d.flags()), (0xFF01, C));
 }
 
@@ -197,16 +197,16 @@ fn byte_addition_keeps_the_high_byte() {
 fn a_carry_into_the_high_word() {
     let d = done(
         "
-        org #80
-LOword  word #FFFF
-HOword  word #0
-        org #1000
-Start   movlz LOword,R0
-        ld R0,R1
-        ldr R0,#2,R2
-        add #2,R1
-        addc #0,R2
-Done
+        ORG $80
+LOWORD  WORD $FFFF
+HOWORD  WORD $0
+        ORG $1000
+START   MOVLZ LOWORD,R0
+        LD R0,R1
+        LDR R0,$2,R2
+        ADD $2,R1
+        ADDC $0,R2
+DONE
 ",
     );
     assert_eq!((d.m.regs[1], d.m.regs[2], d.flags() & C), (1, 1, 0));
@@ -215,13 +215,13 @@ Done
 #[test]
 fn subtractions() {
     for (source, result, flags) in [
-        ("sub #0,R0", 1, C),
-        ("sub #2,R0", 0xFFFF, N),
+        ("SUB $0,R0", 1, C),
+        ("SUB $2,R0", 0xFFFF, N),
         // 003 prints N=1 beside "non-negative": the result is 2.
-        ("sub $-1,R0", 2, 0),
-        ("sub #1,R0", 0, C | Z),
+        ("SUB #-1,R0", 2, 0),
+        ("SUB $1,R0", 0, C | Z),
     ] {
-        let d = done(&format!(" org #1000\nStart movlz #1,R0\n {source}\nDone"));
+        let d = done(&format!(" ORG $1000\nSTART MOVLZ $1,R0\n {source}\nDONE"));
         assert_eq!((d.m.regs[0], d.flags()), (result, flags), "{source}");
     }
 }
@@ -229,7 +229,7 @@ fn subtractions() {
 #[test]
 fn a_decimal_counter() {
     for (from, to, flags) in [(0x12, 0x13, 0), (0x19, 0x20, 0), (0x99, 0x00, C | Z)] {
-        let d = run_to_done(" org #1000\nStart DADD.B #1,R2\nDone", |m, _| m.regs[2] = from);
+        let d = run_to_done(" ORG $1000\nSTART DADD.B $1,R2\nDONE", |m, _| m.regs[2] = from);
         assert_eq!((d.m.regs[2], d.flags()), (to, flags));
     }
 }
@@ -237,7 +237,7 @@ fn a_decimal_counter() {
 #[test]
 fn exchanges() {
     let d =
-        run_to_done(" org #1000\nStart swap R2,R3\n mov.b R3,R0\n swpb R3\n mov.b R3,R1\n swpb R3\nDone", |m, _| {
+        run_to_done(" ORG $1000\nSTART SWAP R2,R3\n MOV.B R3,R0\n SWPB R3\n MOV.B R3,R1\n SWPB R3\nDONE", |m, _| {
             m.regs = [0x1111, 0x2222, 0x3344, 0x5566, 0, 0, 0x0800, 0x1000];
         });
     assert_eq!(d.m.regs[..4], [0x1144, 0x2233, 0x5566, 0x3344]);
@@ -246,14 +246,14 @@ fn exchanges() {
 
 #[test]
 fn shifts_and_rotations() {
-    let d = done(" org #1000\nStart movlz $16,R0\n comp R0\n add #1,R0\n sra R0\n sra R0\n sra R0\n sra R0\nDone");
+    let d = done(" ORG $1000\nSTART MOVLZ #16,R0\n COMP R0\n ADD $1,R0\n SRA R0\n SRA R0\n SRA R0\n SRA R0\nDONE");
     assert_eq!(d.m.regs[0], 0xFFFF);
     // Bits of R0 counted: seventeen turns bring R0 back.
-    let turn = " rrc R0\n addc #0,R1\n".repeat(16);
-    let d = run_to_done(&format!(" org #1000\nStart clrcc c\n{turn}Done"), |m, _| m.regs[0] = 0xB00F);
+    let turn = " RRC R0\n ADDC $0,R1\n".repeat(16);
+    let d = run_to_done(&format!(" ORG $1000\nSTART CLRCC C\n{turn}DONE"), |m, _| m.regs[0] = 0xB00F);
     assert_eq!(d.m.regs[1], 7);
     let d =
-        run_to_done(&format!(" org #1000\nStart clrcc c\n{}Done", " rrc R0\n".repeat(17)), |m, _| m.regs[0] = 0xB00F);
+        run_to_done(&format!(" ORG $1000\nSTART CLRCC C\n{}DONE", " RRC R0\n".repeat(17)), |m, _| m.regs[0] = 0xB00F);
     assert_eq!((d.m.regs[0], d.flags() & C), (0xB00F, 0));
 }
 
@@ -261,18 +261,18 @@ fn shifts_and_rotations() {
 fn byte_exchange_and_sign_extension() {
     let d = done(
         "
-        org #80
-Data    byte 'A'
-        byte 'B'
-        org #1000
-Start   movlz Data,R0
-        ld R0,R0
-        swpb R0
-        movls #0F,R1
-        sxt R1
-        movlz #80,R2
-        sxt R2
-Done
+        ORG $80
+DATA    BYTE $41
+        BYTE $42
+        ORG $1000
+START   MOVLZ DATA,R0
+        LD R0,R0
+        SWPB R0
+        MOVLS $0F,R1
+        SXT R1
+        MOVLZ $80,R2
+        SXT R2
+DONE
 ",
     );
     assert_eq!(d.m.regs[..3], [0x4142, 0x000F, 0xFF80]);
@@ -282,17 +282,17 @@ Done
 fn nested_subroutines() {
     let d = done(
         "
-        org #1000
-Start   bl Subr
-        add $4,R0
-        bra Done
-Subr    st LR,-SP
-        bl Subr2
-        add $2,R0
-        ld SP+,PC
-Subr2   add $1,R0
-        mov LR,PC
-Done
+        ORG $1000
+START   BL SUBR
+        ADD #4,R0
+        BRA DONE
+SUBR    ST LR,-SP
+        BL SUBR2
+        ADD #2,R0
+        LD SP+,PC
+SUBR2   ADD #1,R0
+        MOV LR,PC
+DONE
 ",
     );
     assert_eq!((d.m.regs[0], d.m.regs[SP]), (7, 0x0800));
@@ -301,34 +301,34 @@ Done
 #[test]
 fn if_then_else() {
     let branches = "
-        org #1000
-Start   cmp $8,R0
-        bne Else
-        movlz $1,R1
-        bra EndIf
-Else    movlz $2,R1
-EndIf   movlz $1,R2
-Done
+        ORG $1000
+START   CMP #8,R0
+        BNE ELSE
+        MOVLZ #1,R1
+        BRA ENDIF
+ELSE    MOVLZ #2,R1
+ENDIF   MOVLZ #1,R2
+DONE
 ";
     let one_cex = "
-        org #1000
-Start   cmp $8,R0
-        cex eq,$1,$1
-        movlz $1,R1
-        movlz $2,R1
-        movlz $1,R2
-Done
+        ORG $1000
+START   CMP #8,R0
+        CEX EQ,#1,#1
+        MOVLZ #1,R1
+        MOVLZ #2,R1
+        MOVLZ #1,R2
+DONE
 ";
     let cex_and_branch = "
-        org #1000
-Start   cmp $8,R0
-        cex ne,$1,$0
-        bra Else
-        movlz $1,R1
-        bra EndIf
-Else    movlz $2,R1
-EndIf   movlz $1,R2
-Done
+        ORG $1000
+START   CMP #8,R0
+        CEX NE,#1,#0
+        BRA ELSE
+        MOVLZ #1,R1
+        BRA ENDIF
+ELSE    MOVLZ #2,R1
+ENDIF   MOVLZ #1,R2
+DONE
 ";
     for source in [branches, one_cex, cex_and_branch] {
         for (data, alpha) in [(8, 1), (9, 2), (0, 2)] {
@@ -343,23 +343,23 @@ fn a_conditional_operator() {
     for (alpha, gamma) in [(32, 12), (31, 8), (40, 12)] {
         let d = run_to_done(
             "
-        org #20
-Alpha   word #0
-Beta    word #2
-Gamma   word #A
-        org #1000
-Start   movlz Beta,R0
-        ld R0,R1
-        movlz Gamma,R0
-        ld R0,R2
-        movlz Alpha,R0
-        ld R0,R3
-        cmp $32,R3
-        cex GE,$1,$1
-        add R1,R2
-        sub R1,R2
-        st R2,R0
-Done
+        ORG $20
+ALPHA   WORD $0
+BETA    WORD $2
+GAMMA   WORD $A
+        ORG $1000
+START   MOVLZ BETA,R0
+        LD R0,R1
+        MOVLZ GAMMA,R0
+        LD R0,R2
+        MOVLZ ALPHA,R0
+        LD R0,R3
+        CMP #32,R3
+        CEX GE,#1,#1
+        ADD R1,R2
+        SUB R1,R2
+        ST R2,R0
+DONE
 ",
             |_, memory| memory[0x20] = alpha,
         );
@@ -372,7 +372,7 @@ fn success_in_the_carry() {
     for (r0, carry) in [(4, C), (3, 0)] {
         // 003 writes #3, which is no constant: 4 stands in.
         let d =
-            run_to_done(" org #1000\nStart CMP $4,R0\n CEX EQ,#1,#1\n SETCC C\n CLRCC C\nDone", |m, _| m.regs[0] = r0);
+            run_to_done(" ORG $1000\nSTART CMP #4,R0\n CEX EQ,$1,$1\n SETCC C\n CLRCC C\nDONE", |m, _| m.regs[0] = r0);
         assert_eq!(d.flags() & C, carry);
     }
 }
@@ -382,17 +382,17 @@ fn success_in_the_carry() {
 #[test]
 fn double_words_added_and_subtracted() {
     let add = "
-        org #100
-DW0     bss $4
-DW1     bss $4
-        org #1000
-Start   MOVL DW0,R0
+        ORG $100
+DW0     BSS #4
+DW1     BSS #4
+        ORG $1000
+START   MOVL DW0,R0
         MOVH DW0,R0
         MOVL DW1,R1
         MOVH DW1,R1
-        BL DWAdd
-        BRA Done
-DWAdd   LD R0,R2
+        BL DWADD
+        BRA DONE
+DWADD   LD R0,R2
         LD R1+,R3
         ADD.W R3,R2
         ST R2,R0+
@@ -401,7 +401,7 @@ DWAdd   LD R0,R2
         ADDC.W R3,R2
         ST R2,R0
         MOV LR,PC
-Done
+DONE
 ";
     // 003 subtracts the high words into R3 and stores R2: the operands are meant the other way round.
     let sub = add.replace("ADDC.W R3,R2", "SUBC R3,R2").replace("ADD.W R3,R2", "SUB R3,R2");
@@ -418,7 +418,7 @@ Done
 
 #[test]
 fn the_first_addition_of_chapter_8() {
-    let d = done(" org #1000\nStart MOVLZ $-1,R0\n MOVLZ $-8,R1\n ADD.B R1,R0\nDone");
+    let d = done(" ORG $1000\nSTART MOVLZ #-1,R0\n MOVLZ #-8,R1\n ADD.B R1,R0\nDONE");
     assert_eq!((d.m.regs[0], d.flags()), (0x00F7, C | N));
 }
 
@@ -429,25 +429,26 @@ fn polled_clock_and_screen() {
     // The screen's events follow its stores; the clock's come every 40 steps.
     let program = assemble(
         "
-DEVREGS equ $0
-CLKCSR  equ $0
-SCRCSR  equ $4
-SCRDR   equ $5
-ASCA    equ 'A'
-        org #1000
-Start   movlz DEVREGS,R0
-        movlz ASCA,R3
-InLoop  ldr.b R0,CLKCSR,R1
-        bit $4,R1
-        beq InLoop
-        str.b R3,R0,SCRDR
-OutLoop ldr.b R0,SCRCSR,R1
-        bit #4,R1
-        beq OutLoop
-        add.b #1,R3
-        movlz #7F,R4
-        and.b R4,R3
-        bra InLoop
+DEVREGS EQU #0
+CLKCSR  EQU #0
+SCRCSR  EQU #4
+SCRDR   EQU #5
+ASCA    EQU $41
+        ORG $1000
+START   MOVLZ DEVREGS,R0
+        MOVLZ ASCA,R3
+INLOOP  LDR.B R0,CLKCSR,R1
+        BIT #4,R1
+        BEQ INLOOP
+        STR.B R3,R0,SCRDR
+OUTLOOP LDR.B R0,SCRCSR,R1
+        BIT $4,R1
+        BEQ OUTLOOP
+        ADD.B $1,R3
+        MOVLZ $7F,R4
+        AND.B R4,R3
+        BRA INLOOP
+        END
 ",
     );
     let mut memory = program.memory();
@@ -475,70 +476,71 @@ OutLoop ldr.b R0,SCRCSR,R1
 fn clock_and_screen_interrupts() {
     let program = assemble(
         "
-CLKCSR  equ #0
-CLKDATA equ #1
-SCRCSR  equ #4
-SCRDATA equ #5
-INTRENA equ $0
-ASCA    equ 'A'
-VECTORS equ #FFC0
-CLKINT  equ $16
-PSW4    equ #0080
-PSW5    equ #00A0
-PSW7    equ #00E0
-APPPRI  equ #3
-        org #0080
-Ch      byte ASCA
-        org #800
-Reset   bra Reset
-        org #1000
-Start   movl VECTORS,SP
-        movh VECTORS,SP
-        movlz CLKCSR,R0
-        ld.b R0,R1
-        bis INTRENA,R1
-        st.b R1,R0
-        movlz CLKINT,R1
-        str.b R1,R0,CLKDATA
-        ldr.b R0,SCRCSR,R1
-        bis INTRENA,R1
-        str.b R1,R0,SCRCSR
-        movlz Ch,R1
-        ld.b R1,R1
-        str.b R1,R0,SCRDATA
-        setpri APPPRI
-Wait    bl Do
-        bra Wait
-Do      setcc s
-        mov LR,PC
-        org #2000
-ClkISR  st R0,-SP
-        st R1,-SP
-        movlz CLKCSR,R0
-        ld.b R0,R1
-        movlz Ch,R0
-        ld.b R0,R1
-        add.b #1,R1
-        st.b R1,R0
-        ld SP+,R1
-        ld SP+,R0
-        mov LR,PC
-ScrISR  st R0,-SP
-        st R1,-SP
-        movlz Ch,R0
-        ld.b R0,R1
-        movlz CLKCSR,R0
-        str.b R1,R0,SCRDATA
-        ld SP+,R1
-        ld SP+,R0
-        mov LR,PC
-        org VECTORS
-        word PSW5
-        word ClkISR
-        word PSW7
-        word Reset
-        word PSW4
-        word ScrISR
+CLKCSR  EQU $0
+CLKDATA EQU $1
+SCRCSR  EQU $4
+SCRDATA EQU $5
+INTRENA EQU #0
+ASCA    EQU $41
+VECTORS EQU $FFC0
+CLKINT  EQU #16
+PSW4    EQU $0080
+PSW5    EQU $00A0
+PSW7    EQU $00E0
+APPPRI  EQU $3
+        ORG $0080
+CH      BYTE ASCA
+        ORG $800
+RESET   BRA RESET
+        ORG $1000
+START   MOVL VECTORS,SP
+        MOVH VECTORS,SP
+        MOVLZ CLKCSR,R0
+        LD.B R0,R1
+        BIS INTRENA,R1
+        ST.B R1,R0
+        MOVLZ CLKINT,R1
+        STR.B R1,R0,CLKDATA
+        LDR.B R0,SCRCSR,R1
+        BIS INTRENA,R1
+        STR.B R1,R0,SCRCSR
+        MOVLZ CH,R1
+        LD.B R1,R1
+        STR.B R1,R0,SCRDATA
+        SETPRI APPPRI
+WAIT    BL DO
+        BRA WAIT
+DO      SETCC S
+        MOV LR,PC
+        ORG $2000
+CLKISR  ST R0,-SP
+        ST R1,-SP
+        MOVLZ CLKCSR,R0
+        LD.B R0,R1
+        MOVLZ CH,R0
+        LD.B R0,R1
+        ADD.B $1,R1
+        ST.B R1,R0
+        LD SP+,R1
+        LD SP+,R0
+        MOV LR,PC
+SCRISR  ST R0,-SP
+        ST R1,-SP
+        MOVLZ CH,R0
+        LD.B R0,R1
+        MOVLZ CLKCSR,R0
+        STR.B R1,R0,SCRDATA
+        LD SP+,R1
+        LD SP+,R0
+        MOV LR,PC
+        ORG VECTORS
+        WORD PSW5
+        WORD CLKISR
+        WORD PSW7
+        WORD RESET
+        WORD PSW4
+        WORD SCRISR
+        END
 ",
     );
     let mut memory = program.memory();

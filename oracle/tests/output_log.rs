@@ -1,6 +1,6 @@
 //! The output log of 02 §1, sentence by sentence, and what the comparison must catch of it: logs kept wrongly on purpose.
 
-use oracle::asm::assemble;
+use oracle::assemble::assemble;
 use oracle::compare::{compare_many, Engine};
 use oracle::inputs::{Input, Kind};
 use oracle::isa::Instr;
@@ -18,7 +18,7 @@ fn program(source: &str, events: &[(u32, u8)], n: u64, records: usize) -> Input 
     (m.regs[1], m.regs[2], m.regs[SP], m.regs[PC]) = (0x4241, 0x4300, 0x0800, 0x1000);
     let record = |&(step, device): &(u32, u8)| event_record(Event { step, device, data: 9 });
     Input {
-        memory: assemble(source).memory(),
+        memory: assemble(&format!("{source}\n END")).memory(),
         record: m.to_record().to_vec(),
         events: events.iter().flat_map(record).collect(),
         log: vec![OLD; SHOWN * records],
@@ -53,12 +53,12 @@ fn honest(i: &mut Input) -> u64 {
 
 /// Two stores of a byte to device 0, which has the status given, and a branch to itself.
 fn two_stores(status: &str) -> String {
-    format!(" org #0000\n byte {status}\n org #1000\n str.b R1,R0,$1\n str.b R2,R0,$1\nHere bra Here")
+    format!(" ORG $0000\n BYTE {status}\n ORG $1000\n STR.B R1,R0,#1\n STR.B R2,R0,#1\nHERE BRA HERE")
 }
 
 #[test]
 fn the_record() {
-    let mut i = program(&two_stores("#10"), &[], 5, 3);
+    let mut i = program(&two_stores("$10"), &[], 5, 3);
     i.record[22..26].copy_from_slice(&[0x78, 0x56, 0x34, 0x12]);
     assert_eq!(ran(&mut i), ended(0, 5, 2));
     assert_eq!(i.log[..8], [0x78, 0x56, 0x34, 0x12, 0, 0x41, 0, 0]);
@@ -71,27 +71,27 @@ fn the_record() {
 #[test]
 fn which_stores_are_shown() {
     let all = |source: &str| shown(&mut program(source, &[], 4, 4)).1;
-    assert_eq!(all(&two_stores("#10")), [(0, 0, 0x41), (1, 0, 0x00)]);
-    assert_eq!(all(&two_stores("#0D")), []);
-    assert_eq!(all(&two_stores("#12")), []);
+    assert_eq!(all(&two_stores("$10")), [(0, 0, 0x41), (1, 0, 0x00)]);
+    assert_eq!(all(&two_stores("$0D")), []);
+    assert_eq!(all(&two_stores("$12")), []);
     // A word store, whose high byte is the data, and then a byte store to status; a load.
-    let word = " org #0000\n byte #10\n org #1000\n str R1,R0,$0\n str.b R1,R0,$0\nHere bra Here";
+    let word = " ORG $0000\n BYTE $10\n ORG $1000\n STR R1,R0,#0\n STR.B R1,R0,#0\nHERE BRA HERE";
     assert_eq!(all(word), [(0, 0, 0x42)]);
-    let load = " org #000E\n byte #10\n org #1000\n ldr R0,$14,R3\n str R1,R0,$14\nHere bra Here";
+    let load = " ORG $000E\n BYTE $10\n ORG $1000\n LDR R0,#14,R3\n STR R1,R0,#14\nHERE BRA HERE";
     assert_eq!(all(load), [(1, 7, 0x42)]);
     // ST as well as STR; a store beyond the devices.
-    let st = " org #0002\n byte #10\n org #1000\n movlz #03,R3\n st.b R1,R3\n str R1,R0,$16\nHere bra Here";
+    let st = " ORG $0002\n BYTE $10\n ORG $1000\n MOVLZ $03,R3\n ST.B R1,R3\n STR R1,R0,#16\nHERE BRA HERE";
     assert_eq!(all(st), [(1, 1, 0x41)]);
 }
 
 /// ENA before the whole word: R1 #4241 leaves ENA clear, R2 #4310 would set it.
 #[test]
 fn ena_before_the_whole_access() {
-    let clears = " org #0000\n byte #10\n org #1000\n str R1,R0,$0\nHere bra Here";
+    let clears = " ORG $0000\n BYTE $10\n ORG $1000\n STR R1,R0,#0\nHERE BRA HERE";
     let mut i = program(clears, &[], 3, 2);
     assert_eq!(shown(&mut i), (ended(0, 3, 1), vec![(0, 0, 0x42)]));
     assert_eq!(i.memory[0] & ENA, 0);
-    let sets = " org #1000\n movl #10,R2\n str R2,R0,$0\n str R2,R0,$0\nHere bra Here";
+    let sets = " ORG $1000\n MOVL $10,R2\n STR R2,R0,#0\n STR R2,R0,#0\nHERE BRA HERE";
     let mut i = program(sets, &[], 4, 2);
     assert_eq!(shown(&mut i), (ended(0, 4, 1), vec![(2, 0, 0x43)]));
 }
@@ -99,8 +99,8 @@ fn ena_before_the_whole_access() {
 /// Pushes onto a data byte show nothing: SP stands at #0008 and an SVC pushes over devices 0 to 3.
 #[test]
 fn pushes_show_nothing() {
-    let source = " org #0000\n byte #10\n org #0002\n byte #10\n org #0004\n byte #10\n org #0006\n byte #10
-        org #1000\n svc $11\n org #2000\nHere bra Here\n org #FFEC\n word #0020\n word #2000";
+    let source = " ORG $0000\n BYTE $10\n ORG $0002\n BYTE $10\n ORG $0004\n BYTE $10\n ORG $0006\n BYTE $10
+        ORG $1000\n SVC #11\n ORG $2000\nHERE BRA HERE\n ORG $FFEC\n WORD $0020\n WORD $2000";
     let mut i = program(source, &[], 3, 0);
     i.record[12..14].copy_from_slice(&[8, 0]);
     assert_eq!(shown(&mut i), (ended(0, 3, 0), vec![]));
@@ -109,16 +109,16 @@ fn pushes_show_nothing() {
 
 /// A program whose handler stores to device 1 at each of its events.
 const HANDLER: &str = "
-        org #0002
-        byte #11
-        org #1000
-Here    bra Here
-        org #2000
-        str.b R1,R0,$3
-        mov LR,PC
-        org #FFC4
-        word #0060
-        word #2000
+        ORG $0002
+        BYTE $11
+        ORG $1000
+HERE    BRA HERE
+        ORG $2000
+        STR.B R1,R0,#3
+        MOV LR,PC
+        ORG $FFC4
+        WORD $0060
+        WORD $2000
 ";
 
 #[test]
@@ -132,7 +132,7 @@ fn handlers_are_shown_too() {
 fn the_step_not_taken_leaves_nothing() {
     // Two events on the step of the second store: one on the device stored to, one on device 1, which raises its line at
     // a priority that is not above the program's.
-    let source = two_stores("#14") + "\n org #0002\n byte #13";
+    let source = two_stores("$14") + "\n ORG $0002\n BYTE $13";
     let mut i = program(&source, &[(0, 5), (1, 0), (1, 1)], 9, 1);
     let mut one = i.clone();
     one.n = 1;
@@ -153,7 +153,7 @@ fn the_step_not_taken_leaves_nothing() {
 /// "would need": a line that the step's events raise may be accepted instead of the store.
 #[test]
 fn a_line_accepted_instead_of_the_store() {
-    let source = two_stores("#11") + "\n org #2000\nThere bra There\n org #FFC0\n word #0060\n word #2000";
+    let source = two_stores("$11") + "\n ORG $2000\nTHERE BRA THERE\n ORG $FFC0\n WORD $0060\n WORD $2000";
     let mut i = program(&source, &[(1, 0)], 9, 1);
     assert_eq!(shown(&mut i), (ended(0, 9, 1), vec![(0, 0, 0x41)]));
     assert_eq!(machine(&i).regs[PC], 0x2000);
@@ -162,23 +162,23 @@ fn a_line_accepted_instead_of_the_store() {
 /// A step that CEX skips, an odd word and a fault need no record, and a full log stops none of them.
 #[test]
 fn what_needs_no_record_goes_on() {
-    let source = " org #0000\n byte #10\n org #1000\n cex fl,$1,$0\n str.b R1,R0,$1\n cex fl,$0,$1\n str.b R1,R0,$1";
+    let source = " ORG $0000\n BYTE $10\n ORG $1000\n CEX FL,#1,#0\n STR.B R1,R0,#1\n CEX FL,#0,#1\n STR.B R1,R0,#1";
     let mut i = program(source, &[], 9, 0);
     assert_eq!(ran(&mut i), ended(2, 3, 0));
     // The CEX count of the step not taken is not lowered either.
     assert_eq!((machine(&i).cex, machine(&i).regs[PC]), (1, 0x1006));
-    let odd = " org #0000\n byte #10\n org #1000\n str R1,R0,$1\n org #FFE4\n word #0000\n word #1000";
+    let odd = " ORG $0000\n BYTE $10\n ORG $1000\n STR R1,R0,#1\n ORG $FFE4\n WORD $0000\n WORD $1000";
     assert_eq!(ran(&mut program(odd, &[], 2, 0)).reason, 1);
 }
 
 /// The last step fills the log, no step is asked for, the machine is halted: never reason 2.
 #[test]
 fn a_full_log_is_no_reason() {
-    assert_eq!(ran(&mut program(&two_stores("#10"), &[], 2, 2)), ended(0, 2, 2));
-    assert_eq!(ran(&mut program(&two_stores("#10"), &[], 9, 2)), ended(0, 9, 2));
-    assert_eq!(ran(&mut program(&two_stores("#10"), &[], 0, 0)), ended(0, 0, 0));
-    assert_eq!(ran(&mut program(&two_stores("#10"), &[], 1, 0)), ended(2, 0, 0));
-    let mut i = program(&two_stores("#10"), &[], 1, 0);
+    assert_eq!(ran(&mut program(&two_stores("$10"), &[], 2, 2)), ended(0, 2, 2));
+    assert_eq!(ran(&mut program(&two_stores("$10"), &[], 9, 2)), ended(0, 9, 2));
+    assert_eq!(ran(&mut program(&two_stores("$10"), &[], 0, 0)), ended(0, 0, 0));
+    assert_eq!(ran(&mut program(&two_stores("$10"), &[], 1, 0)), ended(2, 0, 0));
+    let mut i = program(&two_stores("$10"), &[], 1, 0);
     i.record[21] = 1;
     assert_eq!(ran(&mut i), ended(1, 0, 0));
 }
@@ -188,7 +188,7 @@ fn a_full_log_is_no_reason() {
 fn the_length_of_the_log() {
     for length in 0..40 {
         for n in [0, 3] {
-            let mut i = program(&two_stores("#10"), &[], n, 0);
+            let mut i = program(&two_stores("$10"), &[], n, 0);
             i.log = vec![OLD; length];
             let given = i.clone();
             let result = run(&mut i.memory, n, &mut i.record, &i.events, &mut i.log);
@@ -196,7 +196,7 @@ fn the_length_of_the_log() {
             assert!(result.is_ok() || i == given);
         }
     }
-    let mut i = program(&two_stores("#10"), &[(1, 0), (1, 0)], 3, 0);
+    let mut i = program(&two_stores("$10"), &[(1, 0), (1, 0)], 3, 0);
     i.log = vec![OLD; 7];
     assert_eq!(refusal(&i.memory, i.n, &i.record, &i.events, &i.log), Some(13));
 }
@@ -204,7 +204,7 @@ fn the_length_of_the_log() {
 /// "the sheet's line is as if its run were" lent a log long enough.
 #[test]
 fn the_line_is_of_a_log_long_enough() {
-    let mut i = program(&two_stores("#14"), &[], 9, 9);
+    let mut i = program(&two_stores("$14"), &[], 9, 9);
     let line = sheet(&i.to_bytes()).0;
     assert!(line.starts_with("0 9 "), "{line}");
     assert_eq!(ran(&mut i), ended(0, 9, 2));

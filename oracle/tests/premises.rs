@@ -3,17 +3,17 @@
 //! premises so read and breaks the promise.
 
 use oracle::alu::SLP;
-use oracle::asm::assemble;
+use oracle::assemble::assemble;
 use oracle::machine::*;
 use oracle::resume::{judge, Premise, Reading};
 
 /// The application at #1000, awake at priority 0, with SP #0800 and LR #FFFF. Every device is enabled with IE. Vector v
 /// has priority v, at most 7, and enters at the label Hv; without such a label its handler returns at once.
 fn setup(source: &str, n: u32, events: &[(u32, u8)]) -> Setup {
-    let program = assemble(&format!(" org #1000\n{source}"));
+    let program = assemble(&format!(" ORG $1000\n{source}\n END"));
     let mut memory = program.memory();
     for v in 0..16u16 {
-        let entry = program.labels.get(&format!("H{v}")).copied().unwrap_or(0xFFFF) as u16;
+        let entry = program.names.get(&format!("H{v}")).copied().unwrap_or(0xFFFF) as u16;
         set_word(&mut memory, 0xFFC0 + 4 * v, v.min(7) << 5);
         set_word(&mut memory, 0xFFC2 + 4 * v, entry);
     }
@@ -72,7 +72,7 @@ fn false_count(reading: Reading, setup: &Setup) {
     assert!(close.resumption.none() && close.resumes, "{close:?}");
 }
 
-const LOOP: &str = "Loop ADD $1,R0\n BRA Loop\n";
+const LOOP: &str = "LOOP ADD #1,R0\n BRA LOOP\n";
 
 // ---- what holds
 
@@ -81,7 +81,7 @@ fn a_sound_run() {
     // Device 3 is nested by 5, onto which 4 is chained; both handlers write and restore.
     let handlers = "
 H3      ST R0,-SP
-        MOVLZ $3,R0
+        MOVLZ #3,R0
         LD SP+,R0
         MOV LR,PC
 H4      ST R1,-SP
@@ -100,9 +100,9 @@ H5      CMP R0,R1
 fn a_sound_run_across_svc() {
     // SVC 1 calls SVC 2, whose handler device 5 interrupts and onto whose return device 6 is chained. Both handlers change
     // registers; that of SVC 1 returns from a copy of its frame, with SP 8 lower.
-    let copy = " LDR SP,$6,R2\n ST R2,-SP\n".repeat(4);
+    let copy = " LDR SP,#6,R2\n ST R2,-SP\n".repeat(4);
     let source = format!(
-        "Loop ADD $1,R0\n SVC $1\n BRA Loop\nH1 ADD $1,R1\n SVC $2\n{copy} MOV LR,PC\nH2 ADD $1,R1\n MOV LR,PC\n"
+        "LOOP ADD #1,R0\n SVC #1\n BRA LOOP\nH1 ADD #1,R1\n SVC #2\n{copy} MOV LR,PC\nH2 ADD #1,R1\n MOV LR,PC\n"
     );
     let close = judge(&setup(&source, 21, &[(4, 5), (8, 6)]), Reading::Decided);
     assert!(close.resumption.none() && close.resumes, "{close:?}");
@@ -139,19 +139,19 @@ fn no_line_waiting() {
 #[test]
 fn no_fault() {
     // In the run without events the handler's steps count.
-    needed(Premise::NoFault, &setup(" WORD #4E00\nLoop BRA Loop", 3, &[]));
+    needed(Premise::NoFault, &setup(" WORD $4E00\nLOOP BRA LOOP", 3, &[]));
 }
 
 #[test]
 fn no_svc_in_a_device_handler_is_idle() {
     // Its frame is then a device's, found as entry left it.
-    idle(Premise::DeviceSvc, &setup(&format!("{LOOP}H3 SVC $5\n MOV LR,PC"), 8, &[(0, 3)]));
+    idle(Premise::DeviceSvc, &setup(&format!("{LOOP}H3 SVC #5\n MOV LR,PC"), 8, &[(0, 3)]));
 }
 
 #[test]
 fn no_return_with_no_frame_open() {
     // Pulling takes what an entry left below the stack.
-    needed(Premise::NoStrayReturn, &setup(" SUB $8,SP\n MOV LR,PC\n", 5, &[(0, 7)]));
+    needed(Premise::NoStrayReturn, &setup(" SUB #8,SP\n MOV LR,PC\n", 5, &[(0, 7)]));
     // Chaining enters a line that waits.
     let mut s = setup(" MOV LR,PC\n", 2, &[(0, 3)]);
     s.machine.psw = 3 << 5;
@@ -162,30 +162,30 @@ fn no_return_with_no_frame_open() {
 fn every_frame_closed() {
     needed(Premise::Closed, &setup(LOOP, 1, &[(0, 7)]));
     // Chained onto an SVC frame.
-    needed(Premise::Closed, &setup(" SVC $1\n", 2, &[(1, 3)]));
+    needed(Premise::Closed, &setup(" SVC #1\n", 2, &[(1, 3)]));
 }
 
 #[test]
 fn every_frame_of_svc_closed_is_idle() {
-    idle(Premise::OwnClosed, &setup(" SVC $1\nH1 BRA H1\n", 5, &[(2, 7)]));
+    idle(Premise::OwnClosed, &setup(" SVC #1\nH1 BRA H1\n", 5, &[(2, 7)]));
 }
 
 #[test]
 fn registers_restored() {
-    let s = setup(&format!("{LOOP}H3 MOVLZ $1,R4\n MOV LR,PC"), 4, &[(0, 3)]);
+    let s = setup(&format!("{LOOP}H3 MOVLZ #1,R4\n MOV LR,PC"), 4, &[(0, 3)]);
     needed(Premise::Registers, &s);
 }
 
 #[test]
 fn stack_pointer_restored() {
-    let s = setup(&format!("{LOOP}H3 ADD $2,SP\n MOV LR,PC"), 4, &[(0, 3)]);
+    let s = setup(&format!("{LOOP}H3 ADD #2,SP\n MOV LR,PC"), 4, &[(0, 3)]);
     needed(Premise::StackPointer, &s);
 }
 
 #[test]
 fn frame_restored() {
     // The pushed PC is changed.
-    let s = setup(&format!("{LOOP}H3 STR SP,SP,$6\n MOV LR,PC"), 4, &[(0, 3)]);
+    let s = setup(&format!("{LOOP}H3 STR SP,SP,#6\n MOV LR,PC"), 4, &[(0, 3)]);
     needed(Premise::FrameBytes, &s);
 }
 
@@ -219,13 +219,13 @@ fn no_load_from_a_byte_of_a_handler_or_an_entry() {
     s.machine.regs[1] = 0x3000;
     needed(Premise::ForeignLoad, &s);
     // The PC that an entry pushed.
-    needed(Premise::ForeignLoad, &setup(" LDR SP,$-2,R0\n", 3, &[(0, 7)]));
+    needed(Premise::ForeignLoad, &setup(" LDR SP,#-2,R0\n", 3, &[(0, 7)]));
 }
 
 #[test]
 fn no_fetch_from_a_byte_of_a_handler_or_an_entry() {
     // A handler stores R0 at R1, over the application's first word: MOVLZ #00,R3 instead of #FF.
-    let mut s = setup(" MOVLZ #FF,R3\nH3 ST R0,R1\n MOV LR,PC", 5, &[(0, 3)]);
+    let mut s = setup(" MOVLZ $FF,R3\nH3 ST R0,R1\n MOV LR,PC", 5, &[(0, 3)]);
     s.machine.regs[0] = 0x6803;
     s.machine.regs[1] = 0x1000;
     needed(Premise::ForeignFetch, &s);
@@ -240,30 +240,30 @@ fn no_fetch_from_a_byte_of_a_handler_or_an_entry() {
 
 /// SVC 1, whose handler sets R0 to 7, and onto whose return, the fourth step, device 3 is chained.
 fn chained(handler: &str, n: u32, more: &[(u32, u8)]) -> Setup {
-    let source = format!(" SVC $1\n{LOOP}H1 MOVLZ $7,R0\n MOV LR,PC\nH3 {handler}\n MOV LR,PC\n");
+    let source = format!(" SVC #1\n{LOOP}H1 MOVLZ #7,R0\n MOV LR,PC\nH3 {handler}\n MOV LR,PC\n");
     setup(&source, n, &[&[(3, 3)], more].concat())
 }
 
 #[test]
 fn chained_handler_leaves_registers() {
-    needed(Premise::ChainedRegisters, &chained("MOVLZ $9,R4", 7, &[]));
+    needed(Premise::ChainedRegisters, &chained("MOVLZ #9,R4", 7, &[]));
 }
 
 #[test]
 fn chained_handler_leaves_the_stack_pointer() {
-    needed(Premise::ChainedStackPointer, &chained("ADD $2,SP", 7, &[]));
+    needed(Premise::ChainedStackPointer, &chained("ADD #2,SP", 7, &[]));
 }
 
 #[test]
 fn chained_handler_leaves_the_eight_bytes() {
     // The PC that the return was about to pull is changed.
-    needed(Premise::ChainedBytes, &chained("STR SP,SP,$6", 7, &[]));
+    needed(Premise::ChainedBytes, &chained("STR SP,SP,#6", 7, &[]));
 }
 
 #[test]
 fn no_vector_of_a_handler() {
     // Device 7's handler stores #FFFF as entry point of vector 2: SVC 2 then returns at once.
-    let mut s = setup(" SVC $2\n BRA H2\nH2 MOVLZ $9,R3\n MOV LR,PC\nH7 ST R0,R1\n MOV LR,PC\n", 6, &[(0, 7)]);
+    let mut s = setup(" SVC #2\n BRA H2\nH2 MOVLZ #9,R3\n MOV LR,PC\nH7 ST R0,R1\n MOV LR,PC\n", 6, &[(0, 7)]);
     s.machine.regs[0] = 0xFFFF;
     s.machine.regs[1] = 0xFFCA;
     needed(Premise::ForeignVector, &s);
@@ -272,7 +272,7 @@ fn no_vector_of_a_handler() {
 #[test]
 fn no_pull_of_bytes_of_a_handler() {
     // Inside the handler of SVC 2, device 7's stores R1 as the PC that SVC pushed. The return is pulled, or chained.
-    let source = " SVC $2\n BRA H2\nH2 ADD $1,R0\n MOV LR,PC\nH7 STR R1,SP,$14\n MOV LR,PC\n";
+    let source = " SVC #2\n BRA H2\nH2 ADD #1,R0\n MOV LR,PC\nH7 STR R1,SP,#14\n MOV LR,PC\n";
     for (n, events) in [(8, vec![(1, 7)]), (9, vec![(1, 7), (7, 5)])] {
         let mut s = setup(source, n, &events);
         s.machine.regs[1] = 0x1004;
@@ -284,7 +284,7 @@ fn no_pull_of_bytes_of_a_handler() {
 fn no_pull_of_device_registers() {
     // SVC's frame lies on the registers of devices 4 to 7. The pushed PSW, V and Z, makes device 5 an enabled input
     // device without IE; the event of the next step, SVC's return, changes it.
-    let mut s = setup(" SVC $2\n", 2, &[(1, 5)]);
+    let mut s = setup(" SVC #2\n", 2, &[(1, 5)]);
     s.machine.regs[SP] = 16;
     s.machine.psw = 0x12;
     needed(Premise::DevicePull, &s);
@@ -302,13 +302,13 @@ fn at_six(source: &str, n: u32, events: &[(u32, u8)]) -> Setup {
 #[test]
 fn depth_no_fault() {
     // A fault is entered whatever its priority.
-    needed_for_depth(Premise::NoFault, &at_six(&format!("{LOOP}H7 WORD #4E00"), 2, &[(0, 7)]));
+    needed_for_depth(Premise::NoFault, &at_six(&format!("{LOOP}H7 WORD $4E00"), 2, &[(0, 7)]));
 }
 
 #[test]
 fn depth_no_setpri_in_a_handler() {
     // Handler 7 goes down to 6 and is interrupted by its own line.
-    let s = at_six(&format!("{LOOP}H7 SETPRI $6\nHere BRA Here"), 4, &[(0, 7), (2, 7)]);
+    let s = at_six(&format!("{LOOP}H7 SETPRI #6\nHERE BRA HERE"), 4, &[(0, 7), (2, 7)]);
     needed_for_depth(Premise::NoSetPri, &s);
 }
 
@@ -331,13 +331,13 @@ fn depth_pull_finds_sp() {
 #[test]
 fn depth_pull_finds_its_frame() {
     // The pushed PSW becomes 0.
-    needed_for_depth(Premise::AnyFrameBytes, &spoiled("STR R1,SP,$2"));
+    needed_for_depth(Premise::AnyFrameBytes, &spoiled("STR R1,SP,#2"));
 }
 
 #[test]
 fn depth_idle_premises() {
     // SVC needs a priority above, as a line does.
-    let close = judge(&at_six(" SVC $7\n", 1, &[]), Reading::Decided);
+    let close = judge(&at_six(" SVC #7\n", 1, &[]), Reading::Decided);
     assert!(close.depth.only(Premise::NoSvc) && close.bounded && close.met.deepest == 1);
     // A return with no frame open changes the priority only while no frame is open.
     let close = judge(&at_six(" MOV LR,PC\n", 4, &[(2, 7)]), Reading::Decided);
@@ -356,7 +356,7 @@ fn chaining_with_no_frame_open() {
 #[test]
 fn as_the_chained_entry_left_them() {
     // Handler 3 changes R0 and 2 is chained onto it, which finds R0 as its own entry left it.
-    let s = setup(&format!("{LOOP}H3 MOVLZ $9,R0\n MOV LR,PC"), 5, &[(0, 3), (1, 2)]);
+    let s = setup(&format!("{LOOP}H3 MOVLZ #9,R0\n MOV LR,PC"), 5, &[(0, 3), (1, 2)]);
     false_reading(Reading::ChainedEntry, &s);
 }
 
@@ -392,13 +392,13 @@ fn frame_stays_the_applications() {
 #[test]
 fn as_the_entry_of_svc_left_them() {
     // SVC's handler sets R0 to 7; the chained one sets it back to the 0 that SVC's entry left.
-    false_reading(Reading::AsSvcLeft, &chained("MOVLZ $0,R0", 7, &[]));
+    false_reading(Reading::AsSvcLeft, &chained("MOVLZ #0,R0", 7, &[]));
 }
 
 #[test]
 fn as_the_last_of_two_chained_handlers_found_them() {
     // Device 3's handler sets R0 to 9, which device 2's, chained onto it, finds and leaves.
-    false_reading(Reading::LastChaining, &chained("MOVLZ $9,R0", 9, &[(6, 2)]));
+    false_reading(Reading::LastChaining, &chained("MOVLZ #9,R0", 9, &[(6, 2)]));
 }
 
 #[test]

@@ -1,7 +1,7 @@
 //! The report: one page for one input, the same each time, with the printed line and the frames at their places.
 
 use oracle::alu::{FLT, SLP};
-use oracle::asm::assemble;
+use oracle::assemble::assemble;
 use oracle::case;
 use oracle::inputs::{input, Input, KINDS};
 use oracle::machine::*;
@@ -31,7 +31,7 @@ fn program(source: &str, events: &[(u32, u8, u8)], n: u64, change: impl FnOnce(&
     change(&mut m);
     let record = |&(step, device, data): &(u32, u8, u8)| event_record(Event { step, device, data });
     Input {
-        memory: assemble(source).memory(),
+        memory: assemble(&format!("{source}\n END")).memory(),
         record: m.to_record().to_vec(),
         events: events.iter().flat_map(record).collect(),
         log: Vec::new(),
@@ -52,27 +52,27 @@ fn rows(page: &str, section: &str) -> Vec<Vec<String>> {
 
 /// Two handlers, the second interrupting the first; the first has pushed R0.
 const NESTED: &str = "
-            org #0002
-            byte #11
-            org #0004
-            byte #11
-            org #0006
-            byte #11
-            org #1000
-Here        bra Here
-            org #2000
-First       st R0,-SP
-            bra First
-            org #2100
-Second      add $1,R1
-            mov LR,PC
-            org #FFC4
-            word #0040      ; device 1: priority 2
-            word First
-            word #00A0      ; device 2: priority 5
-            word Second
-            word #0060      ; device 3: priority 3
-            word Second
+            ORG $0002
+            BYTE $11
+            ORG $0004
+            BYTE $11
+            ORG $0006
+            BYTE $11
+            ORG $1000
+HERE        BRA HERE
+            ORG $2000
+FIRST       ST R0,-SP
+            BRA FIRST
+            ORG $2100
+SECOND      ADD #1,R1
+            MOV LR,PC
+            ORG $FFC4
+            WORD $0040      ; device 1: priority 2
+            WORD FIRST
+            WORD $00A0      ; device 2: priority 5
+            WORD SECOND
+            WORD $0060      ; device 3: priority 3
+            WORD SECOND
 ";
 
 #[test]
@@ -142,17 +142,17 @@ fn a_chained_entry_keeps_its_frame() {
 #[test]
 fn a_frame_that_was_changed_or_left_below_sp() {
     let spoil = "
-            org #0002
-            byte #11
-            org #1000
-Here        bra Here
-            org #2000
-First       str SP,SP,$1
-            add $4,SP
-Wait        bra Wait
-            org #FFC4
-            word #0040
-            word First
+            ORG $0002
+            BYTE $11
+            ORG $1000
+HERE        BRA HERE
+            ORG $2000
+FIRST       STR SP,SP,#1
+            ADD #4,SP
+WAIT        BRA WAIT
+            ORG $FFC4
+            WORD $0040
+            WORD FIRST
     ";
     let input = |n| program(spoil, &[(0, 1, 0)], n, |m| m.regs[SP] = 0x0801);
     let page = page_of(&input(2));
@@ -172,7 +172,7 @@ fn the_stack_wraps_and_is_cut() {
     assert_eq!(places[..6], ["#FFFC", "#FFFE", "#0000", "#0002", "#0004", "#0006"]);
     assert_eq!(rows(&page, "stack")[0][4], "SP; vector 15, PSW");
     assert_eq!(rows(&page, "stack")[4][4], "SP at the start; device 2");
-    let page = page_of(&program(" org #1000\nHere st R0,-SP\n bra Here", &[], 200, |_| ()));
+    let page = page_of(&program(" ORG $1000\nHERE ST R0,-SP\n BRA HERE", &[], 200, |_| ()));
     assert_eq!(rows(&page, "stack").len(), 64);
     assert!(page.contains("37 more words are left out."));
 }
@@ -184,21 +184,21 @@ fn what_the_last_step_was() {
     let at = |pc: u16| move |m: &mut Machine| m.regs[PC] = pc;
     let plain = |_: &mut Machine| ();
     let skips = |m: &mut Machine| m.cex = 0x08;
-    let svc = " org #1000\n svc $4\n org #FFD0\n word #0080\n word #3000";
+    let svc = " ORG $1000\n SVC #4\n ORG $FFD0\n WORD $0080\n WORD $3000";
     for (input, expected) in [
-        (program(" org #1000\n add.b $-1,R3", &[], 1, plain), "executed; ADD.B $-1,R3, word #40FB at #1000."),
-        (program(" org #1000\n word #4E00", &[], 1, skips), "skipped by CEX: not decoded; word #4E00 at #1000."),
+        (program(" ORG $1000\n ADD.B #-1,R3", &[], 1, plain), "executed; ADD.B #-1,R3, word #40FB at #1000."),
+        (program(" ORG $1000\n WORD $4E00", &[], 1, skips), "skipped by CEX: not decoded; word #4E00 at #1000."),
         (program("", &[], 1, sleeping), "asleep: nothing; PC was #1000."),
         (program(NESTED, &[(0, 1, 0)], 1, plain), "entry: line 1 accepted; PC was #1000."),
-        (program(svc, &[], 1, plain), "entry: SVC to vector 4; SVC $4, word #4DA4 at #1000."),
+        (program(svc, &[], 1, plain), "entry: SVC to vector 4; SVC #4, word #4DA4 at #1000."),
         (
-            program(" org #1000\n word #4E00", &[], 1, plain),
+            program(" ORG $1000\n WORD $4E00", &[], 1, plain),
             "entry: fault 8, illegal word; illegal, word #4E00 at #1000.",
         ),
         (program("", &[], 1, at(0x1001)), "entry: fault 9, odd address; PC was #1001."),
         (
-            program(" org #1000\n setpri $3", &[], 9, faulted),
-            "halt: fault 10, priority, with FLT set; SETPRI $3, word #4D83",
+            program(" ORG $1000\n SETPRI #3", &[], 9, faulted),
+            "halt: fault 10, priority, with FLT set; SETPRI #3, word #4D83",
         ),
         (program("", &[], 1, at(0xFFFF)), "return: pulled CEX, PSW, LR, PC; PC was #FFFF."),
         (program("", &[], 0, plain), "<p>No step was taken.</p>"),
@@ -214,7 +214,7 @@ fn what_the_last_step_was() {
 /// A word fetched from device registers is the one that the due events left.
 #[test]
 fn the_word_of_an_instruction_in_device_registers() {
-    let input = program(" org #0000\n byte #12\n byte #4D", &[(0, 0, 0x40)], 1, |m| m.regs[PC] = 0);
+    let input = program(" ORG $0000\n BYTE $12\n BYTE $4D", &[(0, 0, 0x40)], 1, |m| m.regs[PC] = 0);
     assert!(page_of(&input).contains("executed; ADD R2,SP, word #4016 at #0000."));
 }
 
@@ -242,14 +242,14 @@ fn state_by_name() {
 fn events_of_a_line_that_counts() {
     // Sixteen events of device 7, whose vector has priority 0: the line counts fifteen of them, beside those of a start.
     let many: Vec<(u32, u8, u8)> = (0..16).map(|step| (step, 7, 0)).collect();
-    let source = " org #000E\n byte #11\n org #1000\nHere bra Here";
+    let source = " ORG $000E\n BYTE $11\n ORG $1000\nHERE BRA HERE";
     let fates = |page: &str| rows(page, "events").iter().map(|row| row[4].clone()).collect::<Vec<String>>();
     let all = fates(&page_of(&program(source, &many, 16, |_| ())));
     assert_eq!(all[0], "ready; line raised; still waiting");
     assert_eq!(all[14], "ready; OF set, since DBA was 1; line raised, 15 waiting; still waiting");
     assert_eq!(all[15], "ready; OF set, since DBA was 1; not counted, since 15 were waiting");
     // The oldest is answered first, and those of the start come before them all.
-    let source = " org #000E\n byte #11\n org #1000\nHere bra Here\n org #FFDC\n word #0080\n word #FFFF";
+    let source = " ORG $000E\n BYTE $11\n ORG $1000\nHERE BRA HERE\n ORG $FFDC\n WORD $0080\n WORD $FFFF";
     let page = page_of(&program(source, &many[..2], 9, |m| m.lines = Lines::of(&[7, 7])));
     let all = fates(&page);
     assert_eq!(all[0], "ready; line raised, 3 waiting; chained at step 2");
@@ -258,7 +258,7 @@ fn events_of_a_line_that_counts() {
 
 #[test]
 fn devices_and_their_bytes_are_escaped() {
-    let source = " org #0000\n byte #1F\n byte '<'\n byte #E4\n byte '&'\n byte #00\n byte #22\n byte #00\n byte #27";
+    let source = " ORG $0000\n BYTE $1F\n BYTE $3C\n BYTE $E4\n BYTE $26\n BYTE $00\n BYTE $22\n BYTE $00\n BYTE $27";
     let page = page_of(&program(source, &[], 0, |_| ()));
     let devices = rows(&page, "devices");
     assert_eq!(devices[0], ["0", "#0000", "#1F", "0", "1", "1", "1", "input", "1", "#3C &#39;&lt;&#39;", "0"]);
@@ -306,7 +306,7 @@ fn each_refusal_has_a_page() {
 
 #[test]
 fn the_verdict_is_one_sentence() {
-    let halting = " org #1000\n bl Next\nNext mov R0,PC\n org #2000\n word #4E00";
+    let halting = " ORG $1000\n BL NEXT\nNEXT MOV R0,PC\n ORG $2000\n WORD $4E00";
     let faulted = |pc: u16| move |m: &mut Machine| (m.psw, m.regs[PC], m.regs[0]) = (FLT, pc, 0x2000);
     for (input, expected) in [
         (program(NESTED, &[], 120, |_| ()), "Ran all 120 steps."),
@@ -316,8 +316,8 @@ fn the_verdict_is_one_sentence() {
         (program(halting, &[], 9, faulted(0x1000)), "HALTED at step 2: illegal word #4E00 at #2000."),
         (program("", &[], 9, faulted(0x0801)), "HALTED at step 0: odd PC #0801."),
         (
-            program(" org #1000\n setpri $3", &[], 9, faulted(0x1000)),
-            "HALTED at step 0: priority fault, SETPRI $3 at #1000.",
+            program(" ORG $1000\n SETPRI #3", &[], 9, faulted(0x1000)),
+            "HALTED at step 0: priority fault, SETPRI #3 at #1000.",
         ),
         (program("", &[], 9, |m| m.halted = true), "HALTED before the first step: a halted machine takes none."),
         (vec![0; 35], "REFUSED with 3: the state record is not 32 bytes."),
@@ -368,14 +368,14 @@ fn a_title_is_text_alone() {
 fn bytes_that_changed() {
     // 32 words of #4121 are folded, but for the first row up to a multiple of 8; then single bytes.
     let fill = "
-            org #1000
-Fill        st R1,R2+
-            sub $1,R0
-            bne Fill
-            st.b R3,R4
-            bra Fill
-            org #0300
-            byte #7F
+            ORG $1000
+FILL        ST R1,R2+
+            SUB #1,R0
+            BNE FILL
+            ST.B R3,R4
+            BRA FILL
+            ORG $0300
+            BYTE $7F
     ";
     let change = |m: &mut Machine| m.regs[..5].copy_from_slice(&[32, 0x4141, 0x0202, 0x2A, 0x0300]);
     let page = page_of(&program(fill, &[], 97, change));
@@ -387,7 +387,7 @@ Fill        st R1,R2+
     let page = page_of(&program(NESTED, &[(0, 1, 0x55)], 1, |m| m.regs[LR] = 0x4241));
     let rows = self::rows(&page, "changed");
     assert_eq!(rows[0], ["#0002", "11", "15", ".", "device 1"]);
-    let inputs = " org #0002\n byte #12\n byte #00\n byte #12";
+    let inputs = " ORG $0002\n BYTE $12\n BYTE $00\n BYTE $12";
     let both = page_of(&program(inputs, &[(0, 1, 0x41), (0, 2, 0x42)], 1, |_| ()));
     assert_eq!(self::rows(&both, "changed")[0], ["#0002", "12 00", "16 41", ".A", "device 1"]);
     assert_eq!(self::rows(&both, "changed")[1], ["#0004", "12 00", "16 42", ".B", "device 2"]);
@@ -399,7 +399,7 @@ Fill        st R1,R2+
 #[test]
 fn many_changed_bytes_are_cut() {
     // A byte in every 16.
-    let spread = " org #1000\nNext st.b R1,R2\n add $16,R2\n bra Next";
+    let spread = " ORG $1000\nNEXT ST.B R1,R2\n ADD #16,R2\n BRA NEXT";
     let page = page_of(&program(spread, &[], 300, |m| (m.regs[1], m.regs[2]) = (7, 0x2000)));
     assert_eq!(rows(&page, "changed").len(), 64);
     assert!(page.contains("The table has 64 rows at most. 36 more bytes are left out."));
@@ -442,7 +442,7 @@ fn every_entry_return_and_fault() {
     assert_eq!(turns[3], ["9", "return: pulled CEX, PSW, LR, PC", "#FFFF", "#2002", "2", "1"]);
     assert_eq!(turns.len(), 4);
     // A handler that returns at once, entered again and again.
-    let trap = " org #1000\nHere svc $5\n bra Here\n org #2000\n mov LR,PC\n org #FFD4\n word #0020\n word #2000";
+    let trap = " ORG $1000\nHERE SVC #5\n BRA HERE\n ORG $2000\n MOV LR,PC\n ORG $FFD4\n WORD $0020\n WORD $2000";
     let page = page_of(&program(trap, &[], 1_000, |_| ()));
     assert_eq!(rows(&page, "turns").len(), 97);
     assert_eq!(rows(&page, "turns")[48][1], "404 more are left out");
@@ -452,13 +452,13 @@ fn every_entry_return_and_fault() {
 
 #[test]
 fn the_last_steps_with_what_they_left() {
-    let count = " org #1000\nHere add $1,R1\n st R1,-SP\n bra Here";
+    let count = " ORG $1000\nHERE ADD #1,R1\n ST R1,-SP\n BRA HERE";
     let page = page_of(&program(count, &[], 90, |_| ()));
     let last = rows(&page, "last");
     assert_eq!(last.len(), 32);
-    assert_eq!(last[31], ["89", "#1004", "#3FFD", "BRA #1000", ""]);
+    assert_eq!(last[31], ["89", "#1004", "#3FFD", "BRA $1000", ""]);
     assert_eq!(last[30], ["88", "#1002", "#5F0E", "ST R1,-SP", "SP #07C4"]);
-    assert_eq!(last[29], ["87", "#1000", "#4089", "ADD $1,R1", "R1 #001E"]);
+    assert_eq!(last[29], ["87", "#1000", "#4089", "ADD #1,R1", "R1 #001E"]);
     let page = page_of(&program(NESTED, &[(0, 1, 0)], 1, |_| ()));
     let entered = ["0", "#1000", "", "entry: line 1 accepted", "LR #FFFF, SP #07F8, PSW #0040"];
     assert_eq!(rows(&page, "last")[0], entered);
@@ -469,7 +469,7 @@ fn the_program_around_pc() {
     let page = page_of(&program(NESTED, &[], 5, |_| ()));
     let around = rows(&page, "around");
     assert_eq!(around.len(), 17);
-    assert_eq!(around[8], ["#1000", "#3FFF", "BRA #1000", "PC"]);
+    assert_eq!(around[8], ["#1000", "#3FFF", "BRA $1000", "PC"]);
     assert_eq!([&around[0][0], &around[16][0]], ["#0FF0", "#1010"]);
     // A return is to be taken: the program is where the last instruction was.
     let page = page_of(&program(NESTED, &[(1, 1, 0), (3, 2, 0)], 6, |_| ()));
@@ -481,7 +481,7 @@ fn the_program_around_pc() {
 
 #[test]
 fn bold_is_what_is_not_as_at_the_start() {
-    let page = page_of(&program(" org #1000\n add $1,R1\n cmp R1,R1", &[], 2, |_| ()));
+    let page = page_of(&program(" ORG $1000\n ADD #1,R1\n CMP R1,R1", &[], 2, |_| ()));
     assert!(page.contains("<td class=\"n s\">#0001</td><td class=\"n\">1</td>"));
     assert!(page.contains("<td class=\"n s\">#1004</td>"));
     // R1, PC, and C and Z of the PSW.
@@ -529,24 +529,24 @@ fn the_checksum_is_that_of_cksum() {
 
 /// Two screens: device 2 shows A and B, device 3 a line feed, a < and a byte that is no character.
 const SCREENS: &str = "
-            org #0004
-            byte #10
-            org #0006
-            byte #10
-            org #0008
-            byte #11
-            org #1000
-            movlz #41,R1
-            str.b R1,R0,$5
-            add $1,R1
-            str.b R1,R0,$5
-            movlz #3C,R1
-            str.b R1,R0,$7
-            movlz #0A,R1
-            str.b R1,R0,$7
-            movlz #FF,R1
-            str.b R1,R0,$7
-Here        bra Here
+            ORG $0004
+            BYTE $10
+            ORG $0006
+            BYTE $10
+            ORG $0008
+            BYTE $11
+            ORG $1000
+            MOVLZ $41,R1
+            STR.B R1,R0,#5
+            ADD #1,R1
+            STR.B R1,R0,#5
+            MOVLZ $3C,R1
+            STR.B R1,R0,#7
+            MOVLZ $0A,R1
+            STR.B R1,R0,#7
+            MOVLZ $FF,R1
+            STR.B R1,R0,#7
+HERE        BRA HERE
 ";
 
 #[test]
@@ -570,9 +570,9 @@ fn the_screen_of_each_output_device() {
 
 #[test]
 fn nothing_shown_and_much_shown() {
-    let page = page_of(&program("            org #1000\nHere        bra Here\n", &[], 4, |_| ()));
+    let page = page_of(&program("            ORG $1000\nHERE        BRA HERE\n", &[], 4, |_| ()));
     assert!(page.contains("<p>Nothing was shown: no instruction stored to the data byte"));
-    let much = "            org #0000\n            byte #10\n            org #1000\nHere        str.b R1,R0,$1\n            bra Here\n";
+    let much = "            ORG $0000\n            BYTE $10\n            ORG $1000\nHERE        STR.B R1,R0,#1\n            BRA HERE\n";
     let page = page_of(&program(much, &[], 10_000, |m| m.regs[1] = 0x61));
     assert!(page.contains("<p>Device 0 showed 5,000 bytes. The last 3,000 are left out here.</p>"));
     let shown = rows(&page, "screen");

@@ -1,7 +1,7 @@
 //! The program print_state, run as a process, beside the oracle: the printed line. The program is in XM23_BIN, or in
 //! target/bin of the repository.
 
-use oracle::asm::assemble;
+use oracle::assemble::assemble;
 use oracle::case;
 use oracle::inputs::{input, Input, Kind, KINDS};
 use oracle::machine::{event_record, sheet, Event, Machine, EVENT, MAX_EVENTS, MEMORY, PC, RECORD};
@@ -167,27 +167,27 @@ fn setups_of_every_kind() {
 #[test]
 fn a_line_of_a_run_that_shows_much() {
     let source = "
-            org #0000
-            byte #10        ; device 0: output, no interrupts
-            org #0002
-            byte #11        ; device 1: output, with interrupts
-            org #1000
-Loop        st.b R1,R0      ; R0 points at the data of device 0
-            add.b $1,R1
-            bra Loop
-            org #2000
-            str.b R1,R0,$2  ; the data of device 1
-            mov LR,PC
-            org #FFC4
-            word #0060
-            word #2000
+            ORG $0000
+            BYTE $10        ; device 0: output, no interrupts
+            ORG $0002
+            BYTE $11        ; device 1: output, with interrupts
+            ORG $1000
+LOOP        ST.B R1,R0      ; R0 points at the data of device 0
+            ADD.B #1,R1
+            BRA LOOP
+            ORG $2000
+            STR.B R1,R0,#2  ; the data of device 1
+            MOV LR,PC
+            ORG $FFC4
+            WORD $0060
+            WORD $2000
     ";
     let mut m = Machine::default();
     (m.regs[0], m.regs[6], m.regs[PC]) = (1, 0x0800, 0x1000);
     for (n, apart, events) in [(3, 1, 0), (20_000, 1, 0), (20_000, 3, 4_096), (1_000_000, 200, 4_096)] {
         let event = |i: u32| event_record(Event { step: apart * i, device: (i % 2) as u8, data: 0 });
         let events = (0..events).flat_map(event).collect();
-        let memory = assemble(source).memory();
+        let memory = assemble(&format!("{source}\n END")).memory();
         let input = Input { memory, record: m.to_record().to_vec(), events, log: Vec::new(), n };
         assert!(same("much is shown", &input.to_bytes()).starts_with(&format!("0 {n} ")), "{n} steps");
     }

@@ -4,7 +4,7 @@
 #[path = "library/stack.rs"]
 mod library;
 
-use oracle::asm::assemble;
+use oracle::assemble::assemble;
 use oracle::machine::{vector, Event, Machine, Setup, LR, PC, SP, VECTORS};
 use oracle::random::Random;
 use oracle::stack::{judge, random_run, Below, Stack};
@@ -106,11 +106,11 @@ fn no_run_passes_the_figure() {
 
 /// Devices 0 and 1 of priorities 1 and 2, with handlers; the application at #1000, SP #0800.
 fn setup(source: &str, n: u32, events: &[(u32, u8)]) -> (Setup, Stack) {
-    let program = assemble(&format!(" org #1000\nLoop BRA Loop\n{source}"));
+    let program = assemble(&format!(" ORG $1000\nLOOP BRA LOOP\n{source} END"));
     let mut memory = program.memory();
     for d in 0..3u8 {
         let at = usize::from(vector(d));
-        let entry = program.labels.get(&format!("H{d}")).copied().unwrap_or(0xFFFF) as u16;
+        let entry = program.names.get(&format!("H{d}")).copied().unwrap_or(0xFFFF) as u16;
         memory[at] = (d + 1) << 5;
         memory[at + 2..at + 4].copy_from_slice(&entry.to_le_bytes());
         memory[2 * usize::from(d)] = 0x11;
@@ -128,7 +128,7 @@ fn setup(source: &str, n: u32, events: &[(u32, u8)]) -> (Setup, Stack) {
 #[test]
 fn signed_distances_are_false() {
     // Each handler adds R2, 30,000, to SP and takes it back: SP wraps past the application's.
-    let body = "ADD R2,SP\n ADD $1,R0\n SUB R2,SP\n MOV LR,PC\n";
+    let body = "ADD R2,SP\n ADD #1,R0\n SUB R2,SP\n MOV LR,PC\n";
     let (mut setup, call) = setup(&format!("H0 {body}H1 {body}"), 12, &[(0, 0), (2, 1)]);
     setup.machine.regs[2] = 30_000;
     let judged = judge(&setup, &call, Below::Signed);
@@ -147,7 +147,7 @@ fn passes(setup: &Setup, call: &Stack) {
 
 #[test]
 fn each_condition_is_needed() {
-    let nest = "H0 ADD $1,R0\n ADD $1,R0\n MOV LR,PC\nH1 MOV LR,PC\n";
+    let nest = "H0 ADD #1,R0\n ADD #1,R0\n MOV LR,PC\nH1 MOV LR,PC\n";
     let (run, call) = setup(nest, 8, &[(0, 0), (2, 1)]);
     assert!(judge(&run, &call, Below::Wrapping).meets);
     // A device that is not given.
@@ -159,13 +159,13 @@ fn each_condition_is_needed() {
     odd.machine.regs[SP] = 0x0801;
     passes(&odd, &Stack { devices: 1, ..call_one });
     // A handler that takes more than its figure.
-    let (more, call_more) = setup("H0 SUB $2,SP\n ADD $2,SP\n MOV LR,PC\n", 6, &[(0, 0)]);
+    let (more, call_more) = setup("H0 SUB #2,SP\n ADD #2,SP\n MOV LR,PC\n", 6, &[(0, 0)]);
     passes(&more, &Stack { devices: 1, ..call_more });
     // SETPRI in a handler: its own line again.
-    let (set, call_set) = setup("H0 SETPRI $0\n ADD $1,R0\n MOV LR,PC\n", 3, &[(0, 0), (2, 0)]);
+    let (set, call_set) = setup("H0 SETPRI #0\n ADD #1,R0\n MOV LR,PC\n", 3, &[(0, 0), (2, 0)]);
     passes(&set, &Stack { devices: 1, ..call_set });
     // SP is not handed back at a chaining return: device 1 of priority 2 is chained, then takes its own use.
-    let chain = "H2 SUB $2,SP\n MOV LR,PC\nH1 SUB $2,SP\n ADD $4,SP\n MOV LR,PC\n";
+    let chain = "H2 SUB #2,SP\n MOV LR,PC\nH1 SUB #2,SP\n ADD #4,SP\n MOV LR,PC\n";
     let (kept, mut call_kept) = setup(chain, 5, &[(0, 2), (1, 1)]);
     (call_kept.uses[2], call_kept.uses[4], call_kept.devices) = (2, 2, 6);
     call_kept.vectors[4] = 3 << 5;
@@ -173,7 +173,7 @@ fn each_condition_is_needed() {
     same_level.memory[usize::from(vector(1))] = 3 << 5;
     passes(&same_level, &call_kept);
     // A vector altered on the way: the handler of device 0 lowers its own priority's place.
-    let (mut altered, call_altered) = setup("H0 ST R2,R3\n ADD $1,R0\n MOV LR,PC\n", 4, &[(0, 0), (2, 1)]);
+    let (mut altered, call_altered) = setup("H0 ST R2,R3\n ADD #1,R0\n MOV LR,PC\n", 4, &[(0, 0), (2, 1)]);
     altered.machine.regs[2] = 7 << 5;
     altered.machine.regs[3] = vector(1);
     altered.memory[usize::from(vector(1))] = 1 << 5;

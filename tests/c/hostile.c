@@ -412,6 +412,71 @@ static void stacks(int at_end, int rounds)
             }
 }
 
+/* ---- sources */
+
+/* Assembles what is lent, and checks what must hold of any call. */
+static uint64_t assemble(void)
+{
+    uint64_t reply;
+    unsigned refusal;
+    calls++;
+    memcpy(memory_before, memory.at, memory.length);
+    memcpy(text_before, text.at, text.length);
+    reply = xm23_assemble(memory.at, memory.length, text.at, text.length);
+    refusal = XM23_REFUSAL(reply);
+    check("guard bytes", guarded(&memory) && guarded(&text));
+    check("source", memcmp(text.at, text_before, text.length) == 0);
+    check("refusal by length", (refusal == XM23_REFUSED_MEMORY) == (memory.length != 65536));
+    check("refusal", refusal <= XM23_REFUSED_MEMORY || (refusal >= XM23_REFUSED_SOURCE_FORM && refusal <= XM23_REFUSED_SOURCE_VALUE));
+    check("bits between", (reply >> 8 & 0xFFFFFF) == 0);
+    check("line", (XM23_ASSEMBLE_LINE(reply) == 0) == (refusal <= XM23_REFUSED_MEMORY) && XM23_ASSEMBLE_LINE(reply) <= text.length + 1);
+    if (refusal)
+        check("memory as it was", memcmp(memory.at, memory_before, memory.length) == 0);
+    return reply;
+}
+
+/* Sources of junk, of characters and of words that sources have, and of brackets and digits without end. */
+static void sources(int at_end, int rounds)
+{
+    static const char near[] = "0123456789ABCDEFR#$-+*/(),.; \t\r\nENDORGBSS";
+    static const char *const words[] = {"ORG ", "A EQU ", "BSS ", "BYTE ", "WORD ", "END\n", "ADD.B #1,R0\n", "BRA A\n", "((((((((", "#1",
+                                        "$FF", "))))))))", "+", "/", "-", "\n", "\r\n", ";", "A", "SETCC VC\n", "MOVH A,R1\n", "LD R1+,R2"};
+    int i;
+    for (i = 0; i < rounds; i++) {
+        uint64_t pick = draw();
+        size_t k;
+        lend(&memory, pick % 8 ? 65536 : 65535 + pick / 8 % 3, at_end);
+        lend(&text, pick / 64 % 600, at_end);
+        scatter(&text);
+        for (k = 0; pick >> 40 & 3 && k < text.length; k++)
+            text.at[k] = (uint8_t)near[text.at[k] % (sizeof near - 1)];
+        for (k = 0; pick >> 42 & 1 && k < text.length;) {
+            const char *word = words[text.at[k] % (sizeof words / sizeof *words)];
+            size_t length = strlen(word) < text.length - k ? strlen(word) : text.length - k;
+            memcpy(text.at + k, word, length);
+            k += length;
+        }
+        if (pick >> 43 & 1 && text.length >= 4)
+            memcpy(text.at + text.length - 4, "\nEND", 4);
+        assemble();
+    }
+}
+
+/* A source of one byte repeated as far as the room goes. */
+static void long_lines(int at_end)
+{
+    static const char bytes[] = "(#9A; \t\r\n-\377";
+    size_t i;
+    for (i = 0; i < sizeof bytes; i++) {
+        lend(&memory, 65536, at_end);
+        lend(&text, TEXT_ROOM, at_end);
+        memset(text.at, bytes[i], text.length);
+        check("no END", XM23_REFUSAL(assemble()) == XM23_REFUSED_SOURCE_FORM);
+        memcpy(text.at + text.length - 4, "\nEND", 4);
+        assemble();
+    }
+}
+
 int main(int argc, char **argv)
 {
     int brief = argc > 1 && strcmp(argv[1], "short") == 0, at_end;
@@ -439,6 +504,10 @@ int main(int argc, char **argv)
         wrong == before ? passed++ : failed++;
         before = wrong;
         stacks(at_end, brief ? 1 : 40);
+        wrong == before ? passed++ : failed++;
+        before = wrong;
+        sources(at_end, brief ? 40 : 20000);
+        long_lines(at_end);
         wrong == before ? passed++ : failed++;
     }
     printf("%u calls\n%u passed, %u failed\n", calls, passed, failed);

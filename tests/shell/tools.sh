@@ -25,20 +25,22 @@ wrong() {
     expect "a case: $2" 2 '' "$room/case.txt:$1: $2" scripts/input.sh "$room/case.txt" "$room/case.in"
     same 'leaves no input' "$(ls "$room"/case.in 2> /dev/null)" ''
 }
-wrong 1 'the key n is missing' 'source:\n            org #1000\n'
-wrong 3 'HALT is no statement' 'n: 5\nsource:\n            halt\n'
-wrong 4 'operands: 2 needed, 1 given' 'n: 5\nsource:\n            org #1000\n            add R1\n'
-wrong 3 'NOWHERE is no value, and no label' 'n: 5\nsource:\n            bra Nowhere\n'
-wrong 2 "'many' is no number of steps" 'source:\nn: many\n'
+wrong 1 'the key n is missing' 'source:\n            ORG $1000\n            END\n'
+wrong 3 'refused with 17: a line fits no statement, .*' 'n: 5\nsource:\n            HALT R0\n            END\n'
+wrong 4 'refused with 17: a line fits no statement, .*' 'n: 5\nsource:\n            ORG $1000\n            ADD R1\n'
+wrong 4 'refused with 17: .*, or END is missing' 'n: 5\nsource:\n            ORG $1000\n'
+wrong 3 'refused with 18: a name is unknown, .*' 'n: 5\nsource:\n            BRA NOWHERE\n            END\n'
+wrong 3 'refused with 19: a value leaves 32 bits, .*' 'n: 5\nsource:\n            BYTE #256\n            END\n'
+wrong 2 "'many' is no number of steps" 'source: END\nn: many\n'
 wrong 1 'speed is no key; the keys are .*' 'speed: 5\n'
 wrong 1 "'nothing' has no key" 'nothing\n'
-wrong 2 'R9 is no part of the start' 'n: 5\nstart: R9=1\nsource:\n'
-wrong 2 'R1=12345 does not fit' 'n: 5\nstart: R1=12345\nsource:\n'
-wrong 4 "'7 0' is no event: .*" 'n: 5\nsource:\nevents:\n    7 0\n'
-wrong 3 "'many' is no length of a log" 'n: 5\nsource:\nlog: many\n'
-wrong 3 "'2 1' is no reply: .*" 'n: 5\nsource:\nreply: 2 1\n'
-wrong 4 "'7 0' is no record of the log: .*" 'n: 5\nsource:\nshown:\n    7 0\n'
-printf 'n: 5\nsource:\n            org #1000\n    Here    bra Here\n' > "$room/case.txt"
+wrong 2 'R9 is no part of the start' 'n: 5\nstart: R9=1\nsource: END\n'
+wrong 2 'R1=12345 does not fit' 'n: 5\nstart: R1=12345\nsource: END\n'
+wrong 4 "'7 0' is no event: .*" 'n: 5\nsource: END\nevents:\n    7 0\n'
+wrong 3 "'many' is no length of a log" 'n: 5\nsource: END\nlog: many\n'
+wrong 3 "'2 1' is no reply: .*" 'n: 5\nsource: END\nreply: 2 1\n'
+wrong 4 "'7 0' is no record of the log: .*" 'n: 5\nsource: END\nshown:\n    7 0\n'
+printf 'n: 5\nsource:\n            ORG $1000\n    HERE    BRA HERE\n            END\n' > "$room/case.txt"
 expect 'the least case' 0 "$room/case.in" '' scripts/input.sh "$room/case.txt" "$room/case.in"
 same 'runs' "$(target/bin/print_state < "$room/case.in")" '0 5 0000 0000 0000 0000 0000 0000 0800 1000 0000 00 00000000'
 

@@ -24,7 +24,12 @@ pub use Rattle.srec_call.specs.Trip.{Restores}
 -- xm23_stack replies needReply of its buffers and numbers: needOf is the largest total over all choices of devices. That
 -- no stack reaches further below is `within` of stack_need, from StackPremises to Within. [02 §9]
 pub use Rattle.stack_need.specs.Need.{needOf, needReply}
+-- xm23_assemble replies and leaves what assembleCallOf gives: verdictOf judges the source, placedOf has its statements
+-- at their places, imageOf is the image. [02 §12]
+pub use Rattle.asm_sweeps.specs.Uses.{verdictOf}
+pub use Rattle.asm_image.specs.Image.{placedOf, imageOf}
+pub use Rattle.asm_call.specs.Call.{Assembled, assembleCallOf}
 
 -- xm23_version replies versionNumber: major, minor and patch, which are those of the header.
 abbrev pub versionNumber : ℕ
-versionNumber = 0 * 65536 + 14 * 256 + 0
+versionNumber = 0 * 65536 + 15 * 256 + 0

@@ -6,6 +6,7 @@ ghost use Rattle.xm23.specs.Api.{versionNumber, decodeOf, numberOf, enco
 ghost use Rattle.xm23.specs.Api.{rangeReply, countReply, nextReply};
 ghost use Rattle.xm23.specs.Api.{runCallOf, Resumption};
 ghost use Rattle.xm23.specs.Api.{loadCallOf, writeCallOf, Restores, needReply};
+ghost use Rattle.xm23.specs.Api.{assembleCallOf};
 use isa::Encoded;
 use isa::decode;
 use isa::encode;
@@ -23,7 +24,7 @@ use isa_ranges::operation_of;
 pub extern "C" fn xm23_version() -> u32
     ensures reply { λ r. ⌜ r ≡ versionNumber ⌝ }
 {
-    0x000E00
+    0x000F00
 }
 
 // The number of the instruction that a word means; that of the illegal one is 0.
@@ -144,4 +145,16 @@ pub extern "C" fn xm23_stack(vectors: &[u8], devices: u8, uses: &[u8], priority:
         ≡ needReply (now (vectors .entry)) devices (now (uses .entry)) priority ⌝ }
 {
     stack_bytes::stack_call(vectors, devices, uses, priority)
+}
+
+// A source assembled into memory: refusal in bits 7-0, the line at fault in bits 63-32. Refused,
+// memory stays as it was.
+#[no_mangle]
+pub extern "C" fn xm23_assemble(memory: &mut [u8], source: &[u8]) -> u64
+    ensures reply { λ r. ⌜ r
+        ≡ assembleCallOf (now (memory .entry)) (now (source .entry)) .reply ⌝ }
+    ensures memory { λ r. ⌜ now (memory .exit)
+        ≡ assembleCallOf (now (memory .entry)) (now (source .entry)) .memory ⌝ }
+{
+    asm_call::assemble_call(memory, source)
 }

@@ -1,12 +1,12 @@
 //! Loops of one kind of instruction each, whose steps are counted: a name and a source. R1 to R3 point at data.
 
 pub const ROWS: [(&str, &str); 8] = [
-    ("bytes", "Loop add.b R0,R1\n ld.b R2,R0\n st.b R1,R2\n xor.b R0,R4\n bra Loop"),
-    ("LD, ST with increment", "Loop ld R2+,R0\n st R0,-R2\n ld +R2,R0\n st R0,R2-\n bra Loop"),
-    ("LDR, STR", "Loop ldr R2,$4,R0\n add R0,R1\n str R1,R2,$6\n bra Loop"),
-    ("DADD, ADDC, BIC, BIS, RRC", "Loop dadd R0,R1\n addc R1,R4\n bic $1,R4\n bis $2,R4\n rrc R1\n bra Loop"),
-    ("SVC", "Loop svc $0\n bra Loop\n org #3000\nTrap mov LR,PC\n org #FFC0\n word #0020\n word Trap"),
-    ("SETCC, CLRCC, SETPRI", "Loop setcc CZ\n clrcc N\n setpri $0\n bra Loop"),
-    ("CEX", "Loop cex eq,$1,$1\n add $1,R0\n sub $1,R0\n bra Loop"),
-    ("skipped words", "Loop cex eq,$5,$0\n add $1,R0\n add $1,R0\n add $1,R0\n add $1,R0\n add $1,R0\n bra Loop"),
+    ("bytes", "LOOP ADD.B R0,R1\n LD.B R2,R0\n ST.B R1,R2\n XOR.B R0,R4\n BRA LOOP"),
+    ("LD, ST with increment", "LOOP LD R2+,R0\n ST R0,-R2\n LD +R2,R0\n ST R0,R2-\n BRA LOOP"),
+    ("LDR, STR", "LOOP LDR R2,#4,R0\n ADD R0,R1\n STR R1,R2,#6\n BRA LOOP"),
+    ("DADD, ADDC, BIC, BIS, RRC", "LOOP DADD R0,R1\n ADDC R1,R4\n BIC #1,R4\n BIS #2,R4\n RRC R1\n BRA LOOP"),
+    ("SVC", "LOOP SVC #0\n BRA LOOP\n ORG $3000\nTRAP MOV LR,PC\n ORG $FFC0\n WORD $0020\n WORD TRAP"),
+    ("SETCC, CLRCC, SETPRI", "LOOP SETCC CZ\n CLRCC N\n SETPRI #0\n BRA LOOP"),
+    ("CEX", "LOOP CEX EQ,#1,#1\n ADD #1,R0\n SUB #1,R0\n BRA LOOP"),
+    ("skipped words", "LOOP CEX EQ,#5,#0\n ADD #1,R0\n ADD #1,R0\n ADD #1,R0\n ADD #1,R0\n ADD #1,R0\n BRA LOOP"),
 ];

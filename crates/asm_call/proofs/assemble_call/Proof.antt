@@ -1,0 +1,54 @@
+use Rattle.asm_call.proofs.Laws.{call-length, call-refused, verdict-form}
+use Rattle.asm_sweeps.specs.Uses.{verdict}
+use Prim.Native.Nat.{ℕ}
+use Rattle.asm_call.specs.Call.{Assembled, assembled, assembleReply}
+use native.Mathlib.Omega.{arith}
+use mathlib.Core.Path.{_≡_, refl, sym, ap, _∙_}
+use borrow.Author.Needs.{needs}
+use Rattle.asm_call.proofs.assemble_call.Statement.{statement}
+use Rattle.asm_call.proofs.assemble_call.Tie as tie
+use Rattle.asm_call.proofs.assemble_call.Reads as reads
+use Rattle.asm_call.proofs.assemble_call.Lts as lts
+use Rattle.asm_call.proofs.assemble.Reads as assemble-reads
+use Rattle.asm_call.proofs.reply.Reads as reply-reads
+use Rattle.asm_sweeps.proofs.form.Reads as form-reads
+
+-- src/lib.rt:52:9
+returns : tie.Need-returns
+returns c = let e = call-length (c .before .before .before .args .memory .now) (c .before .before .before .args .source .now) (c .if1 .taken) in (ap (λ (x : Assembled). x .reply) e, ap (λ (x : Assembled). x .memory) e)
+
+-- src/lib.rt:54:9
+form-requires : tie.Need-form-requires
+form-requires c κs = search needs
+
+-- src/lib.rt:56:9
+reply-requires : tie.Need-reply-requires
+reply-requires c κs = search needs
+
+-- src/lib.rt:56:9
+returns-2 : tie.Need-returns-2
+returns-2 c = let e = call-refused (c .before .before .before .before .before .before .args .memory .now) (c .before .before .before .before .before .before .args .source .now) (c .before .before .before .if1 .left) (verdict 17 (c .before .before .form .result)) (c .reply .result) (verdict-form (c .before .before .before .before .before .before .args .source .now) (c .before .before .form .result) (c .before .before .form .ensures) (c .before .if2 .taken)) (λ z. let k : _≡_ {A = ℕ} 17 0 = z in omega arith) (c .reply .ensures) in (ap (λ (x : Assembled). x .reply) e, ap (λ (x : Assembled). x .memory) e)
+
+-- src/lib.rt:61:5
+assemble-requires : tie.Need-assemble-requires
+assemble-requires c κs = search needs
+
+-- src/lib.rt:46:1
+same-length : tie.Need-same-length
+same-length c = search needs
+
+-- src/lib.rt:46:1
+returns-3 : tie.Need-returns-3
+returns-3 c = search needs
+
+pub assemble-call-spec : {M : Type 1} → statement M
+assemble-call-spec =
+    tie.close
+    (tie.spec
+    returns
+    form-requires
+    reply-requires
+    returns-2
+    assemble-requires
+    same-length
+    returns-3)

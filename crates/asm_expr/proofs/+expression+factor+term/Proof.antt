@@ -1,0 +1,1000 @@
+use mathlib.Core.Path.{_≡_, refl, sym, ap, _∙_, subst}
+use Prim.Native.Nat.{ℕ, _+_, _-_, _*_, _<_, _≤_}
+use native.Mathlib.Nat.{pos-of-ne-zero}
+use native.Mathlib.Omega.{arith}
+use lib.ListN.{length}
+use borrow.Author.Tests.{not-true, not-false}
+use borrow.Author.Needs.{needs}
+use Rattle.asm_value.specs.declared.Value.{Value}
+use Rattle.asm_text.specs.Text.{lookUpAt, byteAt, blank?, after}
+use Rattle.asm_expr.specs.Grammar.{follow, closed, plainAt, plus?, times?, partsOf, factorOf, termOf, expressionOf}
+use Rattle.asm_expr.specs.Meaning.{answerOf, shut}
+use Rattle.asm_expr.proofs.Laws.{reach-factor, reach-term, plus-zero, times-zero, Going, going-none, going-start, going-sign}
+use Rattle.asm_expr.proofs.Laws.{going-ahead}
+use Rattle.asm_expr.proofs.Laws.{turn-stop, turn-fail, turn-more, shut-follow, factor-deep, factor-bracket, factor-plain, byte-is-in}
+use Prim.Native.Nat.{ℕ, _<_}
+use borrow.Fn.Kinds.{In}
+use borrow.Fn.PlainCycle.{Measures, is, falls, and}
+use Rattle.asm_expr.proofs.expression.Reads as expression
+use Rattle.asm_expr.proofs.expression.Kinds as expression-kinds
+use Rattle.asm_expr.proofs.+expression+factor+term.Lts-expression as expression-lts
+use Rattle.asm_expr.proofs.factor.Reads as factor
+use Rattle.asm_expr.proofs.factor.Kinds as factor-kinds
+use Rattle.asm_expr.proofs.+expression+factor+term.Lts-factor as factor-lts
+use Rattle.asm_expr.proofs.term.Reads as term
+use Rattle.asm_expr.proofs.term.Kinds as term-kinds
+use Rattle.asm_expr.proofs.+expression+factor+term.Lts-term as term-lts
+use Rattle.asm_expr.proofs.close.Reads as close-reads
+use Rattle.asm_expr.proofs.is_plus.Reads as is-plus-reads
+use Rattle.asm_expr.proofs.is_times.Reads as is-times-reads
+use Rattle.asm_expr.proofs.plain.Reads as plain-reads
+use Rattle.asm_text.proofs.byte_at.Reads as byte-at-reads
+use Rattle.asm_text.proofs.skip_blanks.Reads as skip-blanks-reads
+use Rattle.asm_value.proofs.combine.Reads as combine-reads
+use Rattle.asm_expr.proofs.+expression+factor+term.{statement}
+use Rattle.asm_expr.proofs.+expression+factor+term.Tie.{close}
+
+abbrev μ-expression : Measures 5 expression-kinds.ps ℕ
+μ-expression κs a = a .1 .1 .1 .1 .1 .1 .0 * 3 + 2
+
+abbrev μ-factor : Measures 5 factor-kinds.ps ℕ
+μ-factor κs a = a .1 .1 .1 .1 .1 .1 .0 * 3
+
+abbrev μ-term : Measures 5 term-kinds.ps ℕ
+μ-term κs a = a .1 .1 .1 .1 .1 .1 .0 * 3 + 1
+
+abbrev expression-at : ℕ → In 5 expression-kinds.ps
+expression-at t =
+    and 5 expression-kinds.ps (is 5 expression-kinds.ps μ-expression t) expression.Pre
+
+abbrev expression-below : ℕ → In 5 expression-kinds.ps
+expression-below t =
+    and 5 expression-kinds.ps (falls 5 expression-kinds.ps _<_ μ-expression t) expression.Pre
+
+abbrev factor-at : ℕ → In 5 factor-kinds.ps
+factor-at t = and 5 factor-kinds.ps (is 5 factor-kinds.ps μ-factor t) factor.Pre
+
+abbrev factor-below : ℕ → In 5 factor-kinds.ps
+factor-below t = and 5 factor-kinds.ps (falls 5 factor-kinds.ps _<_ μ-factor t) factor.Pre
+
+abbrev term-at : ℕ → In 5 term-kinds.ps
+term-at t = and 5 term-kinds.ps (is 5 term-kinds.ps μ-term t) term.Pre
+
+abbrev term-below : ℕ → In 5 term-kinds.ps
+term-below t = and 5 term-kinds.ps (falls 5 term-kinds.ps _<_ μ-term t) term.Pre
+
+abbrev expression-Inv-loop : expression-lts.InvT-loop
+expression-Inv-loop source places keys values s at left n0 value₀ next₀ value next =
+    Going (lookUpAt source places keys values) plus? (termOf left s) s value next
+    (answerOf (lookUpAt source places keys values) (partsOf plus? (termOf left s) s at))
+
+abbrev expression-μ-loop : expression-lts.MeasureT-loop
+expression-μ-loop source places keys values s at left n0 value₀ next₀ value next = length s - next
+
+expression-term-requires : (t : ℕ) → expression-lts.Need-term-requires (
+  term-below t,
+  term.Post,
+  skip-blanks-reads.Asked,
+  skip-blanks-reads.Learnt,
+  byte-at-reads.Asked,
+  byte-at-reads.Learnt,
+  is-plus-reads.Asked,
+  is-plus-reads.Learnt,
+  combine-reads.Asked,
+  combine-reads.Learnt,
+) (expression-at t) expression.Post expression-Inv-loop expression-μ-loop
+expression-term-requires t c κs = (omega (arith, c .before .before .before .before .pre .0), tt)
+
+expression-enum-known-first : (t : ℕ) → expression-lts.Need-enum-known-first (
+  term-below t,
+  term.Post,
+  skip-blanks-reads.Asked,
+  skip-blanks-reads.Learnt,
+  byte-at-reads.Asked,
+  byte-at-reads.Learnt,
+  is-plus-reads.Asked,
+  is-plus-reads.Learnt,
+  combine-reads.Asked,
+  combine-reads.Learnt,
+) (expression-at t) expression.Post expression-Inv-loop expression-μ-loop
+expression-enum-known-first t c = search needs
+
+expression-enum-told : (t : ℕ) → expression-lts.Need-enum-told (
+  term-below t,
+  term.Post,
+  skip-blanks-reads.Asked,
+  skip-blanks-reads.Learnt,
+  byte-at-reads.Asked,
+  byte-at-reads.Learnt,
+  is-plus-reads.Asked,
+  is-plus-reads.Learnt,
+  combine-reads.Asked,
+  combine-reads.Learnt,
+) (expression-at t) expression.Post expression-Inv-loop expression-μ-loop
+expression-enum-told t c = search needs
+
+expression-returns : (t : ℕ) → expression-lts.Need-returns (
+  term-below t,
+  term.Post,
+  skip-blanks-reads.Asked,
+  skip-blanks-reads.Learnt,
+  byte-at-reads.Asked,
+  byte-at-reads.Learnt,
+  is-plus-reads.Asked,
+  is-plus-reads.Learnt,
+  combine-reads.Asked,
+  combine-reads.Learnt,
+) (expression-at t) expression.Post expression-Inv-loop expression-μ-loop
+unfolding expressionOf
+expression-returns t c =
+    let c2 = c .before .before in
+    let c7 = c2 .before .before .before .before .before in
+    let a = c7 .args in
+    let s = a .s .now in
+    let f = lookUpAt (a .source .now) (a .places .now) (a .keys .now) (a .values .now) in
+    going-none f plus? (termOf (a .left) s) s (a .at) (sym (c2 .term .ensures) ∙ c .enum-told .given .1)
+
+expression-loop-holds : (t : ℕ) → expression-lts.Need-loop-holds (
+  term-below t,
+  term.Post,
+  skip-blanks-reads.Asked,
+  skip-blanks-reads.Learnt,
+  byte-at-reads.Asked,
+  byte-at-reads.Learnt,
+  is-plus-reads.Asked,
+  is-plus-reads.Learnt,
+  combine-reads.Asked,
+  combine-reads.Learnt,
+) (expression-at t) expression.Post expression-Inv-loop expression-μ-loop
+expression-loop-holds t c =
+    let c3 = c .before .before .before in
+    let c8 = c3 .before .before .before .before .before in
+    let a = c8 .args in
+    let s = a .s .now in
+    let f = lookUpAt (a .source .now) (a .places .now) (a .keys .now) (a .values .now) in
+    let g = c .before .first .given in
+    going-start f plus? (termOf (a .left) s) s (a .at) (g .0 .1 .0) (g .0 .0) (reach-term (a .left) s (a .at)) (sym (c3 .term .ensures)
+    ∙ g .1)
+
+expression-skip-blanks-requires : (t : ℕ) → expression-lts.Need-skip-blanks-requires (
+  term-below t,
+  term.Post,
+  skip-blanks-reads.Asked,
+  skip-blanks-reads.Learnt,
+  byte-at-reads.Asked,
+  byte-at-reads.Learnt,
+  is-plus-reads.Asked,
+  is-plus-reads.Learnt,
+  combine-reads.Asked,
+  combine-reads.Learnt,
+) (expression-at t) expression.Post expression-Inv-loop expression-μ-loop
+expression-skip-blanks-requires t c κs = search needs
+
+expression-byte-at-requires : (t : ℕ) → expression-lts.Need-byte-at-requires (
+  term-below t,
+  term.Post,
+  skip-blanks-reads.Asked,
+  skip-blanks-reads.Learnt,
+  byte-at-reads.Asked,
+  byte-at-reads.Learnt,
+  is-plus-reads.Asked,
+  is-plus-reads.Learnt,
+  combine-reads.Asked,
+  combine-reads.Learnt,
+) (expression-at t) expression.Post expression-Inv-loop expression-μ-loop
+expression-byte-at-requires t c κs = search needs
+
+expression-is-plus-requires : (t : ℕ) → expression-lts.Need-is-plus-requires (
+  term-below t,
+  term.Post,
+  skip-blanks-reads.Asked,
+  skip-blanks-reads.Learnt,
+  byte-at-reads.Asked,
+  byte-at-reads.Learnt,
+  is-plus-reads.Asked,
+  is-plus-reads.Learnt,
+  combine-reads.Asked,
+  combine-reads.Learnt,
+) (expression-at t) expression.Post expression-Inv-loop expression-μ-loop
+expression-is-plus-requires t c κs = search needs
+
+expression-returns-2 : (t : ℕ) → expression-lts.Need-returns-2 (
+  term-below t,
+  term.Post,
+  skip-blanks-reads.Asked,
+  skip-blanks-reads.Learnt,
+  byte-at-reads.Asked,
+  byte-at-reads.Learnt,
+  is-plus-reads.Asked,
+  is-plus-reads.Learnt,
+  combine-reads.Asked,
+  combine-reads.Learnt,
+) (expression-at t) expression.Post expression-Inv-loop expression-μ-loop
+unfolding expressionOf
+expression-returns-2 t c =
+    let c2 = c .before .before in
+    let c3 = c2 .before in
+    let c4 = c3 .before in
+    let c13 = c4 .before .before .before .before .before .before .before .before .before in
+    let a = c13 .args in
+    let s = a .s .now in
+    let f = lookUpAt (a .source .now) (a .places .now) (a .keys .now) (a .values .now) in
+    let l = c4 .loop in
+    turn-stop f plus? (termOf (a .left) s) s (l .next) (c3 .skip-blanks .result) (c2 .byte-at .result) (l .value)
+    (answerOf f (partsOf plus? (termOf (a .left) s) s (a .at))) (c3 .skip-blanks .ensures) (c2 .byte-at .ensures) (l .inv)
+    (sym (c .before .is-plus .ensures) ∙ not-true _ (c .if1 .taken))
+
+expression-add-term : (t : ℕ) → expression-lts.Need-add-term (
+  term-below t,
+  term.Post,
+  skip-blanks-reads.Asked,
+  skip-blanks-reads.Learnt,
+  byte-at-reads.Asked,
+  byte-at-reads.Learnt,
+  is-plus-reads.Asked,
+  is-plus-reads.Learnt,
+  combine-reads.Asked,
+  combine-reads.Learnt,
+) (expression-at t) expression.Post expression-Inv-loop expression-μ-loop
+expression-add-term t c =
+    let c2 = c .before .before in
+    let c3 = c2 .before in
+    let c13 = c3 .before .before .before .before .before .before .before .before .before .before in
+    let a = c13 .args in
+    let s = a .s .now in
+    let f = lookUpAt (a .source .now) (a .places .now) (a .keys .now) (a .values .now) in
+    let h = going-sign f plus? (termOf (a .left) s) s plus-zero (c3 .skip-blanks .result)
+    (ap plus? (sym (c2 .byte-at .ensures)) ∙ sym (c .before .is-plus .ensures) ∙ not-false _ (c .if1 .left)) in
+    omega arith
+
+expression-term-requires-2 : (t : ℕ) → expression-lts.Need-term-requires-2 (
+  term-below t,
+  term.Post,
+  skip-blanks-reads.Asked,
+  skip-blanks-reads.Learnt,
+  byte-at-reads.Asked,
+  byte-at-reads.Learnt,
+  is-plus-reads.Asked,
+  is-plus-reads.Learnt,
+  combine-reads.Asked,
+  combine-reads.Learnt,
+) (expression-at t) expression.Post expression-Inv-loop expression-μ-loop
+expression-term-requires-2 t c κs =
+    let c13 = c .before .before .before .before .before .before .before .before .before .before .before .before .before in
+    (omega (arith, c13 .pre .0), tt)
+
+expression-enum-known-part : (t : ℕ) → expression-lts.Need-enum-known-part (
+  term-below t,
+  term.Post,
+  skip-blanks-reads.Asked,
+  skip-blanks-reads.Learnt,
+  byte-at-reads.Asked,
+  byte-at-reads.Learnt,
+  is-plus-reads.Asked,
+  is-plus-reads.Learnt,
+  combine-reads.Asked,
+  combine-reads.Learnt,
+) (expression-at t) expression.Post expression-Inv-loop expression-μ-loop
+expression-enum-known-part t c = search needs
+
+expression-enum-told-2 : (t : ℕ) → expression-lts.Need-enum-told-2 (
+  term-below t,
+  term.Post,
+  skip-blanks-reads.Asked,
+  skip-blanks-reads.Learnt,
+  byte-at-reads.Asked,
+  byte-at-reads.Learnt,
+  is-plus-reads.Asked,
+  is-plus-reads.Learnt,
+  combine-reads.Asked,
+  combine-reads.Learnt,
+) (expression-at t) expression.Post expression-Inv-loop expression-μ-loop
+expression-enum-told-2 t c = search needs
+
+expression-returns-3 : (t : ℕ) → expression-lts.Need-returns-3 (
+  term-below t,
+  term.Post,
+  skip-blanks-reads.Asked,
+  skip-blanks-reads.Learnt,
+  byte-at-reads.Asked,
+  byte-at-reads.Learnt,
+  is-plus-reads.Asked,
+  is-plus-reads.Learnt,
+  combine-reads.Asked,
+  combine-reads.Learnt,
+) (expression-at t) expression.Post expression-Inv-loop expression-μ-loop
+unfolding expressionOf
+expression-returns-3 t c =
+    let c2 = c .before .before in
+    let c3 = c2 .before in
+    let c4 = c3 .before in
+    let c5 = c4 .before in
+    let c6 = c5 .before in
+    let c7 = c6 .before in
+    let c16 = c7 .before .before .before .before .before .before .before .before .before in
+    let a = c16 .args in
+    let s = a .s .now in
+    let f = lookUpAt (a .source .now) (a .places .now) (a .keys .now) (a .values .now) in
+    let l = c7 .loop in
+    turn-fail f plus? (termOf (a .left) s) s plus-zero (l .next) (c6 .skip-blanks .result) (c5 .byte-at .result) (l .value)
+    (answerOf f (partsOf plus? (termOf (a .left) s) s (a .at))) (c6 .skip-blanks .ensures) (c5 .byte-at .ensures) (l .inv)
+    (sym (c4 .is-plus .ensures) ∙ not-false _ (c3 .if1 .left)) (sym (c2 .term2 .ensures) ∙ c .enum-told2 .given .1)
+
+expression-combine-requires : (t : ℕ) → expression-lts.Need-combine-requires (
+  term-below t,
+  term.Post,
+  skip-blanks-reads.Asked,
+  skip-blanks-reads.Learnt,
+  byte-at-reads.Asked,
+  byte-at-reads.Learnt,
+  is-plus-reads.Asked,
+  is-plus-reads.Learnt,
+  combine-reads.Asked,
+  combine-reads.Learnt,
+) (expression-at t) expression.Post expression-Inv-loop expression-μ-loop
+expression-combine-requires t c κs = search needs
+
+expression-loop-less : (t : ℕ) → expression-lts.Need-loop-less (
+  term-below t,
+  term.Post,
+  skip-blanks-reads.Asked,
+  skip-blanks-reads.Learnt,
+  byte-at-reads.Asked,
+  byte-at-reads.Learnt,
+  is-plus-reads.Asked,
+  is-plus-reads.Learnt,
+  combine-reads.Asked,
+  combine-reads.Learnt,
+) (expression-at t) expression.Post expression-Inv-loop expression-μ-loop
+expression-loop-less t c =
+    let c2 = c .before .before in
+    let c4 = c2 .before .before in
+    let c8 = c4 .before .before .before .before in
+    let c9 = c8 .before in
+    let c18 = c9 .before .before .before .before .before .before .before .before .before in
+    let a = c18 .args in
+    let s = a .s .now in
+    let f = lookUpAt (a .source .now) (a .places .now) (a .keys .now) (a .values .now) in
+    let q = c8 .skip-blanks .result in
+    let g = c2 .part .given in
+    let h = going-ahead f plus? (termOf (a .left) s) s (c9 .loop .next) q (g .0 .1 .0) (g .0 .0) (c8 .skip-blanks .ensures)
+    (reach-term (a .left) s (q + 1))
+    (sym (c4 .term2 .ensures) ∙ g .1) in
+    omega (arith, h .0, h .1)
+
+expression-loop-again : (t : ℕ) → expression-lts.Need-loop-again (
+  term-below t,
+  term.Post,
+  skip-blanks-reads.Asked,
+  skip-blanks-reads.Learnt,
+  byte-at-reads.Asked,
+  byte-at-reads.Learnt,
+  is-plus-reads.Asked,
+  is-plus-reads.Learnt,
+  combine-reads.Asked,
+  combine-reads.Learnt,
+) (expression-at t) expression.Post expression-Inv-loop expression-μ-loop
+expression-loop-again t c =
+    let c2 = c .before .before in
+    let c4 = c2 .before .before in
+    let c5 = c4 .before in
+    let c6 = c5 .before in
+    let c7 = c6 .before in
+    let c8 = c7 .before in
+    let c9 = c8 .before in
+    let c18 = c9 .before .before .before .before .before .before .before .before .before in
+    let a = c18 .args in
+    let s = a .s .now in
+    let f = lookUpAt (a .source .now) (a .places .now) (a .keys .now) (a .values .now) in
+    let q = c8 .skip-blanks .result in
+    let g = c2 .part .given in
+    let l = c9 .loop in
+    subst (λ (x : Value). Going f plus? (termOf (a .left) s) s x (g .0 .1 .0) (answerOf f (partsOf plus? (termOf (a .left) s) s (a .at))))
+    (sym (c .combine .ensures))
+    (turn-more f plus? (termOf (a .left) s) s plus-zero (l .next) q (c7 .byte-at .result) (g .0 .1 .0) (l .value) (g .0 .0)
+    (answerOf f (partsOf plus? (termOf (a .left) s) s (a .at))) (c8 .skip-blanks .ensures) (c7 .byte-at .ensures) (l .inv)
+    (sym (c6 .is-plus .ensures) ∙ not-false _ (c5 .if1 .left)) (reach-term (a .left) s (q + 1)) (sym (c4 .term2 .ensures) ∙ g .1))
+
+factor-skip-blanks-requires : (t : ℕ) → factor-lts.Need-skip-blanks-requires (
+  skip-blanks-reads.Asked,
+  skip-blanks-reads.Learnt,
+  byte-at-reads.Asked,
+  byte-at-reads.Learnt,
+  expression-below t,
+  expression.Post,
+  close-reads.Asked,
+  close-reads.Learnt,
+  plain-reads.Asked,
+  plain-reads.Learnt,
+) (factor-at t) factor.Post
+factor-skip-blanks-requires t c κs = search needs
+
+factor-byte-at-requires : (t : ℕ) → factor-lts.Need-byte-at-requires (
+  skip-blanks-reads.Asked,
+  skip-blanks-reads.Learnt,
+  byte-at-reads.Asked,
+  byte-at-reads.Learnt,
+  expression-below t,
+  expression.Post,
+  close-reads.Asked,
+  close-reads.Learnt,
+  plain-reads.Asked,
+  plain-reads.Learnt,
+) (factor-at t) factor.Post
+factor-byte-at-requires t c κs = search needs
+
+factor-returns : (t : ℕ) → factor-lts.Need-returns (
+  skip-blanks-reads.Asked,
+  skip-blanks-reads.Learnt,
+  byte-at-reads.Asked,
+  byte-at-reads.Learnt,
+  expression-below t,
+  expression.Post,
+  close-reads.Asked,
+  close-reads.Learnt,
+  plain-reads.Asked,
+  plain-reads.Learnt,
+) (factor-at t) factor.Post
+unfolding answerOf
+factor-returns t c =
+    let c2 = c .before .before in
+    let c3 = c2 .before in
+    let c8 = c3 .before .before .before .before .before in
+    let a = c8 .args in
+    let s = a .s .now in
+    let f = lookUpAt (a .source .now) (a .places .now) (a .keys .now) (a .values .now) in
+    let h : byteAt s (after blank? s (a .at)) ≡ 40 = ap (byteAt s) (sym (c3 .skip-blanks .ensures)) ∙ sym (c2 .byte-at .ensures)
+    ∙ c .before .if1 .taken in
+    sym (ap (λ k. answerOf f (factorOf k s (a .at))) (c .if2 .taken) ∙ ap (answerOf f) (factor-deep s (a .at) h))
+
+factor-add-expression : (t : ℕ) → factor-lts.Need-add-expression (
+  skip-blanks-reads.Asked,
+  skip-blanks-reads.Learnt,
+  byte-at-reads.Asked,
+  byte-at-reads.Learnt,
+  expression-below t,
+  expression.Post,
+  close-reads.Asked,
+  close-reads.Learnt,
+  plain-reads.Asked,
+  plain-reads.Learnt,
+) (factor-at t) factor.Post
+factor-add-expression t c =
+    let c2 = c .before .before in
+    let c3 = c2 .before in
+    let c8 = c3 .before .before .before .before .before in
+    let h = byte-is-in (c8 .args .s .now) (c3 .skip-blanks .result) 39 (sym (c2 .byte-at .ensures) ∙ c .before .if1 .taken) in
+    omega arith
+
+factor-sub-expression : (t : ℕ) → factor-lts.Need-sub-expression (
+  skip-blanks-reads.Asked,
+  skip-blanks-reads.Learnt,
+  byte-at-reads.Asked,
+  byte-at-reads.Learnt,
+  expression-below t,
+  expression.Post,
+  close-reads.Asked,
+  close-reads.Learnt,
+  plain-reads.Asked,
+  plain-reads.Learnt,
+) (factor-at t) factor.Post
+factor-sub-expression t c = pos-of-ne-zero (c .if2 .left)
+
+factor-expression-requires : (t : ℕ) → factor-lts.Need-expression-requires (
+  skip-blanks-reads.Asked,
+  skip-blanks-reads.Learnt,
+  byte-at-reads.Asked,
+  byte-at-reads.Learnt,
+  expression-below t,
+  expression.Post,
+  close-reads.Asked,
+  close-reads.Learnt,
+  plain-reads.Asked,
+  plain-reads.Learnt,
+) (factor-at t) factor.Post
+factor-expression-requires t c κs =
+    let c8 = c .before .before .before .before .before .before .before .before in
+    let h = pos-of-ne-zero (c .if2 .left) in (omega (arith, c8 .pre .0, h), tt)
+
+factor-close-requires : (t : ℕ) → factor-lts.Need-close-requires (
+  skip-blanks-reads.Asked,
+  skip-blanks-reads.Learnt,
+  byte-at-reads.Asked,
+  byte-at-reads.Learnt,
+  expression-below t,
+  expression.Post,
+  close-reads.Asked,
+  close-reads.Learnt,
+  plain-reads.Asked,
+  plain-reads.Learnt,
+) (factor-at t) factor.Post
+factor-close-requires t c κs = search needs
+
+factor-returns-2 : (t : ℕ) → factor-lts.Need-returns-2 (
+  skip-blanks-reads.Asked,
+  skip-blanks-reads.Learnt,
+  byte-at-reads.Asked,
+  byte-at-reads.Learnt,
+  expression-below t,
+  expression.Post,
+  close-reads.Asked,
+  close-reads.Learnt,
+  plain-reads.Asked,
+  plain-reads.Learnt,
+) (factor-at t) factor.Post
+factor-returns-2 t c =
+    let c2 = c .before .before in
+    let c3 = c2 .before in
+    let c4 = c3 .before in
+    let c5 = c4 .before in
+    let c10 = c5 .before .before .before .before .before in
+    let a = c10 .args in
+    let s = a .s .now in
+    let f = lookUpAt (a .source .now) (a .places .now) (a .keys .now) (a .values .now) in
+    let h : byteAt s (after blank? s (a .at)) ≡ 40 = ap (byteAt s) (sym (c5 .skip-blanks .ensures)) ∙ sym (c4 .byte-at .ensures)
+    ∙ c3 .if1 .taken in
+    let q = c5 .skip-blanks .result in
+    c .close .ensures ∙ ap (shut s) (c .before .expression .ensures) ∙ shut-follow f s (expressionOf (a .left - 1) s (q + 1))
+    ∙ ap (λ k. answerOf f (follow (expressionOf (a .left - 1) s (k + 1)) (closed s))) (c5 .skip-blanks .ensures)
+    ∙ ap (answerOf f) (sym (factor-bracket (a .left) s (a .at) (c2 .if2 .left) h))
+
+factor-plain-requires : (t : ℕ) → factor-lts.Need-plain-requires (
+  skip-blanks-reads.Asked,
+  skip-blanks-reads.Learnt,
+  byte-at-reads.Asked,
+  byte-at-reads.Learnt,
+  expression-below t,
+  expression.Post,
+  close-reads.Asked,
+  close-reads.Learnt,
+  plain-reads.Asked,
+  plain-reads.Learnt,
+) (factor-at t) factor.Post
+factor-plain-requires t c κs = search needs
+
+factor-returns-3 : (t : ℕ) → factor-lts.Need-returns-3 (
+  skip-blanks-reads.Asked,
+  skip-blanks-reads.Learnt,
+  byte-at-reads.Asked,
+  byte-at-reads.Learnt,
+  expression-below t,
+  expression.Post,
+  close-reads.Asked,
+  close-reads.Learnt,
+  plain-reads.Asked,
+  plain-reads.Learnt,
+) (factor-at t) factor.Post
+factor-returns-3 t c =
+    let c2 = c .before .before in
+    let c3 = c2 .before in
+    let c8 = c3 .before .before .before .before .before in
+    let a = c8 .args in
+    let s = a .s .now in
+    let f = lookUpAt (a .source .now) (a .places .now) (a .keys .now) (a .values .now) in
+    c .plain .ensures ∙ ap (λ k. answerOf f (plainAt s k)) (c3 .skip-blanks .ensures)
+    ∙ ap (answerOf f) (sym (factor-plain (a .left) s (a .at)
+    (λ z. c .before .if1 .left (c2 .byte-at .ensures ∙ ap (byteAt s) (c3 .skip-blanks .ensures) ∙ z))))
+
+abbrev term-Inv-loop : term-lts.InvT-loop
+term-Inv-loop source places keys values s at left n0 value₀ next₀ value next =
+    Going (lookUpAt source places keys values) times? (factorOf left s) s value next
+    (answerOf (lookUpAt source places keys values) (partsOf times? (factorOf left s) s at))
+
+abbrev term-μ-loop : term-lts.MeasureT-loop
+term-μ-loop source places keys values s at left n0 value₀ next₀ value next = length s - next
+
+term-factor-requires : (t : ℕ) → term-lts.Need-factor-requires (
+  factor-below t,
+  factor.Post,
+  skip-blanks-reads.Asked,
+  skip-blanks-reads.Learnt,
+  byte-at-reads.Asked,
+  byte-at-reads.Learnt,
+  is-times-reads.Asked,
+  is-times-reads.Learnt,
+  combine-reads.Asked,
+  combine-reads.Learnt,
+) (term-at t) term.Post term-Inv-loop term-μ-loop
+term-factor-requires t c κs = (omega (arith, c .before .before .before .before .pre .0), tt)
+
+term-enum-known-first : (t : ℕ) → term-lts.Need-enum-known-first (
+  factor-below t,
+  factor.Post,
+  skip-blanks-reads.Asked,
+  skip-blanks-reads.Learnt,
+  byte-at-reads.Asked,
+  byte-at-reads.Learnt,
+  is-times-reads.Asked,
+  is-times-reads.Learnt,
+  combine-reads.Asked,
+  combine-reads.Learnt,
+) (term-at t) term.Post term-Inv-loop term-μ-loop
+term-enum-known-first t c = search needs
+
+term-enum-told : (t : ℕ) → term-lts.Need-enum-told (
+  factor-below t,
+  factor.Post,
+  skip-blanks-reads.Asked,
+  skip-blanks-reads.Learnt,
+  byte-at-reads.Asked,
+  byte-at-reads.Learnt,
+  is-times-reads.Asked,
+  is-times-reads.Learnt,
+  combine-reads.Asked,
+  combine-reads.Learnt,
+) (term-at t) term.Post term-Inv-loop term-μ-loop
+term-enum-told t c = search needs
+
+term-returns : (t : ℕ) → term-lts.Need-returns (
+  factor-below t,
+  factor.Post,
+  skip-blanks-reads.Asked,
+  skip-blanks-reads.Learnt,
+  byte-at-reads.Asked,
+  byte-at-reads.Learnt,
+  is-times-reads.Asked,
+  is-times-reads.Learnt,
+  combine-reads.Asked,
+  combine-reads.Learnt,
+) (term-at t) term.Post term-Inv-loop term-μ-loop
+unfolding termOf
+term-returns t c =
+    let c2 = c .before .before in
+    let c7 = c2 .before .before .before .before .before in
+    let a = c7 .args in
+    let s = a .s .now in
+    let f = lookUpAt (a .source .now) (a .places .now) (a .keys .now) (a .values .now) in
+    going-none f times? (factorOf (a .left) s) s (a .at) (sym (c2 .factor .ensures) ∙ c .enum-told .given .1)
+
+term-loop-holds : (t : ℕ) → term-lts.Need-loop-holds (
+  factor-below t,
+  factor.Post,
+  skip-blanks-reads.Asked,
+  skip-blanks-reads.Learnt,
+  byte-at-reads.Asked,
+  byte-at-reads.Learnt,
+  is-times-reads.Asked,
+  is-times-reads.Learnt,
+  combine-reads.Asked,
+  combine-reads.Learnt,
+) (term-at t) term.Post term-Inv-loop term-μ-loop
+term-loop-holds t c =
+    let c3 = c .before .before .before in
+    let c8 = c3 .before .before .before .before .before in
+    let a = c8 .args in
+    let s = a .s .now in
+    let f = lookUpAt (a .source .now) (a .places .now) (a .keys .now) (a .values .now) in
+    let g = c .before .first .given in
+    going-start f times? (factorOf (a .left) s) s (a .at) (g .0 .1 .0) (g .0 .0) (reach-factor (a .left) s (a .at))
+    (sym (c3 .factor .ensures) ∙ g .1)
+
+term-skip-blanks-requires : (t : ℕ) → term-lts.Need-skip-blanks-requires (
+  factor-below t,
+  factor.Post,
+  skip-blanks-reads.Asked,
+  skip-blanks-reads.Learnt,
+  byte-at-reads.Asked,
+  byte-at-reads.Learnt,
+  is-times-reads.Asked,
+  is-times-reads.Learnt,
+  combine-reads.Asked,
+  combine-reads.Learnt,
+) (term-at t) term.Post term-Inv-loop term-μ-loop
+term-skip-blanks-requires t c κs = search needs
+
+term-byte-at-requires : (t : ℕ) → term-lts.Need-byte-at-requires (
+  factor-below t,
+  factor.Post,
+  skip-blanks-reads.Asked,
+  skip-blanks-reads.Learnt,
+  byte-at-reads.Asked,
+  byte-at-reads.Learnt,
+  is-times-reads.Asked,
+  is-times-reads.Learnt,
+  combine-reads.Asked,
+  combine-reads.Learnt,
+) (term-at t) term.Post term-Inv-loop term-μ-loop
+term-byte-at-requires t c κs = search needs
+
+term-is-times-requires : (t : ℕ) → term-lts.Need-is-times-requires (
+  factor-below t,
+  factor.Post,
+  skip-blanks-reads.Asked,
+  skip-blanks-reads.Learnt,
+  byte-at-reads.Asked,
+  byte-at-reads.Learnt,
+  is-times-reads.Asked,
+  is-times-reads.Learnt,
+  combine-reads.Asked,
+  combine-reads.Learnt,
+) (term-at t) term.Post term-Inv-loop term-μ-loop
+term-is-times-requires t c κs = search needs
+
+term-returns-2 : (t : ℕ) → term-lts.Need-returns-2 (
+  factor-below t,
+  factor.Post,
+  skip-blanks-reads.Asked,
+  skip-blanks-reads.Learnt,
+  byte-at-reads.Asked,
+  byte-at-reads.Learnt,
+  is-times-reads.Asked,
+  is-times-reads.Learnt,
+  combine-reads.Asked,
+  combine-reads.Learnt,
+) (term-at t) term.Post term-Inv-loop term-μ-loop
+unfolding termOf
+term-returns-2 t c =
+    let c2 = c .before .before in
+    let c3 = c2 .before in
+    let c4 = c3 .before in
+    let c13 = c4 .before .before .before .before .before .before .before .before .before in
+    let a = c13 .args in
+    let s = a .s .now in
+    let f = lookUpAt (a .source .now) (a .places .now) (a .keys .now) (a .values .now) in
+    let l = c4 .loop in
+    turn-stop f times? (factorOf (a .left) s) s (l .next) (c3 .skip-blanks .result) (c2 .byte-at .result) (l .value)
+    (answerOf f (partsOf times? (factorOf (a .left) s) s (a .at))) (c3 .skip-blanks .ensures) (c2 .byte-at .ensures) (l .inv)
+    (sym (c .before .is-times .ensures) ∙ not-true _ (c .if1 .taken))
+
+term-add-factor : (t : ℕ) → term-lts.Need-add-factor (
+  factor-below t,
+  factor.Post,
+  skip-blanks-reads.Asked,
+  skip-blanks-reads.Learnt,
+  byte-at-reads.Asked,
+  byte-at-reads.Learnt,
+  is-times-reads.Asked,
+  is-times-reads.Learnt,
+  combine-reads.Asked,
+  combine-reads.Learnt,
+) (term-at t) term.Post term-Inv-loop term-μ-loop
+term-add-factor t c =
+    let c2 = c .before .before in
+    let c3 = c2 .before in
+    let c13 = c3 .before .before .before .before .before .before .before .before .before .before in
+    let a = c13 .args in
+    let s = a .s .now in
+    let f = lookUpAt (a .source .now) (a .places .now) (a .keys .now) (a .values .now) in
+    let h = going-sign f times? (factorOf (a .left) s) s times-zero (c3 .skip-blanks .result)
+    (ap times? (sym (c2 .byte-at .ensures)) ∙ sym (c .before .is-times .ensures) ∙ not-false _ (c .if1 .left)) in
+    omega arith
+
+term-factor-requires-2 : (t : ℕ) → term-lts.Need-factor-requires-2 (
+  factor-below t,
+  factor.Post,
+  skip-blanks-reads.Asked,
+  skip-blanks-reads.Learnt,
+  byte-at-reads.Asked,
+  byte-at-reads.Learnt,
+  is-times-reads.Asked,
+  is-times-reads.Learnt,
+  combine-reads.Asked,
+  combine-reads.Learnt,
+) (term-at t) term.Post term-Inv-loop term-μ-loop
+term-factor-requires-2 t c κs =
+    let c13 = c .before .before .before .before .before .before .before .before .before .before .before .before .before in
+    (omega (arith, c13 .pre .0), tt)
+
+term-enum-known-part : (t : ℕ) → term-lts.Need-enum-known-part (
+  factor-below t,
+  factor.Post,
+  skip-blanks-reads.Asked,
+  skip-blanks-reads.Learnt,
+  byte-at-reads.Asked,
+  byte-at-reads.Learnt,
+  is-times-reads.Asked,
+  is-times-reads.Learnt,
+  combine-reads.Asked,
+  combine-reads.Learnt,
+) (term-at t) term.Post term-Inv-loop term-μ-loop
+term-enum-known-part t c = search needs
+
+term-enum-told-2 : (t : ℕ) → term-lts.Need-enum-told-2 (
+  factor-below t,
+  factor.Post,
+  skip-blanks-reads.Asked,
+  skip-blanks-reads.Learnt,
+  byte-at-reads.Asked,
+  byte-at-reads.Learnt,
+  is-times-reads.Asked,
+  is-times-reads.Learnt,
+  combine-reads.Asked,
+  combine-reads.Learnt,
+) (term-at t) term.Post term-Inv-loop term-μ-loop
+term-enum-told-2 t c = search needs
+
+term-returns-3 : (t : ℕ) → term-lts.Need-returns-3 (
+  factor-below t,
+  factor.Post,
+  skip-blanks-reads.Asked,
+  skip-blanks-reads.Learnt,
+  byte-at-reads.Asked,
+  byte-at-reads.Learnt,
+  is-times-reads.Asked,
+  is-times-reads.Learnt,
+  combine-reads.Asked,
+  combine-reads.Learnt,
+) (term-at t) term.Post term-Inv-loop term-μ-loop
+unfolding termOf
+term-returns-3 t c =
+    let c2 = c .before .before in
+    let c3 = c2 .before in
+    let c4 = c3 .before in
+    let c5 = c4 .before in
+    let c6 = c5 .before in
+    let c7 = c6 .before in
+    let c16 = c7 .before .before .before .before .before .before .before .before .before in
+    let a = c16 .args in
+    let s = a .s .now in
+    let f = lookUpAt (a .source .now) (a .places .now) (a .keys .now) (a .values .now) in
+    let l = c7 .loop in
+    turn-fail f times? (factorOf (a .left) s) s times-zero (l .next) (c6 .skip-blanks .result) (c5 .byte-at .result) (l .value)
+    (answerOf f (partsOf times? (factorOf (a .left) s) s (a .at))) (c6 .skip-blanks .ensures) (c5 .byte-at .ensures) (l .inv)
+    (sym (c4 .is-times .ensures) ∙ not-false _ (c3 .if1 .left)) (sym (c2 .factor2 .ensures) ∙ c .enum-told2 .given .1)
+
+term-combine-requires : (t : ℕ) → term-lts.Need-combine-requires (
+  factor-below t,
+  factor.Post,
+  skip-blanks-reads.Asked,
+  skip-blanks-reads.Learnt,
+  byte-at-reads.Asked,
+  byte-at-reads.Learnt,
+  is-times-reads.Asked,
+  is-times-reads.Learnt,
+  combine-reads.Asked,
+  combine-reads.Learnt,
+) (term-at t) term.Post term-Inv-loop term-μ-loop
+term-combine-requires t c κs = search needs
+
+term-loop-less : (t : ℕ) → term-lts.Need-loop-less (
+  factor-below t,
+  factor.Post,
+  skip-blanks-reads.Asked,
+  skip-blanks-reads.Learnt,
+  byte-at-reads.Asked,
+  byte-at-reads.Learnt,
+  is-times-reads.Asked,
+  is-times-reads.Learnt,
+  combine-reads.Asked,
+  combine-reads.Learnt,
+) (term-at t) term.Post term-Inv-loop term-μ-loop
+term-loop-less t c =
+    let c2 = c .before .before in
+    let c4 = c2 .before .before in
+    let c8 = c4 .before .before .before .before in
+    let c9 = c8 .before in
+    let c18 = c9 .before .before .before .before .before .before .before .before .before in
+    let a = c18 .args in
+    let s = a .s .now in
+    let f = lookUpAt (a .source .now) (a .places .now) (a .keys .now) (a .values .now) in
+    let q = c8 .skip-blanks .result in
+    let g = c2 .part .given in
+    let h = going-ahead f times? (factorOf (a .left) s) s (c9 .loop .next) q (g .0 .1 .0) (g .0 .0) (c8 .skip-blanks .ensures)
+    (reach-factor (a .left) s (q + 1))
+    (sym (c4 .factor2 .ensures) ∙ g .1) in
+    omega (arith, h .0, h .1)
+
+term-loop-again : (t : ℕ) → term-lts.Need-loop-again (
+  factor-below t,
+  factor.Post,
+  skip-blanks-reads.Asked,
+  skip-blanks-reads.Learnt,
+  byte-at-reads.Asked,
+  byte-at-reads.Learnt,
+  is-times-reads.Asked,
+  is-times-reads.Learnt,
+  combine-reads.Asked,
+  combine-reads.Learnt,
+) (term-at t) term.Post term-Inv-loop term-μ-loop
+term-loop-again t c =
+    let c2 = c .before .before in
+    let c4 = c2 .before .before in
+    let c5 = c4 .before in
+    let c6 = c5 .before in
+    let c7 = c6 .before in
+    let c8 = c7 .before in
+    let c9 = c8 .before in
+    let c18 = c9 .before .before .before .before .before .before .before .before .before in
+    let a = c18 .args in
+    let s = a .s .now in
+    let f = lookUpAt (a .source .now) (a .places .now) (a .keys .now) (a .values .now) in
+    let q = c8 .skip-blanks .result in
+    let g = c2 .part .given in
+    let l = c9 .loop in
+    subst (λ (x : Value). Going f times? (factorOf (a .left) s) s x (g .0 .1 .0)
+    (answerOf f (partsOf times? (factorOf (a .left) s) s (a .at)))) (sym (c .combine .ensures))
+    (turn-more f times? (factorOf (a .left) s) s times-zero (l .next) q (c7 .byte-at .result) (g .0 .1 .0) (l .value) (g .0 .0)
+    (answerOf f (partsOf times? (factorOf (a .left) s) s (a .at))) (c8 .skip-blanks .ensures) (c7 .byte-at .ensures) (l .inv)
+    (sym (c6 .is-times .ensures) ∙ not-false _ (c5 .if1 .left)) (reach-factor (a .left) s (q + 1)) (sym (c4 .factor2 .ensures) ∙ g .1))
+
+pub +expression+factor+term-spec : {M : Type 1} → statement M
++expression+factor+term-spec = close μ-expression μ-factor μ-term (λ t. expression-lts.spec (
+  term-below t,
+  term.Post,
+  skip-blanks-reads.Asked,
+  skip-blanks-reads.Learnt,
+  byte-at-reads.Asked,
+  byte-at-reads.Learnt,
+  is-plus-reads.Asked,
+  is-plus-reads.Learnt,
+  combine-reads.Asked,
+  combine-reads.Learnt,
+)
+    (expression-at t)
+    expression.Post
+    expression-Inv-loop
+    expression-μ-loop
+    (expression-term-requires t)
+    (expression-enum-known-first t)
+    (expression-enum-told t)
+    (expression-returns t)
+    (expression-loop-holds t)
+    (expression-skip-blanks-requires t)
+    (expression-byte-at-requires t)
+    (expression-is-plus-requires t)
+    (expression-returns-2 t)
+    (expression-add-term t)
+    (expression-term-requires-2 t)
+    (expression-enum-known-part t)
+    (expression-enum-told-2 t)
+    (expression-returns-3 t)
+    (expression-combine-requires t)
+    (expression-loop-less t)
+    (expression-loop-again t))
+    (λ t. factor-lts.spec (
+      skip-blanks-reads.Asked,
+      skip-blanks-reads.Learnt,
+      byte-at-reads.Asked,
+      byte-at-reads.Learnt,
+      expression-below t,
+      expression.Post,
+      close-reads.Asked,
+      close-reads.Learnt,
+      plain-reads.Asked,
+      plain-reads.Learnt,
+    )
+    (factor-at t)
+    factor.Post
+    (factor-skip-blanks-requires t)
+    (factor-byte-at-requires t)
+    (factor-returns t)
+    (factor-add-expression t)
+    (factor-sub-expression t)
+    (factor-expression-requires t)
+    (factor-close-requires t)
+    (factor-returns-2 t)
+    (factor-plain-requires t)
+    (factor-returns-3 t))
+    λ t. term-lts.spec (
+      factor-below t,
+      factor.Post,
+      skip-blanks-reads.Asked,
+      skip-blanks-reads.Learnt,
+      byte-at-reads.Asked,
+      byte-at-reads.Learnt,
+      is-times-reads.Asked,
+      is-times-reads.Learnt,
+      combine-reads.Asked,
+      combine-reads.Learnt,
+    )
+    (term-at t)
+    term.Post
+    term-Inv-loop
+    term-μ-loop
+    (term-factor-requires t)
+    (term-enum-known-first t)
+    (term-enum-told t)
+    (term-returns t)
+    (term-loop-holds t)
+    (term-skip-blanks-requires t)
+    (term-byte-at-requires t)
+    (term-is-times-requires t)
+    (term-returns-2 t)
+    (term-add-factor t)
+    (term-factor-requires-2 t)
+    (term-enum-known-part t)
+    (term-enum-told-2 t)
+    (term-returns-3 t)
+    (term-combine-requires t)
+    (term-loop-less t)
+    (term-loop-again t)

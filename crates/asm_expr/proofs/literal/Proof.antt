@@ -1,0 +1,54 @@
+use Rattle.asm_value.specs.declared.Value.the-variants.{Unknown}
+use Rattle.asm_expr.proofs.Laws.{digits-none, digits-some}
+use mathlib.Core.Path.{_≡_, refl, sym, ap, _∙_}
+use native.Mathlib.Omega.{arith}
+use borrow.Author.Needs.{needs}
+use Rattle.asm_expr.proofs.literal.Statement.{statement}
+use Rattle.asm_expr.proofs.literal.Tie as tie
+use Rattle.asm_expr.proofs.literal.Reads as reads
+use Rattle.asm_expr.proofs.literal.Lts as lts
+use Rattle.asm_text.proofs.byte_at.Reads as byte-at-reads
+use Rattle.asm_text.proofs.digit.Reads as digit-reads
+use Rattle.asm_text.proofs.read_digits.Reads as read-digits-reads
+use Rattle.asm_value.proofs.number.Reads as number-reads
+
+byte-at-requires : tie.Need-byte-at-requires
+byte-at-requires c κs = search needs
+
+digit-requires : tie.Need-digit-requires
+digit-requires c κs = search needs
+
+returns : tie.Need-returns
+returns c =
+    let c2 = c .before .before in
+    let c4 = c2 .before .before in
+    digits-none (λ _. Unknown) (c4 .args .negative) (c4 .args .base) (c4 .args .s .now) (c4 .args .at) (c2 .byte-at .result)
+    (c .before .digit .result) (c2 .byte-at .ensures) (c .before .digit .ensures .0) (c .if1 .taken)
+
+read-digits-requires : tie.Need-read-digits-requires
+read-digits-requires c κs = search needs
+
+number-requires : tie.Need-number-requires
+number-requires c κs = search needs
+
+returns-2 : tie.Need-returns-2
+returns-2 c =
+    let c2 = c .before .before in
+    let c3 = c2 .before in
+    let c4 = c3 .before in
+    let c6 = c4 .before .before in
+    digits-some (λ _. Unknown) (c6 .args .negative) (c6 .args .base) (c6 .args .s .now) (c6 .args .at) (c4 .byte-at .result)
+    (c3 .digit .result) (c .before .read-digits .result .size) (c .before .read-digits .result .next) (c .number .result)
+    (c4 .byte-at .ensures) (c3 .digit .ensures .0) (c2 .if1 .left) (c .before .read-digits .ensures .0)
+    (c .before .read-digits .ensures .1) (c .number .ensures)
+
+pub literal-spec : {M : Type 1} → statement M
+literal-spec =
+    tie.close
+    (tie.spec
+    byte-at-requires
+    digit-requires
+    returns
+    read-digits-requires
+    number-requires
+    returns-2)

@@ -1,0 +1,60 @@
+use Rattle.asm_fits.specs.Fits.{mapFit, fitOf, byteFit, wordFit, constantFit, constantNumber, immediateFit}
+use Rattle.asm_fits.proofs.Laws.{branch-number, branch-unknown, branch-outside}
+use borrow.Author.Needs.{needs}
+use Rattle.asm_fits.proofs.branch.Statement.{statement}
+use Rattle.asm_fits.proofs.branch.Tie as tie
+use Rattle.asm_fits.proofs.branch.Reads as reads
+use Rattle.asm_fits.proofs.branch.Lts as lts
+use Rattle.asm_fits.proofs.steps.Reads as steps-reads
+use Rattle.asm_fits.proofs.way.Reads as way-reads
+use Rattle.asm_fits.proofs.word.Reads as word-reads
+
+-- src/lib.rt:212:11
+word-requires : tie.Need-word-requires
+word-requires c κs = search needs
+
+-- src/lib.rt:213:21
+enum-known-n : tie.Need-enum-known-n
+enum-known-n c = search needs
+
+-- src/lib.rt:213:39
+way-requires : tie.Need-way-requires
+way-requires c κs = search needs
+
+-- src/lib.rt:213:27
+steps-requires : tie.Need-steps-requires
+steps-requires c κs = search needs
+
+-- src/lib.rt:214:25
+enum-told : tie.Need-enum-told
+enum-told c = search needs
+
+-- src/lib.rt:215:25
+enum-told-2 : tie.Need-enum-told-2
+enum-told-2 c = search needs
+
+-- src/lib.rt:207:1
+returns : tie.Need-returns
+returns c = (branch-number (c .before .before .before .before .before .before .args .half) (c .before .before .before .before .before .before .args .p) (c .before .before .before .before .before .word .result) (wordFit (c .before .before .before .before .before .before .args .v)) (c .before .before .before .before .before .word .ensures) (c .before .before .before .n .given .0 .0) (c .before .way .result) (c .steps .result) (c .before .before .before .n .given .1) (c .before .way .ensures .0) (c .steps .ensures .0), c .steps .ensures .1)
+
+-- src/lib.rt:207:1
+returns-2 : tie.Need-returns-2
+returns-2 c = (branch-unknown (c .before .before .before .args .half) (c .before .before .before .args .p) (c .before .before .word .result) (wordFit (c .before .before .before .args .v)) (c .before .before .word .ensures) (c .enum-told .given .1), tt)
+
+-- src/lib.rt:207:1
+returns-3 : tie.Need-returns-3
+returns-3 c = (branch-outside (c .before .before .before .args .half) (c .before .before .before .args .p) (c .before .before .word .result) (wordFit (c .before .before .before .args .v)) (c .before .before .word .ensures) (c .enum-told2 .given .1), tt)
+
+pub branch-spec : {M : Type 1} → statement M
+branch-spec =
+    tie.close
+    (tie.spec
+    word-requires
+    enum-known-n
+    way-requires
+    steps-requires
+    enum-told
+    enum-told-2
+    returns
+    returns-2
+    returns-3)

@@ -1,0 +1,19 @@
+use Rattle.asm_fits.proofs.Laws.{below-at, count-below}
+use Rattle.asm_fits.specs.Fits.{mapFit, fitOf, byteFit, wordFit, constantFit, constantNumber, immediateFit}
+use borrow.Author.Needs.{needs}
+use Rattle.asm_fits.proofs.count.Statement.{statement}
+use Rattle.asm_fits.proofs.count.Tie as tie
+use Rattle.asm_fits.proofs.count.Reads as reads
+use Rattle.asm_fits.proofs.count.Lts as lts
+use Rattle.asm_fits.proofs.ranged.Reads as ranged-reads
+
+-- src/lib.rt:108:5
+ranged-requires : tie.Need-ranged-requires
+ranged-requires c κs = search needs
+
+-- src/lib.rt:104:1
+returns : tie.Need-returns
+returns c = (c .ranged .ensures, below-at (c .before .args .limit) (c .ranged .result) (fitOf 0 (c .before .args .limit) (c .before .args .v)) (c .ranged .ensures) (count-below (c .before .args .limit) (c .before .args .v)))
+
+pub count-spec : {M : Type 1} → statement M
+count-spec = tie.close (tie.spec ranged-requires returns)

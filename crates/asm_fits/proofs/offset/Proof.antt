@@ -1,0 +1,44 @@
+use Rattle.asm_fits.specs.Fits.{mapFit}
+use mathlib.Core.Path.{ap, _∙_}
+use native.Mathlib.Omega.{arith}
+use Prim.Native.Nat.{ℕ, _+_, _-_, _/_, _%_}
+use Rattle.asm_fits.proofs.Laws.{map-number, map-unknown, map-outside}
+use borrow.Author.Needs.{needs}
+use Rattle.asm_fits.proofs.offset.Statement.{statement}
+use Rattle.asm_fits.proofs.offset.Tie as tie
+use Rattle.asm_fits.proofs.offset.Reads as reads
+use Rattle.asm_fits.proofs.offset.Lts as lts
+use Rattle.asm_fits.proofs.ranged.Reads as ranged-reads
+
+-- src/lib.rt:116:11
+ranged-requires : tie.Need-ranged-requires
+ranged-requires c κs = search needs
+
+-- src/lib.rt:117:21
+enum-known-n : tie.Need-enum-known-n
+enum-known-n c = search needs
+
+-- src/lib.rt:118:25
+enum-told : tie.Need-enum-told
+enum-told c = search needs
+
+-- src/lib.rt:119:25
+enum-told-2 : tie.Need-enum-told-2
+enum-told-2 c = search needs
+
+-- src/lib.rt:112:1
+returns : tie.Need-returns
+returns c = (map-number (λ (n : ℕ). n % 128) (c .before .before .before .ranged .result) (c .before .n .given .0 .0) (c .before .n .given .1) ∙ ap (mapFit (λ (n : ℕ). n % 128)) (c .before .before .before .ranged .ensures), omega arith)
+
+-- src/lib.rt:112:1
+returns-2 : tie.Need-returns-2
+returns-2 c = (map-unknown (λ (n : ℕ). n % 128) (c .before .before .ranged .result) (c .enum-told .given .1) ∙ ap (mapFit (λ (n : ℕ). n % 128)) (c .before .before .ranged .ensures), tt)
+
+-- src/lib.rt:112:1
+returns-3 : tie.Need-returns-3
+returns-3 c = (map-outside (λ (n : ℕ). n % 128) (c .before .before .ranged .result) (c .enum-told2 .given .1) ∙ ap (mapFit (λ (n : ℕ). n % 128)) (c .before .before .ranged .ensures), tt)
+
+pub offset-spec : {M : Type 1} → statement M
+offset-spec =
+    tie.close
+    (tie.spec ranged-requires enum-known-n enum-told enum-told-2 returns returns-2 returns-3)

@@ -1,0 +1,30 @@
+use Rattle.asm_fits.proofs.Signed.{residue-minus, residue-plus, is-minus, is-plus}
+use borrow.Author.Needs.{needs}
+use Rattle.asm_fits.proofs.residue.Statement.{statement}
+use Rattle.asm_fits.proofs.residue.Tie as tie
+use Rattle.asm_fits.proofs.residue.Reads as reads
+use Rattle.asm_fits.proofs.residue.Lts as lts
+use Rattle.asm_fits.proofs.magnitude.Reads as magnitude-reads
+
+-- src/lib.rt:31:14
+magnitude-requires : tie.Need-magnitude-requires
+magnitude-requires c κs = search needs
+
+-- src/lib.rt:31:13
+cast-n : tie.Need-cast-n
+cast-n c = search needs
+
+-- src/lib.rt:33:16
+sub-result : tie.Need-sub-result
+sub-result c = search needs
+
+-- src/lib.rt:33:9
+returns : tie.Need-returns
+returns c = residue-minus (c .before .before .args .z) (c .before .magnitude .result) (is-minus (c .before .before .args .z) (c .before .before .fits .z) (c .before .magnitude .result) (c .before .magnitude .ensures) (c .if1 .taken))
+
+-- src/lib.rt:28:1
+returns-2 : tie.Need-returns-2
+returns-2 c = residue-plus (c .before .before .args .z) (c .before .magnitude .result) (is-plus (c .before .before .args .z) (c .before .before .fits .z) (c .before .magnitude .result) (c .before .magnitude .ensures) (c .if1 .left))
+
+pub residue-spec : {M : Type 1} → statement M
+residue-spec = tie.close (tie.spec magnitude-requires cast-n sub-result returns returns-2)

@@ -1,0 +1,22 @@
+use Rattle.asm_fits.proofs.Signed.{within-minus, within-plus, is-minus, is-plus}
+use borrow.Author.Needs.{needs}
+use Rattle.asm_fits.proofs.within.Statement.{statement}
+use Rattle.asm_fits.proofs.within.Tie as tie
+use Rattle.asm_fits.proofs.within.Reads as reads
+use Rattle.asm_fits.proofs.within.Lts as lts
+use Rattle.asm_fits.proofs.magnitude.Reads as magnitude-reads
+
+-- src/lib.rt:42:9
+magnitude-requires : tie.Need-magnitude-requires
+magnitude-requires c κs = search needs
+
+-- src/lib.rt:44:9
+returns : tie.Need-returns
+returns c = within-minus (c .before .before .args .below) (c .before .before .args .limit) (c .before .before .args .z) (c .before .magnitude .result) (is-minus (c .before .before .args .z) (c .before .before .fits .z) (c .before .magnitude .result) (c .before .magnitude .ensures) (c .if1 .taken))
+
+-- src/lib.rt:39:1
+returns-2 : tie.Need-returns-2
+returns-2 c = within-plus (c .before .before .args .below) (c .before .before .args .limit) (c .before .before .args .z) (c .before .magnitude .result) (is-plus (c .before .before .args .z) (c .before .before .fits .z) (c .before .magnitude .result) (c .before .magnitude .ensures) (c .if1 .left))
+
+pub within-spec : {M : Type 1} → statement M
+within-spec = tie.close (tie.spec magnitude-requires returns returns-2)

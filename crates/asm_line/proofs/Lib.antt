@@ -1,0 +1,4 @@
+pub mod Laws
+pub mod Lawful
+pub mod Form
+pub mod Examples

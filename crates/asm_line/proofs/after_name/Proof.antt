@@ -1,0 +1,70 @@
+use mathlib.Core.Bool.{true}
+use mathlib.Core.Path.{_≡_, refl, sym, ap, _∙_}
+use lib.ListN.{drop}
+use Rattle.asm_text.specs.Text.{word, lookUpAt}
+use Rattle.asm_words.proofs.Laws.{number-of}
+use Rattle.asm_line.specs.Line.{ended}
+use Rattle.asm_line.proofs.Laws.{statement-there, name-alone, name-statement}
+use borrow.Author.Needs.{needs}
+use Rattle.asm_line.proofs.after_name.Statement.{statement}
+use Rattle.asm_line.proofs.after_name.Tie as tie
+use Rattle.asm_line.proofs.after_name.Reads as reads
+use Rattle.asm_line.proofs.after_name.Lts as lts
+use Rattle.asm_line.proofs.end_line.Reads as end-line-reads
+use Rattle.asm_line.proofs.read_statement.Reads as read-statement-reads
+use Rattle.asm_operands.proofs.is_over.Reads as is-over-reads
+use Rattle.asm_text.proofs.read_word.Reads as read-word-reads
+use Rattle.asm_words.proofs.word_number.Reads as word-number-reads
+
+is-over-requires : tie.Need-is-over-requires
+is-over-requires c κs = search needs
+
+returns : tie.Need-returns
+returns c =
+    let c6 = c .before .before .before .before .before .before in
+    let a = c6 .args in
+    let s = a .line .now in
+    let f = lookUpAt (a .source .now) (a .places .now) (a .keys .now) (a .values .now) in
+    name-alone f s (a .name) (a .at) (sym (c .before .is-over .ensures) ∙ c .if1 .taken)
+
+read-word-requires : tie.Need-read-word-requires
+read-word-requires c κs = search needs
+
+word-number-requires : tie.Need-word-number-requires
+word-number-requires c κs = search needs
+
+read-statement-requires : tie.Need-read-statement-requires
+read-statement-requires c κs = search needs
+
+end-line-requires : tie.Need-end-line-requires
+end-line-requires c κs = search needs
+
+returns-2 : tie.Need-returns-2
+returns-2 c =
+    let c2 = c .before .before in
+    let c3 = c2 .before in
+    let c4 = c3 .before in
+    let c5 = c4 .before in
+    let c10 = c5 .before .before .before .before .before in
+    let a = c10 .args in
+    let s = a .line .now in
+    let f = lookUpAt (a .source .now) (a .places .now) (a .keys .now) (a .values .now) in
+    let w = word (drop (a .at) s) in
+    let e = number-of w (c3 .read-word .result .spelled) (c2 .word-number .result) (c3 .read-word .ensures .1 .0)
+    (c2 .word-number .ensures) in
+    let x = statement-there f s true (a .at) (c2 .word-number .result) (c3 .read-word .result .next) (c .before .read-statement .result) e
+    (c3 .read-word .ensures .0) (c .before .read-statement .ensures) in
+    c .end-line .ensures ∙ ap (ended s true (a .name)) x
+    ∙ name-statement f s (a .name) (a .at) (sym (c5 .is-over .ensures) ∙ c4 .if1 .left)
+
+pub after-name-spec : {M : Type 1} → statement M
+after-name-spec =
+    tie.close
+    (tie.spec
+    is-over-requires
+    returns
+    read-word-requires
+    word-number-requires
+    read-statement-requires
+    end-line-requires
+    returns-2)

@@ -1,0 +1,133 @@
+use mathlib.Core.Path.{_≡_, sym, ap, _∙_}
+use borrow.Author.Tests.{lt-ltb, le-ltb}
+use Rattle.asm_line.specs.Statement.{loadRelative}
+use borrow.Author.Needs.{needs}
+use Rattle.asm_line.proofs.load_relative.Statement.{statement}
+use Rattle.asm_line.proofs.load_relative.Tie as tie
+use Rattle.asm_line.proofs.load_relative.Reads as reads
+use Rattle.asm_line.proofs.load_relative.Lts as lts
+use Rattle.asm_operands.proofs.comma_register.Reads as comma-register-reads
+use Rattle.asm_operands.proofs.comma_value.Reads as comma-value-reads
+use Rattle.asm_operands.proofs.read_register.Reads as read-register-reads
+use Rattle.asm_operands.proofs.read_width.Reads as read-width-reads
+
+read-width-requires : tie.Need-read-width-requires
+read-width-requires c κs = search needs
+
+enum-known-w : tie.Need-enum-known-w
+enum-known-w c = search needs
+
+enum-told : tie.Need-enum-told
+enum-told c = search needs
+
+returns : tie.Need-returns
+unfolding loadRelative
+returns c = rw (sym (c .before .before .read-width .ensures) ∙ c .enum-told .given .1)
+
+read-register-requires : tie.Need-read-register-requires
+read-register-requires c κs = search needs
+
+enum-known-a : tie.Need-enum-known-a
+enum-known-a c = search needs
+
+enum-told-2 : tie.Need-enum-told-2
+enum-told-2 c = search needs
+
+returns-2 : tie.Need-returns-2
+unfolding loadRelative
+returns-2 c =
+    let c2 = c .before .before in
+    let c4 = c2 .before .before in
+    let c6 = c4 .before .before in
+    rw (
+      sym (c6 .read-width .ensures) ∙ c4 .w .given .1,
+      sym (c2 .read-register .ensures) ∙ c .enum-told2 .given .1,
+    )
+
+comma-value-requires : tie.Need-comma-value-requires
+comma-value-requires c κs = search needs
+
+enum-known-o : tie.Need-enum-known-o
+enum-known-o c = search needs
+
+enum-told-3 : tie.Need-enum-told-3
+enum-told-3 c = search needs
+
+returns-3 : tie.Need-returns-3
+unfolding loadRelative
+returns-3 c =
+    let c2 = c .before .before in
+    let c4 = c2 .before .before in
+    let c6 = c4 .before .before in
+    let c8 = c6 .before .before in
+    let c10 = c8 .before .before in
+    rw (
+      sym (c10 .read-width .ensures) ∙ c8 .w .given .1,
+      sym (c6 .read-register .ensures) ∙ c4 .a .given .1,
+      sym (c2 .comma-value .ensures) ∙ c .enum-told3 .given .1,
+    )
+
+comma-register-requires : tie.Need-comma-register-requires
+comma-register-requires c κs = search needs
+
+enum-known-d : tie.Need-enum-known-d
+enum-known-d c = search needs
+
+enum-told-4 : tie.Need-enum-told-4
+enum-told-4 c = search needs
+
+returns-4 : tie.Need-returns-4
+unfolding loadRelative
+returns-4 c =
+    let c2 = c .before .before in
+    let c4 = c2 .before .before in
+    let c6 = c4 .before .before in
+    let c8 = c6 .before .before in
+    let c10 = c8 .before .before in
+    let c12 = c10 .before .before in
+    let c14 = c12 .before .before in
+    rw (
+      sym (c14 .read-width .ensures) ∙ c12 .w .given .1,
+      sym (c10 .read-register .ensures) ∙ c8 .a .given .1,
+      sym (c6 .comma-value .ensures) ∙ c4 .o .given .1,
+      sym (c2 .comma-register .ensures) ∙ c .enum-told4 .given .1,
+    )
+
+returns-5 : tie.Need-returns-5
+unfolding loadRelative
+returns-5 c =
+    let c3 = c .before .before .before in
+    let c5 = c3 .before .before in
+    let c7 = c5 .before .before in
+    let c9 = c7 .before .before in
+    let c11 = c9 .before .before in
+    let c13 = c11 .before .before in
+    let c15 = c13 .before .before in
+    rw (
+      sym (c15 .read-width .ensures) ∙ c13 .w .given .1,
+      sym (c11 .read-register .ensures) ∙ c9 .a .given .1,
+      sym (c7 .comma-value .ensures) ∙ c5 .o .given .1,
+      sym (c3 .comma-register .ensures) ∙ c .before .d .given .1,
+    )
+
+pub load-relative-spec : {M : Type 1} → statement M
+load-relative-spec =
+    tie.close
+    (tie.spec
+    read-width-requires
+    enum-known-w
+    enum-told
+    returns
+    read-register-requires
+    enum-known-a
+    enum-told-2
+    returns-2
+    comma-value-requires
+    enum-known-o
+    enum-told-3
+    returns-3
+    comma-register-requires
+    enum-known-d
+    enum-told-4
+    returns-4
+    returns-5)

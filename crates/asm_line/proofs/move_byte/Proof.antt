@@ -1,0 +1,79 @@
+use mathlib.Core.Path.{_≡_, sym, ap, _∙_}
+use borrow.Author.Tests.{lt-ltb, le-ltb}
+use Rattle.asm_line.specs.Statement.{moveByte}
+use Rattle.asm_operands.specs.Operands.{valueAt}
+use Rattle.asm_line.specs.declared.Stated.the-variants.{Fits}
+use Rattle.asm_line.specs.declared.Statement.the-variants.{MovImm}
+use borrow.Author.Needs.{needs}
+use Rattle.asm_line.proofs.move_byte.Statement.{statement}
+use Rattle.asm_line.proofs.move_byte.Tie as tie
+use Rattle.asm_line.proofs.move_byte.Reads as reads
+use Rattle.asm_line.proofs.move_byte.Lts as lts
+use Rattle.asm_expr.proofs.factor.Reads as factor-reads
+use Rattle.asm_operands.proofs.comma_register.Reads as comma-register-reads
+use Rattle.asm_operands.proofs.is_number.Reads as is-number-reads
+
+factor-requires : tie.Need-factor-requires
+factor-requires c κs = search needs
+
+enum-known-a : tie.Need-enum-known-a
+enum-known-a c = search needs
+
+enum-told : tie.Need-enum-told
+enum-told c = search needs
+
+returns : tie.Need-returns
+unfolding moveByte valueAt
+returns c = rw (sym (c .before .before .factor .ensures) ∙ c .enum-told .given .1)
+
+comma-register-requires : tie.Need-comma-register-requires
+comma-register-requires c κs = search needs
+
+enum-known-d : tie.Need-enum-known-d
+enum-known-d c = search needs
+
+enum-told-2 : tie.Need-enum-told-2
+enum-told-2 c = search needs
+
+returns-2 : tie.Need-returns-2
+unfolding moveByte valueAt
+returns-2 c =
+    let c2 = c .before .before in
+    let c4 = c2 .before .before in
+    let c6 = c4 .before .before in
+    rw (
+      sym (c6 .factor .ensures) ∙ c4 .a .given .1,
+      sym (c2 .comma-register .ensures) ∙ c .enum-told2 .given .1,
+    )
+
+is-number-requires : tie.Need-is-number-requires
+is-number-requires c κs = search needs
+
+returns-3 : tie.Need-returns-3
+unfolding moveByte valueAt
+returns-3 c =
+    let c2 = c .before .before in
+    let c4 = c2 .before .before in
+    let c6 = c4 .before .before in
+    let c8 = c6 .before .before in
+    let c13 = c8 .before .before .before .before .before in
+    rw (
+      sym (c8 .factor .ensures) ∙ c6 .a .given .1,
+      sym (c4 .comma-register .ensures) ∙ c2 .d .given .1,
+    )
+    (ap (λ x. Fits (MovImm (c13 .args .op) x (c6 .a .given .0 .0) (c2 .d .given .0 .0)) (c2 .d .given .0 .1 .0)) (c .is-number .ensures))
+
+pub move-byte-spec : {M : Type 1} → statement M
+move-byte-spec =
+    tie.close
+    (tie.spec
+    factor-requires
+    enum-known-a
+    enum-told
+    returns
+    comma-register-requires
+    enum-known-d
+    enum-told-2
+    returns-2
+    is-number-requires
+    returns-3)

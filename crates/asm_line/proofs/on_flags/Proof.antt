@@ -1,0 +1,48 @@
+use mathlib.Core.Path.{_≡_, sym, ap, _∙_}
+use borrow.Author.Tests.{lt-ltb, le-ltb}
+use Rattle.asm_line.specs.Statement.{onFlags}
+use borrow.Author.Needs.{needs}
+use Rattle.asm_line.proofs.on_flags.Statement.{statement}
+use Rattle.asm_line.proofs.on_flags.Tie as tie
+use Rattle.asm_line.proofs.on_flags.Reads as reads
+use Rattle.asm_line.proofs.on_flags.Lts as lts
+use Rattle.asm_operands.proofs.read_flags.Reads as read-flags-reads
+
+read-flags-requires : tie.Need-read-flags-requires
+read-flags-requires c κs = search needs
+
+enum-known-f : tie.Need-enum-known-f
+enum-known-f c = search needs
+
+enum-told : tie.Need-enum-told
+enum-told c = search needs
+
+returns : tie.Need-returns
+unfolding onFlags
+returns c = rw (sym (c .before .before .read-flags .ensures) ∙ c .enum-told .given .1)
+
+returns-2 : tie.Need-returns-2
+unfolding onFlags
+returns-2 c =
+    let c2 = c .before .before in
+    let c4 = c2 .before .before in
+    let c6 = c4 .before .before in
+    rw (
+      sym (c4 .read-flags .ensures) ∙ c2 .f .given .1,
+      lt-ltb (c6 .args .m) 32 (c .if1 .taken),
+    )
+
+returns-3 : tie.Need-returns-3
+unfolding onFlags
+returns-3 c =
+    let c2 = c .before .before in
+    let c4 = c2 .before .before in
+    let c6 = c4 .before .before in
+    rw (
+      sym (c4 .read-flags .ensures) ∙ c2 .f .given .1,
+      le-ltb (c6 .args .m) 32 (c .if1 .left),
+    )
+
+pub on-flags-spec : {M : Type 1} → statement M
+on-flags-spec =
+    tie.close (tie.spec read-flags-requires enum-known-f enum-told returns returns-2 returns-3)

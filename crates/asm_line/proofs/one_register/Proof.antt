@@ -1,0 +1,48 @@
+use mathlib.Core.Path.{_≡_, sym, ap, _∙_}
+use borrow.Author.Tests.{lt-ltb, le-ltb}
+use Rattle.asm_line.specs.Statement.{oneRegister}
+use borrow.Author.Needs.{needs}
+use Rattle.asm_line.proofs.one_register.Statement.{statement}
+use Rattle.asm_line.proofs.one_register.Tie as tie
+use Rattle.asm_line.proofs.one_register.Reads as reads
+use Rattle.asm_line.proofs.one_register.Lts as lts
+use Rattle.asm_operands.proofs.read_register.Reads as read-register-reads
+
+read-register-requires : tie.Need-read-register-requires
+read-register-requires c κs = search needs
+
+enum-known-d : tie.Need-enum-known-d
+enum-known-d c = search needs
+
+enum-told : tie.Need-enum-told
+enum-told c = search needs
+
+returns : tie.Need-returns
+unfolding oneRegister
+returns c = rw (sym (c .before .before .read-register .ensures) ∙ c .enum-told .given .1)
+
+returns-2 : tie.Need-returns-2
+unfolding oneRegister
+returns-2 c =
+    let c2 = c .before .before in
+    let c4 = c2 .before .before in
+    let c6 = c4 .before .before in
+    rw (
+      sym (c4 .read-register .ensures) ∙ c2 .d .given .1,
+      lt-ltb (c6 .args .m) 28 (c .if1 .taken),
+    )
+
+returns-3 : tie.Need-returns-3
+unfolding oneRegister
+returns-3 c =
+    let c2 = c .before .before in
+    let c4 = c2 .before .before in
+    let c6 = c4 .before .before in
+    rw (
+      sym (c4 .read-register .ensures) ∙ c2 .d .given .1,
+      le-ltb (c6 .args .m) 28 (c .if1 .left),
+    )
+
+pub one-register-spec : {M : Type 1} → statement M
+one-register-spec =
+    tie.close (tie.spec read-register-requires enum-known-d enum-told returns returns-2 returns-3)

@@ -1,0 +1,39 @@
+use mathlib.Core.Path.{_≡_, sym, ap, _∙_}
+use borrow.Author.Tests.{lt-ltb, le-ltb}
+use Rattle.asm_line.specs.Statement.{oneValue}
+use Rattle.asm_operands.specs.Operands.{valueAt}
+use Rattle.asm_line.specs.declared.Stated.the-variants.{Fits}
+use borrow.Author.Needs.{needs}
+use Rattle.asm_line.proofs.one_value.Statement.{statement}
+use Rattle.asm_line.proofs.one_value.Tie as tie
+use Rattle.asm_line.proofs.one_value.Reads as reads
+use Rattle.asm_line.proofs.one_value.Lts as lts
+use Rattle.asm_expr.proofs.factor.Reads as factor-reads
+use Rattle.asm_line.proofs.with_value.Reads as with-value-reads
+
+factor-requires : tie.Need-factor-requires
+factor-requires c κs = search needs
+
+enum-known-a : tie.Need-enum-known-a
+enum-known-a c = search needs
+
+enum-told : tie.Need-enum-told
+enum-told c = search needs
+
+returns : tie.Need-returns
+unfolding oneValue valueAt
+returns c = rw (sym (c .before .before .factor .ensures) ∙ c .enum-told .given .1)
+
+with-value-requires : tie.Need-with-value-requires
+with-value-requires c κs = search needs
+
+returns-2 : tie.Need-returns-2
+unfolding oneValue valueAt
+returns-2 c =
+    rw (sym (c .before .before .before .before .factor .ensures) ∙ c .before .before .a .given .1)
+    (ap (λ x. Fits x (c .before .before .a .given .0 .1 .0)) (c .with-value .ensures))
+
+pub one-value-spec : {M : Type 1} → statement M
+one-value-spec =
+    tie.close
+    (tie.spec factor-requires enum-known-a enum-told returns with-value-requires returns-2)

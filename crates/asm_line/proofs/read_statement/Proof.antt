@@ -1,0 +1,121 @@
+use borrow.Author.Tests.{lt-ltb, le-ltb}
+use borrow.Author.Tests.{eq-eqb, ne-eqb}
+use Rattle.asm_line.specs.Statement.{statementOf}
+use borrow.Author.Needs.{needs}
+use Rattle.asm_line.proofs.read_statement.Statement.{statement}
+use Rattle.asm_line.proofs.read_statement.Tie as tie
+use Rattle.asm_line.proofs.read_statement.Reads as reads
+use Rattle.asm_line.proofs.read_statement.Lts as lts
+use Rattle.asm_line.proofs.directive.Reads as directive-reads
+use Rattle.asm_line.proofs.on_control.Reads as on-control-reads
+use Rattle.asm_line.proofs.on_memory.Reads as on-memory-reads
+use Rattle.asm_line.proofs.on_registers.Reads as on-registers-reads
+use Rattle.asm_line.proofs.one_value.Reads as one-value-reads
+
+returns : tie.Need-returns
+unfolding statementOf
+returns c = rw (eq-eqb (c .before .before .before .before .before .args .m) 0 (c .if1 .taken))
+
+one-value-requires : tie.Need-one-value-requires
+one-value-requires c κs = search needs
+
+returns-2 : tie.Need-returns-2
+unfolding statementOf
+returns-2 c =
+    let c2 = c .before .before in
+    let c7 = c2 .before .before .before .before .before in
+    rw (
+      ne-eqb (c7 .args .m) 0 (c2 .if1 .left),
+      lt-ltb (c7 .args .m) 10 (c .before .if2 .taken),
+    )
+    (c .one-value .ensures)
+
+on-registers-requires : tie.Need-on-registers-requires
+on-registers-requires c κs = search needs
+
+returns-3 : tie.Need-returns-3
+unfolding statementOf
+returns-3 c =
+    let c2 = c .before .before in
+    let c3 = c2 .before in
+    let c8 = c3 .before .before .before .before .before in
+    rw (
+      ne-eqb (c8 .args .m) 0 (c3 .if1 .left),
+      le-ltb (c8 .args .m) 10 (c2 .if2 .left),
+      lt-ltb (c8 .args .m) 29 (c .before .if3 .taken),
+    )
+    (c .on-registers .ensures)
+
+on-control-requires : tie.Need-on-control-requires
+on-control-requires c κs = search needs
+
+returns-4 : tie.Need-returns-4
+unfolding statementOf
+returns-4 c =
+    let c2 = c .before .before in
+    let c3 = c2 .before in
+    let c4 = c3 .before in
+    let c9 = c4 .before .before .before .before .before in
+    rw (
+      ne-eqb (c9 .args .m) 0 (c4 .if1 .left),
+      le-ltb (c9 .args .m) 10 (c3 .if2 .left),
+      le-ltb (c9 .args .m) 29 (c2 .if3 .left),
+      lt-ltb (c9 .args .m) 34 (c .before .if4 .taken),
+    )
+    (c .on-control .ensures)
+
+on-memory-requires : tie.Need-on-memory-requires
+on-memory-requires c κs = search needs
+
+returns-5 : tie.Need-returns-5
+unfolding statementOf
+returns-5 c =
+    let c2 = c .before .before in
+    let c3 = c2 .before in
+    let c4 = c3 .before in
+    let c5 = c4 .before in
+    let c10 = c5 .before .before .before .before .before in
+    rw (
+      ne-eqb (c10 .args .m) 0 (c5 .if1 .left),
+      le-ltb (c10 .args .m) 10 (c4 .if2 .left),
+      le-ltb (c10 .args .m) 29 (c3 .if3 .left),
+      le-ltb (c10 .args .m) 34 (c2 .if4 .left),
+      lt-ltb (c10 .args .m) 42 (c .before .if5 .taken),
+    )
+    (c .on-memory .ensures)
+
+directive-requires : tie.Need-directive-requires
+directive-requires c κs = search needs
+
+returns-6 : tie.Need-returns-6
+unfolding statementOf
+returns-6 c =
+    let c2 = c .before .before in
+    let c3 = c2 .before in
+    let c4 = c3 .before in
+    let c5 = c4 .before in
+    let c10 = c5 .before .before .before .before .before in
+    rw (
+      ne-eqb (c10 .args .m) 0 (c5 .if1 .left),
+      le-ltb (c10 .args .m) 10 (c4 .if2 .left),
+      le-ltb (c10 .args .m) 29 (c3 .if3 .left),
+      le-ltb (c10 .args .m) 34 (c2 .if4 .left),
+      le-ltb (c10 .args .m) 42 (c .before .if5 .left),
+    )
+    (c .directive .ensures)
+
+pub read-statement-spec : {M : Type 1} → statement M
+read-statement-spec =
+    tie.close
+    (tie.spec
+    returns
+    one-value-requires
+    returns-2
+    on-registers-requires
+    returns-3
+    on-control-requires
+    returns-4
+    on-memory-requires
+    returns-5
+    directive-requires
+    returns-6)

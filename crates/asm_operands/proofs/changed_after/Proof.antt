@@ -1,0 +1,92 @@
+use mathlib.Core.Path.{_≡_, refl, sym, ap, _∙_}
+use native.Mathlib.Omega.{arith}
+use Rattle.asm_expr.proofs.Laws.{byte-is-in}
+use Rattle.asm_operands.specs.Operands.{changedAfter}
+use Rattle.asm_operands.proofs.Laws.{changed-plus, changed-minus, unchanged}
+use borrow.Author.Needs.{needs}
+use Rattle.asm_operands.proofs.changed_after.Statement.{statement}
+use Rattle.asm_operands.proofs.changed_after.Tie as tie
+use Rattle.asm_operands.proofs.changed_after.Reads as reads
+use Rattle.asm_operands.proofs.changed_after.Lts as lts
+use Rattle.asm_text.proofs.byte_at.Reads as byte-at-reads
+use Rattle.asm_text.proofs.skip_blanks.Reads as skip-blanks-reads
+
+enum-known-found : tie.Need-enum-known-found
+enum-known-found c = search needs
+
+enum-told : tie.Need-enum-told
+enum-told c = search needs
+
+returns : tie.Need-returns
+unfolding changedAfter
+returns c = sym (ap (changedAfter (c .before .before .before .args .line .now)) (c .enum-told .given .1))
+
+skip-blanks-requires : tie.Need-skip-blanks-requires
+skip-blanks-requires c κs = search needs
+
+byte-at-requires : tie.Need-byte-at-requires
+byte-at-requires c κs = search needs
+
+add-t8 : tie.Need-add-t8
+add-t8 c =
+    let c2 = c .before .before in
+    let c7 = c2 .before .before .before .before .before in
+    let h = byte-is-in (c7 .args .line .now) (c2 .skip-blanks .result) 42 (sym (c .before .byte-at .ensures) ∙ c .if1 .taken) in
+    omega arith
+
+returns-2 : tie.Need-returns-2
+returns-2 c =
+    let c2 = c .before .before in
+    let c4 = c2 .before .before in
+    let c7 = c4 .before .before .before in
+    let s = c7 .args .line .now in
+    let g = c4 .found .given in
+    changed-plus s (g .0 .1 .0) (c2 .skip-blanks .result) (c .before .byte-at .result) (c2 .skip-blanks .ensures)
+    (c .before .byte-at .ensures) (g .0 .0) (c .if1 .taken) ∙ sym (ap (changedAfter s) (g .1))
+
+add-t9 : tie.Need-add-t9
+add-t9 c =
+    let c2 = c .before .before in
+    let c3 = c2 .before in
+    let c8 = c3 .before .before .before .before .before in
+    let h = byte-is-in (c8 .args .line .now) (c3 .skip-blanks .result) 44 (sym (c2 .byte-at .ensures) ∙ c .if2 .taken) in
+    omega arith
+
+returns-3 : tie.Need-returns-3
+returns-3 c =
+    let c2 = c .before .before in
+    let c3 = c2 .before in
+    let c5 = c3 .before .before in
+    let c8 = c5 .before .before .before in
+    let s = c8 .args .line .now in
+    let g = c5 .found .given in
+    changed-minus s (g .0 .1 .0) (c3 .skip-blanks .result) (c2 .byte-at .result) (c3 .skip-blanks .ensures) (c2 .byte-at .ensures)
+    (g .0 .0) (c .before .if1 .left) (c .if2 .taken)
+    ∙ sym (ap (changedAfter s) (g .1))
+
+returns-4 : tie.Need-returns-4
+returns-4 c =
+    let c2 = c .before .before in
+    let c3 = c2 .before in
+    let c5 = c3 .before .before in
+    let c8 = c5 .before .before .before in
+    let s = c8 .args .line .now in
+    let g = c5 .found .given in
+    unchanged s (g .0 .1 .0) (c3 .skip-blanks .result) (c2 .byte-at .result) (c3 .skip-blanks .ensures) (c2 .byte-at .ensures) (g .0 .0)
+    (c .before .if1 .left) (c .if2 .left)
+    ∙ sym (ap (changedAfter s) (g .1))
+
+pub changed-after-spec : {M : Type 1} → statement M
+changed-after-spec =
+    tie.close
+    (tie.spec
+    enum-known-found
+    enum-told
+    returns
+    skip-blanks-requires
+    byte-at-requires
+    add-t8
+    returns-2
+    add-t9
+    returns-3
+    returns-4)

@@ -1,0 +1,61 @@
+use mathlib.Core.Path.{_≡_, refl, sym, ap, _∙_}
+use Prim.Native.Nat.{_+_}
+use native.Mathlib.Omega.{arith}
+use Rattle.asm_expr.proofs.Laws.{byte-is-in}
+use Rattle.asm_operands.specs.Operands.{comma?, commaAddress, addressAt}
+use Rattle.asm_operands.proofs.Laws.{is-comma, no-comma}
+use borrow.Author.Needs.{needs}
+use Rattle.asm_operands.proofs.comma_address.Statement.{statement}
+use Rattle.asm_operands.proofs.comma_address.Tie as tie
+use Rattle.asm_operands.proofs.comma_address.Reads as reads
+use Rattle.asm_operands.proofs.comma_address.Lts as lts
+use Rattle.asm_operands.proofs.read_address.Reads as read-address-reads
+use Rattle.asm_text.proofs.byte_at.Reads as byte-at-reads
+use Rattle.asm_text.proofs.skip_blanks.Reads as skip-blanks-reads
+
+skip-blanks-requires : tie.Need-skip-blanks-requires
+skip-blanks-requires c κs = search needs
+
+byte-at-requires : tie.Need-byte-at-requires
+byte-at-requires c κs = search needs
+
+add-read-address : tie.Need-add-read-address
+add-read-address c =
+    let c2 = c .before .before in
+    let c4 = c2 .before .before in
+    let h = byte-is-in (c4 .args .line .now) (c2 .skip-blanks .result) 43 (sym (c .before .byte-at .ensures) ∙ c .if1 .taken) in
+    omega arith
+
+read-address-requires : tie.Need-read-address-requires
+read-address-requires c κs = search needs
+
+returns : tie.Need-returns
+unfolding commaAddress
+returns c =
+    let c2 = c .before .before in
+    let c3 = c2 .before in
+    let c5 = c3 .before .before in
+    let a = c5 .args in
+    let s = a .line .now in
+    rw (is-comma s (a .at) (c3 .skip-blanks .result) (c2 .byte-at .result) (c3 .skip-blanks .ensures) (c2 .byte-at .ensures)
+    (c .before .if1 .taken))
+    (c .read-address .ensures ∙ ap (λ k. addressAt s (k + 1)) (c3 .skip-blanks .ensures))
+
+returns-2 : tie.Need-returns-2
+unfolding commaAddress
+returns-2 c =
+    let c2 = c .before .before in
+    let c4 = c2 .before .before in
+    rw (no-comma (c4 .args .line .now) (c4 .args .at) (c2 .skip-blanks .result) (c .before .byte-at .result) (c2 .skip-blanks .ensures)
+    (c .before .byte-at .ensures) (c .if1 .left))
+
+pub comma-address-spec : {M : Type 1} → statement M
+comma-address-spec =
+    tie.close
+    (tie.spec
+    skip-blanks-requires
+    byte-at-requires
+    add-read-address
+    read-address-requires
+    returns
+    returns-2)

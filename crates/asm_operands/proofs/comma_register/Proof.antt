@@ -1,0 +1,61 @@
+use mathlib.Core.Path.{_≡_, refl, sym, ap, _∙_}
+use Prim.Native.Nat.{_+_}
+use native.Mathlib.Omega.{arith}
+use Rattle.asm_expr.proofs.Laws.{byte-is-in}
+use Rattle.asm_operands.specs.Operands.{comma?, commaRegister, registerAt}
+use Rattle.asm_operands.proofs.Laws.{is-comma, no-comma}
+use borrow.Author.Needs.{needs}
+use Rattle.asm_operands.proofs.comma_register.Statement.{statement}
+use Rattle.asm_operands.proofs.comma_register.Tie as tie
+use Rattle.asm_operands.proofs.comma_register.Reads as reads
+use Rattle.asm_operands.proofs.comma_register.Lts as lts
+use Rattle.asm_operands.proofs.read_register.Reads as read-register-reads
+use Rattle.asm_text.proofs.byte_at.Reads as byte-at-reads
+use Rattle.asm_text.proofs.skip_blanks.Reads as skip-blanks-reads
+
+skip-blanks-requires : tie.Need-skip-blanks-requires
+skip-blanks-requires c κs = search needs
+
+byte-at-requires : tie.Need-byte-at-requires
+byte-at-requires c κs = search needs
+
+add-read-register : tie.Need-add-read-register
+add-read-register c =
+    let c2 = c .before .before in
+    let c4 = c2 .before .before in
+    let h = byte-is-in (c4 .args .line .now) (c2 .skip-blanks .result) 43 (sym (c .before .byte-at .ensures) ∙ c .if1 .taken) in
+    omega arith
+
+read-register-requires : tie.Need-read-register-requires
+read-register-requires c κs = search needs
+
+returns : tie.Need-returns
+unfolding commaRegister
+returns c =
+    let c2 = c .before .before in
+    let c3 = c2 .before in
+    let c5 = c3 .before .before in
+    let a = c5 .args in
+    let s = a .line .now in
+    rw (is-comma s (a .at) (c3 .skip-blanks .result) (c2 .byte-at .result) (c3 .skip-blanks .ensures) (c2 .byte-at .ensures)
+    (c .before .if1 .taken))
+    (c .read-register .ensures ∙ ap (λ k. registerAt s (k + 1)) (c3 .skip-blanks .ensures))
+
+returns-2 : tie.Need-returns-2
+unfolding commaRegister
+returns-2 c =
+    let c2 = c .before .before in
+    let c4 = c2 .before .before in
+    rw (no-comma (c4 .args .line .now) (c4 .args .at) (c2 .skip-blanks .result) (c .before .byte-at .result) (c2 .skip-blanks .ensures)
+    (c .before .byte-at .ensures) (c .if1 .left))
+
+pub comma-register-spec : {M : Type 1} → statement M
+comma-register-spec =
+    tie.close
+    (tie.spec
+    skip-blanks-requires
+    byte-at-requires
+    add-read-register
+    read-register-requires
+    returns
+    returns-2)

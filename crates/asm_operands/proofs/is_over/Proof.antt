@@ -1,0 +1,21 @@
+use borrow.Author.Tests.{le-leb, lt-leb}
+use Rattle.asm_operands.specs.Operands.{over?}
+use borrow.Author.Needs.{needs}
+use Rattle.asm_operands.proofs.is_over.Statement.{statement}
+use Rattle.asm_operands.proofs.is_over.Tie as tie
+use Rattle.asm_operands.proofs.is_over.Reads as reads
+use Rattle.asm_operands.proofs.is_over.Lts as lts
+
+returns : tie.Need-returns
+unfolding over?
+returns c = simp (le-leb _ _ (c .if1 .taken))
+
+shared-slice-read-result : tie.Need-shared-slice-read-result
+shared-slice-read-result c = search needs
+
+returns-2 : tie.Need-returns-2
+unfolding over?
+returns-2 c = simp (lt-leb _ _ (c .before .if1 .left))
+
+pub is-over-spec : {M : Type 1} → statement M
+is-over-spec = tie.close (tie.spec returns shared-slice-read-result returns-2)

@@ -1,0 +1,3 @@
+pub mod Names
+pub mod Named
+pub mod Laws

@@ -1,0 +1,87 @@
+use Rattle.asm_sweeps.proofs.Laws.{form-fault, form-end, form-more, form-last}
+use Rattle.asm_sweeps.specs.Form.{formFrom, formOf}
+use Rattle.lines.specs.Lines.{linesOf}
+use lib.ListN.{length, drop, take, set}
+use borrow.Author.Needs.{needs}
+use native.Mathlib.Omega.{arith}
+use Prim.Native.Nat.{ℕ, _+_, _-_, _≤_, _<_}
+use mathlib.Core.Path.{_≡_, refl, sym, ap, _∙_}
+use Rattle.asm_sweeps.proofs.form.Statement.{statement}
+use Rattle.asm_sweeps.proofs.form.Tie as tie
+use Rattle.asm_sweeps.proofs.form.Reads as reads
+use Rattle.asm_sweeps.proofs.form.Lts as lts
+use Rattle.asm_sweeps.proofs.form_line.Reads as form-line-reads
+use Rattle.lines.proofs.line_at.Reads as line-at-reads
+
+abbrev Inv-loop : tie.InvT-loop
+Inv-loop source at₀ number₀ at number = (at ≤ length source) × (number ≤ at + 1) × (formFrom number (linesOf (drop at source)) ≡ formOf source)
+
+abbrev μ-loop : tie.MeasureT-loop
+μ-loop source at₀ number₀ at number = length source - at
+
+-- src/lib.rt:189:5
+loop-holds : tie.Need-loop-holds Inv-loop μ-loop
+loop-holds c = (omega arith, omega arith, refl)
+
+-- src/lib.rt:190:13
+line-at-requires : tie.Need-line-at-requires Inv-loop μ-loop
+line-at-requires c κs = omega arith
+
+-- src/lib.rt:193:20
+sub-part : tie.Need-sub-part Inv-loop μ-loop
+sub-part c = omega arith
+
+-- src/lib.rt:193:20
+part-part-start : tie.Need-part-part-start Inv-loop μ-loop
+part-part-start c = search needs
+
+-- src/lib.rt:193:20
+part-part-end : tie.Need-part-part-end Inv-loop μ-loop
+part-part-end c = search needs
+
+-- src/lib.rt:194:13
+form-line-requires : tie.Need-form-line-requires Inv-loop μ-loop
+form-line-requires c κs = tt
+
+-- src/lib.rt:196:13
+returns : tie.Need-returns Inv-loop μ-loop
+returns c = form-fault (c .before .before .before .before .before .before .before .args .source .now) (c .before .before .before .before .before .loop .at) (c .before .before .before .line-at .result .stop) (c .before .before .before .line-at .result .next) (c .before .before .before .line-at .ensures) (c .before .before .before .before .before .loop .number) (sym (c .before .form-line .ensures .0) ∙ c .if1 .taken) ∙ c .before .before .before .before .before .loop .inv .2
+
+-- src/lib.rt:199:13
+returns-2 : tie.Need-returns-2 Inv-loop μ-loop
+returns-2 c = form-end (c .before .before .before .before .before .before .before .before .args .source .now) (c .before .before .before .before .before .before .loop .at) (c .before .before .before .before .line-at .result .stop) (c .before .before .before .before .line-at .result .next) (c .before .before .before .before .line-at .ensures) (c .before .before .before .before .before .before .loop .number) (sym (c .before .before .form-line .ensures .0) ∙ c .before .if1 .left) (sym (c .before .before .form-line .ensures .1) ∙ c .if2 .taken) ∙ c .before .before .before .before .before .before .loop .inv .2
+
+-- src/lib.rt:202:9
+add-number : tie.Need-add-number Inv-loop μ-loop
+add-number c = search needs
+
+-- src/lib.rt:189:5
+loop-less : tie.Need-loop-less Inv-loop μ-loop
+loop-less c = omega arith
+
+-- src/lib.rt:189:5
+loop-again : tie.Need-loop-again Inv-loop μ-loop
+loop-again c = (omega arith, omega arith, form-more (c .before .before .before .before .before .before .before .before .args .source .now) (c .before .before .before .before .before .before .loop .at) (c .before .before .before .before .line-at .result .stop) (c .before .before .before .before .line-at .result .next) (c .before .before .before .before .line-at .ensures) (c .before .before .before .before .before .before .loop .number) (sym (c .before .before .form-line .ensures .0) ∙ c .before .if1 .left) (sym (c .before .before .form-line .ensures .1) ∙ c .if2 .left) ∙ c .before .before .before .before .before .before .loop .inv .2)
+
+-- src/lib.rt:184:1
+returns-3 : tie.Need-returns-3 Inv-loop μ-loop
+returns-3 c = form-last (c .before .before .before .args .source .now) (c .before .loop .at) (omega arith) (c .before .loop .number) ∙ c .before .loop .inv .2
+
+pub form-spec : {M : Type 1} → statement M
+form-spec =
+    tie.close
+    (tie.spec
+    Inv-loop
+    μ-loop
+    loop-holds
+    line-at-requires
+    sub-part
+    part-part-start
+    part-part-end
+    form-line-requires
+    returns
+    returns-2
+    add-number
+    loop-less
+    loop-again
+    returns-3)

@@ -1,0 +1,85 @@
+use Rattle.asm_sweeps.specs.Form.{noNames, faulty?, end?}
+use Rattle.asm_line.specs.Line.{lineOf}
+use Rattle.asm_value.specs.declared.Value.{Value}
+use mathlib.Core.List.{List, []}
+use Rattle.asm_sweeps.proofs.Laws.{form-line, form-none, no-names}
+use Prim.Native.Nat.{ℕ, _+_, _-_, _≤_, _<_}
+use mathlib.Core.Path.{_≡_, refl, sym, ap, _∙_}
+use borrow.Author.Needs.{needs}
+use Rattle.asm_sweeps.proofs.form_line.Statement.{statement}
+use Rattle.asm_sweeps.proofs.form_line.Tie as tie
+use Rattle.asm_sweeps.proofs.form_line.Reads as reads
+use Rattle.asm_sweeps.proofs.form_line.Lts as lts
+use Rattle.asm_line.proofs.read_line.Reads as read-line-reads
+use Rattle.asm_sweeps.proofs.is_stop.Reads as is-stop-reads
+use Rattle.asm_write.proofs.layout_of.Reads as layout-of-reads
+
+-- src/lib.rt:165:39
+array-share-prefix-places : tie.Need-array-share-prefix-places
+array-share-prefix-places c = search needs
+
+-- src/lib.rt:165:39
+slice-aggregate-read-line : tie.Need-slice-aggregate-read-line
+slice-aggregate-read-line c = search needs
+
+-- src/lib.rt:165:53
+array-share-prefix-keys : tie.Need-array-share-prefix-keys
+array-share-prefix-keys c = search needs
+
+-- src/lib.rt:165:53
+slice-aggregate-read-line-2 : tie.Need-slice-aggregate-read-line-2
+slice-aggregate-read-line-2 c = search needs
+
+-- src/lib.rt:165:65
+array-share-prefix-values : tie.Need-array-share-prefix-values
+array-share-prefix-values c = search needs
+
+-- src/lib.rt:165:65
+slice-aggregate-read-line-3 : tie.Need-slice-aggregate-read-line-3
+slice-aggregate-read-line-3 c = search needs
+
+-- src/lib.rt:165:9
+read-line-requires : tie.Need-read-line-requires
+read-line-requires c κs = search needs
+
+-- src/lib.rt:170:13
+enum-known-r : tie.Need-enum-known-r
+enum-known-r c = search needs
+
+-- src/lib.rt:173:26
+layout-of-requires : tie.Need-layout-of-requires
+layout-of-requires c κs = search needs
+
+-- src/lib.rt:173:18
+is-stop-requires : tie.Need-is-stop-requires
+is-stop-requires c κs = search needs
+
+-- src/lib.rt:175:27
+enum-told : tie.Need-enum-told
+enum-told c = search needs
+
+-- src/lib.rt:158:1
+returns : tie.Need-returns
+returns c = form-line (c .before .before .before .before .before .read-line .result) (lineOf noNames (c .before .before .before .before .before .before .before .before .before .before .args .part .now)) (c .before .before .before .before .before .read-line .ensures ∙ ap (λ (f : List ℕ → Value). lineOf f (c .before .before .before .before .before .before .before .before .before .before .args .part .now)) (no-names (c .before .before .before .before .before .before .before .before .before .before .args .part .now) [] [])) (c .before .before .before .r .given .0 .0) (c .before .before .before .r .given .0 .1 .0) (c .before .before .before .r .given .0 .1 .1 .0) (c .before .layout-of .result) (c .is-stop .result) (c .before .before .before .r .given .1) (c .before .layout-of .ensures) (c .is-stop .ensures)
+
+-- src/lib.rt:158:1
+returns-2 : tie.Need-returns-2
+returns-2 c = form-none (c .before .before .read-line .result) (lineOf noNames (c .before .before .before .before .before .before .before .args .part .now)) (c .before .before .read-line .ensures ∙ ap (λ (f : List ℕ → Value). lineOf f (c .before .before .before .before .before .before .before .args .part .now)) (no-names (c .before .before .before .before .before .before .before .args .part .now) [] [])) (c .enum-told .given .1)
+
+pub form-line-spec : {M : Type 1} → statement M
+form-line-spec =
+    tie.close
+    (tie.spec
+    array-share-prefix-places
+    slice-aggregate-read-line
+    array-share-prefix-keys
+    slice-aggregate-read-line-2
+    array-share-prefix-values
+    slice-aggregate-read-line-3
+    read-line-requires
+    enum-known-r
+    layout-of-requires
+    is-stop-requires
+    enum-told
+    returns
+    returns-2)

@@ -1,0 +1,189 @@
+use mir.Val.{toZ, ofZ}
+use mir.Syntax.{w32}
+use Rattle.asm_sweeps.proofs.Names.{note-line}
+use Rattle.asm_sweeps.proofs.Names.{note-count, holds-as, give-known, give-full, give-new, holds-new}
+use Rattle.asm_sweeps.specs.Places.{oneMore}
+use Rattle.asm_sweeps.specs.declared.Tally.{Tally}
+use Rattle.asm_sweeps.specs.Held.{tableAt, Holds, lineAt, Apart}
+use lib.Seq.{length-take-le}
+use Rattle.asm_text.specs.Text.{word}
+use lib.ListN.{length, drop, take, set}
+use native.Mathlib.Omega.{arith}
+use mathlib.Core.Path.{_≡_, refl, sym, ap, _∙_}
+use borrow.Author.Needs.{needs}
+use Rattle.asm_sweeps.proofs.give.Statement.{statement}
+use Rattle.asm_sweeps.proofs.give.Tie as tie
+use Rattle.asm_sweeps.proofs.give.Reads as reads
+use Rattle.asm_sweeps.proofs.give.Lts as lts
+use Rattle.asm_sweeps.proofs.is_known.Reads as is-known-reads
+use Rattle.asm_sweeps.proofs.note_unknown.Reads as note-unknown-reads
+use Rattle.asm_sweeps.proofs.note_value.Reads as note-value-reads
+use Rattle.asm_sweeps.proofs.one_more.Reads as one-more-reads
+use Rattle.asm_sweeps.proofs.stored.Reads as stored-reads
+use Rattle.asm_text.proofs.look_up.Reads as look-up-reads
+use Rattle.asm_text.proofs.read_word.Reads as read-word-reads
+
+-- src/lib.rt:246:9
+read-word-requires : tie.Need-read-word-requires
+read-word-requires c κs = search needs
+
+-- src/lib.rt:250:9
+slice-reshare-prefix-look-up : tie.Need-slice-reshare-prefix-look-up
+slice-reshare-prefix-look-up c = search needs
+
+-- src/lib.rt:250:9
+slice-aggregate-look-up : tie.Need-slice-aggregate-look-up
+slice-aggregate-look-up c = sym (length-take-le (c .before .before .before .before .before .args .t .count) (c .before .before .before .before .before .args .places .now) (omega (arith, c .before .before .before .before .before .pre .within, c .before .before .before .before .before .pre .places)))
+
+-- src/lib.rt:251:9
+slice-reshare-prefix-look-up-2 : tie.Need-slice-reshare-prefix-look-up-2
+slice-reshare-prefix-look-up-2 c = search needs
+
+-- src/lib.rt:251:9
+slice-aggregate-look-up-2 : tie.Need-slice-aggregate-look-up-2
+slice-aggregate-look-up-2 c = sym (length-take-le (c .before .before .before .before .before .before .args .t .count) (c .before .before .before .before .before .before .args .keys .now) (omega (arith, c .before .before .before .before .before .before .pre .within, c .before .before .before .before .before .before .pre .keys)))
+
+-- src/lib.rt:252:9
+slice-reshare-prefix-look-up-3 : tie.Need-slice-reshare-prefix-look-up-3
+slice-reshare-prefix-look-up-3 c = search needs
+
+-- src/lib.rt:252:9
+slice-aggregate-look-up-3 : tie.Need-slice-aggregate-look-up-3
+slice-aggregate-look-up-3 c = sym (length-take-le (c .before .before .before .before .before .before .before .args .t .count) (c .before .before .before .before .before .before .before .args .values .now) (omega (arith, c .before .before .before .before .before .before .before .pre .within, c .before .before .before .before .before .before .before .pre .values)))
+
+-- src/lib.rt:248:9
+look-up-requires : tie.Need-look-up-requires
+look-up-requires c κs = search needs
+
+-- src/lib.rt:257:8
+is-known-requires : tie.Need-is-known-requires
+is-known-requires c κs = search needs
+
+-- src/lib.rt:258:9
+note-unknown-requires : tie.Need-note-unknown-requires
+note-unknown-requires c κs = search needs
+
+-- src/lib.rt:258:9
+same-length : tie.Need-same-length
+same-length c = search needs
+
+-- src/lib.rt:258:9
+same-length-2 : tie.Need-same-length-2
+same-length-2 c = search needs
+
+-- src/lib.rt:258:9
+same-length-3 : tie.Need-same-length-3
+same-length-3 c = search needs
+
+-- src/lib.rt:258:9
+returns : tie.Need-returns
+returns c = (ap (tableAt (c .before .before .before .before .before .before .before .before .before .before .before .args .source .now) (c .before .before .before .before .before .before .before .before .before .before .before .args .places .now) (c .before .before .before .before .before .before .before .before .before .before .before .args .values .now)) (c .note-unknown .ensures) ∙ give-known (c .before .before .before .before .before .before .before .before .before .before .before .args .source .now) (c .before .before .before .before .before .before .before .before .before .before .before .args .places .now) (c .before .before .before .before .before .before .before .before .before .before .before .args .keys .now) (c .before .before .before .before .before .before .before .before .before .before .before .args .values .now) (c .before .before .before .before .before .before .before .before .before .before .before .args .t) (c .before .before .before .before .before .before .before .before .before .before .before .pre) (word (drop (c .before .before .before .before .before .before .before .before .before .before .before .args .at) (c .before .before .before .before .before .before .before .before .before .before .before .args .source .now))) (c .before .before .before .before .before .before .before .before .before .before .before .args .v) (c .before .before .before .look-up .result) (c .before .before .before .look-up .ensures) (sym (c .before .before .is-known .ensures) ∙ c .before .if1 .taken), (holds-as (c .before .before .before .before .before .before .before .before .before .before .before .args .source .now) (c .before .before .before .before .before .before .before .before .before .before .before .args .places .now) (c .before .before .before .before .before .before .before .before .before .before .before .args .keys .now) (c .before .before .before .before .before .before .before .before .before .before .before .args .values .now) (c .before .before .before .before .before .before .before .before .before .before .before .args .t) (c .note-unknown .result) (ap (λ (x : Tally). x .count) (c .note-unknown .ensures)) (c .before .before .before .before .before .before .before .before .before .before .before .pre), (ap (λ (x : Tally). x .line) (c .note-unknown .ensures))))
+
+-- src/lib.rt:261:9
+note-unknown-requires-2 : tie.Need-note-unknown-requires-2
+note-unknown-requires-2 c κs = search needs
+
+-- src/lib.rt:261:9
+same-length-4 : tie.Need-same-length-4
+same-length-4 c = search needs
+
+-- src/lib.rt:261:9
+same-length-5 : tie.Need-same-length-5
+same-length-5 c = search needs
+
+-- src/lib.rt:261:9
+same-length-6 : tie.Need-same-length-6
+same-length-6 c = search needs
+
+-- src/lib.rt:261:9
+returns-2 : tie.Need-returns-2
+returns-2 c = (ap (tableAt (c .before .before .before .before .before .before .before .before .before .before .before .before .args .source .now) (c .before .before .before .before .before .before .before .before .before .before .before .before .args .places .now) (c .before .before .before .before .before .before .before .before .before .before .before .before .args .values .now)) (c .note-unknown2 .ensures) ∙ give-full (c .before .before .before .before .before .before .before .before .before .before .before .before .args .source .now) (c .before .before .before .before .before .before .before .before .before .before .before .before .args .places .now) (c .before .before .before .before .before .before .before .before .before .before .before .before .args .keys .now) (c .before .before .before .before .before .before .before .before .before .before .before .before .args .values .now) (c .before .before .before .before .before .before .before .before .before .before .before .before .args .t) (c .before .before .before .before .before .before .before .before .before .before .before .before .pre) (word (drop (c .before .before .before .before .before .before .before .before .before .before .before .before .args .at) (c .before .before .before .before .before .before .before .before .before .before .before .before .args .source .now))) (c .before .before .before .before .before .before .before .before .before .before .before .before .args .v) (c .before .before .before .before .look-up .result) (c .before .before .before .before .look-up .ensures) (sym (c .before .before .before .is-known .ensures) ∙ c .before .before .if1 .left) (c .before .if2 .taken), (holds-as (c .before .before .before .before .before .before .before .before .before .before .before .before .args .source .now) (c .before .before .before .before .before .before .before .before .before .before .before .before .args .places .now) (c .before .before .before .before .before .before .before .before .before .before .before .before .args .keys .now) (c .before .before .before .before .before .before .before .before .before .before .before .before .args .values .now) (c .before .before .before .before .before .before .before .before .before .before .before .before .args .t) (c .note-unknown2 .result) (ap (λ (x : Tally). x .count) (c .note-unknown2 .ensures)) (c .before .before .before .before .before .before .before .before .before .before .before .before .pre), (ap (λ (x : Tally). x .line) (c .note-unknown2 .ensures))))
+
+-- src/lib.rt:263:5
+mul-places : tie.Need-mul-places
+mul-places c = search needs
+
+-- src/lib.rt:263:5
+slice-write-places : tie.Need-slice-write-places
+slice-write-places c = search needs
+
+-- src/lib.rt:264:5
+mul-keys : tie.Need-mul-keys
+mul-keys c = search needs
+
+-- src/lib.rt:264:5
+slice-write-keys : tie.Need-slice-write-keys
+slice-write-keys c = search needs
+
+-- src/lib.rt:265:17
+stored-requires : tie.Need-stored-requires
+stored-requires c κs = search needs
+
+-- src/lib.rt:265:5
+mul-t20 : tie.Need-mul-t20
+mul-t20 c = search needs
+
+-- src/lib.rt:265:5
+slice-set-from-values : tie.Need-slice-set-from-values
+slice-set-from-values c = search needs
+
+-- src/lib.rt:266:14
+note-value-requires : tie.Need-note-value-requires
+note-value-requires c κs = search needs
+
+-- src/lib.rt:266:5
+one-more-requires : tie.Need-one-more-requires
+one-more-requires c κs = omega (arith, ap (λ (x : Tally). x .count) (c .note-value .ensures) ∙ note-count (c .before .before .before .before .before .before .before .before .before .before .before .before .before .args .t) (c .before .before .before .before .before .before .before .before .before .before .before .before .before .args .v), c .before .before .if2 .left)
+
+-- src/lib.rt:229:1
+same-length-7 : tie.Need-same-length-7
+same-length-7 c = search needs
+
+-- src/lib.rt:229:1
+same-length-8 : tie.Need-same-length-8
+same-length-8 c = search needs
+
+-- src/lib.rt:229:1
+same-length-9 : tie.Need-same-length-9
+same-length-9 c = search needs
+
+-- src/lib.rt:229:1
+returns-3 : tie.Need-returns-3
+returns-3 c = let e : toZ w32 (ofZ w32 (c .before .before .stored .result)) ≡ c .before .before .stored .result = search needs in let eu = c .one-more .ensures ∙ ap oneMore (c .before .note-value .ensures) in (give-new (c .before .before .before .before .before .before .before .before .before .before .before .before .before .before .args .source .now) (c .before .before .before .before .before .before .before .before .before .before .before .before .before .before .args .places .now) (c .before .before .before .before .before .before .before .before .before .before .before .before .before .before .args .keys .now) (c .before .before .before .before .before .before .before .before .before .before .before .before .before .before .args .values .now) (c .before .before .before .before .before .before .before .before .before .before .before .before .before .before .args .t) (c .before .before .before .before .before .before .before .before .before .before .before .before .before .before .pre) (word (drop (c .before .before .before .before .before .before .before .before .before .before .before .before .before .before .args .at) (c .before .before .before .before .before .before .before .before .before .before .before .before .before .before .args .source .now))) (c .before .before .before .before .before .before .before .before .before .before .before .before .before .before .args .v) (c .before .before .before .before .before .before .look-up .result) (c .before .before .before .before .before .before .look-up .ensures) (sym (c .before .before .before .before .before .is-known .ensures) ∙ c .before .before .before .before .if1 .left) (c .before .before .before .if2 .left) (c .before .before .before .before .before .before .before .before .before .before .before .before .before .before .args .at) (toZ w32 (ofZ w32 (c .before .before .stored .result))) (c .one-more .result) refl (e ∙ c .before .before .stored .ensures) eu, (holds-new (c .before .before .before .before .before .before .before .before .before .before .before .before .before .before .args .source .now) (c .before .before .before .before .before .before .before .before .before .before .before .before .before .before .args .places .now) (c .before .before .before .before .before .before .before .before .before .before .before .before .before .before .args .keys .now) (c .before .before .before .before .before .before .before .before .before .before .before .before .before .before .args .values .now) (c .before .before .before .before .before .before .before .before .before .before .before .before .before .before .args .t) (c .before .before .before .before .before .before .before .before .before .before .before .before .before .before .pre) (word (drop (c .before .before .before .before .before .before .before .before .before .before .before .before .before .before .args .at) (c .before .before .before .before .before .before .before .before .before .before .before .before .before .before .args .source .now))) (c .before .before .before .before .before .before .before .before .before .before .before .before .before .before .args .v) (c .before .before .before .before .before .before .look-up .result) (c .before .before .before .before .before .before .look-up .ensures) (sym (c .before .before .before .before .before .is-known .ensures) ∙ c .before .before .before .before .if1 .left) (c .before .before .before .if2 .left) (c .before .before .before .before .before .before .before .before .before .before .before .before .before .before .args .at) (toZ w32 (ofZ w32 (c .before .before .stored .result))) (c .one-more .result) refl (e ∙ c .before .before .stored .ensures) eu (c .before .before .before .before .before .before .before .before .before .before .read-word .result .key) (c .before .before .before .before .before .before .before .before .before .before .read-word .ensures .1 .1), ap (λ (x : Tally). x .line) eu ∙ note-line (c .before .before .before .before .before .before .before .before .before .before .before .before .before .before .args .t) (c .before .before .before .before .before .before .before .before .before .before .before .before .before .before .args .v)))
+
+pub give-spec : {M : Type 1} → statement M
+give-spec =
+    tie.close
+    (tie.spec
+    read-word-requires
+    slice-reshare-prefix-look-up
+    slice-aggregate-look-up
+    slice-reshare-prefix-look-up-2
+    slice-aggregate-look-up-2
+    slice-reshare-prefix-look-up-3
+    slice-aggregate-look-up-3
+    look-up-requires
+    is-known-requires
+    note-unknown-requires
+    same-length
+    same-length-2
+    same-length-3
+    returns
+    note-unknown-requires-2
+    same-length-4
+    same-length-5
+    same-length-6
+    returns-2
+    mul-places
+    slice-write-places
+    mul-keys
+    slice-write-keys
+    stored-requires
+    mul-t20
+    slice-set-from-values
+    note-value-requires
+    one-more-requires
+    same-length-7
+    same-length-8
+    same-length-9
+    returns-3)

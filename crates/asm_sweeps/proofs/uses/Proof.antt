@@ -1,0 +1,85 @@
+use Rattle.asm_sweeps.proofs.Laws.{use-all-end, use-all-more, uses-last}
+use Rattle.asm_sweeps.specs.Uses.{usesFrom, usesOf}
+use Rattle.asm_sweeps.specs.declared.Tally.{Tally}
+use Rattle.asm_text.specs.Text.{lookUpAt}
+use Rattle.lines.specs.Lines.{linesOf}
+use lib.ListN.{length, drop, take, set}
+use borrow.Author.Needs.{needs}
+use native.Mathlib.Omega.{arith}
+use Prim.Native.Nat.{ℕ, _+_, _-_, _≤_, _<_}
+use mathlib.Core.Path.{_≡_, refl, sym, ap, _∙_}
+use Rattle.asm_sweeps.proofs.uses.Statement.{statement}
+use Rattle.asm_sweeps.proofs.uses.Tie as tie
+use Rattle.asm_sweeps.proofs.uses.Reads as reads
+use Rattle.asm_sweeps.proofs.uses.Lts as lts
+use Rattle.asm_sweeps.proofs.next_line.Reads as next-line-reads
+use Rattle.asm_sweeps.proofs.use_line.Reads as use-line-reads
+use Rattle.lines.proofs.line_at.Reads as line-at-reads
+
+abbrev Inv-loop : tie.InvT-loop
+Inv-loop source places keys values at₀ t₀ at t = (at ≤ length source) × (t .line ≤ at + 1) × (usesFrom (lookUpAt source places keys values) (linesOf (drop at source)) t ≡ usesOf (lookUpAt source places keys values) source)
+
+abbrev μ-loop : tie.MeasureT-loop
+μ-loop source places keys values at₀ t₀ at t = length source - at
+
+-- src/lib.rt:432:5
+loop-holds : tie.Need-loop-holds Inv-loop μ-loop
+loop-holds c = (omega arith, omega arith, refl)
+
+-- src/lib.rt:433:13
+line-at-requires : tie.Need-line-at-requires Inv-loop μ-loop
+line-at-requires c κs = omega arith
+
+-- src/lib.rt:436:20
+sub-part : tie.Need-sub-part Inv-loop μ-loop
+sub-part c = omega arith
+
+-- src/lib.rt:436:20
+part-part-start : tie.Need-part-part-start Inv-loop μ-loop
+part-part-start c = search needs
+
+-- src/lib.rt:436:20
+part-part-end : tie.Need-part-part-end Inv-loop μ-loop
+part-part-end c = search needs
+
+-- src/lib.rt:437:13
+use-line-requires : tie.Need-use-line-requires Inv-loop μ-loop
+use-line-requires c κs = tt
+
+-- src/lib.rt:439:13
+returns : tie.Need-returns Inv-loop μ-loop
+returns c = use-all-end (c .before .before .before .before .before .before .before .before .before .before .args .source .now) (c .before .before .before .before .before .before .loop .at) (c .before .before .before .before .line-at .result .stop) (c .before .before .before .before .line-at .result .next) (c .before .before .before .before .line-at .ensures) (lookUpAt (c .before .before .before .before .before .before .before .before .before .before .args .source .now) (c .before .before .before .before .before .before .before .before .before .before .args .places .now) (c .before .before .before .before .before .before .before .before .before .before .args .keys .now) (c .before .before .before .before .before .before .before .before .before .before .args .values .now)) (c .before .before .before .before .before .before .loop .t) (c .before .before .use-line .result .tally) (c .before .before .use-line .ensures .0) (c .before .before .use-line .result .end) (c .before .before .use-line .ensures .1 .0) (c .before .if1 .taken) ∙ c .before .before .before .before .before .before .loop .inv .2
+
+-- src/lib.rt:441:9
+next-line-requires : tie.Need-next-line-requires Inv-loop μ-loop
+next-line-requires c κs = omega (arith, c .before .use-line .ensures .1 .1, c .before .before .before .before .before .loop .inv .1, c .before .before .before .before .before .before .before .before .before .good .0 .1)
+
+-- src/lib.rt:432:5
+loop-less : tie.Need-loop-less Inv-loop μ-loop
+loop-less c = omega arith
+
+-- src/lib.rt:432:5
+loop-again : tie.Need-loop-again Inv-loop μ-loop
+loop-again c = (omega arith, omega (arith, ap (λ (x : Tally). x .line) (c .next-line .ensures), c .before .before .use-line .ensures .1 .1), use-all-more (c .before .before .before .before .before .before .before .before .before .before .args .source .now) (c .before .before .before .before .before .before .loop .at) (c .before .before .before .before .line-at .result .stop) (c .before .before .before .before .line-at .result .next) (c .before .before .before .before .line-at .ensures) (lookUpAt (c .before .before .before .before .before .before .before .before .before .before .args .source .now) (c .before .before .before .before .before .before .before .before .before .before .args .places .now) (c .before .before .before .before .before .before .before .before .before .before .args .keys .now) (c .before .before .before .before .before .before .before .before .before .before .args .values .now)) (c .before .before .before .before .before .before .loop .t) (c .before .before .use-line .result .tally) (c .before .before .use-line .ensures .0) (c .before .before .use-line .result .end) (c .before .before .use-line .ensures .1 .0) (c .before .if1 .left) (c .next-line .result) (c .next-line .ensures) ∙ c .before .before .before .before .before .before .loop .inv .2)
+
+-- src/lib.rt:420:1
+returns-2 : tie.Need-returns-2 Inv-loop μ-loop
+returns-2 c = uses-last (c .before .before .before .before .before .args .source .now) (c .before .loop .at) (omega arith) (lookUpAt (c .before .before .before .before .before .args .source .now) (c .before .before .before .before .before .args .places .now) (c .before .before .before .before .before .args .keys .now) (c .before .before .before .before .before .args .values .now)) (c .before .loop .t) ∙ c .before .loop .inv .2
+
+pub uses-spec : {M : Type 1} → statement M
+uses-spec =
+    tie.close
+    (tie.spec
+    Inv-loop
+    μ-loop
+    loop-holds
+    line-at-requires
+    sub-part
+    part-part-start
+    part-part-end
+    use-line-requires
+    returns
+    next-line-requires
+    loop-less
+    loop-again
+    returns-2)

@@ -1,0 +1,4 @@
+pub mod Form
+pub mod Places
+pub mod Uses
+pub mod Held

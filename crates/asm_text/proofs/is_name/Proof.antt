@@ -1,0 +1,21 @@
+use borrow.Author.Tests.{eq-eqb, ne-eqb}
+use borrow.Author.Needs.{needs}
+use Rattle.asm_text.proofs.is_name.Statement.{statement}
+use Rattle.asm_text.proofs.is_name.Tie as tie
+use Rattle.asm_text.proofs.is_name.Reads as reads
+use Rattle.asm_text.proofs.is_name.Lts as lts
+use Rattle.asm_text.proofs.same_word.Reads as same-word-reads
+
+returns : tie.Need-returns
+returns c = rw (ne-eqb (c .before .before .before .args .there) (c .before .before .before .args .key) (c .if1 .taken))
+
+same-word-requires : tie.Need-same-word-requires
+same-word-requires c κs = search needs
+
+returns-2 : tie.Need-returns-2
+returns-2 c =
+    let c4 = c .before .before .before .before in
+    rw (eq-eqb (c4 .args .there) (c4 .args .key) (c .before .if1 .left)) (c .same-word .ensures)
+
+pub is-name-spec : {M : Type 1} → statement M
+is-name-spec = tie.close (tie.spec returns same-word-requires returns-2)

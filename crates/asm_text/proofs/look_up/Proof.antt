@@ -1,0 +1,139 @@
+use mathlib.Core.Bool.{true, false, _&&_}
+use mathlib.Core.Path.{_≡_, refl, sym, ap, _∙_}
+use Prim.Native.Nat.{_-_, _≤_}
+use native.Mathlib.Omega.{arith}
+use mir.Syntax.{w32}
+use mir.Val.{toZ, ofZ}
+use lib.Dec.{eqb}
+use lib.IntN.{pos}
+use lib.ListN.{length, drop, getD}
+use borrow.Author.Needs.{needs}
+use Rattle.asm_value.specs.declared.Value.the-variants.{Known}
+use Rattle.asm_text.specs.Text.{lookUpAt, word, same, keyOf}
+use Rattle.asm_text.proofs.Laws.{look-hit, look-miss, look-end, look-no-key, look-no-value}
+use Rattle.asm_text.proofs.look_up.Statement.{statement}
+use Rattle.asm_text.proofs.look_up.Tie as tie
+use Rattle.asm_text.proofs.look_up.Reads as reads
+use Rattle.asm_text.proofs.look_up.Lts as lts
+use Rattle.asm_text.proofs.is_name.Reads as is-name-reads
+
+abbrev Inv-loop : tie.InvT-loop
+Inv-loop source places keys values s at key k₀ k =
+    (k ≤ length places)
+    × (lookUpAt source (drop k places) (drop k keys) (drop k values) (word (drop at s))
+    ≡ lookUpAt source places keys values (word (drop at s)))
+
+abbrev μ-loop : tie.MeasureT-loop
+μ-loop source places keys values s at key k₀ k = length places - k
+
+loop-holds : tie.Need-loop-holds Inv-loop μ-loop
+loop-holds c = (omega arith, refl)
+
+returns : tie.Need-returns Inv-loop μ-loop
+returns c =
+    let c2 = c .before .before in
+    let c7 = c2 .before .before .before .before .before in
+    let a = c7 .args in
+    let k = c2 .loop .k in
+    sym (look-no-key (a .source .now) (a .places .now) (a .keys .now) (a .values .now) (word (drop (a .at) (a .s .now))) k
+    (omega arith) (omega arith))
+    ∙ c2 .loop .inv .1
+
+returns-2 : tie.Need-returns-2 Inv-loop μ-loop
+returns-2 c =
+    let c3 = c .before .before .before in
+    let c8 = c3 .before .before .before .before .before in
+    let a = c8 .args in
+    let k = c3 .loop .k in
+    sym (look-no-value (a .source .now) (a .places .now) (a .keys .now) (a .values .now) (word (drop (a .at) (a .s .now))) k
+    (omega arith) (omega arith) (omega arith))
+    ∙ c3 .loop .inv .1
+
+mul-is-name : tie.Need-mul-is-name Inv-loop μ-loop
+mul-is-name c = search needs
+
+shared-slice-read-is-name : tie.Need-shared-slice-read-is-name Inv-loop μ-loop
+shared-slice-read-is-name c = search needs
+
+mul-is-name-2 : tie.Need-mul-is-name-2 Inv-loop μ-loop
+mul-is-name-2 c = search needs
+
+shared-slice-read-is-name-2 : tie.Need-shared-slice-read-is-name-2 Inv-loop μ-loop
+shared-slice-read-is-name-2 c = search needs
+
+is-name-requires : tie.Need-is-name-requires Inv-loop μ-loop
+is-name-requires c κs = search needs
+
+mul-t17 : tie.Need-mul-t17 Inv-loop μ-loop
+mul-t17 c = search needs
+
+shared-slice-copy-out-t19 : tie.Need-shared-slice-copy-out-t19 Inv-loop μ-loop
+shared-slice-copy-out-t19 c = search needs
+
+returns-3 : tie.Need-returns-3 Inv-loop μ-loop
+returns-3 c =
+    let c2 = c .before .before in
+    let c8 = c2 .before .before .before .before .before .before in
+    let c13 = c8 .before .before .before .before .before in
+    let a = c13 .args in
+    let k = c8 .loop .k in
+    let n = word (drop (a .at) (a .s .now)) in
+    let v = getD (a .values .now) k (pos 0) in
+    let e : toZ w32 (ofZ w32 v) ≡ v = search needs in
+    let h : eqb (getD (a .keys .now) k 0) (keyOf n) && same (word (drop (getD (a .places .now) k 0) (a .source .now))) n ≡ true =
+    ap (λ x. eqb (getD (a .keys .now) k 0) x && same (word (drop (getD (a .places .now) k 0) (a .source .now))) n) (sym (c13 .pre))
+    ∙ sym (c2 .is-name .ensures) ∙ c .before .if3 .taken in
+    ap Known e
+    ∙ sym (look-hit (a .source .now) (a .places .now) (a .keys .now) (a .values .now) n k (omega arith) (omega arith) (omega arith) h)
+    ∙ c8 .loop .inv .1
+
+add-k : tie.Need-add-k Inv-loop μ-loop
+add-k c = search needs
+
+loop-less : tie.Need-loop-less Inv-loop μ-loop
+loop-less c = search needs
+
+loop-again : tie.Need-loop-again Inv-loop μ-loop
+loop-again c =
+    let c7 = c .before .before .before .before .before .before .before in
+    let c12 = c7 .before .before .before .before .before in
+    let a = c12 .args in
+    let k = c7 .loop .k in
+    let n = word (drop (a .at) (a .s .now)) in
+    let h : eqb (getD (a .keys .now) k 0) (keyOf n) && same (word (drop (getD (a .places .now) k 0) (a .source .now))) n ≡ false =
+    ap (λ x. eqb (getD (a .keys .now) k 0) x && same (word (drop (getD (a .places .now) k 0) (a .source .now))) n) (sym (c12 .pre))
+    ∙ sym (c .before .is-name .ensures) ∙ c .if3 .left in (
+      omega arith,
+      look-miss (a .source .now) (a .places .now) (a .keys .now) (a .values .now) n k (omega arith) (omega arith) (omega arith) h
+          ∙ c7 .loop .inv .1,
+    )
+
+returns-4 : tie.Need-returns-4 Inv-loop μ-loop
+returns-4 c =
+    let c6 = c .before .before .before .before .before .before in
+    let a = c6 .args in
+    let k = c .before .loop .k in
+    sym (look-end (a .source .now) (a .places .now) (a .keys .now) (a .values .now) (word (drop (a .at) (a .s .now))) k (omega arith))
+    ∙ c .before .loop .inv .1
+
+pub look-up-spec : {M : Type 1} → statement M
+look-up-spec =
+    tie.close
+    (tie.spec
+    Inv-loop
+    μ-loop
+    loop-holds
+    returns
+    returns-2
+    mul-is-name
+    shared-slice-read-is-name
+    mul-is-name-2
+    shared-slice-read-is-name-2
+    is-name-requires
+    mul-t17
+    shared-slice-copy-out-t19
+    returns-3
+    add-k
+    loop-less
+    loop-again
+    returns-4)

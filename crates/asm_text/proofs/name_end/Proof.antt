@@ -1,0 +1,75 @@
+use lib.ListN.{length}
+use Prim.Native.Nat.{_-_, _<_}
+use borrow.Author.Tests.{not-true, not-false}
+use Rattle.asm_text.proofs.Laws.{kind-in, after-more, after-stop, name-zero}
+use Rattle.asm_text.specs.Text.{byteAt, after, nameByte?}
+use mathlib.Core.Path.{_≡_, refl, sym, ap, _∙_}
+use native.Mathlib.Omega.{arith}
+use borrow.Author.Needs.{needs}
+use Rattle.asm_text.proofs.name_end.Statement.{statement}
+use Rattle.asm_text.proofs.name_end.Tie as tie
+use Rattle.asm_text.proofs.name_end.Reads as reads
+use Rattle.asm_text.proofs.name_end.Lts as lts
+use Rattle.asm_text.proofs.byte_at.Reads as byte-at-reads
+use Rattle.asm_text.proofs.is_name_byte.Reads as is-name-byte-reads
+
+abbrev Inv-loop : tie.InvT-loop
+Inv-loop s at i₀ i = after nameByte? s i ≡ after nameByte? s at
+
+abbrev μ-loop : tie.MeasureT-loop
+μ-loop s at i₀ i = length s - i
+
+loop-holds : tie.Need-loop-holds Inv-loop μ-loop
+loop-holds c = refl
+
+byte-at-requires : tie.Need-byte-at-requires Inv-loop μ-loop
+byte-at-requires c κs = search needs
+
+is-name-byte-requires : tie.Need-is-name-byte-requires Inv-loop μ-loop
+is-name-byte-requires c κs = search needs
+
+returns : tie.Need-returns Inv-loop μ-loop
+returns c =
+    let c2 = c .before .before in
+    let c3 = c2 .before in
+    let c5 = c3 .before .before in
+    sym (after-stop nameByte? (c5 .args .s .now) (c3 .loop .i) (sym ((rw (c2 .byte-at .ensures) at (c .before .is-name-byte .ensures)))
+    ∙ not-true _ (c .if1 .taken))) ∙ c3 .loop .inv
+
+add-i : tie.Need-add-i Inv-loop μ-loop
+add-i c =
+    let c2 = c .before .before in
+    let c3 = c2 .before in
+    let c5 = c3 .before .before in
+    let h = kind-in nameByte? name-zero (c5 .args .s .now) (c3 .loop .i)
+    (sym ((rw (c2 .byte-at .ensures) at (c .before .is-name-byte .ensures))) ∙ not-false _ (c .if1 .left)) in omega arith
+
+loop-less : tie.Need-loop-less Inv-loop μ-loop
+loop-less c =
+    let c2 = c .before .before in
+    let c3 = c2 .before in
+    let c5 = c3 .before .before in
+    let h = kind-in nameByte? name-zero (c5 .args .s .now) (c3 .loop .i)
+    (sym ((rw (c2 .byte-at .ensures) at (c .before .is-name-byte .ensures))) ∙ not-false _ (c .if1 .left)) in omega arith
+
+loop-again : tie.Need-loop-again Inv-loop μ-loop
+loop-again c =
+    let c2 = c .before .before in
+    let c3 = c2 .before in
+    let c5 = c3 .before .before in
+    after-more nameByte? name-zero (c5 .args .s .now) (c3 .loop .i)
+    (sym ((rw (c2 .byte-at .ensures) at (c .before .is-name-byte .ensures))) ∙ not-false _ (c .if1 .left)) ∙ c3 .loop .inv
+
+pub name-end-spec : {M : Type 1} → statement M
+name-end-spec =
+    tie.close
+    (tie.spec
+    Inv-loop
+    μ-loop
+    loop-holds
+    byte-at-requires
+    is-name-byte-requires
+    returns
+    add-i
+    loop-less
+    loop-again)

@@ -1,0 +1,97 @@
+use lib.ListN.{length, drop}
+use Prim.Native.Nat.{_-_, _<_, _≤_, _^_, _+_, _*_, min}
+use Rattle.asm_text.proofs.Laws.{sat, sat-numeral, digit-in, sat-more, sat-stop, digits-more, digits-stop}
+use Rattle.asm_text.specs.Text.{byteAt, after, digit?, digitOf, numeral}
+use mathlib.Core.Path.{_≡_, refl, sym, ap, _∙_}
+use native.Mathlib.Omega.{arith}
+use borrow.Author.Needs.{needs}
+use Rattle.asm_text.proofs.read_digits.Statement.{statement}
+use Rattle.asm_text.proofs.read_digits.Tie as tie
+use Rattle.asm_text.proofs.read_digits.Reads as reads
+use Rattle.asm_text.proofs.read_digits.Lts as lts
+use Rattle.asm_text.proofs.byte_at.Reads as byte-at-reads
+use Rattle.asm_text.proofs.digit.Reads as digit-reads
+use Rattle.asm_text.proofs.grow.Reads as grow-reads
+
+abbrev Inv-loop : tie.InvT-loop
+Inv-loop s at base i₀ size₀ i size = (size ≤ 2 ^ 32) × (sat base size (drop i s) ≡ sat base 0 (drop at s)) ×
+    (after (digit? base) s i ≡ after (digit? base) s at)
+
+abbrev μ-loop : tie.MeasureT-loop
+μ-loop s at base i₀ size₀ i size = length s - i
+
+loop-holds : tie.Need-loop-holds Inv-loop μ-loop
+loop-holds c = (omega arith, refl, refl)
+
+byte-at-requires : tie.Need-byte-at-requires Inv-loop μ-loop
+byte-at-requires c κs = search needs
+
+digit-requires : tie.Need-digit-requires Inv-loop μ-loop
+digit-requires c κs = search needs
+
+returns : tie.Need-returns Inv-loop μ-loop
+returns c =
+    let c2 = c .before .before in
+    let c3 = c2 .before in
+    let c5 = c3 .before .before in
+    let e = rw (c2 .byte-at .ensures) at (c .before .digit .ensures .0) in
+    let d : (c5 .args .base) ≤ digitOf (byteAt (c5 .args .s .now) (c3 .loop .i)) = omega (arith, e) in (
+      sym (digits-stop (c5 .args .base) (c5 .args .s .now) (c3 .loop .i) d)
+          ∙ c3 .loop .inv .2,
+      sym (sat-stop (c5 .args .base) (c5 .args .s .now) (c3 .loop .i) (c3 .loop .size) d) ∙ c3 .loop .inv .1
+          ∙ sat-numeral (c5 .args .base) (omega arith) 0 (drop (c5 .args .at) (c5 .args .s .now)),
+    )
+
+grow-requires : tie.Need-grow-requires Inv-loop μ-loop
+grow-requires c κs = search needs
+
+add-i : tie.Need-add-i Inv-loop μ-loop
+add-i c =
+    let c2 = c .before .before in
+    let c3 = c2 .before in
+    let c4 = c3 .before in
+    let c6 = c4 .before .before in
+    let e = rw (c3 .byte-at .ensures) at (c2 .digit .ensures .0) in
+    let d : digitOf (byteAt (c6 .args .s .now) (c4 .loop .i)) < (c6 .args .base) = omega (arith, e) in
+    let h = digit-in (c6 .args .base) (c6 .args .s .now) (c4 .loop .i) (omega arith) d in omega arith
+
+loop-less : tie.Need-loop-less Inv-loop μ-loop
+loop-less c =
+    let c2 = c .before .before in
+    let c3 = c2 .before in
+    let c4 = c3 .before in
+    let c6 = c4 .before .before in
+    let e = rw (c3 .byte-at .ensures) at (c2 .digit .ensures .0) in
+    let d : digitOf (byteAt (c6 .args .s .now) (c4 .loop .i)) < (c6 .args .base) = omega (arith, e) in
+    let h = digit-in (c6 .args .base) (c6 .args .s .now) (c4 .loop .i) (omega arith) d in omega arith
+
+loop-again : tie.Need-loop-again Inv-loop μ-loop
+loop-again c =
+    let c2 = c .before .before in
+    let c3 = c2 .before in
+    let c4 = c3 .before in
+    let c6 = c4 .before .before in
+    let e = rw (c3 .byte-at .ensures) at (c2 .digit .ensures .0) in
+    let d : digitOf (byteAt (c6 .args .s .now) (c4 .loop .i)) < (c6 .args .base) = omega (arith, e) in
+    let g = rw e at (c .grow .ensures .0) in (
+      c .grow .ensures .1,
+      ap (λ n. sat (c6 .args .base) n (drop ((c4 .loop .i) + 1) (c6 .args .s .now))) g ∙ sat-more (c6 .args .base)
+          (c6 .args .s .now) (c4 .loop .i) (c4 .loop .size) (omega arith) d ∙ c4 .loop .inv .1,
+      digits-more (c6 .args .base) (c6 .args .s .now)
+          (c4 .loop .i) (omega arith) d ∙ c4 .loop .inv .2,
+    )
+
+pub read-digits-spec : {M : Type 1} → statement M
+read-digits-spec =
+    tie.close
+    (tie.spec
+    Inv-loop
+    μ-loop
+    loop-holds
+    byte-at-requires
+    digit-requires
+    returns
+    grow-requires
+    add-i
+    loop-less
+    loop-again)

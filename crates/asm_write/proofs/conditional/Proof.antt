@@ -1,0 +1,132 @@
+use Rattle.asm_fits.proofs.Laws.{number-below}
+use Rattle.isa.specs.declared.Instr.the-variants as i
+use Rattle.asm_fits.specs.Fits.{wordFit, byteFit, countFit, offsetFit, immediateFit, constantFit, branchFit}
+use Rattle.asm_write.specs.Written.{numberOf}
+use Rattle.asm_write.proofs.Laws.{both-number, both-unknown, both-outside, unknown-both, outside-number, outside-unknown, outside-outside}
+use native.Mathlib.Omega.{arith}
+use Prim.Native.Nat.{ℕ, _+_}
+use mathlib.Core.Path.{_≡_, refl, sym, ap, _∙_}
+use borrow.Author.Needs.{needs}
+use Rattle.asm_write.proofs.conditional.Statement.{statement}
+use Rattle.asm_write.proofs.conditional.Tie as tie
+use Rattle.asm_write.proofs.conditional.Reads as reads
+use Rattle.asm_write.proofs.conditional.Lts as lts
+use Rattle.asm_fits.proofs.count.Reads as count-reads
+use Rattle.asm_write.proofs.word_of.Reads as word-of-reads
+
+-- src/lib.rt:120:9
+count-requires : tie.Need-count-requires
+count-requires c κs = search needs
+
+-- src/lib.rt:121:9
+count-requires-2 : tie.Need-count-requires-2
+count-requires-2 c κs = search needs
+
+-- src/lib.rt:123:21
+enum-known-a : tie.Need-enum-known-a
+enum-known-a c = search needs
+
+-- src/lib.rt:124:25
+enum-known-b : tie.Need-enum-known-b
+enum-known-b c = search needs
+
+-- src/lib.rt:126:29
+cast-t11 : tie.Need-cast-t11
+cast-t11 c = let h = number-below 8 (c .before .before .before .before .a .given .0 .0) (c .before .before .before .before .before .before .before .count .result) (c .before .before .before .before .a .given .1) (c .before .before .before .before .before .before .before .count .ensures .1) in omega (arith, h)
+
+-- src/lib.rt:127:30
+cast-t12 : tie.Need-cast-t12
+cast-t12 c = let h = number-below 8 (c .before .b .given .0 .0) (c .before .before .before .before .before .before .count2 .result) (c .before .b .given .1) (c .before .before .before .before .before .before .count2 .ensures .1) in omega (arith, h)
+
+-- src/lib.rt:124:31
+word-of-requires : tie.Need-word-of-requires
+word-of-requires c κs = search needs
+
+-- src/lib.rt:129:29
+enum-told : tie.Need-enum-told
+enum-told c = search needs
+
+-- src/lib.rt:130:29
+enum-told-2 : tie.Need-enum-told-2
+enum-told-2 c = search needs
+
+-- src/lib.rt:132:25
+enum-told-3 : tie.Need-enum-told-3
+enum-told-3 c = search needs
+
+-- src/lib.rt:133:25
+enum-told-4 : tie.Need-enum-told-4
+enum-told-4 c = search needs
+
+-- src/lib.rt:134:31
+enum-told-5 : tie.Need-enum-told-5
+enum-told-5 c = search needs
+
+-- src/lib.rt:135:29
+enum-told-6 : tie.Need-enum-told-6
+enum-told-6 c = search needs
+
+-- src/lib.rt:136:29
+enum-told-7 : tie.Need-enum-told-7
+enum-told-7 c = search needs
+
+-- src/lib.rt:117:1
+returns : tie.Need-returns
+unfolding numberOf
+returns c = both-number (c .before .before .before .before .before .before .before .before .count .result) (countFit 8 (c .before .before .before .before .before .before .before .before .before .args .t)) (c .before .before .before .before .before .before .before .before .count .ensures .0) (c .before .before .before .before .before .before .before .count2 .result) (countFit 8 (c .before .before .before .before .before .before .before .before .before .args .f)) (c .before .before .before .before .before .before .before .count2 .ensures .0) (i.Cex (c .before .before .before .before .before .before .before .before .before .args .cond)) (c .before .before .before .before .before .a .given .0 .0) (c .before .before .b .given .0 .0) (c .word-of .result) (c .before .before .before .before .before .a .given .1) (c .before .before .b .given .1) (c .word-of .ensures)
+
+-- src/lib.rt:117:1
+returns-2 : tie.Need-returns-2
+unfolding numberOf
+returns-2 c = both-unknown (c .before .before .before .before .before .before .count .result) (countFit 8 (c .before .before .before .before .before .before .before .args .t)) (c .before .before .before .before .before .before .count .ensures .0) (c .before .before .before .before .before .count2 .result) (countFit 8 (c .before .before .before .before .before .before .before .args .f)) (c .before .before .before .before .before .count2 .ensures .0) (i.Cex (c .before .before .before .before .before .before .before .args .cond)) (c .before .before .before .a .given .0 .0) (c .before .before .before .a .given .1) (c .enum-told .given .1)
+
+-- src/lib.rt:117:1
+returns-3 : tie.Need-returns-3
+unfolding numberOf
+returns-3 c = both-outside (c .before .before .before .before .before .before .count .result) (countFit 8 (c .before .before .before .before .before .before .before .args .t)) (c .before .before .before .before .before .before .count .ensures .0) (c .before .before .before .before .before .count2 .result) (countFit 8 (c .before .before .before .before .before .before .before .args .f)) (c .before .before .before .before .before .count2 .ensures .0) (i.Cex (c .before .before .before .before .before .before .before .args .cond)) (c .before .before .before .a .given .0 .0) (c .before .before .before .a .given .1) (c .enum-told2 .given .1)
+
+-- src/lib.rt:117:1
+returns-4 : tie.Need-returns-4
+unfolding numberOf
+returns-4 c = unknown-both (c .before .before .before .count .result) (countFit 8 (c .before .before .before .before .args .t)) (c .before .before .before .count .ensures .0) (c .before .before .count2 .result) (countFit 8 (c .before .before .before .before .args .f)) (c .before .before .count2 .ensures .0) (i.Cex (c .before .before .before .before .args .cond)) (c .enum-told3 .given .1)
+
+-- src/lib.rt:117:1
+returns-5 : tie.Need-returns-5
+unfolding numberOf
+returns-5 c = outside-number (c .before .before .before .before .before .count .result) (countFit 8 (c .before .before .before .before .before .before .args .t)) (c .before .before .before .before .before .count .ensures .0) (c .before .before .before .before .count2 .result) (countFit 8 (c .before .before .before .before .before .before .args .f)) (c .before .before .before .before .count2 .ensures .0) (i.Cex (c .before .before .before .before .before .before .args .cond)) (c .enum-told5 .given .0 .0) (c .before .before .enum-told4 .given .1) (c .enum-told5 .given .1)
+
+-- src/lib.rt:117:1
+returns-6 : tie.Need-returns-6
+unfolding numberOf
+returns-6 c = outside-unknown (c .before .before .before .before .before .count .result) (countFit 8 (c .before .before .before .before .before .before .args .t)) (c .before .before .before .before .before .count .ensures .0) (c .before .before .before .before .count2 .result) (countFit 8 (c .before .before .before .before .before .before .args .f)) (c .before .before .before .before .count2 .ensures .0) (i.Cex (c .before .before .before .before .before .before .args .cond)) (c .before .before .enum-told4 .given .1) (c .enum-told6 .given .1)
+
+-- src/lib.rt:117:1
+returns-7 : tie.Need-returns-7
+unfolding numberOf
+returns-7 c = outside-outside (c .before .before .before .before .before .count .result) (countFit 8 (c .before .before .before .before .before .before .args .t)) (c .before .before .before .before .before .count .ensures .0) (c .before .before .before .before .count2 .result) (countFit 8 (c .before .before .before .before .before .before .args .f)) (c .before .before .before .before .count2 .ensures .0) (i.Cex (c .before .before .before .before .before .before .args .cond)) (c .before .before .enum-told4 .given .1) (c .enum-told7 .given .1)
+
+pub conditional-spec : {M : Type 1} → statement M
+conditional-spec =
+    tie.close
+    (tie.spec
+    count-requires
+    count-requires-2
+    enum-known-a
+    enum-known-b
+    cast-t11
+    cast-t12
+    word-of-requires
+    enum-told
+    enum-told-2
+    enum-told-3
+    enum-told-4
+    enum-told-5
+    enum-told-6
+    enum-told-7
+    returns
+    returns-2
+    returns-3
+    returns-4
+    returns-5
+    returns-6
+    returns-7)

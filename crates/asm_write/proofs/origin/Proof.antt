@@ -1,0 +1,50 @@
+use lib.IntN.{natAbs}
+use lib.Signed.{mag}
+use lib.IntN.{ℤ}
+use mir.Val.{toZ, ofZ, SFits}
+use mir.Syntax.{w16, w32}
+use Rattle.asm_write.proofs.Laws.{org-plus, org-minus}
+use Rattle.asm_fits.proofs.Signed.{up-cast, from-plus, from-minus}
+use mathlib.Core.Path.{_≡_, refl, sym, ap, _∙_}
+use borrow.Author.Needs.{needs}
+use Rattle.asm_write.proofs.origin.Statement.{statement}
+use Rattle.asm_write.proofs.origin.Tie as tie
+use Rattle.asm_write.proofs.origin.Reads as reads
+use Rattle.asm_write.proofs.origin.Lts as lts
+
+-- src/lib.rt:326:22
+enum-known-v : tie.Need-enum-known-v
+enum-known-v c = search needs
+
+-- src/lib.rt:328:17
+returns : tie.Need-returns
+returns c = let f : SFits w32 (c .before .before .v .given .0 .0) = search needs in org-minus (c .before .before .before .before .args .v) (c .before .before .v .given .0 .0) (c .before .before .v .given .1) (mag (c .before .before .v .given .0 .0)) (from-minus (c .before .before .v .given .0 .0) f (c .if1 .taken))
+
+-- src/lib.rt:330:25
+cast-t5 : tie.Need-cast-t5
+cast-t5 c = let f : SFits w32 (c .before .before .v .given .0 .0) = search needs in up-cast (c .before .before .v .given .0 .0) f (c .if1 .left)
+
+-- src/lib.rt:332:27
+enum-told : tie.Need-enum-told
+enum-told c = search needs
+
+-- src/lib.rt:333:27
+enum-told-2 : tie.Need-enum-told-2
+enum-told-2 c = search needs
+
+-- src/lib.rt:322:1
+returns-2 : tie.Need-returns-2
+returns-2 c = let f : SFits w32 (c .before .before .v .given .0 .0) = search needs in org-plus (c .before .before .before .before .args .v) (c .before .before .v .given .0 .0) (c .before .before .v .given .1) (natAbs (toZ w32 (ofZ w32 (c .before .before .v .given .0 .0)))) (from-plus (c .before .before .v .given .0 .0) f (c .if1 .left))
+
+-- src/lib.rt:322:1
+returns-3 : tie.Need-returns-3
+returns-3 c = search needs
+
+-- src/lib.rt:322:1
+returns-4 : tie.Need-returns-4
+returns-4 c = search needs
+
+pub origin-spec : {M : Type 1} → statement M
+origin-spec =
+    tie.close
+    (tie.spec enum-known-v returns cast-t5 enum-told enum-told-2 returns-2 returns-3 returns-4)

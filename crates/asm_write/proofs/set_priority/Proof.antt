@@ -1,0 +1,72 @@
+use lib.IntN.{ℤ}
+use mir.Val.{toZ, ofZ, SFits}
+use mir.Syntax.{w16, w32}
+use Rattle.asm_fits.proofs.Laws.{number-below}
+use Rattle.word.specs.Offset.{signedOf}
+use Rattle.isa.specs.declared.Instr.the-variants as i
+use Rattle.asm_fits.specs.Fits.{wordFit, byteFit, countFit, offsetFit, immediateFit, constantFit, branchFit}
+use Rattle.asm_write.specs.Written.{numberOf}
+use Rattle.asm_write.proofs.Laws.{coded-number, coded-unknown, coded-outside}
+use native.Mathlib.Omega.{arith}
+use Prim.Native.Nat.{ℕ, _+_}
+use mathlib.Core.Path.{_≡_, refl, sym, ap, _∙_}
+use borrow.Author.Needs.{needs}
+use Rattle.asm_write.proofs.set_priority.Statement.{statement}
+use Rattle.asm_write.proofs.set_priority.Tie as tie
+use Rattle.asm_write.proofs.set_priority.Reads as reads
+use Rattle.asm_write.proofs.set_priority.Lts as lts
+use Rattle.asm_fits.proofs.count.Reads as count-reads
+use Rattle.asm_write.proofs.word_of.Reads as word-of-reads
+
+-- src/lib.rt:94:11
+count-requires : tie.Need-count-requires
+count-requires c κs = search needs
+
+-- src/lib.rt:95:21
+enum-known-n : tie.Need-enum-known-n
+enum-known-n c = search needs
+
+-- src/lib.rt:96:20
+cast-t6 : tie.Need-cast-t6
+cast-t6 c = let h = number-below 8 (c .before .n .given .0 .0) (c .before .before .before .count .result) (c .before .n .given .1) (c .before .before .before .count .ensures .1) in omega (arith, h)
+
+-- src/lib.rt:95:27
+word-of-requires : tie.Need-word-of-requires
+word-of-requires c κs = search needs
+
+-- src/lib.rt:98:25
+enum-told : tie.Need-enum-told
+enum-told c = search needs
+
+-- src/lib.rt:99:25
+enum-told-2 : tie.Need-enum-told-2
+enum-told-2 c = search needs
+
+-- src/lib.rt:91:1
+returns : tie.Need-returns
+unfolding numberOf
+returns c = coded-number (c .before .before .before .before .count .result) (countFit 8 (c .before .before .before .before .before .args .v)) (c .before .before .before .before .count .ensures .0) (i.SetPri) (c .before .before .n .given .0 .0) (i.SetPri (c .before .before .n .given .0 .0)) (c .word-of .result) (c .before .before .n .given .1) (c .word-of .ensures) refl
+
+-- src/lib.rt:91:1
+returns-2 : tie.Need-returns-2
+unfolding numberOf
+returns-2 c = coded-unknown (c .before .before .count .result) (countFit 8 (c .before .before .before .args .v)) (c .before .before .count .ensures .0) (i.SetPri) (c .enum-told .given .1)
+
+-- src/lib.rt:91:1
+returns-3 : tie.Need-returns-3
+unfolding numberOf
+returns-3 c = coded-outside (c .before .before .count .result) (countFit 8 (c .before .before .before .args .v)) (c .before .before .count .ensures .0) (i.SetPri) (c .enum-told2 .given .1)
+
+pub set-priority-spec : {M : Type 1} → statement M
+set-priority-spec =
+    tie.close
+    (tie.spec
+    count-requires
+    enum-known-n
+    cast-t6
+    word-of-requires
+    enum-told
+    enum-told-2
+    returns
+    returns-2
+    returns-3)

@@ -1,0 +1,64 @@
+use lib.IntN.{natAbs}
+use lib.Signed.{mag}
+use lib.IntN.{ℤ}
+use mir.Val.{toZ, ofZ, SFits}
+use mir.Syntax.{w16, w32}
+use Rattle.asm_write.proofs.Laws.{bss-plus, bss-minus}
+use Rattle.asm_fits.proofs.Signed.{up-cast, from-plus, from-minus}
+use mathlib.Core.Path.{_≡_, refl, sym, ap, _∙_}
+use borrow.Author.Needs.{needs}
+use Rattle.asm_write.proofs.space.Statement.{statement}
+use Rattle.asm_write.proofs.space.Tie as tie
+use Rattle.asm_write.proofs.space.Reads as reads
+use Rattle.asm_write.proofs.space.Lts as lts
+use Rattle.asm_write.proofs.room.Reads as room-reads
+
+-- src/lib.rt:354:22
+enum-known-v : tie.Need-enum-known-v
+enum-known-v c = search needs
+
+-- src/lib.rt:356:17
+returns : tie.Need-returns
+returns c = let f : SFits w32 (c .before .before .v .given .0 .0) = search needs in bss-minus (c .before .before .before .before .args .v) (c .before .before .v .given .0 .0) (c .before .before .v .given .1) (c .before .before .before .before .args .p) (mag (c .before .before .v .given .0 .0)) (from-minus (c .before .before .v .given .0 .0) f (c .if1 .taken))
+
+-- src/lib.rt:358:21
+cast-room : tie.Need-cast-room
+cast-room c = let f : SFits w32 (c .before .before .v .given .0 .0) = search needs in up-cast (c .before .before .v .given .0 .0) f (c .if1 .left)
+
+-- src/lib.rt:358:13
+room-requires : tie.Need-room-requires
+room-requires c κs = search needs
+
+-- src/lib.rt:360:27
+enum-told : tie.Need-enum-told
+enum-told c = search needs
+
+-- src/lib.rt:361:27
+enum-told-2 : tie.Need-enum-told-2
+enum-told-2 c = search needs
+
+-- src/lib.rt:350:1
+returns-2 : tie.Need-returns-2
+returns-2 c = let f : SFits w32 (c .before .before .before .v .given .0 .0) = search needs in bss-plus (c .before .before .before .before .before .args .v) (c .before .before .before .v .given .0 .0) (c .before .before .before .v .given .1) (c .before .before .before .before .before .args .p) (natAbs (toZ w32 (ofZ w32 (c .before .before .before .v .given .0 .0)))) (c .room .result) (c .room .ensures) (from-plus (c .before .before .before .v .given .0 .0) f (c .before .if1 .left))
+
+-- src/lib.rt:350:1
+returns-3 : tie.Need-returns-3
+returns-3 c = search needs
+
+-- src/lib.rt:350:1
+returns-4 : tie.Need-returns-4
+returns-4 c = search needs
+
+pub space-spec : {M : Type 1} → statement M
+space-spec =
+    tie.close
+    (tie.spec
+    enum-known-v
+    returns
+    cast-room
+    room-requires
+    enum-told
+    enum-told-2
+    returns-2
+    returns-3
+    returns-4)

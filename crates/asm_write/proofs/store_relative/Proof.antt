@@ -1,0 +1,73 @@
+use lib.IntN.{ℤ}
+use mir.Val.{toZ, ofZ, SFits}
+use mir.Syntax.{w16, w32}
+use Rattle.asm_fits.proofs.Laws.{number-below}
+use Rattle.word.specs.Offset.{signedOf}
+use Rattle.isa.specs.declared.Instr.the-variants as i
+use Rattle.asm_fits.specs.Fits.{wordFit, byteFit, countFit, offsetFit, immediateFit, constantFit, branchFit}
+use Rattle.asm_write.specs.Written.{numberOf}
+use Rattle.asm_write.proofs.Laws.{coded-number, coded-unknown, coded-outside}
+use native.Mathlib.Omega.{arith}
+use Prim.Native.Nat.{ℕ, _+_}
+use mathlib.Core.Path.{_≡_, refl, sym, ap, _∙_}
+use borrow.Author.Needs.{needs}
+use Rattle.asm_write.proofs.store_relative.Statement.{statement}
+use Rattle.asm_write.proofs.store_relative.Tie as tie
+use Rattle.asm_write.proofs.store_relative.Reads as reads
+use Rattle.asm_write.proofs.store_relative.Lts as lts
+use Rattle.asm_fits.proofs.offset.Reads as offset-reads
+use Rattle.asm_write.proofs.word_of.Reads as word-of-reads
+use Rattle.word.proofs.signed.Reads as signed-reads
+
+-- src/lib.rt:176:11
+offset-requires : tie.Need-offset-requires
+offset-requires c κs = search needs
+
+-- src/lib.rt:177:21
+enum-known-n : tie.Need-enum-known-n
+enum-known-n c = search needs
+
+-- src/lib.rt:178:18
+signed-requires : tie.Need-signed-requires
+signed-requires c κs = let h = number-below 128 (c .before .n .given .0 .0) (c .before .before .before .offset .result) (c .before .n .given .1) (c .before .before .before .offset .ensures .1) in (omega arith, omega (arith, h))
+
+-- src/lib.rt:177:27
+word-of-requires : tie.Need-word-of-requires
+word-of-requires c κs = search needs
+
+-- src/lib.rt:183:25
+enum-told : tie.Need-enum-told
+enum-told c = search needs
+
+-- src/lib.rt:184:25
+enum-told-2 : tie.Need-enum-told-2
+enum-told-2 c = search needs
+
+-- src/lib.rt:173:1
+returns : tie.Need-returns
+unfolding numberOf
+returns c = let e : toZ w16 (ofZ w16 (c .before .signed .result)) ≡ c .before .signed .result = search needs in coded-number (c .before .before .before .before .before .offset .result) (offsetFit (c .before .before .before .before .before .before .args .v)) (c .before .before .before .before .before .offset .ensures .0) (λ (n : ℕ). i.Str (signedOf 64 n) (c .before .before .before .before .before .before .args .wb) (c .before .before .before .before .before .before .args .src) (c .before .before .before .before .before .before .args .dst)) (c .before .before .before .n .given .0 .0) (i.Str (c .before .signed .result) (c .before .before .before .before .before .before .args .wb) (c .before .before .before .before .before .before .args .src) (c .before .before .before .before .before .before .args .dst)) (c .word-of .result) (c .before .before .before .n .given .1) (rw e at (c .word-of .ensures)) (ap (λ (z : ℤ). i.Str (z) (c .before .before .before .before .before .before .args .wb) (c .before .before .before .before .before .before .args .src) (c .before .before .before .before .before .before .args .dst)) (c .before .signed .ensures))
+
+-- src/lib.rt:173:1
+returns-2 : tie.Need-returns-2
+unfolding numberOf
+returns-2 c = coded-unknown (c .before .before .offset .result) (offsetFit (c .before .before .before .args .v)) (c .before .before .offset .ensures .0) (λ (n : ℕ). i.Str (signedOf 64 n) (c .before .before .before .args .wb) (c .before .before .before .args .src) (c .before .before .before .args .dst)) (c .enum-told .given .1)
+
+-- src/lib.rt:173:1
+returns-3 : tie.Need-returns-3
+unfolding numberOf
+returns-3 c = coded-outside (c .before .before .offset .result) (offsetFit (c .before .before .before .args .v)) (c .before .before .offset .ensures .0) (λ (n : ℕ). i.Str (signedOf 64 n) (c .before .before .before .args .wb) (c .before .before .before .args .src) (c .before .before .before .args .dst)) (c .enum-told2 .given .1)
+
+pub store-relative-spec : {M : Type 1} → statement M
+store-relative-spec =
+    tie.close
+    (tie.spec
+    offset-requires
+    enum-known-n
+    signed-requires
+    word-of-requires
+    enum-told
+    enum-told-2
+    returns
+    returns-2
+    returns-3)

@@ -1,0 +1,31 @@
+use Rattle.isa.specs.Encode.{encodeOf}
+use Rattle.asm_write.proofs.Laws.{encoded-word, encoded-refused}
+use borrow.Author.Needs.{needs}
+use Rattle.asm_write.proofs.word_of.Statement.{statement}
+use Rattle.asm_write.proofs.word_of.Tie as tie
+use Rattle.asm_write.proofs.word_of.Reads as reads
+use Rattle.asm_write.proofs.word_of.Lts as lts
+use Rattle.isa.proofs.encode.Reads as encode-reads
+
+-- src/lib.rt:40:11
+encode-requires : tie.Need-encode-requires
+encode-requires c κs = search needs
+
+-- src/lib.rt:41:23
+enum-known-w : tie.Need-enum-known-w
+enum-known-w c = search needs
+
+-- src/lib.rt:42:29
+enum-told : tie.Need-enum-told
+enum-told c = search needs
+
+-- src/lib.rt:37:1
+returns : tie.Need-returns
+returns c = encoded-word (c .before .before .before .encode .result) (encodeOf (c .before .before .before .before .args .x)) (c .before .w .given .0 .0) (c .before .before .before .encode .ensures) (c .before .w .given .1)
+
+-- src/lib.rt:37:1
+returns-2 : tie.Need-returns-2
+returns-2 c = encoded-refused (c .before .before .encode .result) (encodeOf (c .before .before .before .args .x)) (c .before .before .encode .ensures) (c .enum-told .given .1)
+
+pub word-of-spec : {M : Type 1} → statement M
+word-of-spec = tie.close (tie.spec encode-requires enum-known-w enum-told returns returns-2)

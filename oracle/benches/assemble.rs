@@ -1,0 +1,136 @@
+//! Time of assembling 65,536 bytes of source in 3,000 lines with 1,024 names: the proved library beside the oracle, in
+//! this process, and examples/assemble.c as a program. Every outcome is compared before it is timed. Last, instructions
+//! of the host per byte of source, where valgrind is here. The run fails where the library takes 10 ms or more.
+//!
+//! `assemble once` makes one call, for `valgrind --tool=callgrind --toggle-collect=xm23_assemble`.
+
+#[path = "../tests/library/assemble.rs"]
+mod library;
+
+use oracle::assemble_compare::{oracle_assemble, Assembler};
+use oracle::assemble_inputs::Input;
+use oracle::machine::MEMORY;
+use std::hint::black_box;
+use std::path::Path;
+use std::process::{Command, Stdio};
+use std::time::Instant;
+use std::{env, fs};
+
+/// How often each is timed.
+const TURNS: usize = 25;
+const LINES: usize = 3_000;
+const NAMES: usize = 1_024;
+/// Milliseconds.
+const LIMIT: f64 = 10.0;
+
+/// A statement of a program as setters write them, which uses a name of its own line or any other.
+fn statement(i: usize) -> String {
+    let (own, any) = (i / 2 % NAMES, i * 7 % NAMES);
+    match i % 12 {
+        0 => format!("MOVL NAME{any},R0"),
+        1 => format!("MOVH NAME{any},R0"),
+        2 => "LD R0+,R1".to_string(),
+        3 => "ADD #1,R1".to_string(),
+        4 => format!("CEX EQ,#{},#1", i % 8),
+        5 => "ST.B R1,-SP".to_string(),
+        6 => format!("WORD (NAME{any}+#2*#3)"),
+        7 => format!("LDR R3,#{},R4", i % 64),
+        8 if i < 2 * NAMES => format!("BRA NAME{own}"),
+        9 => format!("SETPRI #{}", i % 8),
+        10 => "SETCC VC".to_string(),
+        _ => "SUB.B R1,R2".to_string(),
+    }
+}
+
+/// 3,000 lines, 1,024 of them with a name; comments bring them to 65,536 bytes.
+fn program() -> Vec<u8> {
+    let mut lines = vec![" ORG $1000".to_string()];
+    for i in 0..LINES - 2 {
+        let name = if i % 2 == 0 && i / 2 < NAMES { format!("NAME{}", i / 2) } else { String::new() };
+        lines.push(format!("{name} {}", statement(i)));
+    }
+    lines.push(" END".into());
+    let length = |lines: &[String]| lines.iter().map(|line| line.len() + 1).sum::<usize>();
+    let spare = MEMORY.checked_sub(length(&lines)).expect("room for comments");
+    for i in 0..spare / 20 {
+        lines[1 + 7 * i % (LINES - 2)].push_str(" ; what it is for..");
+    }
+    let rest = MEMORY.checked_sub(length(&lines)).expect("room for a comment");
+    lines[0].push_str(&format!(";{}", "x".repeat(rest.saturating_sub(1))));
+    lines.join("\n").into_bytes().into_iter().chain([b'\n']).collect()
+}
+
+/// The best time of some, in milliseconds.
+fn best(mut run: impl FnMut()) -> f64 {
+    let time = |_| {
+        let start = Instant::now();
+        run();
+        start.elapsed().as_secs_f64() * 1e3
+    };
+    (0..TURNS).map(time).fold(f64::INFINITY, f64::min)
+}
+
+fn input() -> Input {
+    Input { memory: vec![0; MEMORY], source: program() }
+}
+
+/// A call on the same input each time, which does again what is done; and the memory that it leaves.
+fn time(call: Assembler) -> (f64, Vec<u8>) {
+    let mut input = input();
+    assert_eq!(call(&mut input), 0);
+    let memory = input.memory.clone();
+    let best = best(|| {
+        black_box(call(black_box(&mut input)));
+    });
+    (best, memory)
+}
+
+/// The example as a program, from a file to a file; None where it is not built.
+fn as_program() -> Option<f64> {
+    let build = Path::new(env!("CARGO_MANIFEST_DIR")).join("../build");
+    let (tool, place) = (build.join("assemble"), build.join("bench"));
+    fs::create_dir_all(&place).ok()?;
+    let source = place.join("source.txt");
+    fs::write(&source, program()).ok()?;
+    let run = || {
+        let out = fs::File::create(place.join("source.s19")).ok()?;
+        let command = Command::new(&tool).stdin(fs::File::open(&source).ok()?).stdout(Stdio::from(out)).status();
+        command.ok().filter(|status| status.success())
+    };
+    run()?;
+    Some(best(|| assert!(run().is_some())))
+}
+
+/// Instructions of the host in one call, by callgrind; None where it is not here.
+fn instructions() -> Option<f64> {
+    let out = Command::new("valgrind")
+        .args(["--tool=callgrind", "--callgrind-out-file=/dev/null", "--toggle-collect=xm23_assemble"])
+        .arg(env::current_exe().expect("this program"))
+        .arg("once")
+        .output()
+        .ok()?;
+    let said = String::from_utf8_lossy(&out.stderr).into_owned();
+    said.lines().find(|line| line.contains("Collected"))?.rsplit(' ').next()?.parse().ok()
+}
+
+fn main() {
+    if env::args().any(|word| word == "once") {
+        black_box(library::assemble(&mut input()));
+        return;
+    }
+    let source = program();
+    assert_eq!((source.len(), source.iter().filter(|&&b| b == b'\n').count()), (MEMORY, LINES));
+    let ((ours, memory), (oracle, right)) = (time(library::assemble), time(oracle_assemble));
+    assert!(memory == right, "another image");
+    println!("{:34} {:>10} {:>10} {:>8}", "assemble, ms", "Rattle", "oracle", "ratio");
+    println!("{:34} {ours:10.3} {oracle:10.3} {:8.2}", "65,536 bytes in 3,000 lines", ours / oracle);
+    match as_program() {
+        Some(time) => println!("{:34} {time:10.3}", "as a program, examples/assemble.c"),
+        None => println!("{:34} {:>10}", "as a program, examples/assemble.c", "not here"),
+    }
+    match instructions() {
+        Some(count) => println!("host instructions per byte of source: {:.1}", count / MEMORY as f64),
+        None => println!("host instructions per byte of source: valgrind is not here"),
+    }
+    assert!(ours < LIMIT, "{ours} ms, of {LIMIT} at most");
+}

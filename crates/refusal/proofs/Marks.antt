@@ -1,28 +1,13 @@
--- The bytes before the step count of a record, and a mark set by a mask, at any place k. Assumes nothing.
-use mathlib.Core.Path.{_≡_, sym, subst, ap₂, _∙_}
-use mathlib.Core.Bool.{Bool, true, false, not, _&&_, _||_, false≢true}
+-- A mark set by a mask, at any place k. Assumes nothing.
+use mathlib.Core.Path.{_≡_, sym, ap₂, _∙_}
+use mathlib.Core.Bool.{true}
 use Prim.Native.Nat.{ℕ, _+_, _*_, _/_, _%_, _^_, _<_}
 use native.Mathlib.Nat.{mod-lt, one-mul}
 use native.Mathlib.Omega.{arith}
-use lib.Dec.{lit<, eqb, ltb, leb}
+use lib.Dec.{lit<}
 use lib.Bits.{bitOr, or-step, or-block, or-zero-r}
 use lib.Pow.{pow-add, pow-pos, split, shr-shr, shl-exact}
-use borrow.Author.Tests.{lt-ltb, le-ltb, leb-true, leb-false}
 use Rattle.word.specs.Psw.{putBit}
-use Rattle.word.proofs.Laws.{bool-cases}
-
--- byte 20, which is zero, and byte 21, the halted mark
-pub mark-broken : (x y : ℕ) (d : Bool) → (not (eqb x 0) || leb 2 y) ≡ true → false ≡ eqb x 0 && ltb y 2 && d
-mark-broken x y d h =
-    bool-cases (eqb x 0)
-    (λ q. let e : leb 2 y ≡ true = subst (λ (b : Bool). (not b || leb 2 y) ≡ true) q h in rw (q, le-ltb y 2 (leb-true 2 y e)))
-    (λ q. rw q)
-
-pub mark-fits : (x y : ℕ) → (not (eqb x 0) || leb 2 y) ≡ false → eqb x 0 && ltb y 2 ≡ true
-mark-fits x y h =
-    bool-cases (eqb x 0)
-    (λ q. let e : leb 2 y ≡ false = subst (λ (b : Bool). (not b || leb 2 y) ≡ false) q h in rw (q, lt-ltb y 2 (leb-false 2 y e)))
-    (λ q. absurd (false≢true (sym (subst (λ (b : Bool). (not b || leb 2 y) ≡ false) q h))))
 
 odd : (q : ℕ) → bitOr q 1 ≡ q / 2 * 2 + 1
 odd q = or-step q 1 ∙ rw (or-zero-r (q / 2)) (omega arith)

@@ -1,6 +1,6 @@
 # XM-23 examination machine. 'make help' lists what there is.
 
-.PHONY: help run lib install uninstall input list card report test fuzz fuzz_words replay bench clean
+.PHONY: help run lib desk sitting install uninstall input list card report test fuzz fuzz_words replay bench clean
 
 CFLAGS = -std=c99 -pedantic -O2 -Wall -Wextra -Werror -Iinclude
 ORACLE = --offline --locked --manifest-path oracle/Cargo.toml --target-dir oracle/target
@@ -34,7 +34,15 @@ run: target/bin/print_state
 lib: $(ARCHIVE)
 	@echo '$<'
 
-install: target/bin/print_state $(ARCHIVE) $(SHARED)
+desk: build/xm23
+	@echo '$<'
+
+# The example sitting, of which one program is as expected and four are not: status 1 is what it ends with.
+sitting: build/xm23
+	@cd examples/sitting && ../../build/xm23 mark -o ../../build/sitting sum.paper programs/*.s19 || [ $$? -eq 1 ]
+	@echo build/sitting/index.html
+
+install: target/bin/print_state $(ARCHIVE) $(SHARED) build/xm23
 	@scripts/install.sh install $(call quoted,$(PREFIX)) $(call quoted,$(DESTDIR))
 
 uninstall:
@@ -48,12 +56,11 @@ input: $(if $(CASE),$(ARCHIVE))
 report: $(shell test -e $(call quoted,$(INPUT)) && echo target/bin/print_state)
 	@scripts/report.sh $(call quoted,$(INPUT)) $(call quoted,$(OUT)) $(call quoted,$(TITLE)) $(call quoted,$(EXPECT))
 
-list: build/decode_image
-	@build/decode_image examples/copy_words.img 1000
+list: build/xm23
+	@build/xm23 dis examples/copy_words.s19
 
-# The page is put in its place whole, or not at all.
-card: build/card
-	@build/card > build/card.new && mv build/card.new $(call quoted,$(CARD)) && echo $(call quoted,$(CARD))
+card: build/xm23
+	@build/xm23 card -o $(call quoted,$(CARD)) && echo $(call quoted,$(CARD))
 
 test:
 	@scripts/test.sh
@@ -86,6 +93,10 @@ clean:
 # The example's input, after a change of its source.
 $(EXAMPLE).in: $(EXAMPLE).txt | $(ARCHIVE)
 	@scripts/input.sh $< $@
+
+# The program of setters and markers. SHA-256 is libcrypto's.
+build/xm23: $(wildcard desk/*.c desk/*.h) include/xm23.h $(ARCHIVE)
+	@scripts/desk.sh $@
 
 build/%: examples/%.c include/xm23.h $(ARCHIVE)
 	@mkdir -p build

@@ -1,4 +1,4 @@
-; Copies ten words, calls a subroutine and stops. Its image at #1000 is copy_words.img.
+; Copies ten words, calls a subroutine and stops. Its S-records are copy_words.s19.
         ORG $0100
 AR1     BSS #32
 AR2     BSS #20

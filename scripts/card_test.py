@@ -1,6 +1,6 @@
 #!/usr/bin/env python3
 """The reference card: well-formed and whole. Its figures are added up, its flags are those that 01 gives each
-operation, and the text of each example is what build/decode_image lists for its word. Last line: N passed, M failed."""
+operation, and the text of each example is what build/xm23 lists for its word. Last line: N passed, M failed."""
 import html.parser
 import re
 import subprocess
@@ -56,12 +56,13 @@ def same(what, got, expected):
 
 
 def listed(word):
-    """The text that decode_image lists for a word at #1000."""
-    with tempfile.NamedTemporaryFile() as image:
-        image.write(bytes((word & 255, word >> 8)))
-        image.flush()
-        command = ["build/decode_image", image.name, "1000"]
-        line = subprocess.run(command, capture_output=True, text=True, check=True).stdout
+    """The text that xm23 dis lists for a word at #1000."""
+    data = bytes((5, 0x10, 0x00, word & 255, word >> 8))
+    with tempfile.NamedTemporaryFile("w") as program:
+        program.write(f"S1{data.hex().upper()}{255 - sum(data) & 255:02X}\nS9031000EC\n")
+        program.flush()
+        command = ["build/xm23", "dis", program.name]
+        line = subprocess.run(command, capture_output=True, text=True, check=True).stdout.split("\n")[0]
     return " ".join(line.split()[2:])
 
 

@@ -1,6 +1,6 @@
 #!/usr/bin/env bash
-# install.sh install|uninstall PREFIX DESTDIR: the header, both libraries, xm23.pc, the manual pages and print_state,
-# below DESTDIR/PREFIX. What is installed reads nothing of this folder. Uninstalling removes the same files, of any
+# install.sh install|uninstall PREFIX DESTDIR: the header, both libraries, xm23.pc, the manual pages, print_state, and xm23
+# with its completion, below DESTDIR/PREFIX. What is installed reads nothing of this folder. Uninstalling removes the same files, of any
 # version, and no folder.
 set -eu -o pipefail
 if [ $# -ne 3 ] || [[ $1 != install && $1 != uninstall || $2 != /* ]]; then
@@ -25,12 +25,14 @@ pages() {
     done
 }
 
-files="bin/print_state include/xm23.h lib/libxm23.a lib/libxm23.so.$version lib/libxm23.so.$major_minor lib/libxm23.so
-    lib/pkgconfig/xm23.pc share/man/man1/print_state.1 share/man/man3/xm23.3 $(pages)"
+files="bin/print_state bin/xm23 include/xm23.h lib/libxm23.a lib/libxm23.so.$version lib/libxm23.so.$major_minor lib/libxm23.so
+    lib/pkgconfig/xm23.pc share/man/man1/print_state.1 share/man/man1/xm23.1 share/man/man3/xm23.3 share/man/man5/xm23.5
+    share/bash-completion/completions/xm23 $(pages)"
 
 install_all() {
     local page pc
     put 755 target/bin/print_state bin/print_state
+    put 755 build/xm23 bin/xm23
     put 644 include/xm23.h include/xm23.h
     put 644 target/staticlib/libxm23.a lib/libxm23.a
     put 755 "build/libxm23.so.$version" "lib/libxm23.so.$version"
@@ -41,7 +43,10 @@ install_all() {
     printf '%s\n' "${pc//@VERSION@/"$version"}" > build/xm23.pc
     put 644 build/xm23.pc lib/pkgconfig/xm23.pc
     put 644 man/print_state.1 share/man/man1/print_state.1
+    put 644 man/xm23.1 share/man/man1/xm23.1
     put 644 man/xm23.3 share/man/man3/xm23.3
+    put 644 man/xm23.5 share/man/man5/xm23.5
+    put 644 desk/completion.bash share/bash-completion/completions/xm23
     echo '.so man3/xm23.3' > build/xm23_call.3
     for page in $(pages); do
         put 644 build/xm23_call.3 "$page"

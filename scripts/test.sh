@@ -89,9 +89,22 @@ hostile() {
     gcc $warn -std=c99 -pedantic -o "$build/hostile" tests/c/hostile.c "$xm23" && "$build/hostile"
 }
 
+desk() {
+    scripts/desk.sh "$build/xm23"
+}
+
+# The desk program under the compiler's checks.
+desk_checked() {
+    scripts/desk.sh "$build/xm23_checked" -g -fsanitize=address,undefined -fno-sanitize-recover=all &&
+        tests/desk/desk.sh "$build/xm23_checked"
+}
+
 listing() {
-    gcc $warn -std=c99 -pedantic -o "$build/decode_image" examples/decode_image.c "$xm23" &&
-        "$build/decode_image" examples/copy_words.img 1000 | diff examples/copy_words.lst -
+    "$build/xm23" dis examples/copy_words.s19 | diff examples/copy_words.lst -
+}
+
+random_papers() {
+    python3 -B tests/desk/random_runs.py "$build/xm23" target/bin/print_state 1200
 }
 
 # The machines of the example host print what the program prints.
@@ -103,8 +116,7 @@ example_host() {
 }
 
 card() {
-    gcc $warn -std=c99 -pedantic -o "$build/card" examples/card.c "$xm23" && "$build/card" > "$build/card.html" &&
-        python3 -B scripts/card_test.py "$build/card.html"
+    "$build/xm23" card > "$build/card.html" && python3 -B scripts/card_test.py "$build/card.html"
 }
 
 part 'what the trace refuses' count_line python3 -B scripts/trace_test.py
@@ -128,10 +140,20 @@ else
     echo '== left out: hostile host under valgrind, which is not here'
     parts=$((parts - 1))
 fi
+part 'desk program' count_status desk
 part 'example listing' count_status listing
 part 'example host' count_status example_host
 part 'reference card' count_line card
 part 'the program' count_line tests/shell/program.sh
+part 'desk: use and misuse' count_line tests/desk/desk.sh
+part 'desk under the sanitizers' count_line desk_checked
+if command -v valgrind > /dev/null; then
+    part 'desk under valgrind' count_line tests/desk/valgrind.sh
+else
+    echo '== left out: desk under valgrind, which is not here'
+    parts=$((parts - 1))
+fi
+part 'desk beside the program on random papers' count_line random_papers
 part 'installing' count_line tests/shell/install.sh
 part 'the report' count_line tests/shell/report.sh
 part 'the assembler' count_line tests/shell/assemble.sh

@@ -19,10 +19,10 @@ given() {
 build/assemble < examples/copy_words.asm > "$room/copy.s19"
 build/srec load < "$room/copy.s19" > "$room/memory" 2> "$room/pc"
 same 'PC of the first instruction' "$(cat "$room/pc")" 'PC 1000'
-same 'image' "$(dd if="$room/memory" bs=64 skip=64 count=1 2> /dev/null | cksum)" "$(cksum < examples/copy_words.img)"
+same 'S-records' "$(cat "$room/copy.s19")" "$(cat examples/copy_words.s19)"
 build/assemble -l < examples/copy_words.asm > "$room/copy.lst"
 same 'listing beside the decoder' "$(sed -n 's/^\([0-9A-F]\{4\}  [0-9A-F]\{4\}\) .*/\1/p' "$room/copy.lst")" \
-    "$(cut -c1-10 examples/copy_words.lst)"
+    "$(sed -n 's/^\([0-9A-F]\{4\}  [0-9A-F]\{4\}\) .*/\1/p' examples/copy_words.lst)"
 same 'a line of it' "$(sed -n 11p "$room/copy.lst")" '100A  5891    11.  LOOP    LD R2+,R1'
 same 'a line without bytes' "$(sed -n 2p "$room/copy.lst")" '               2.          ORG $0100'
 same 'every line' "$(cut -c20- "$room/copy.lst")" "$(cat examples/copy_words.asm)"

@@ -7,8 +7,9 @@ cd "$(dirname "$0")/../.."
 make="make -s --no-print-directory"
 version=$(scripts/version.sh)
 prefix=$room/usr
-files="bin/print_state include/xm23.h lib/libxm23.a lib/libxm23.so lib/libxm23.so.${version%.*} lib/libxm23.so.$version
-    lib/pkgconfig/xm23.pc share/man/man1/print_state.1 share/man/man3/xm23.3 share/man/man3/xm23_decode.3"
+files="bin/print_state bin/xm23 include/xm23.h lib/libxm23.a lib/libxm23.so lib/libxm23.so.${version%.*} lib/libxm23.so.$version
+    lib/pkgconfig/xm23.pc share/man/man1/print_state.1 share/man/man1/xm23.1 share/man/man3/xm23.3 share/man/man3/xm23_decode.3
+    share/man/man5/xm23.5 share/bash-completion/completions/xm23"
 
 # there FOLDER: what lies below it that is no folder.
 there() {
@@ -61,6 +62,7 @@ expect "the manual's example in C++" 0 'accepted, reason 0, 1000 steps' '' \
 expect "README's example in Python" 0 'refusal 0 steps 1 R0 1' '' python3 -B examples/run.py "$prefix/lib/libxm23.so"
 expect 'by its name' 0 'refusal 0 steps 1 R0 1' '' env LD_LIBRARY_PATH="$prefix/lib" python3 -B examples/run.py
 same 'is that of README' "$(cat "$room/readme.py")" "$(cat examples/run.py)"
+same 'xm23' "$("$prefix/bin/xm23" dis examples/copy_words.s19)" "$(cat examples/copy_words.lst)"
 same 'print_state' "$("$prefix/bin/print_state" < /dev/null)" R3
 same 'a page of each call' "$(cat "$prefix/share/man/man3/xm23_run.3")" '.so man3/xm23.3'
 

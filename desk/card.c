@@ -1,19 +1,17 @@
 /*
- * Prints the reference card of the XM-23 as one page of HTML, for a screen and for A4 paper:
- *
- *     card > card.html
+ * xm23 card: the reference card of the XM-23 as one page of HTML, for a screen and for A4 paper.
  *
  * A row for each operation: the bits of its words, how to write it, how many words mean it, which flags it changes and
  * an example. Names and notation stand here; all else is asked of the library. The bits that vary are those in which an
  * operation's words differ, and a field is the byte of the decoded number that such a bit changes; flags are those that
- * runs of the operation on a range of states have changed; the example is a run of one step. The exit status is 1 where
- * the counts do not add up or a run is refused.
+ * runs of the operation on a range of states have changed; the example is a run of one step.
  */
 #include <stdio.h>
 #include <stdlib.h>
 #include <string.h>
+#include <unistd.h>
 
-#include "xm23.h"
+#include "desk.h"
 
 #define START 0x1000 /* where the instruction stands */
 #define PLACE 0x2000 /* where memory is looked at */
@@ -84,18 +82,9 @@ static const char *const fields[][6] = {
     {"w", "src", "dst"}, {"w", "src", "dst"},
 };
 
-static uint8_t memory[XM23_MEMORY_SIZE], record[XM23_RECORD_SIZE];
-
-static void put(uint8_t *bytes, unsigned at, unsigned value)
-{
-    bytes[at] = (uint8_t)value;
-    bytes[at + 1] = (uint8_t)(value >> 8);
-}
-
-static unsigned get(const uint8_t *bytes, unsigned at)
-{
-    return bytes[at] | (unsigned)bytes[at + 1] << 8;
-}
+static struct machine machine;
+static uint8_t *const memory = machine.memory, *const record = machine.record;
+static struct text *page;
 
 static uint16_t first_word(unsigned operation)
 {
@@ -105,25 +94,25 @@ static uint16_t first_word(unsigned operation)
 /* A machine that stands before one instruction. Vector 3 has priority 6 and leads to #4000. */
 static void prepare(uint16_t word, uint16_t r0, uint16_t r1, uint16_t psw)
 {
-    memset(memory, 0, sizeof memory);
-    memset(record, 0, sizeof record);
-    put(memory, START, word);
-    put(memory, PLACE, 0xABCD);
-    put(memory, 0xFFC0 + 4 * 3, 6 << 5);
-    put(memory, 0xFFC0 + 4 * 3 + 2, 0x4000);
-    put(record, XM23_RECORD_REGISTER(0), r0);
-    put(record, XM23_RECORD_REGISTER(1), r1);
-    put(record, XM23_RECORD_REGISTER(6), 0x8000);
-    put(record, XM23_RECORD_REGISTER(7), START);
-    put(record, XM23_RECORD_PSW, psw);
+    memset(&machine, 0, sizeof machine);
+    put_word(memory, START, word);
+    put_word(memory, PLACE, 0xABCD);
+    put_word(memory, 0xFFC0 + 4 * 3, 6 << 5);
+    put_word(memory, 0xFFC0 + 4 * 3 + 2, 0x4000);
+    put_word(record, XM23_RECORD_REGISTER(0), r0);
+    put_word(record, XM23_RECORD_REGISTER(1), r1);
+    put_word(record, XM23_RECORD_REGISTER(6), 0x8000);
+    put_word(record, XM23_RECORD_REGISTER(7), START);
+    put_word(record, XM23_RECORD_PSW, psw);
 }
 
 static void step(void)
 {
-    uint64_t reply = xm23_run(memory, sizeof memory, record, sizeof record, NULL, 0, NULL, 0, 1);
-    if (XM23_RUN_REFUSAL(reply) != XM23_ACCEPTED) {
-        fprintf(stderr, "card: %s\n", xm23_refusal_text(XM23_RUN_REFUSAL(reply)));
-        exit(1);
+    struct outcome o = {0, 0, 0, NULL};
+    run_machine(&machine, NULL, 0, 1, &o);
+    if (o.refusal != XM23_ACCEPTED) {
+        say("card: %s", xm23_refusal_text(o.refusal));
+        exit(REFUSED);
     }
 }
 
@@ -158,11 +147,11 @@ static void bits(unsigned operation)
         const char *name = vary >> bit & 1 ? field(operation, (unsigned)bit) : NULL;
         int end = bit - 1;
         if (!name) {
-            printf("<td class=fixed>%u</td>", first_word(operation) >> bit & 1u);
+            add(page, "<td class=fixed>%u</td>", first_word(operation) >> bit & 1u);
         } else {
             while (end >= 0 && vary >> end & 1 && field(operation, (unsigned)end) == name)
                 end--;
-            printf("<td class=field colspan=%d>%s</td>", bit - end, name);
+            add(page, "<td class=field colspan=%d>%s</td>", bit - end, name);
         }
         bit = end;
     }
@@ -187,8 +176,8 @@ static unsigned flags_changed(unsigned operation)
                 prepare(XM23_NEXT_WORD(reply), values[i], values[(i * 7 + psw) % (sizeof values / sizeof *values)],
                         (uint16_t)psw);
                 step();
-                if (!(get(record, XM23_RECORD_PSW) & XM23_PSW_FLT))
-                    changed |= get(record, XM23_RECORD_PSW) ^ psw;
+                if (!(get_word(record, XM23_RECORD_PSW) & XM23_PSW_FLT))
+                    changed |= get_word(record, XM23_RECORD_PSW) ^ psw;
             }
     return changed;
 }
@@ -196,11 +185,11 @@ static unsigned flags_changed(unsigned operation)
 static void flags(unsigned operation)
 {
     unsigned changed = flags_changed(operation);
-    printf("<td class=flags>");
+    add(page, "<td class=flags>");
     for (int bit = 4; bit >= 0; bit--)
         if (bit != 3 || changed & XM23_FLAG_SLP)
-            printf("<i class=%s>%c</i>", changed >> bit & 1 ? "on" : "off", "CZNSV"[bit]);
-    printf("</td>");
+            add(page, "<i class=%s>%c</i>", changed >> bit & 1 ? "on" : "off", "CZNSV"[bit]);
+    add(page, "</td>");
 }
 
 /* ---- examples */
@@ -211,7 +200,7 @@ struct shown {
     char part[8][24];
 };
 
-static void add(struct shown *s, const char *name, unsigned value)
+static void put_part(struct shown *s, const char *name, unsigned value)
 {
     snprintf(s->part[s->many++], sizeof s->part[0], "%s %04X", name, value);
 }
@@ -219,19 +208,19 @@ static void add(struct shown *s, const char *name, unsigned value)
 static struct shown look(const struct operation *o)
 {
     struct shown s = {0, {{0}}};
-    unsigned psw = get(record, XM23_RECORD_PSW), cex = get(record, XM23_RECORD_CEX);
+    unsigned psw = get_word(record, XM23_RECORD_PSW), cex = get_word(record, XM23_RECORD_CEX);
     if (o->shown & REGISTERS && strstr(o->example, "R0"))
-        add(&s, "R0", get(record, XM23_RECORD_REGISTER(0)));
+        put_part(&s, "R0", get_word(record, XM23_RECORD_REGISTER(0)));
     if (o->shown & REGISTERS)
-        add(&s, "R1", get(record, XM23_RECORD_REGISTER(1)));
+        put_part(&s, "R1", get_word(record, XM23_RECORD_REGISTER(1)));
     if (o->shown & MEMORY)
-        add(&s, "[2000]", get(memory, PLACE));
+        put_part(&s, "[2000]", get_word(memory, PLACE));
     if (o->shown & TARGET)
-        add(&s, "PC", get(record, XM23_RECORD_REGISTER(7)));
+        put_part(&s, "PC", get_word(record, XM23_RECORD_REGISTER(7)));
     if (o->shown & LINK)
-        add(&s, "LR", get(record, XM23_RECORD_REGISTER(5)));
+        put_part(&s, "LR", get_word(record, XM23_RECORD_REGISTER(5)));
     if (o->shown & STACK)
-        add(&s, "SP", get(record, XM23_RECORD_REGISTER(6)));
+        put_part(&s, "SP", get_word(record, XM23_RECORD_REGISTER(6)));
     if (o->shown & LEVEL)
         snprintf(s.part[s.many++], sizeof s.part[0], "level %u", XM23_PSW_CURRENT(psw));
     if (o->shown & COUNTS)
@@ -246,10 +235,10 @@ static struct shown look(const struct operation *o)
 /* Prints a state; what is another than before is bold. */
 static void show(const struct shown *s, const struct shown *before)
 {
-    printf("<td class=state>");
+    add(page, "<td class=state>");
     for (unsigned i = 0; i < s->many; i++)
-        printf(strcmp(s->part[i], before->part[i]) ? "<b>%s</b> " : "<span>%s</span> ", s->part[i]);
-    printf("</td>");
+        add(page, strcmp(s->part[i], before->part[i]) ? "<b>%s</b> " : "<span>%s</span> ", s->part[i]);
+    add(page, "</td>");
 }
 
 static void example(unsigned operation)
@@ -261,7 +250,7 @@ static void example(unsigned operation)
     before = look(o);
     step();
     after = look(o);
-    printf("<td class=example>%s</td><td class=word>%04X</td>", o->example, word);
+    add(page, "<td class=example>%s</td><td class=word>%04X</td>", o->example, word);
     show(&before, &before);
     show(&after, &before);
 }
@@ -270,7 +259,7 @@ static void example(unsigned operation)
 
 static void head(void)
 {
-    printf("<!DOCTYPE html>\n<html lang=en>\n<head>\n<meta charset=utf-8>\n<title>XM-23 reference card</title>\n"
+    add(page, "<!DOCTYPE html>\n<html lang=en>\n<head>\n<meta charset=utf-8>\n<title>XM-23 reference card</title>\n"
            "<style>\n"
            "@page { size: A4; margin: 8mm; }\n"
            "body { font: 9px/1.2 'DejaVu Sans', Verdana, sans-serif; color: #111; background: #fff; }\n"
@@ -304,37 +293,37 @@ static void head(void)
 static void columns(void)
 {
     static const int rest[] = {115, 130, 235, 90, 275, 275};
-    printf("<colgroup><col style=\"width: 26.0mm\">");
+    add(page, "<colgroup><col style=\"width: 26.0mm\">");
     for (int bit = 15; bit >= 0; bit--)
-        printf("<col style=\"width: 3.5mm\">");
+        add(page, "<col style=\"width: 3.5mm\">");
     for (unsigned i = 0; i < sizeof rest / sizeof *rest; i++)
-        printf("<col style=\"width: %d.%dmm\">", rest[i] / 10, rest[i] % 10);
-    printf("</colgroup>\n");
+        add(page, "<col style=\"width: %d.%dmm\">", rest[i] / 10, rest[i] % 10);
+    add(page, "</colgroup>\n");
 }
 
 static void rows(void)
 {
-    printf("<table>\n");
+    add(page, "<table>\n");
     columns();
-    printf("<thead><tr><th>Operation</th>");
+    add(page, "<thead><tr><th>Operation</th>");
     for (int bit = 15; bit >= 0; bit--)
-        printf("<th class=bit>%d</th>", bit);
-    printf("<th class=count>Words</th><th>Flags</th><th class=example>Example</th><th>Word</th><th>before</th>"
+        add(page, "<th class=bit>%d</th>", bit);
+    add(page, "<th class=count>Words</th><th>Flags</th><th class=example>Example</th><th>Word</th><th>before</th>"
            "<th>after</th></tr></thead>\n<tbody>\n");
     for (unsigned o = XM23_OPERATION_BL; o <= XM23_OPERATION_STR; o++) {
-        printf("<tr><td class=name><b>%s</b> <span>%s</span></td>", operations[o].name, operations[o].operands);
+        add(page, "<tr><td class=name><b>%s</b> <span>%s</span></td>", operations[o].name, operations[o].operands);
         bits(o);
-        printf("<td class=count>%u</td>", XM23_COUNT(xm23_count(o)));
+        add(page, "<td class=count>%u</td>", XM23_COUNT(xm23_count(o)));
         flags(o);
         example(o);
-        printf("</tr>\n");
+        add(page, "</tr>\n");
     }
-    printf("</tbody>\n</table>\n");
+    add(page, "</tbody>\n</table>\n");
 }
 
 static void legend(void)
 {
-    printf("<p><b>w</b> 0 word, 1 byte: the name ends in .B. <b>r</b> 0 register, 1 constant: src 0 to 7 is "
+    add(page, "<p><b>w</b> 0 word, 1 byte: the name ends in .B. <b>r</b> 0 register, 1 constant: src 0 to 7 is "
            "#0 #1 #2 #4 #8 #16 #32 #-1. <b>&middot;</b> is ignored.\n"
            "Registers 0 to 7: R0 R1 R2 R3 R4 LR SP PC. <b>p d i</b> of LD and ST: 001 R+, 010 R-, 101 +R, 110 -R.\n"
            "Conditions of CEX, 0 to 15: EQ NE CS CC MI PL VS VC HI LS GE LT GT LE TR FL. "
@@ -348,30 +337,48 @@ static void illegal(void)
 {
     uint32_t word = 0;
     unsigned many = 0, version = xm23_version();
-    printf("<p class=illegal><b>Illegal</b>, %u words:", XM23_COUNT(xm23_count(XM23_OPERATION_ILLEGAL)));
+    add(page, "<p class=illegal><b>Illegal</b>, %u words:", XM23_COUNT(xm23_count(XM23_OPERATION_ILLEGAL)));
     while (word < 65536) {
         uint64_t reply = xm23_range((uint16_t)word);
         if (XM23_RANGE_OPERATION(reply) == XM23_OPERATION_ILLEGAL)
-            printf("%s<span>%04X-%04X</span>", many++ ? ", " : " ", XM23_RANGE_FIRST(reply), XM23_RANGE_LAST(reply));
+            add(page, "%s<span>%04X-%04X</span>", many++ ? ", " : " ", XM23_RANGE_FIRST(reply), XM23_RANGE_LAST(reply));
         word = XM23_RANGE_LAST(reply) + 1u;
     }
-    printf(". Words, bits, flags and examples are what the proved machine, version %u.%u.%u, answers.</p>\n",
+    add(page, ". Words, bits, flags and examples are what the proved machine, version %u.%u.%u, answers.</p>\n",
            version >> 16, version >> 8 & 0xFF, version & 0xFF);
 }
 
-int main(void)
+static int add_card(struct text *to)
 {
     uint32_t sum = 0;
     for (unsigned o = XM23_OPERATION_ILLEGAL; o <= XM23_OPERATION_STR; o++)
         sum += XM23_COUNT(xm23_count(o));
     if (sum != 65536) {
-        fprintf(stderr, "card: the counts add up to %u\n", (unsigned)sum);
-        return 1;
+        say("card: the counts add up to %lu", (unsigned long)sum);
+        return 0;
     }
+    page = to;
     head();
     rows();
     legend();
     illegal();
-    printf("</body>\n</html>\n");
-    return ferror(stdout) || fflush(stdout) ? 1 : 0;
+    add(page, "</body>\n</html>\n");
+    return 1;
+}
+
+int xm23_desk_card(int argc, char **argv)
+{
+    struct text t = {0};
+    const char *to = "-";
+    int option, status;
+    while ((option = getopt(argc, argv, "+:o:")) != -1) {
+        if (option != 'o')
+            return misused("card");
+        to = optarg;
+    }
+    if (argc != optind)
+        return misused("card");
+    status = add_card(&t) ? write_file(to, &t) : REFUSED;
+    drop(&t);
+    return status;
 }

@@ -1,0 +1,202 @@
+/*
+ * desk.h - what the files of xm23 share: the program of setters, examiners and markers, over libxm23.a.
+ *
+ * It executes no instruction: states, words and counts are replies of the library. Functions that can fail say so on
+ * standard error and give a status.
+ */
+#ifndef DESK_H
+#define DESK_H
+
+#include <stddef.h>
+#include <stdint.h>
+#include <stdio.h>
+
+#include "xm23.h"
+
+/* ---- statuses of the program */
+
+enum { DONE = 0, REFUSED = 1, USAGE = 2, UNREADABLE = 3 };
+
+/* ---- text.c: a text that grows. Where there is no room the program ends with status 3. */
+
+struct text {
+    char *at;
+    size_t length, room;
+};
+
+void *room_for(void *old, size_t bytes);
+void add_bytes(struct text *t, const void *bytes, size_t length);
+void add(struct text *t, const char *format, ...);
+void add_plain(struct text *t, const char *bytes, size_t length); /* bytes that are no printable character as \xHH */
+void add_html(struct text *t, const char *bytes, size_t length);
+void add_csv(struct text *t, const char *bytes, size_t length); /* one field, quoted where it must be */
+void drop(struct text *t);
+
+/* Prints `xm23: ` or `name:line: ` (line 0: `name: `) and the text as one line on standard error. */
+void say(const char *format, ...);
+void say_at(const char *name, uint32_t line, const char *format, ...);
+
+/* ---- file.c */
+
+#define MOST_TEXT ((size_t)16 << 20) /* bytes of a file that is read */
+
+/* All bytes of a file, 0 behind them, or NULL with the reason in `why`. `regular`: no folder, pipe or device. */
+char *read_file(const char *name, int regular, size_t *length, struct text *why);
+
+/* The first bytes of a regular file, at most `room` less one, and a 0; 0 where there are none. */
+int read_start(const char *name, char *bytes, size_t room);
+
+/* Puts a file in its place whole, or leaves what was there; the reason is told. `-` is standard output. */
+int write_file(const char *name, const struct text *t);
+
+/* ---- paper.c, paper_line.c: what a setter writes */
+
+struct event {
+    uint32_t line, step;
+    unsigned device, byte;
+};
+
+struct paper {
+    const char *name;
+    char *bytes;
+    size_t length;
+    char *title, *expected;                  /* empty, NULL: none */
+    uint8_t record[XM23_RECORD_SIZE];        /* the start; PC 0 where pc_line is 0 */
+    uint8_t memory[XM23_MEMORY_SIZE];        /* what the paper lays over the program .. */
+    uint8_t set[XM23_MEMORY_SIZE];           /* .. where this is 1 */
+    uint8_t uses[XM23_USES_SIZE], devices;   /* for stack bytes */
+    uint64_t steps, priority;
+    struct event *events;
+    size_t many_events;
+    uint8_t *event_bytes;
+    struct text srec;                        /* its S-record lines, and where each stands */
+    uint32_t *srec_lines;
+    size_t many_srec;
+    /* the lines that name each part; 0: none */
+    uint32_t title_line, steps_line, expected_line, priority_line, start_line[14], device_line[8], vector_line[16],
+        use_line[8];
+};
+
+/* Reads and judges a paper. DONE, or a status that has been told. */
+int read_paper(const char *name, struct paper *p);
+void drop_paper(struct paper *p);
+
+/* One line, by its bytes; 0 where it has a mistake, which has been told. */
+int paper_line(struct paper *p, uint32_t line, const char *at, const char *end);
+
+/* The part of the start that a line names, by its number: R0 to R7, PSW, CEX, HALTED, COUNT, LINES. */
+enum { START_PSW = 8, START_CEX = 9, START_HALTED = 10, START_COUNT = 11, START_LINES = 12, STARTS = 13 };
+
+/* ---- machine.c: the one place that runs a machine */
+
+struct machine {
+    uint8_t memory[XM23_MEMORY_SIZE], record[XM23_RECORD_SIZE];
+};
+
+/* How a run ended. `screen` takes what the output devices showed, in order; NULL where nobody asks. */
+struct outcome {
+    unsigned refusal, reason;
+    uint32_t steps;
+    struct text *screen;
+};
+
+void run_machine(struct machine *m, const uint8_t *events, size_t events_len, uint64_t n, struct outcome *o);
+
+unsigned get_word(const uint8_t *bytes, unsigned at);
+void put_word(uint8_t *bytes, unsigned at, unsigned value);
+
+/* ---- program.c: a program under a paper */
+
+/* Why a program has no closing state: refusal 0 where it could not be read, line 0 where no line is at fault. */
+struct fault {
+    unsigned refusal;
+    uint32_t line;
+    struct text why;
+};
+
+/* The machine before its first step: zero, the program, the paper over it. 0 where the program is refused. */
+int open_program(const struct paper *p, const char *text, size_t length, struct machine *m, struct fault *f);
+
+/* A program's bytes by its S-records: 1 in `set` for each byte that they name. 0 where they are refused. */
+int load_program(const char *text, size_t length, uint8_t *memory, uint8_t *set, uint16_t *pc, struct fault *f);
+
+/* ---- line.c: the line of the sheet */
+
+void add_line(struct text *t, const uint8_t *record, const struct outcome *o);
+
+/* A row for each field of a line: its name, the field, what it says. */
+struct field {
+    char name[8], value[12], says[192];
+};
+
+enum { FIELDS = 13 };
+
+/* Fills the rows, and gives how many: one where the run was refused. */
+int line_fields(const uint8_t *record, const struct outcome *o, struct field *rows);
+void add_legend(struct text *t, const uint8_t *record, const struct outcome *o);
+
+/* ---- instruction.c, listing.c */
+
+void add_instruction(struct text *t, unsigned address, uint16_t word);
+void add_listing(struct text *t, const uint8_t *memory, const uint8_t *set, unsigned most);
+
+/* ---- sha256.c: by libcrypto */
+
+#define SHA256_TEXT 65
+
+/* The digest as 64 digits. 0 where the library fails. */
+int sha256(const void *bytes, size_t length, char *digits);
+
+/* ---- row.c, page.c, results.c, mark.c: a sitting */
+
+#define MOST_SCREEN 8192 /* bytes of screen text that are kept of one program */
+
+/* What is told of one program. */
+struct row {
+    const char *name;
+    struct text line, says, screen; /* line: empty where it could not be read; says: why it has no closing state */
+    char digest[SHA256_TEXT];       /* of the program; empty where it could not be read */
+    uint32_t steps;
+    int agrees; /* 1 yes, 0 no, -1 no line was expected */
+};
+
+struct sitting {
+    struct paper *paper;
+    char paper_digest[SHA256_TEXT];
+    const char *folder;
+    char **names;
+    size_t many;
+    unsigned workers;
+    int fresh; /* pages that are there are not taken over */
+};
+
+void drop_row(struct row *r);
+void add_row(struct text *t, const struct sitting *s, const struct row *r);           /* in one line, for a page */
+int take_row(const char *line, const struct sitting *s, size_t i, struct row *r);     /* 0: it is of another */
+int row_of_page(const struct sitting *s, size_t i, struct row *r);                    /* 0: there is no such page */
+void add_page_path(struct text *t, const struct sitting *s, size_t i);                /* below the folder */
+void add_page_head(struct text *t, const char *title);
+void add_page(struct text *t, const struct sitting *s, const struct row *r, const struct machine *before,
+              const struct machine *after, const struct outcome *o);
+int write_results(const struct sitting *s);
+
+/* ---- the subcommands, each in the file of its name */
+
+int xm23_desk_run(int argc, char **argv);
+int xm23_desk_mark(int argc, char **argv);
+int xm23_desk_dis(int argc, char **argv);
+int xm23_desk_card(int argc, char **argv);
+int xm23_desk_stack(int argc, char **argv);
+int xm23_desk_asm(int argc, char **argv);
+
+/* ---- help.c */
+
+struct subcommand {
+    const char *name, *usage, *says, *help;
+    int (*run)(int argc, char **argv);
+};
+
+extern const struct subcommand subcommands[];
+int misused(const char *name); /* the usage line on standard error; USAGE */
+
+#endif

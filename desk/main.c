@@ -1,0 +1,64 @@
+/* xm23: the program of setters, examiners and markers. Statuses: 0 done, 1 a refusal or a difference, 2 usage, 3 cannot
+ * read or write. */
+#include <signal.h>
+#include <string.h>
+
+#include "desk.h"
+
+static int print_text(struct text *t)
+{
+    int status = write_file("-", t);
+    drop(t);
+    return status;
+}
+
+static int help_of(const struct subcommand *s)
+{
+    struct text t = {0};
+    add(&t, "usage: %s\n\n%s", s->usage, s->help);
+    return print_text(&t);
+}
+
+static int help(void)
+{
+    struct text t = {0};
+    add(&t, "usage: xm23 SUBCOMMAND .., over the proved machine; 'xm23 SUBCOMMAND --help' says more\n\n");
+    for (const struct subcommand *s = subcommands; s->name; s++)
+        add(&t, "  %-8s%s\n", s->name, s->says);
+    add(&t, "\nStatus: 0 done, 1 a refusal or a difference, 2 bad usage, 3 a file cannot be read or written.\n");
+    return print_text(&t);
+}
+
+static int version(void)
+{
+    struct text t = {0};
+    unsigned v = xm23_version();
+    add(&t, "xm23 %u.%u.%u\n", v >> 16, v >> 8 & 0xFF, v & 0xFF);
+    return print_text(&t);
+}
+
+/* Whether --help stands among the words, before any `--`. */
+static int asks_help(int argc, char **argv)
+{
+    for (int i = 1; i < argc && strcmp(argv[i], "--") != 0; i++)
+        if (strcmp(argv[i], "--help") == 0)
+            return 1;
+    return 0;
+}
+
+int main(int argc, char **argv)
+{
+    signal(SIGPIPE, SIG_IGN);
+    if (argc > 1 && strcmp(argv[1], "--help") == 0)
+        return help();
+    if (argc > 1 && strcmp(argv[1], "--version") == 0)
+        return version();
+    for (const struct subcommand *s = subcommands; argc > 1 && s->name; s++)
+        if (strcmp(s->name, argv[1]) == 0)
+            return asks_help(argc - 1, argv + 1) ? help_of(s) : s->run(argc - 1, argv + 1);
+    if (argc > 1)
+        say("'%s' is no subcommand; 'xm23 --help' lists them", argv[1]);
+    else
+        fputs("usage: xm23 SUBCOMMAND ..; 'xm23 --help' lists them\n", stderr);
+    return USAGE;
+}

@@ -1,0 +1,188 @@
+/* The page of one program: its line, the fields of it, the screen, what memory became, the program. */
+#include <stdlib.h>
+#include <string.h>
+
+#include "desk.h"
+
+#define MOST_ROWS 1024 /* of memory, and of the listing */
+
+/* The number of the program among those of the sitting, and its name as far as it may stand in a file's name. */
+void add_page_path(struct text *t, const struct sitting *s, size_t i)
+{
+    const char *slash = strrchr(s->names[i], '/'), *name = slash ? slash + 1 : s->names[i];
+    add(t, "pages/%06lu-", (unsigned long)i + 1);
+    for (unsigned at = 0; at < 40 && name[at]; at++) {
+        char c = name[at];
+        int plain = (c >= '0' && c <= '9') || (c >= 'A' && c <= 'Z') || (c >= 'a' && c <= 'z') || c == '.' || c == '-';
+        add(t, "%c", plain ? c : '_');
+    }
+    add(t, ".html");
+}
+
+/* Black on white with grey rules: nothing is said by colour alone. */
+void add_page_head(struct text *t, const char *title)
+{
+    add(t, "<html lang=\"en\">\n<head>\n<meta charset=\"utf-8\">\n<title>");
+    add_html(t, title, strlen(title));
+    add(t, "</title>\n<style>\n"
+           "@page { size: A4; margin: 14mm; }\n"
+           "body { font: 16px/1.4 sans-serif; color: #000; background: #fff; }\n"
+           "body { max-width: 62em; margin: 1.5em auto; padding: 0 1em; }\n"
+           "h1 { font-size: 1.5em; margin: 0 0 .3em; overflow-wrap: anywhere; }\n"
+           "h2 { font-size: 1.1em; margin: 1.2em 0 .3em; border-bottom: 2px solid #000; break-after: avoid; }\n"
+           "p { margin: .3em 0; }\n"
+           "#verdict { font-size: 1.2em; font-weight: bold; }\n"
+           "pre, .n { font-family: 'DejaVu Sans Mono', Consolas, Menlo, monospace; font-size: .88em; }\n"
+           "pre { margin: .4em 0; padding: .4em .6em; border: 1px solid #6b6b6b; }\n"
+           "pre { white-space: pre-wrap; overflow-wrap: anywhere; }\n"
+           "pre.line { border: 2px solid #000; font-weight: bold; }\n"
+           "table { border-collapse: collapse; margin: .4em 0; }\n"
+           "th, td { border: 1px solid #6b6b6b; padding: .1em .45em; text-align: left; }\n"
+           "th, td { vertical-align: baseline; overflow-wrap: anywhere; }\n"
+           "thead th { background: #ececec; }\n"
+           "tr { break-inside: avoid; }\n"
+           "tr.other td { font-weight: bold; text-decoration: underline; }\n"
+           "footer { margin-top: 1.5em; border-top: 1px solid #6b6b6b; font-size: .8em; overflow-wrap: anywhere; }\n"
+           "@media print { body { font-size: 9.5pt; max-width: none; margin: 0; padding: 0; } }\n"
+           "</style>\n</head>\n<body>\n");
+}
+
+static void add_verdict(struct text *t, const struct row *r)
+{
+    add(t, "<p id=\"verdict\">");
+    if (!r->line.length)
+        add(t, "Not run");
+    else if (r->line.at[0] == 'R')
+        add(t, "Refused");
+    else
+        add(t, "%s", r->line.at[0] == '1' ? "Halted" : "All steps are done");
+    add(t, "%s</p>\n", r->agrees < 0 ? "" : r->agrees ? ": the expected line" : ": not the expected line");
+    if (r->says.length) {
+        add(t, "<p>");
+        add_html(t, r->says.at, r->says.length);
+        add(t, "</p>\n");
+    }
+}
+
+static void add_pre(struct text *t, const char *class, const char *bytes, size_t length)
+{
+    add(t, "<pre%s>", class);
+    add_html(t, bytes, length);
+    add(t, "</pre>\n");
+}
+
+/* The word of a line at a place among its fields, or none. */
+static void word_at(const char *line, int place, char *word, size_t room)
+{
+    word[0] = 0;
+    for (int i = 0; line && i < place; i++) {
+        line = strchr(line, ' ');
+        line += line ? 1 : 0;
+    }
+    if (line)
+        snprintf(word, room, "%.*s", (int)strcspn(line, " "), line);
+}
+
+/* The fields of the closing state; those that are not the expected ones are marked, in words too. */
+static void add_fields(struct text *t, const struct paper *p, const struct machine *m, const struct outcome *o)
+{
+    struct field rows[FIELDS];
+    char expected[16];
+    int many = line_fields(m->record, o, rows), other;
+    add(t, "<h2>Closing state</h2>\n<table>\n<thead><tr><th>Field</th><th>Value</th><th></th>%s</tr></thead>\n",
+        p->expected ? "<th>Expected</th>" : "");
+    add(t, "<tbody>\n");
+    for (int i = 0; i < many; i++) {
+        word_at(p->expected, i, expected, sizeof expected);
+        other = p->expected && strcmp(expected, rows[i].value) != 0;
+        add(t, "<tr%s><th>%s</th><td class=\"n\">%s</td><td>%s</td>", other ? " class=\"other\"" : "", rows[i].name,
+            rows[i].value, rows[i].says);
+        if (p->expected) {
+            add(t, "<td class=\"n\">%s", other ? "not " : "");
+            add_html(t, expected, strlen(expected));
+            add(t, "</td>");
+        }
+        add(t, "</tr>\n");
+    }
+    add(t, "</tbody>\n</table>\n");
+}
+
+static void add_sixteen(struct text *t, const uint8_t *bytes)
+{
+    for (unsigned i = 0; i < 16; i++)
+        add(t, "%s%02X", i ? " " : "", bytes[i]);
+}
+
+/* Rows of sixteen bytes in which the run changed one. */
+static void add_memory(struct text *t, const struct machine *before, const struct machine *after)
+{
+    unsigned many = 0, more = 0;
+    add(t, "<h2>Memory that the run changed</h2>\n<pre>");
+    for (unsigned at = 0; at < XM23_MEMORY_SIZE; at += 16) {
+        if (memcmp(before->memory + at, after->memory + at, 16) == 0)
+            continue;
+        if (many++ >= MOST_ROWS) {
+            more++;
+            continue;
+        }
+        add(t, "%04X  before  ", at);
+        add_sixteen(t, before->memory + at);
+        add(t, "\n      after   ");
+        add_sixteen(t, after->memory + at);
+        add(t, "\n");
+    }
+    if (more)
+        add(t, ".. and %u rows more\n", more);
+    add(t, "%s</pre>\n", many ? "" : "none");
+}
+
+/* What was in memory before the first step: the program with the paper over it. */
+static void add_program(struct text *t, const struct machine *before)
+{
+    uint8_t *set = (uint8_t *)room_for(NULL, XM23_MEMORY_SIZE);
+    struct text listing = {0};
+    for (unsigned a = 0; a < XM23_MEMORY_SIZE; a += 2)
+        set[a] = set[a + 1] = before->memory[a] || before->memory[a + 1];
+    add_listing(&listing, before->memory, set, MOST_ROWS);
+    add(t, "<h2>Memory before the run, words of 0 left out</h2>\n");
+    add_pre(t, "", listing.at, listing.length);
+    drop(&listing);
+    free(set);
+}
+
+static void add_foot(struct text *t, const struct sitting *s, const struct row *r)
+{
+    unsigned v = xm23_version();
+    add(t, "<footer>Program SHA-256 %s, paper SHA-256 %s, machine %u.%u.%u.</footer>\n</body>\n</html>\n",
+        r->digest[0] ? r->digest : "unknown", s->paper_digest, v >> 16, v >> 8 & 0xFF, v & 0xFF);
+}
+
+void add_page(struct text *t, const struct sitting *s, const struct row *r, const struct machine *before,
+              const struct machine *after, const struct outcome *o)
+{
+    const struct paper *p = s->paper;
+    add_row(t, s, r);
+    add_page_head(t, r->name);
+    add(t, "<h1>");
+    add_html(t, r->name, strlen(r->name));
+    add(t, "</h1>\n<p>");
+    add_html(t, p->title ? p->title : p->name, strlen(p->title ? p->title : p->name));
+    add(t, "</p>\n");
+    add_verdict(t, r);
+    if (r->line.length)
+        add_pre(t, " class=\"line\"", r->line.at, r->line.length);
+    if (p->expected) {
+        add(t, "<p>Expected:</p>\n");
+        add_pre(t, "", p->expected, strlen(p->expected));
+    }
+    if (r->screen.length) {
+        add(t, "<h2>Screen</h2>\n");
+        add_pre(t, "", r->screen.at, r->screen.length);
+    }
+    if (before) {
+        add_fields(t, p, after, o);
+        add_memory(t, before, after);
+        add_program(t, before);
+    }
+    add_foot(t, s, r);
+}

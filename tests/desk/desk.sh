@@ -1,0 +1,319 @@
+#!/usr/bin/env bash
+# xm23 as people use it and misuse it: desk.sh [PROGRAM], build/xm23 if none is named. Every subcommand, each status, bad
+# papers, programs, names, folders and disks; a marking that is killed and goes on. Pages and results to the byte.
+set -u
+cd "$(dirname "$0")/../.."
+. tests/shell/expect.sh
+xm23=$(realpath "${1:-build/xm23}")
+top=$PWD
+paper=$top/examples/sitting/sum.paper
+sound=$top/examples/sitting/programs/sound.s19
+line='0 120 001F 0120 0000 0006 0000 FFFF 0800 1016 0003 00 00000000'
+usage() { echo "usage: xm23 $1 .*"; }
+
+# ---- the program itself
+expect 'no word' 2 '' 'usage: xm23 .*' "$xm23"
+expect 'no subcommand' 2 '' "xm23: 'fly' is no subcommand.*" "$xm23" fly
+expect '--help' 0 'usage: .*run .*mark .*asm .*dis .*stack .*card .*Status.*' '' "$xm23" --help
+expect '--version' 0 'xm23 [0-9]+\.[0-9]+\.[0-9]+' '' "$xm23" --version
+for word in run mark asm dis stack card; do
+    expect "$word --help" 0 "usage: xm23 $word .*" '' "$xm23" "$word" --help
+    expect "$word -x" 2 '' "$(usage "$word")" "$xm23" "$word" -x
+    same "$word is in the manual" "$(grep -qx "\.B $word" man/xm23.1 && echo yes)" yes
+done
+full() { "$@" > /dev/full; }
+expect 'help to a full disk' 3 '' 'standard output: cannot be written: No space left.*' full "$xm23" --help
+
+# ---- completion
+complete_words() { # WORD..
+    bash -c '. desk/completion.bash; COMP_WORDS=("$@"); COMP_CWORD=$(($# - 1)); _xm23; echo "${COMPREPLY[*]}"' - "$@" 2> /dev/null
+}
+same 'subcommands' "$(complete_words xm23 '')" 'run mark asm dis stack card --help --version'
+same 'every subcommand is completed' "$("$xm23" --help | sed -n 's/^  \([a-z]*\) .*/\1/p' | tr '\n' ' ')" 'run mark asm dis stack card '
+same 'options' "$(complete_words xm23 mark -)" '-j -o -0 --help'
+same 'files' "$(complete_words xm23 run examples/sitting/sum)" 'examples/sitting/sum.paper'
+same 'folders' "$(complete_words xm23 mark -o examples/sit)" 'examples/sitting'
+
+# ---- run
+expect 'run' 0 "$line" '' "$xm23" run "$paper" "$sound"
+expect 'run -l' 0 "$line.*reason +0 +all steps are done.*PSW +0003 +priority 0, previous 0, flags: Z C.*" '' \
+    "$xm23" run -l "$paper" "$sound"
+same 'the legend is that of legend.py' "$("$xm23" run -l "$paper" "$sound")" "$(echo "$line" | python3 -B scripts/legend.py)"
+same 'a legend on a terminal' "$(python3 -B tests/desk/terminal.py "$xm23" run "$paper" "$sound" | tr -d '\r')" \
+    "$(echo "$line" | python3 -B scripts/legend.py)"
+same 'the screen' "$("$xm23" run -l "$paper" "${sound%/*}/screen.s19" 2> /dev/null | tail -1)" '  screen  SUM'
+expect 'no screen without -l' 1 '0 120 004D 0005 .*0' '.*another line.*' "$xm23" run "$paper" "${sound%/*}/screen.s19"
+expect 'another line' 1 '0 120 0019 .*' "$paper:21: another line was expected: $line" \
+    "$xm23" run "$paper" "${sound%/*}/unsound.s19"
+expect 'a refused program' 1 'R11' ".*refused.s19:2: R11: a line's checksum differs.*" "$xm23" run "$paper" "${sound%/*}/refused.s19"
+expect 'run with one word' 2 '' "$(usage run)" "$xm23" run "$paper"
+expect 'run with three words' 2 '' "$(usage run)" "$xm23" run "$paper" "$sound" "$sound"
+expect 'no such paper' 3 '' 'no/paper: No such file.*' "$xm23" run no/paper "$sound"
+expect 'a folder as paper' 3 '' '/: is a folder' "$xm23" run / "$sound"
+expect 'no such program' 3 '' 'no/program: No such file.*' "$xm23" run "$paper" no/program
+expect 'a folder as program' 3 '' '/: is a folder' "$xm23" run "$paper" /
+expect 'an endless program' 3 '' '/dev/zero: is longer than 16777216 bytes' "$xm23" run "$paper" /dev/zero
+expect 'an endless paper' 3 '' '/dev/zero: is longer than 16777216 bytes' "$xm23" run /dev/zero "$sound"
+expect 'an empty program' 1 'R10' '/dev/null:1: R10: .*' "$xm23" run "$paper" /dev/null
+expect 'a line to a full disk' 3 '' 'standard output: cannot be written: .*' full "$xm23" run "$paper" "$sound"
+closed() { "$@" >&-; }
+expect 'a closed output' 3 '' 'standard output: cannot be written: .*' closed "$xm23" run "$paper" "$sound"
+piped() { "$xm23" run <(cat "$paper") <(cat "$sound"); }
+expect 'paper and program from pipes' 0 "$line" '' piped
+expect 'a name with a newline' 3 '' 'no\\x0Asuch: No such file.*' "$xm23" run "$paper" $'no\nsuch'
+
+# ---- papers: wrong LINE TEXT PAPER
+wrong() {
+    printf '%b' "$3" > "$room/p.paper"
+    expect "a paper: $2" 1 '' "$room/p.paper:$1 $2" "$xm23" run "$room/p.paper" "$sound"
+}
+right() { # WHAT LINE PAPER
+    printf '%b' "$3" > "$room/p.paper"
+    expect "$1" 0 "$2" '' "$xm23" run "$room/p.paper" "$sound"
+}
+wrong '' "has no line 'steps N'" ''
+wrong '1:' "'hello' begins no line of a paper: .*" 'hello\n'
+wrong '1:' "'\\\\x01\\\\x02' begins no line of a paper: .*" '\001\002\n'
+wrong '1:' "'\\\\x00' begins no line of a paper: .*" '\0000\n'
+wrong '1:' 'number of steps is missing' 'steps\n'
+wrong '1:' "'many' is no number of steps, 0 to 4294967295" 'steps many\n'
+wrong '1:' "'4294967296' is no number of steps, .*" 'steps 4294967296\n'
+wrong '1:' "'#' is no number of steps, .*" 'steps #\n'
+wrong '1:' "'6' is one word too many" 'steps 5 6\n'
+wrong '2:' 'steps is on line 1 already' 'steps 5\nsteps 6\n'
+wrong '2:' 'the title is on line 1 already' 'title a\ntitle b\n'
+wrong '2:' 'the expected line is on line 1 already' 'expect a\nexpect b\n'
+wrong '2:' 'the priority is on line 1 already' 'priority 1\npriority 1\n'
+wrong '1:' 'R2: n is above 1,000,000.*' 'steps 1000001\n'
+wrong '2:' 'R2: n is above 1,000,000.*' 'start COUNT=4294967295\nsteps 1\n'
+wrong '1:' 'start names no register' 'start\nsteps 5\n'
+wrong '1:' "'R9=1' is no part of the start: .*" 'start R9=1\n'
+wrong '1:' "'R1' is no part of the start: .*" 'start R1\n'
+wrong '1:' "'R1=' has no number that fits" 'start R1=\n'
+wrong '1:' "'R1=65536' has no number that fits" 'start R1=65536\n'
+wrong '1:' "'HALTED=256' has no number that fits" 'start HALTED=256\n'
+wrong '2:' 'SP is on line 1 already' 'start R6=1\nstart SP=1\n'
+wrong '1:' 'SP is on line 1 already' 'start SP=1 SP=2\n'
+wrong '2:' 'R4: .*' 'steps 5\nstart PSW=#1E00\n'
+wrong '2:' 'R4: .*' 'steps 5\nstart CEX=#0080\n'
+wrong '2:' 'R4: .*' 'steps 5\nstart HALTED=2\n'
+wrong '1:' "'8' is no device, 0 to 7" 'device 8 1\n'
+wrong '1:' 'status byte is missing' 'device 1\n'
+wrong '1:' "'256' is no data byte, 0 to 255" 'device 1 1 256\n'
+wrong '2:' 'this device is on line 1 already' 'device 1 1\ndevice 1 2\n'
+wrong '1:' "'16' is no vector, 0 to 15" 'vector 16 1 1\n'
+wrong '1:' 'PC is missing' 'vector 1 1\n'
+wrong '2:' 'this vector is on line 1 already' 'vector 1 1 1\nvector 1 1 1\n'
+wrong '1:' 'byte is missing' 'bytes #1000\n'
+wrong '1:' "'256' is no byte, 0 to 255" 'bytes #1000 256\n'
+wrong '1:' "'#10000' is no address, 0 to 65535" 'words #10000 1\n'
+wrong '1:' 'passes #FFFF' 'words #FFFE 1 2\n'
+wrong '1:' "'-1' is no word, 0 to 65535" 'words 0 -1\n'
+wrong '2:' 'the use of this device is on line 1 already' 'use 1 1\nuse 1 1\n'
+wrong '2:' "R10: .*" 'steps 1\nS1\n'
+wrong '2:' "R11: .*" 'steps 1\nS9030000FB\n'
+wrong '2:' "R10: .*" 'steps 1\nS9030000FC\nS9030000FC\n'
+wrong '2:' 'byte is missing' 'steps 5\n1 2\n'
+wrong '2:' "'256' is no device, 0 to 255" 'steps 5\n1 256 3\n'
+wrong '2:' "R6: an event's device is above 7.*" 'steps 5\n1 8 3\n'
+wrong '3:' "R7: an event's step is below.*" 'steps 5\n2 1 3\n1 1 3\n'
+wrong '4:' 'R13: two events share step and device: lines 2 and 4' 'steps 5\n1 1 3\n1 2 3\n1 1 4\n'
+{ echo 'steps 5'; for i in $(seq 4097); do echo "$i 0 0"; done; } > "$room/p.paper"
+expect 'too many events' 1 '' "$room/p.paper:4098: R5: .*" "$xm23" run "$room/p.paper" "$sound"
+head -c 300000 /dev/urandom > "$room/p.paper"
+expect 'random bytes' 1 '' "$room/p.paper:[0-9]+: .*" "$xm23" run "$room/p.paper" "$sound"
+right 'the least paper' '0 0 0000 0000 0000 0000 0000 0000 0000 1000 0000 00 00000000' 'steps 0'
+right 'CR LF, blanks, comments' '0 0 0005 0000 0000 0000 0000 0000 0000 1000 0000 00 00000000' \
+    '; a paper\r\n\r\n\tsteps 0 ; none\r\nstart\tR0=5 ;\r\n'
+right 'every part of the start' '1 0 0001 0002 0003 0004 0005 0006 0007 0008 E1FF 7F 12345678' \
+    'steps 3\nstart R0=1 R1=2 R2=3 R3=4 R4=5 LR=6 SP=7 PC=8 PSW=#E1FF CEX=#7F HALTED=1 COUNT=9 LINES=#12345678\n'
+right 'a later line wins' '0 1 0001 0000 0000 0000 0000 0000 0000 1002 0000 00 00000000' \
+    "steps 1\nwords #1000 #4080\nwords #1000 #4088\n"
+right 'bytes, and a letter' '0 1 0000 0000 0000 0000 0000 0000 0000 1002 0000 00 00000000' \
+    "steps 1\nbytes #1000 #00 'L'\n"
+printf 'steps 0\nS9032000DC\n' > "$room/p.paper"
+expect 'the PC of its S9' 0 '0 0 .* 2000 0000 00 00000000' '' "$xm23" run "$room/p.paper" "$sound"
+
+# ---- asm
+for name in halting screen sound unsound; do
+    same "asm $name" "$("$xm23" asm "${sound%/*}/$name.asm")" "$(cat "${sound%/*}/$name.s19")"
+    same "asm -l $name" "$("$xm23" asm -l "${sound%/*}/$name.asm")" "$("$xm23" dis "${sound%/*}/$name.s19")"
+done
+same 'asm of copy_words' "$("$xm23" asm examples/copy_words.asm)" "$(cat examples/copy_words.s19)"
+same 'its listing' "$("$xm23" asm -l examples/copy_words.asm)" "$(cat examples/copy_words.lst)"
+expect 'asm -o' 0 '' '' "$xm23" asm -o "$room/asm.s19" "${sound%.s19}.asm"
+same 'wrote the program' "$(cat "$room/asm.s19")" "$(cat "$sound")"
+expect 'run of what it wrote' 0 "$line" '' "$xm23" run "$paper" "$room/asm.s19"
+assembled() { # STATUS OUTPUT MISTAKE SOURCE WORD..
+    local status=$1 output=$2 mistake=$3
+    printf '%b' "$4" > "$room/a.asm"
+    shift 4
+    expect "asm: $output$mistake" "$status" "$output" "$mistake" "$xm23" asm "$@" "$room/a.asm"
+}
+assembled 0 'S9030000FC' '' 'END'
+assembled 0 'S9031236B4' '' 'END' -s 1236
+assembled 0 $'S1050000AB024D\nS10500100140A9\nS9030000FC' '' ' WORD $1234\n ORG #0\n BYTE $AB\n BYTE #2\n ORG $10\n ADD R0,R1\nEND\n'
+assembled 0 $'S104FFFFEE0F\nS903FFFFFE' '' ' ORG $FFFF\n BYTE $EE\nEND\n'
+assembled 0 $'0001  EE    BYTE    \\$EE\nstart 0001' '' ' ORG #1\r\n BYTE $EE\r\nEND\r\n' -l
+assembled 1 '' "$room/a.asm:2: R17: a line fits no statement.*" ' BYTE #1\n HALT R0\nEND'
+assembled 1 '' "$room/a.asm:3: R17: .*END is missing" ' BYTE #1\nA\n'
+assembled 1 '' "$room/a.asm:1: R17: .*" ''
+assembled 1 '' "$room/a.asm:1: R18: a name is unknown.*" ' BRA X\nEND' -l
+assembled 1 '' "$room/a.asm:2: R19: a value leaves 32 bits.*" 'A\n BYTE #256\nEND' -o "$room/none.s19"
+same 'writes nothing then' "$(test -e "$room/none.s19" && echo there)" ''
+for start in '' x 10000 -1 '10 '; do
+    expect "asm -s '$start'" 2 '' "$(usage asm)" "$xm23" asm -s "$start" "$room/a.asm"
+done
+expect 'asm of nothing' 2 '' "$(usage asm)" "$xm23" asm
+expect 'asm of two' 2 '' "$(usage asm)" "$xm23" asm a b
+expect 'asm of no file' 3 '' 'no/such: No such .*' "$xm23" asm no/such
+expect 'asm of a folder' 3 '' '/: is a folder' "$xm23" asm /
+expect 'asm of an endless file' 3 '' '/dev/zero: is longer than 16777216 bytes' "$xm23" asm /dev/zero
+expect 'asm to a full disk' 3 '' '/dev/full: cannot be written: .*' "$xm23" asm -o /dev/full "${sound%.s19}.asm"
+head -c 100000 /dev/urandom > "$room/noise.asm"
+expect 'asm of random bytes' 1 '' "$room/noise.asm:[0-9]+: R17: .*" "$xm23" asm "$room/noise.asm"
+
+# ---- dis, card, stack
+same 'dis' "$("$xm23" dis examples/copy_words.s19)" "$(cat examples/copy_words.lst)"
+printf 'S1040101AA4F\nS9030000FC\n' > "$room/byte.s19"
+expect 'a lone byte' 0 '0101  AA    BYTE    \$AA.start 0000' '' "$xm23" dis "$room/byte.s19"
+expect 'dis -o' 0 '' '' "$xm23" dis -o "$room/list" examples/copy_words.s19
+same 'wrote it' "$(cat "$room/list")" "$(cat examples/copy_words.lst)"
+expect 'dis of nothing' 2 '' "$(usage dis)" "$xm23" dis
+expect 'dis of two' 2 '' "$(usage dis)" "$xm23" dis a b
+expect 'dis of no file' 3 '' 'no/such: No such .*' "$xm23" dis no/such
+expect 'dis of a refused file' 1 '' '.*refused.s19:2: R11: .*' "$xm23" dis "${sound%/*}/refused.s19"
+expect 'dis to a full disk' 3 '' '/dev/full: cannot be written: .*' "$xm23" dis -o /dev/full "$sound"
+expect 'dis into no folder' 3 '' 'no/such/x: cannot be written: .*' "$xm23" dis -o no/such/x "$sound"
+expect 'card' 0 '' '' "$xm23" card -o "$room/card.html"
+same 'card to standard output' "$("$xm23" card | cksum)" "$(cksum < "$room/card.html")"
+expect 'card with a word' 2 '' "$(usage card)" "$xm23" card x
+expect 'card to a folder' 3 '' '/: cannot be written: .*' "$xm23" card -o /
+expect 'stack' 0 'device  priority  use.1       3         4.above priority 0: 12 bytes' '' "$xm23" stack "$paper"
+printf 'steps 1\nuse 1 2\nuse 2 0\nuse 3 2\nvector 1 #40 0\nvector 2 #A0 0\nvector 3 #A0 0\n' > "$room/s.paper"
+expect "FORMATS' example" 0 '.*above priority 0: 20 bytes' '' "$xm23" stack "$room/s.paper"
+echo 'priority 2' >> "$room/s.paper"
+expect 'above priority 2' 0 '.*above priority 2: 10 bytes' '' "$xm23" stack "$room/s.paper"
+sed -i 's/priority 2/priority 8/' "$room/s.paper"
+expect 'priority 8' 1 '' "$room/s.paper:8: R16: .*" "$xm23" stack "$room/s.paper"
+printf 'steps 1\nuse 1 1025\n' > "$room/s.paper"
+expect 'a use of 1025' 1 '' "$room/s.paper:2: R16: .*" "$xm23" stack "$room/s.paper"
+printf 'steps 1\nuse 8 1\n' > "$room/s.paper"
+expect 'a use of device 8' 1 '' "$room/s.paper:2: '8' is no device, 0 to 7" "$xm23" stack "$room/s.paper"
+printf 'steps 1\n' > "$room/s.paper"
+expect 'no use' 1 '' "$room/s.paper: has no line 'use DEVICE BYTES'" "$xm23" stack "$room/s.paper"
+printf 'steps 1\nuse 0 0\n' > "$room/s.paper"
+printf 'S107FFC0A000002079\nS9030000FC\n' > "$room/vectors.s19"
+expect 'vectors of a program' 0 '.*0       5         0.*8 bytes' '' "$xm23" stack "$room/s.paper" "$room/vectors.s19"
+expect 'stack of a refused program' 1 '' '.*refused.s19:2: R11: .*' "$xm23" stack "$paper" "${sound%/*}/refused.s19"
+expect 'stack of no program' 3 '' 'no/such: No such .*' "$xm23" stack "$paper" no/such
+expect 'stack of nothing' 2 '' "$(usage stack)" "$xm23" stack
+expect 'stack of three' 2 '' "$(usage stack)" "$xm23" stack a b c
+
+# ---- mark: the example sitting, to the byte
+cd examples/sitting || exit 1
+expect 'mark' 1 '' '' "$xm23" mark -o "$room/marks" sum.paper programs/*.s19
+same 'its results' "$(cat "$room/marks/results.csv")" "$(cat expected.csv)"
+same 'a page for each' "$(ls "$room/marks/pages" | wc -l)" 5
+same 'links to pages that are there' "$(sed -n 's/.*href="\([^"]*\)".*/\1/p' "$room/marks/index.html" |
+    while read -r page; do test -f "$room/marks/$page" && echo yes; done | sort | uniq -c | tr -d ' ')" 5yes
+sum() { (cd "$1" && find . -type f ! -name .lock -exec cksum {} + | sort -k 3); }
+first=$(sum "$room/marks")
+expect 'mark again' 1 '' '' "$xm23" mark -j 1 -o "$room/marks" sum.paper programs/*.s19
+same 'the same bytes, by one worker too' "$(sum "$room/marks")" "$first"
+expect 'all as expected' 0 '' '' "$xm23" mark -o "$room/one" sum.paper programs/sound.s19
+same 'the screen on its page' "$(sed -n '/<h2>Screen/,/<.pre>/p' "$room"/marks/pages/*screen*)" $'<h2>Screen</h2>\n<pre>SUM</pre>'
+marked() { printf 'programs/%s.s19\0' sound unsound | "$xm23" mark -o "$room/listed" -0 sum.paper; }
+expect 'names from standard input' 1 '' '' marked
+same 'two rows' "$(wc -l < "$room/listed/results.csv")" 3
+cd "$top" || exit 1
+
+# ---- mark: what the screen showed, whatever it was
+{
+    printf '        ORG $1000\n        MOVLZ $05,R1\n'
+    for byte in 3C 2C 22 0A 00 80 C3 A9 26; do printf '        MOVLZ $%s,R0\n        ST.B R0,R1\n' "$byte"; done
+    printf 'HERE    BRA HERE\n        END\n'
+} > "$room/odd.asm"
+printf '        ORG $1000\n        MOVLZ $05,R1\n        MOVLZ $41,R0\nHERE    ST.B R0,R1\n        BRA HERE\n        END\n' > "$room/long.asm"
+for name in odd long; do "$xm23" asm -o "$room/$name.s19" "$room/$name.asm"; done
+printf 'steps 20002\ndevice 2 #10\n' > "$room/screen.paper"
+expect 'mark of screens' 0 '' '' "$xm23" mark -o "$room/screens" "$room/screen.paper" "$room/odd.s19" "$room/long.s19"
+same 'odd bytes in a field' "$(sed -n 2p "$room/screens/results.csv" | cut -d , -f 5-6)" '"<,""\x0A\x00\x80é&"'
+same 'on a page' "$(sed -n '/<h2>Screen/,/<.pre>/p' "$room"/screens/pages/*odd*)" $'<h2>Screen</h2>\n<pre>&#60;,&#34;\n\\x00\\x80é&#38;</pre>'
+same 'a long one is cut' "$(sed -n 3p "$room/screens/results.csv" | cut -d , -f 5 | sed 's/A\{8192\}/8192/')" '8192 .. (10000 bytes)'
+same 'these are well-formed too' "$(python3 -B tests/desk/pages.py "$room"/screens/pages/*.html)" 'all well-formed'
+
+# ---- mark: misuse, and files that are none
+expect 'mark of nothing' 2 '' "$(usage mark)" "$xm23" mark "$paper"
+expect 'mark -0 with a name' 2 '' "$(usage mark)" "$xm23" mark -0 "$paper" "$sound"
+for j in 0 65 x '' -1; do
+    expect "mark -j '$j'" 2 '' "$(usage mark)" "$xm23" mark -j "$j" "$paper" "$sound"
+done
+expect 'mark -o without a word' 2 '' "$(usage mark)" "$xm23" mark -o
+expect 'mark of no paper' 3 '' 'no/such: No such .*' "$xm23" mark -o "$room/x" no/such "$sound"
+echo x >> "$room/s.paper"
+expect 'mark of a bad paper' 1 '' ".*s.paper:3: 'x' begins .*" "$xm23" mark -o "$room/x" "$room/s.paper" "$sound"
+same 'makes no folder' "$(test -e "$room/x" && echo there)" ''
+expect 'mark into a file' 3 '' "$room/byte.s19.*: .*" "$xm23" mark -o "$room/byte.s19" "$paper" "$sound"
+expect 'mark into nowhere' 3 '' 'no/such: cannot be made: .*' "$xm23" mark -o no/such "$paper" "$sound"
+mkfifo "$room/fifo"
+: > "$room/empty"
+cp "$sound" "$room/a b.s19"
+cp "$sound" "$room/a
+b.s19"
+cp "$sound" "$room/\"quoted\", <b>&.s19"
+head -c 100000 /dev/urandom > "$room/noise"
+long=$(printf 'x%.0s' $(seq 100000))
+expect 'a long name is a row' 1 '' '' "$xm23" mark -o "$room/long" "$paper" "$long"
+same 'with its name' "$(sed -n 's/^\(x*\),,File name too long.*/\1/p' "$room/long/results.csv" | wc -c)" 100001
+expect 'bad files are rows' 1 '' '' timeout 60 "$xm23" mark -o "$room/bad" "$paper" no/such / "$room/fifo" /dev/zero "$room/noise" \
+    "$room/empty" "$room/a b.s19" $'no\nsuch' "$room/a
+b.s19" "$room/\"quoted\", <b>&.s19" "$sound" "$sound"
+same 'twelve rows' "$(python3 -c 'import csv, sys; print(len(list(csv.DictReader(open(sys.argv[1], newline="")))))' "$room/bad/results.csv")" 12
+same 'five are as expected' "$(python3 -c 'import csv, sys
+print([r["agrees"] for r in csv.DictReader(open(sys.argv[1], newline=""))].count("yes"))' "$room/bad/results.csv")" 5
+same 'what is said' "$(python3 -c 'import csv, sys
+for r in list(csv.DictReader(open(sys.argv[1], newline="")))[:6]: print(r["line"] + ":" + r["says"].split(":")[0])' "$room/bad/results.csv")" \
+    ':No such file or directory
+:is a folder
+:is no regular file
+:is no regular file
+R10:line 1
+R10:line 1'
+same 'pages are well-formed' "$(python3 -B tests/desk/pages.py "$room"/bad/index.html "$room"/bad/pages/*.html)" 'all well-formed'
+if [ "$(id -u)" -ne 0 ]; then
+    chmod 0 "$room/a b.s19"
+    expect 'no rights' 1 '' '' "$xm23" mark -o "$room/rights" "$paper" "$room/a b.s19"
+fi
+mkdir -p "$room/full/pages"
+ln -s /dev/full "$room/full/pages/000001-sound.s19.html"
+expect 'a full disk' 3 '' '.*cannot be written: No space left.*the marking is not whole.*' \
+    "$xm23" mark -o "$room/full" "$paper" "$sound"
+same 'has no results' "$(ls "$room/full")" pages
+
+(exec 9> "$room/bad/.lock"; python3 -c 'import fcntl, sys, time; fcntl.flock(9, fcntl.LOCK_EX); print("locked", flush=True); time.sleep(60)' > "$room/locked") &
+holder=$!
+while [ ! -s "$room/locked" ]; do sleep 0.01; done
+expect 'two markings in one folder' 3 '' "$room/bad: another marking is at work there .*" "$xm23" mark -o "$room/bad" "$paper" "$sound"
+kill "$holder" && wait "$holder" 2> /dev/null
+same 'leaves its results' "$(test -e "$room/bad/results.csv" && echo yes)" yes
+
+# ---- mark: killed in the middle, and again
+mkdir "$room/many"
+for i in $(seq -w 300); do cp "$sound" "$room/many/$i.s19"; done
+cp "${sound%/*}/screen.s19" "$room/many/001.s19"
+sed 's/^steps.*/steps 1000000/; /^expect/d' "$paper" > "$room/long.paper"
+expect 'a whole marking' 0 '' '' "$xm23" mark -o "$room/whole" "$room/long.paper" "$room"/many/*.s19
+(exec "$xm23" mark -j 2 -o "$room/killed" "$room/long.paper" "$room"/many/*.s19) 2> /dev/null &
+while [ "$(ls "$room/killed/pages" 2> /dev/null | wc -l)" -lt 20 ]; do sleep 0.01; done
+kill -9 $! && wait $! 2> /dev/null
+sleep 0.3
+some=$(ls "$room/killed/pages" | wc -l)
+same 'it was in the middle' "$([ "$some" -lt 300 ] && [ ! -e "$room/killed/results.csv" ] && echo yes)" yes
+kept=$(ls -i "$room/killed/pages" | grep -v part | head -1)
+expect 'the same command goes on' 0 '' '' "$xm23" mark -j 2 -o "$room/killed" "$room/long.paper" "$room"/many/*.s19
+same 'as if it had not been killed' "$(sum "$room/killed")" "$(sum "$room/whole")"
+same 'what it had it kept' "$(ls -i "$room/killed/pages" | head -1)" "$kept"
+same 'a bar on a terminal' "$(python3 -B tests/desk/terminal.py "$xm23" mark -o "$room/bar" "$paper" "$sound" |
+    tr '\r' '\n' | grep -c '\[########################################\] 1 of 1')" 1
+count

@@ -1,0 +1,146 @@
+#!/usr/bin/env python3
+"""xm23 run and xm23 mark beside print_state on random runs: random_runs.py XM23 PRINT_STATE RUNS [SEED]. A run is a random
+start, program, devices, vectors, memory and events; of a sixth of them one rule is broken, which a paper tells by the
+refusal's number. The last line is 'N passed, M failed'."""
+import csv
+import os
+import random
+import subprocess
+import sys
+import tempfile
+
+xm23, print_state, runs = sys.argv[1], sys.argv[2], int(sys.argv[3])
+dice = random.Random(int(sys.argv[4]) if len(sys.argv) > 4 else 1)
+NAMES = ["R0", "R1", "R2", "R3", "R4", "LR", "SP", "PC"]
+
+
+def record(kind, address, data):
+    body = bytes([len(data) + 3, address >> 8, address & 255]) + data
+    return f"S{kind}{body.hex().upper()}{255 - sum(body) & 255:02X}\n"
+
+
+def number(value):
+    """In any of the forms that a paper takes."""
+    return dice.choice([str(value), f"#{value:X}", f"#{value:04x}"])
+
+
+def word():
+    return dice.choice([0, 1, 2, 0x7FFF, 0x8000, 0xFFFE, 0xFFFF, dice.randrange(65536), dice.randrange(65536)])
+
+
+class Run:
+    """One run: print_state's input, the paper and the S-records of it."""
+
+    def __init__(self):
+        self.memory, self.words, self.program = bytearray(65536), [], []
+        self.registers = [word() for _ in NAMES]
+        self.registers[6] &= 0xFFFE
+        self.pc = self.registers[7] = dice.randrange(0x100, 0xFE00) & 0xFFFE
+        self.psw, self.cex = dice.choice([0, 0x20, 0x60, 0xE0, word() & 0xE1FF]), dice.choice([0, 0, 0x4B, dice.randrange(128)])
+        self.n, self.count = dice.choice([0, 1, 5, 60, 2000, dice.randrange(30000)]), dice.choice([0, 0, 7, dice.randrange(1 << 31)])
+        self.lines = dice.choice([0, 0, dice.randrange(1 << 32)])
+        self.halted = dice.choice([0] * 20 + [1])
+        self.lay_program()
+        self.lay_paper()
+        self.events = []
+        self.add_events()
+        self.broken = ""
+        if dice.randrange(6) == 0:
+            self.break_rule()
+
+    def lay_program(self):
+        for at, length in [(self.pc, 96), (0x2000, 64), (dice.randrange(65536 - 40), 37)]:
+            data = bytes(dice.randrange(256) for _ in range(min(length, 65536 - at)))
+            self.memory[at:at + len(data)] = data
+            self.program += [record(1, at + i, data[i:i + 16]) for i in range(0, len(data), 16)]
+        self.named_pc = dice.choice([True, False])
+        self.program.append(record(9, self.pc if not self.named_pc else word(), b""))
+
+    def lay(self, at, data):
+        self.memory[at:at + len(data)] = data
+
+    def lay_paper(self):
+        for device in range(8):
+            if dice.randrange(2):
+                status, data = dice.choice([0x10, 0x11, 0x13, dice.randrange(256)]), dice.randrange(256)
+                self.words.append(f"device {device} {number(status)} {number(data)}")
+                self.lay(2 * device, bytes([status, data]))
+        for vector in range(16):
+            if dice.randrange(2):
+                psw, pc = word(), dice.choice([0x2000, 0x2010, word()])
+                self.words.append(f"vector {vector} {number(psw)} {number(pc)}")
+                self.lay(0xFFC0 + 4 * vector, psw.to_bytes(2, "little") + pc.to_bytes(2, "little"))
+        at, some = dice.randrange(0x10, 0xFF00), [word() for _ in range(dice.randrange(1, 9))]
+        self.words.append(f"words {number(at)} " + " ".join(map(number, some)))
+        self.lay(at, b"".join(w.to_bytes(2, "little") for w in some))
+
+    def add_events(self):
+        step = self.count
+        for _ in range(dice.randrange(40)):
+            step += dice.choice([0, 1, 3, 50])
+            event = (step, dice.randrange(8), dice.randrange(256))
+            if all(event[:2] != other[:2] for other in self.events):
+                self.events.append(event)
+
+    def break_rule(self):
+        kind = dice.choice(["steps", "psw", "device", "order", "twins"])
+        self.broken = {"steps": "R2", "psw": "R4", "device": "R6", "order": "R7", "twins": "R13"}[kind]
+        if kind == "steps":
+            self.n = dice.choice([1000001, 1 << 31])
+        elif kind == "psw":
+            self.psw |= 0x0200
+        else:
+            last = self.count + 5000
+            self.events += [(last, 1, 1), {"device": (last, 8, 1), "order": (last - 1, 1, 1), "twins": (last, 1, 2)}[kind]]
+
+    def input(self):
+        state = b"".join(r.to_bytes(2, "little") for r in self.registers + [self.psw, self.cex])
+        state += bytes([0, self.halted]) + self.count.to_bytes(4, "little") + self.lines.to_bytes(4, "little") + bytes(2)
+        events = b"".join(s.to_bytes(4, "little") + bytes([d, b, 0, 0]) for s, d, b in self.events)
+        return self.n.to_bytes(4, "little") + state + bytes(self.memory) + events
+
+    def paper(self):
+        start = [f"{name}={number(r)}" for name, r in zip(NAMES, self.registers) if name != "PC" or self.named_pc]
+        start += [f"PSW={number(self.psw)}", f"CEX={number(self.cex)}", f"COUNT={number(self.count)}"]
+        start += [f"LINES={number(self.lines)}", f"HALTED={self.halted}"]
+        lines = [f"steps {number(self.n)}"] + [f"start {part}" for part in start] + self.words
+        dice.shuffle(lines)
+        return "\n".join(lines + [f"{number(s)}  {d} {number(b)}" for s, d, b in self.events]) + "\n"
+
+
+def run(command, **more):
+    return subprocess.run(command, stdout=subprocess.PIPE, stderr=subprocess.PIPE, **more)
+
+
+passed = failed = 0
+
+
+def same(what, got, expected):
+    global passed, failed
+    passed, failed = passed + (got == expected), failed + (got != expected)
+    if got != expected:
+        print(f"{what}: {got!r}, expected {expected!r}")
+
+
+with tempfile.TemporaryDirectory() as room:
+    paper, program, marks = (os.path.join(room, name) for name in ("p.paper", "p.s19", "marks"))
+    for i in range(runs):
+        this = Run()
+        with open(paper, "w") as file:
+            file.write(this.paper())
+        with open(program, "w") as file:
+            file.write("".join(this.program))
+        line = run([print_state], input=this.input()).stdout.decode().strip()
+        told = run([xm23, "run", paper, program])
+        if this.broken:
+            same(f"run {i}: print_state", line, this.broken)
+            said = told.stderr.decode()
+            same(f"run {i}: {said}", (told.returncode, f": {line}: " in said), (1, True))
+            continue
+        same(f"run {i}", (told.stdout.decode().strip(), told.returncode), (line, 0))
+        if i % 8 == 0:
+            run([xm23, "mark", "-o", marks, paper, program])
+            with open(os.path.join(marks, "results.csv"), newline="") as file:
+                same(f"run {i}, marked", [row["line"] for row in csv.DictReader(file)], [line])
+print(f"{passed} passed, {failed} failed")
+sys.exit(failed != 0)

@@ -1,0 +1,33 @@
+#!/usr/bin/env bash
+# Every subcommand of build/xm23 under valgrind, on what it takes and on what it refuses: no error and no byte lost.
+set -u
+cd "$(dirname "$0")/../.."
+. tests/shell/expect.sh
+paper=examples/sitting/sum.paper
+programs=examples/sitting/programs
+head -c 5000 /dev/urandom > "$room/noise"
+printf 'steps 5\n1 1 3\n1 1 4\n' > "$room/twins.paper"
+
+# clean WHAT STATUS WORD..: under valgrind, whose own status is 99.
+clean() {
+    local what=$1 status=$2
+    shift 2
+    expect "$what" "$status" '.*' '[^=]*' valgrind -q --error-exitcode=99 --leak-check=full build/xm23 "$@"
+}
+clean 'help' 0 --help
+clean 'run' 0 run -l "$paper" "$programs/sound.s19"
+clean 'run with a screen' 1 run -l "$paper" "$programs/screen.s19"
+clean 'run of a refused program' 1 run "$paper" "$programs/refused.s19"
+clean 'run of noise' 1 run "$paper" "$room/noise"
+clean 'a paper of noise' 1 run "$room/noise" "$programs/sound.s19"
+clean 'twins' 1 run "$room/twins.paper" "$programs/sound.s19"
+clean 'asm' 0 asm -o "$room/asm.s19" "$programs/halting.asm"
+clean 'asm -l' 0 asm -l examples/copy_words.asm
+clean 'asm of noise' 1 asm "$room/noise"
+clean 'dis' 0 dis -o "$room/list" examples/copy_words.s19
+clean 'stack' 0 stack "$paper"
+clean 'card' 0 card -o "$room/card.html"
+clean 'mark' 1 mark -j 2 -o "$room/marks" "$paper" "$programs"/*.s19 "$room/noise" no/such /
+rm "$room/marks/results.csv"
+clean 'mark that goes on' 1 mark -j 2 -o "$room/marks" "$paper" "$programs"/*.s19 "$room/noise" no/such /
+count

@@ -291,7 +291,7 @@ expect 'a full disk' 3 '' '.*cannot be written: No space left.*the marking is no
     "$xm23" mark -o "$room/full" "$paper" "$sound"
 same 'has no results' "$(ls "$room/full")" pages
 
-(exec 9> "$room/bad/.lock"; python3 -c 'import fcntl, sys, time; fcntl.flock(9, fcntl.LOCK_EX); print("locked", flush=True); time.sleep(60)' > "$room/locked") &
+(exec 9> "$room/bad/.lock"; exec python3 -c 'import fcntl, sys, time; fcntl.flock(9, fcntl.LOCK_EX); print("locked", flush=True); time.sleep(60)' > "$room/locked") &
 holder=$!
 while [ ! -s "$room/locked" ]; do sleep 0.01; done
 expect 'two markings in one folder' 3 '' "$room/bad: another marking is at work there .*" "$xm23" mark -o "$room/bad" "$paper" "$sound"

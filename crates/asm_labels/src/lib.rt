@@ -1,0 +1,1 @@
+// Theorem about the names of the assembler: specs/Labels.antt.

@@ -33,9 +33,9 @@ expect 'make install' 0 "$prefix/bin/print_state.*" '' $make install PREFIX="$pr
 for file in $files; do
     same "$file is there" "$(test -e "$prefix/$file" && echo yes)" yes
 done
-expect 'with DESTDIR' 0 '.*' '' $make install PREFIX=/opt/xm23 DESTDIR="$room/stage"
-same 'the same files' "$(there "$room/stage/opt/xm23")" "$(there "$prefix")"
-same 'the prefix' "$(sed -n 's/^prefix=//p' "$room/stage/opt/xm23/lib/pkgconfig/xm23.pc")" /opt/xm23
+expect 'with DESTDIR' 0 '.*' '' $make install PREFIX=/xm23 DESTDIR="$room/stage"
+same 'the same files' "$(there "$room/stage/xm23")" "$(there "$prefix")"
+same 'the prefix' "$(sed -n 's/^prefix=//p' "$room/stage/xm23/lib/pkgconfig/xm23.pc")" /xm23
 expect 'a prefix that is no path' 2 '' ".*PREFIX 'usr' is not an absolute path.*" $make install PREFIX=usr
 expect 'the version' 0 "$version" '' env PKG_CONFIG_PATH="$prefix/lib/pkgconfig" pkg-config --modversion xm23
 

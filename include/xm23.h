@@ -414,7 +414,8 @@ uint64_t xm23_next(uint32_t operation, uint32_t word);
  *                    among them, and at the close, its registers, PSW, CEX state and bytes are those of the run with no
  *                    events, which takes the same traps and has a log long enough. The run is the steps done, where the
  *                    log had no room too. docs/RESUMPTION.md says it in words. The call does not check the premises.
- * defined            crates/machine/specs/Call.antt, runCallOf, for every length, content and number.
+ * defined            crates/machine/specs/Call.antt, runCallOf, and crates/resume/specs/Deepest.antt, deepestLeft, for
+ *                    every length, content and number.
  */
 uint64_t xm23_run(uint8_t *memory, size_t memory_len, uint8_t *record, size_t record_len, const uint8_t *events,
                   size_t events_len, uint8_t *log, size_t log_len, uint32_t *deepest, uint64_t n);

@@ -5,8 +5,10 @@ use oracle::assemble::assemble;
 use oracle::compare::{compare_many, Engine};
 use oracle::inputs::{input, Input, Kind};
 use oracle::machine::{
-    event_record, events_of, line_of, sheet, steps_of, Act, Event, Machine, MAX_STEPS, PC, SHOWN, SP,
+    event_record, events_of, line_of, long_log, sheet, steps_of, Act, Event, Machine, MAX_STEPS, PC, SHOWN, SP,
 };
+use oracle::programs::setup;
+use oracle::resume::{judge, Reading};
 
 /// A program at #1000 with SP #0800, R4 #0800 too, and a log long enough.
 fn program(source: &str, events: &[(u32, u8)], n: u64) -> Input {
@@ -147,6 +149,23 @@ fn hundreds_of_thousands_deep() {
     let source = with_handlers(" SVC #11\n ORG $2000\n MOV R4,SP\n SETPRI #0\n SVC #11");
     let ran = program(&source, &[], MAX_STEPS).run().expect("accepted");
     assert_eq!((ran.steps, ran.deepest), (1_000_000, 333_334));
+}
+
+/// "Document 01 bounds the open frames": the frames that Depth's premises speak of are those that are counted, and where
+/// the premises hold the figure is at most 7 - p.
+#[test]
+fn the_frames_of_depth() {
+    let mut bounded = 0;
+    for seed in 1..=3_000 {
+        let setup = setup(seed);
+        let close = judge(&setup, Reading::Decided);
+        let given = Input::from(setup);
+        let ran = Input { log: long_log(given.n), ..given }.run().expect("accepted");
+        assert_eq!(close.met.deepest, ran.deepest as usize, "seed {seed}");
+        assert!(!close.depth.none() || ran.deepest <= u32::from(7 - close.lowest), "seed {seed}");
+        bounded += u32::from(close.depth.none() && ran.deepest > 0);
+    }
+    assert!(bounded > 500, "{bounded} setups");
 }
 
 /// A step that the log has no room for is not taken, and the frames behind it are not opened.

@@ -125,7 +125,7 @@ expect 'random bytes' 1 '' "$room/p.paper:[0-9]+: .*" "$xm23" run "$room/p.paper
 right 'the least paper' '0 0 0000 0000 0000 0000 0000 0000 0000 1000 0000 00 00000000 0' 'steps 0'
 right 'CR LF, blanks, comments' '0 0 0005 0000 0000 0000 0000 0000 0000 1000 0000 00 00000000 0' \
     '; a paper\r\n\r\n\tsteps 0 ; none\r\nstart\tR0=5 ;\r\n'
-right 'every part of the start' '1 0 0001 0002 0003 0004 0005 0006 0007 0008 E1FF 7F 12345678' \
+right 'every part of the start' '1 0 0001 0002 0003 0004 0005 0006 0007 0008 E1FF 7F 12345678 0' \
     'steps 3\nstart R0=1 R1=2 R2=3 R3=4 R4=5 LR=6 SP=7 PC=8 PSW=#E1FF CEX=#7F HALTED=1 COUNT=9 LINES=#12345678\n'
 right 'a later line wins' '0 1 0001 0000 0000 0000 0000 0000 0000 1002 0000 00 00000000 0' \
     "steps 1\nwords #1000 #4080\nwords #1000 #4088\n"

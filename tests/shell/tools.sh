@@ -50,7 +50,7 @@ legend() {
     echo "$1" | python3 -B scripts/legend.py
 }
 line=$(target/bin/print_state < examples/interrupts.in)
-expect 'a line' 0 "$line.*reason .*R7 +1000 +PC.*PSW .*CEX .*lines .*none" '' legend "$line"
+expect 'a line' 0 "$line.*reason .*R7 +1000 +PC.*PSW .*CEX .*lines .*none.*depth +2 .*" '' legend "$line"
 same 'a row for each field' "$(legend "$line" | tail -n +3 | wc -l)" "$(echo "$line" | wc -w)"
 expect 'a halted machine' 0 '.*reason +1 +halted.*' '' legend "1 ${line#* }"
 for n in $(sed -n 's/^#define XM23_REFUSED_[A-Z_]* \([0-9]*\)$/\1/p' include/xm23.h); do

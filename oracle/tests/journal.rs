@@ -6,6 +6,7 @@ mod library_journal;
 
 use library_journal::{xm23_back, LIBRARY};
 use oracle::assemble::assemble;
+use oracle::case;
 use oracle::compare::folder;
 use oracle::inputs::{input, Input, Kind};
 use oracle::journal::{address, record_of, Held, Journal, KEPT};
@@ -306,6 +307,42 @@ fn a_thousand_steps_back() {
     assert_eq!(session.back(1_000).map_err(|d| d.what), Ok(0));
     assert_eq!(session.back(24).map_err(|d| d.what), Ok(0));
     assert_eq!(session.back(1).map_err(|d| d.what), Ok(15));
+}
+
+/// The readable cases that say something of a journal.
+#[test]
+fn readable_cases() {
+    let (mut looked, mut reached) = (0, Reached::default());
+    for case in case::all() {
+        let Some(expected) = case.journal else { continue };
+        let (name, mut session) = (&case.name, Session::new(LIBRARY, expected.held, &mut reached));
+        session.run().unwrap_or_else(|found| panic!("{name}: {}", found.what));
+        let journal = &session.held.journal;
+        assert_eq!((journal.kept, journal.place), expected.left, "{name}: the number kept and the next place");
+        for (place, step, address, bytes) in expected.rows {
+            let record = kept(&session.held, place);
+            assert_eq!(Machine::from_record(&record[..RECORD]).count, step, "{name}: the step at place {place}");
+            assert_eq!(parts(record), (address, bytes), "{name}: place {place}");
+        }
+        let refusal = session.back(expected.back).unwrap_or_else(|found| panic!("{name}: {}", found.what));
+        assert_eq!(refusal, 0, "{name}: going back");
+        let (m, memory) = (Machine::from_record(&session.held.input.record), &session.held.input.memory);
+        for (part, value) in expected.state {
+            let found = match part.as_str() {
+                "PC" => m.regs[PC].into(),
+                "SP" => m.regs[SP].into(),
+                "PSW" => m.psw.into(),
+                "COUNT" => m.count,
+                "HALTED" => m.halted.into(),
+                "LINES" => u32::from_le_bytes(m.lines.to_bytes()),
+                name if name.starts_with('R') => m.regs[name[1..].parse::<usize>().expect("a register")].into(),
+                address => memory[usize::from_str_radix(address, 16).expect("an address")].into(),
+            };
+            assert_eq!(found, value, "{name}: {part} after going back");
+        }
+        looked += 1;
+    }
+    assert!(looked >= 8, "{looked} cases");
 }
 
 // ---- journals that are kept wrongly

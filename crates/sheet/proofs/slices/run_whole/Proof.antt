@@ -54,15 +54,15 @@ run-requires c κs =
 
 add-done : tie.Need-add-done Inv-loop μ-loop
 add-done c =
-    let r = c .before .before .before .before .before .run .ensures in
-    let l = c .before .before .before .before .before .before .before .before .before .loop in
+    let r = c .before .before .before .before .before .before .run .ensures in
+    let l = c .before .before .before .before .before .before .before .before .before .before .loop in
     let i = slice-le _ _ _ _ (l .inv .4) _ _ _ _ _ (r .0) (r .1 .0) (r .1 .1 .0) in
     omega (arith, i, l .inv .0)
 
 loop-less : tie.Need-loop-less Inv-loop μ-loop
 loop-less c =
-    let r = c .before .before .before .before .before .before .before .run .ensures in
-    let l = c .before .before .before .before .before .before .before .before .before .before .before .loop in
+    let r = c .before .before .before .before .before .before .before .before .run .ensures in
+    let l = c .before .before .before .before .before .before .before .before .before .before .before .before .loop in
     let b = sym (c .before .out-of-room .ensures) ∙ is-so _ (c .if1 .left) in
     let i = slice-le _ _ _ _ (l .inv .4) _ _ _ _ _ (r .0) (r .1 .0) (r .1 .1 .0) in
     let j = slice-some _ _ _ _ (l .inv .4) _ _ _ _ _ (r .0) (r .1 .0) (r .1 .1 .0) (omega (arith, l .inv .2)) b in
@@ -70,8 +70,8 @@ loop-less c =
 
 loop-again : tie.Need-loop-again Inv-loop μ-loop
 loop-again c =
-    let r = c .before .before .before .before .before .before .before .run .ensures in
-    let l = c .before .before .before .before .before .before .before .before .before .before .before .loop in
+    let r = c .before .before .before .before .before .before .before .before .run .ensures in
+    let l = c .before .before .before .before .before .before .before .before .before .before .before .before .loop in
     let i = slice-le _ _ _ _ (l .inv .4) _ _ _ _ _ (r .0) (r .1 .0) (r .1 .1 .0) in (
       omega (arith, i, l .inv .0),
       omega (arith, l .inv .1),
@@ -91,13 +91,13 @@ returns c =
 
 same-length-2 : tie.Need-same-length-2 Inv-loop μ-loop
 same-length-2 c =
-    let l = c .before .before .before .before .before .before .before .before .before .before .before .loop in
+    let l = c .before .before .before .before .before .before .before .before .before .before .before .before .loop in
     omega (arith, l .inv .1)
 
 returns-2 : tie.Need-returns-2 Inv-loop μ-loop
 returns-2 c =
-    let r = c .before .before .before .before .before .before .before .run .ensures in
-    let l = c .before .before .before .before .before .before .before .before .before .before .before .loop in
+    let r = c .before .before .before .before .before .before .before .before .run .ensures in
+    let l = c .before .before .before .before .before .before .before .before .before .before .before .before .loop in
     let b = sym (c .before .out-of-room .ensures) ∙ is-not _ (c .if1 .taken) in
     let d = slice-depth _ _ _ _ (l .inv .4) _ _ _ _ _ (r .0) (r .1 .0) (r .1 .1 .0) _ _ (l .inv .5) (r .1 .1 .1 .1 .1 .1) in
     (slice-ends _ _ _ _ (l .inv .4) _ _ _ _ _ (r .0) (r .1 .0) (r .1 .1 .0) (l .inv .0) b, ap (λ (p : Depth). p .deepest) d)

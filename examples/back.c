@@ -6,8 +6,8 @@
  * PROGRAM is a file of S-records. It is run for STEPS steps from the PC of its S9, every register 0 and no events, with
  * a journal of the last 1,024 steps; then one step at a time is gone back, the newest first, until one that wrote the
  * byte is undone: a store of this or of another value, or an entry that pushed over it. Of a device byte, which loads
- * and events change too, it is the step at which it changed. Printed are the byte, the step count before the step, its PC
- * and its instruction.
+ * and events change too, it is the step at which it changed. Printed are the byte, the step count before the step, its
+ * PC and its instruction.
  *
  * Status: 0; 1 where no step that is kept wrote the byte, or the library refuses; 2 where an argument or the file is no
  * good.
@@ -105,7 +105,8 @@ static int run(const char *name, uint64_t n)
         return 2;
     }
     reply = xm23_run_journal(desk.memory, sizeof desk.memory, desk.record, sizeof desk.record, NULL, 0, log,
-                             XM23_LOG_SIZE * n, &deepest, desk.journal, sizeof desk.journal, &desk.kept, &desk.place, n);
+                             XM23_LOG_SIZE * n, &deepest, desk.journal, sizeof desk.journal, &desk.kept, &desk.place,
+                             n);
     free(log);
     return XM23_RUN_REFUSAL(reply) ? refused(name, XM23_RUN_REFUSAL(reply)) : 0;
 }
@@ -121,7 +122,8 @@ static int pushed(const struct step *s)
 /* How many bytes a step's instruction stored; 0 where it is no ST or STR. */
 static unsigned stored(const struct step *s)
 {
-    uint64_t instruction = xm23_decode((uint16_t)two(desk.memory + (two(s->before + XM23_RECORD_REGISTER(7)) & 0xFFFE)));
+    unsigned pc = two(s->before + XM23_RECORD_REGISTER(7));
+    uint64_t instruction = xm23_decode((uint16_t)two(desk.memory + (pc & 0xFFFE)));
     if (XM23_FORMAT(instruction) == XM23_FORMAT_ST)
         return XM23_FIELD(instruction, 4) == XM23_BYTE_FORM ? 1 : 2;
     if (XM23_FORMAT(instruction) == XM23_FORMAT_STR)
@@ -153,9 +155,10 @@ static unsigned undo(struct step *s, unsigned address)
 static void print_step(const struct step *s)
 {
     static const char *const names[] = {
-        "illegal", "BL",   "BEQ",  "BNE",  "BC",     "BNC", "BN",    "BGE",   "BLT", "BRA", "ADD",  "ADDC",  "SUB",  "SUBC",
-        "DADD",    "CMP",  "XOR",  "AND",  "OR",     "BIT", "BIC",   "BIS",   "MOV", "SWAP", "SRA", "RRC",   "COMP", "SWPB",
-        "SXT",     "SETPRI", "SVC", "SETCC", "CLRCC", "CEX", "LD",    "ST",   "MOVL", "MOVLZ", "MOVLS", "MOVH", "LDR", "STR"};
+        "illegal", "BL",    "BEQ",   "BNE",   "BC",    "BNC",    "BN",  "BGE",   "BLT",   "BRA",  "ADD",
+        "ADDC",    "SUB",   "SUBC",  "DADD",  "CMP",   "XOR",    "AND", "OR",    "BIT",   "BIC",  "BIS",
+        "MOV",     "SWAP",  "SRA",   "RRC",   "COMP",  "SWPB",   "SXT", "SETPRI", "SVC",  "SETCC", "CLRCC",
+        "CEX",     "LD",    "ST",    "MOVL",  "MOVLZ", "MOVLS",  "MOVH", "LDR",  "STR"};
     unsigned pc = two(s->before + XM23_RECORD_REGISTER(7)), word = two(desk.memory + (pc & 0xFFFE));
     printf("step %lu, PC #%04X: ", four(s->before + XM23_RECORD_COUNT), pc);
     if (pc & 1)
@@ -167,7 +170,8 @@ static void print_step(const struct step *s)
 
 int main(int argc, char **argv)
 {
-    long n = argc == 4 ? number(argv[2], 10, XM23_MAX_STEPS) : -1, address = argc == 4 ? number(argv[3], 16, 0xFFFF) : -1;
+    long n = argc == 4 ? number(argv[2], 10, XM23_MAX_STEPS) : -1;
+    long address = argc == 4 ? number(argv[3], 16, 0xFFFF) : -1;
     struct step s;
     uint32_t kept;
     int status;

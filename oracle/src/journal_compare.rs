@@ -1,7 +1,8 @@
-//! The calls on a journal beside the oracle, over sessions: runs and goings-back in turn on one machine and one journal,
-//! with other lists, other n, logs that are too short, machines that halt, and calls that are refused. After each call reply,
-//! record, all of memory, the log, the depth, the journal's bytes, the number kept and the next place are compared; and
-//! what 02 promises is held: going back k gives what was k steps earlier, and running k on gives the same again.
+//! The calls on a journal beside the oracle, over sessions: runs and goings-back in turn on one machine and one
+//! journal, with other lists, other n, logs that are too short, machines that halt, and calls that are refused. After
+//! each call reply, record, all of memory, the log, the depth, the journal's bytes, the number kept and the next place
+//! are compared; and what 02 promises is held: going back k gives what was k steps earlier, and running k on gives the
+//! same again.
 
 use crate::inputs::{input, lines, Input, Kind};
 use crate::journal::{address, Held, Journal, KEPT};

@@ -584,7 +584,8 @@ static void refused_runs(void)
 static void nothing_lent(void)
 {
     example();
-    same("no events", XM23_RUN_STEPS(xm23_run(memory, memory_len, record, record_len, NULL, 0, NULL, 0, &deepest, 1)), 1);
+    same("no events",
+         XM23_RUN_STEPS(xm23_run(memory, memory_len, record, record_len, NULL, 0, NULL, 0, &deepest, 1)), 1);
     same("its depth", deepest, 1);
     same("no record", xm23_run(memory, memory_len, NULL, 0, NULL, 0, NULL, 0, &deepest, 1), XM23_REFUSED_RECORD);
     same("nothing", xm23_run(NULL, 0, NULL, 0, NULL, 0, NULL, 0, &deepest, UINT64_MAX), XM23_REFUSED_MEMORY);
@@ -621,8 +622,8 @@ static uint64_t run_kept(uint64_t n)
     memcpy(events_before, events, sizeof events);
     memcpy(log_before, screen, sizeof screen);
     memcpy(journal_before, journal, sizeof journal);
-    return xm23_run_journal(memory, memory_len, record, record_len, events, events_len, screen, log_len, &deepest, journal,
-                            journal_len, &kept, &place, n);
+    return xm23_run_journal(memory, memory_len, record, record_len, events, events_len, screen, log_len, &deepest,
+                            journal, journal_len, &kept, &place, n);
 }
 
 /* Everything that is lent and handed over is as it was. */
@@ -672,7 +673,8 @@ static void journals(void)
     same("six steps, kept", kept, 4);
     same("six steps, place", place, 1);
     same("depth", deepest, 0);
-    same("behind the journal", (uint64_t)memcmp(journal + journal_len, journal_before + journal_len, XM23_JOURNAL_SIZE), 0);
+    same("behind the journal",
+         (uint64_t)memcmp(journal + journal_len, journal_before + journal_len, XM23_JOURNAL_SIZE), 0);
     /* Step 3 stored #A001 at #0102; it is the third of the four that are kept, at place 2. */
     same("state before the step", two(newest + XM23_JOURNAL_RECORD + XM23_RECORD_REGISTER(7)), 0x1000);
     same("its count", two(newest + XM23_JOURNAL_RECORD + XM23_RECORD_COUNT), 3);

@@ -318,8 +318,8 @@ static void check_guards(void)
     check("guard bytes of a journal", guarded(&journal) && guarded(&number) && guarded(&kept) && guarded(&place));
 }
 
-/* A run with a journal: refused, nothing changes; accepted, the numbers are those of the steps done and no place that was
- * not reached changes. */
+/* A run with a journal: refused, nothing changes; accepted, the numbers are those of the steps done and no place that
+ * was not reached changes. */
 static uint64_t run_kept(uint32_t many, uint32_t next, uint64_t n, int at_end)
 {
     uint32_t *deepest = lend_number(&number, 77, at_end), *k = lend_number(&kept, many, at_end);
@@ -421,7 +421,7 @@ static void goings_back(int at_end, int rounds)
     int i;
     for (i = 0; i < rounds; i++) {
         uint64_t pick = draw(), reply;
-        uint32_t many = 1 + (uint32_t)(pick % 40), next = (uint32_t)(pick >> 8) % many;
+        uint32_t many = 1 + (uint32_t)(pick % 40), next = (uint32_t)(pick >> 8) % many, steps;
         uint64_t n = (pick >> 16) % (many + 1);
         lend(&memory, XM23_MEMORY_SIZE, at_end);
         lend(&record, XM23_RECORD_SIZE, at_end);
@@ -442,8 +442,8 @@ static void goings_back(int at_end, int rounds)
         memcpy(record_then, record.at, XM23_RECORD_SIZE);
         reply = run_kept(0, next, n, at_end);
         check("accepted", XM23_RUN_REFUSAL(reply) == XM23_ACCEPTED);
-        check("back", go_back(XM23_RUN_STEPS(reply), (next + XM23_RUN_STEPS(reply)) % many, XM23_RUN_STEPS(reply), at_end) ==
-                          XM23_ACCEPTED);
+        steps = XM23_RUN_STEPS(reply);
+        check("back", go_back(steps, (next + steps) % many, steps, at_end) == XM23_ACCEPTED);
         check("memory as it was", !memcmp(memory.at, memory_then, XM23_MEMORY_SIZE));
         check("record as it was", !memcmp(record.at, record_then, XM23_RECORD_SIZE));
     }

@@ -1,7 +1,7 @@
 /*
- * A target of libFuzzer: the two calls on a journal, held to what 02 §8 promises of them by the C interpreter of bench/,
- * which has no journal: the state k steps before the end of a run is that of a run of k steps fewer. Held for every
- * string of commands (setup.h):
+ * A target of libFuzzer: the two calls on a journal, held to what 02 §8 promises of them by the C interpreter of
+ * bench/, which has no journal: the state k steps before the end of a run is that of a run of k steps fewer. Held for
+ * every string of commands (setup.h):
  * - a run with a journal gives the interpreter's reply, record, memory, log and depth; 14 comes after its refusals;
  * - the number kept and the next place go by the steps done; places that no step reaches keep their bytes;
  * - going back k, for some k and for all that are kept, gives record and memory of the run of k steps fewer, leaves the
@@ -64,8 +64,9 @@ static void lend_all(struct outcome *o, size_t journal_len)
 
 static uint64_t advance(struct outcome *o, uint8_t *log, size_t log_len, uint64_t n)
 {
-    return xm23_run_journal(o->memory.at, o->memory.length, o->record.at, o->record.length, o->events.at, o->events.length,
-                            log, log_len, &o->deepest, o->journal.at, o->journal.length, &o->kept, &o->place, n);
+    return xm23_run_journal(o->memory.at, o->memory.length, o->record.at, o->record.length, o->events.at,
+                            o->events.length, log, log_len, &o->deepest, o->journal.at, o->journal.length, &o->kept,
+                            &o->place, n);
 }
 
 static uint32_t back(struct outcome *o, uint64_t k)
@@ -76,15 +77,16 @@ static uint32_t back(struct outcome *o, uint64_t k)
 
 static int all_guarded(const struct outcome *o)
 {
-    return guarded(&o->memory) && guarded(&o->record) && guarded(&o->events) && guarded(&o->log) && guarded(&o->journal);
+    return guarded(&o->memory) && guarded(&o->record) && guarded(&o->events) && guarded(&o->log) &&
+           guarded(&o->journal);
 }
 
 /* The run by the interpreter, of so many steps and with a log long enough for them. */
 static void reference(uint64_t n)
 {
     lend_all(&interpreter, XM23_JOURNAL_SIZE);
-    xm23_fast_run(interpreter.memory.at, setup.memory_len, interpreter.record.at, setup.record_len, interpreter.events.at,
-                  setup.events_len, enough, sizeof enough, &interpreter.deepest, n);
+    xm23_fast_run(interpreter.memory.at, setup.memory_len, interpreter.record.at, setup.record_len,
+                  interpreter.events.at, setup.events_len, enough, sizeof enough, &interpreter.deepest, n);
 }
 
 static void check_state(const char *what)
@@ -100,7 +102,8 @@ static void check_back(uint32_t steps, uint64_t k)
     memcpy(memory, library.memory.at, setup.memory_len);
     memcpy(record, library.record.at, setup.record_len);
     memcpy(bytes, library.journal.at, library.journal.length);
-    check("15", back(&library, (uint64_t)kept + 1) == XM23_REFUSED_BACK && library.kept == kept && library.place == place);
+    check("15", back(&library, (uint64_t)kept + 1) == XM23_REFUSED_BACK);
+    check("the numbers as they were", library.kept == kept && library.place == place);
     check("going back", back(&library, k) == XM23_ACCEPTED);
     check("the journal's bytes", holds(&library.journal, bytes));
     check("both numbers", library.kept == kept - k && library.place == (place + records - k % records) % records);
@@ -134,8 +137,9 @@ int LLVMFuzzerTestOneInput(const uint8_t *data, size_t size)
     check_state("the run");
     steps = XM23_RUN_STEPS(reply);
     for (uint32_t i = 0; i < records; i++)
-        check("places not reached", (i + records - first) % records < steps ||
-                                        !memcmp(library.journal.at + XM23_JOURNAL_SIZE * i, journal, XM23_JOURNAL_SIZE));
+        check("places not reached",
+              (i + records - first) % records < steps ||
+                  !memcmp(library.journal.at + XM23_JOURNAL_SIZE * i, journal, XM23_JOURNAL_SIZE));
     check("the numbers", library.place == (first + steps) % records &&
                              library.kept == (steps < records ? steps : records));
     check("bytes around a buffer", all_guarded(&library));
@@ -146,7 +150,8 @@ int LLVMFuzzerTestOneInput(const uint8_t *data, size_t size)
     /* A journal one byte too long is refused last of all, and nothing changes. */
     lend_all(&library, XM23_JOURNAL_SIZE * records + 1);
     reply = advance(&library, library.log.at, library.log.length, setup.n);
-    check("14", reply == XM23_REFUSED_JOURNAL && holds(&library.memory, setup.memory) && holds(&library.log, setup.log) &&
-                    library.deepest == ANY_DEPTH && library.place == first && all_guarded(&library));
+    check("14", reply == XM23_REFUSED_JOURNAL && library.deepest == ANY_DEPTH && library.place == first);
+    check("14 with a change", holds(&library.memory, setup.memory) && holds(&library.log, setup.log));
+    check("bytes around a buffer", all_guarded(&library));
     return 0;
 }

@@ -1,4 +1,4 @@
-/* Buffers that end at a page which must not be touched, with guard bytes before them, for the targets of this folder. */
+/* Buffers that end at a page which must not be touched, with guard bytes before them, for this folder's targets. */
 #ifndef LENT_H
 #define LENT_H
 

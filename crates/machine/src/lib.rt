@@ -56,7 +56,8 @@ pub enum Reason {
     NoRoom,
 }
 
-// Whether a run's buffers and step count are accepted, or the first rule that they break.
+// Whether the buffers and numbers of a call are accepted, or the first rule that they break: of a
+// run, and of a run with a journal or of going back.
 pub enum Verdict {
     Accepted,
     MemoryLength,
@@ -68,6 +69,8 @@ pub enum Verdict {
     EventOrder,
     EventTwins,
     LogLength,
+    JournalFit,
+    StepsKept,
 }
 
 // What a step does. A halted machine takes none. A line or a vector is named by its number; a load

@@ -13,7 +13,7 @@ use borrow.Author.Tests.{not-false}
 use Rattle.word.proofs.Laws.{bit-read, bit-back}
 use Rattle.machine.specs.declared.Verdict.{Verdict}
 use Rattle.machine.specs.declared.Verdict.the-variants.{Accepted, MemoryLength, StepCount, RecordLength, RecordBits, EventsLength}
-use Rattle.machine.specs.declared.Verdict.the-variants.{EventFields, EventOrder, EventTwins, LogLength}
+use Rattle.machine.specs.declared.Verdict.the-variants.{EventFields, EventOrder, EventTwins, LogLength, JournalFit, StepsKept}
 use Rattle.machine.specs.State.{State, reg}
 use Rattle.machine.specs.Memory.{byteAt, lowByte, highByte}
 use Rattle.machine.specs.Record.{twoAt, fourAt, stateIn, recordOf, countByte}
@@ -176,6 +176,8 @@ is-accepted EventFields e = absurd (omega arith)
 is-accepted EventOrder e = absurd (omega arith)
 is-accepted EventTwins e = absurd (omega arith)
 is-accepted LogLength e = absurd (omega arith)
+is-accepted JournalFit e = absurd (omega arith)
+is-accepted StepsKept e = absurd (omega arith)
 
 fit-below : (b : List ℕ) (n : ℕ) → eventsFitBelow b n ≡ true → (k : ℕ) → k < n → eventFits b k ≡ true
 unfolding eventsFitBelow

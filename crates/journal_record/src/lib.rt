@@ -1,0 +1,178 @@
+// One record of the journal, 64 bytes, and the ring that it is put into. It is written once the act
+// of the step is known and before the act is done: memory then is as before the step but for the
+// device bytes, which the step's events may have changed and which are lent as they were.
+ghost use mathlib.Core.Path.{_≡_};
+ghost use mathlib.Core.Bool.{cond};
+ghost use mathlib.Core.List.{List};
+ghost use Prim.Native.Nat.{ℕ, _+_, _*_, _<_, _≤_};
+ghost use lib.ListN.{length};
+ghost use lib.Seq.{sets};
+ghost use Rattle.machine.specs.State.{Core, sp, down, stateOf};
+ghost use Rattle.machine.specs.Memory.{byteAt, even};
+ghost use Rattle.machine.specs.Record.{recordOf};
+ghost use Rattle.machine.specs.Devices.{device?};
+ghost use Rattle.journal.specs.Record.{firstStored, addressOf, bytesFrom, fieldsOf};
+ghost use Rattle.journal.specs.Ring.{journalOf, placesOf, following, oneMore, keep};
+ghost use Rattle.journal_record.specs.Before.{Before};
+use machine::Act;
+use machine::ByteAddr;
+use machine::Machine;
+
+// The address of the last word that an entry pushes, bit 0 dropped.
+fn frame_at(sp: u16) -> u16
+    ensures { λ r. ⌜ r ≡ even (down sp 8) ⌝ }
+{
+    std::num::wrapping_sub_u16(sp, 8) / 2 * 2
+}
+
+// The first byte of a store where it is outside the device bytes, else 0.
+fn stored_at(byte: bool, at: ByteAddr) -> u16
+    ensures { λ r. ⌜ r
+        ≡ cond (device? (firstStored byte (at .0))) 0 (firstStored byte (at .0)) ⌝ }
+{
+    if at.0 < 16 {
+        return 0;
+    }
+    if byte {
+        return at.0;
+    }
+    at.0 / 2 * 2
+}
+
+// The address of a step that does this act, SP being what the act starts from.
+fn address_of(a: Act, sp: u16) -> u16
+    ensures { λ r. ⌜ ((c : Core) → sp c ≡ sp → r ≡ addressOf a c) ⌝ }
+{
+    match a {
+        Act::Stopped => 0,
+        Act::Pull => 0,
+        Act::Chain(..) => 0,
+        Act::Accept(..) => frame_at(sp),
+        Act::Sleep => 0,
+        Act::Fault(..) => frame_at(sp),
+        Act::Halt => 0,
+        Act::Skip => 0,
+        Act::Trap(..) => frame_at(sp),
+        Act::Plain => 0,
+        Act::Loads { .. } => 0,
+        Act::Stores { byte, at, .. } => stored_at(byte, at),
+    }
+}
+
+// The byte at an address before the events.
+fn byte_before(devices: &[u8; 16], mem: &[u8], a: u16) -> u8
+    requires { ⌜ length (now mem) ≡ 65536 ⌝ }
+    ensures { λ r. ⌜ ((m : List ℕ) → Before m (now (devices .entry)) (now (mem .entry))
+        → r ≡ byteAt m a) ⌝ }
+{
+    let i = a as usize;
+    if i < 16 {
+        return devices[i];
+    }
+    mem[i]
+}
+
+// The eight bytes from an address on that meets no device byte and does not wrap.
+fn eight_at(mem: &[u8], a: u16) -> [u8; 8]
+    requires { ⌜ (length (now mem) ≡ 65536) × (16 ≤ a) × (a ≤ 65528) ⌝ }
+    ensures { λ r. ⌜ ((m : List ℕ) (d : List ℕ) → Before m d (now (mem .entry))
+        → r ≡ bytesFrom m a 8) ⌝ }
+{
+    let i = a as usize;
+    [
+        mem[i],
+        mem[i + 1],
+        mem[i + 2],
+        mem[i + 3],
+        mem[i + 4],
+        mem[i + 5],
+        mem[i + 6],
+        mem[i + 7],
+    ]
+}
+
+// The eight bytes from any address on before the events, addresses wrapping.
+fn eight_before(devices: &[u8; 16], mem: &[u8], a: u16) -> [u8; 8]
+    requires { ⌜ length (now mem) ≡ 65536 ⌝ }
+    ensures { λ r. ⌜ ((m : List ℕ) → Before m (now (devices .entry)) (now (mem .entry))
+        → r ≡ bytesFrom m a 8) ⌝ }
+{
+    if (16 <= a) & (a <= 65528) {
+        return eight_at(mem, a);
+    }
+    [
+        byte_before(devices, mem, a),
+        byte_before(devices, mem, std::num::wrapping_add_u16(a, 1)),
+        byte_before(devices, mem, std::num::wrapping_add_u16(a, 2)),
+        byte_before(devices, mem, std::num::wrapping_add_u16(a, 3)),
+        byte_before(devices, mem, std::num::wrapping_add_u16(a, 4)),
+        byte_before(devices, mem, std::num::wrapping_add_u16(a, 5)),
+        byte_before(devices, mem, std::num::wrapping_add_u16(a, 6)),
+        byte_before(devices, mem, std::num::wrapping_add_u16(a, 7)),
+    ]
+}
+
+// Bytes 32-47, the device bytes; 50-57, the eight bytes.
+fn put_devices(e: &mut [u8], devices: &[u8; 16])
+    requires { ⌜ length (now e) ≡ 64 ⌝ }
+    ensures { λ _. ⌜ now (e .exit) ≡ sets (now (e .entry)) 32 (now (devices .entry)) ⌝ }
+{
+    let mut i: usize = 0;
+    while i < 16 {
+        e[32 + i] = devices[i];
+        i += 1;
+    }
+}
+
+fn put_eight(e: &mut [u8], v: [u8; 8])
+    requires { ⌜ length (now e) ≡ 64 ⌝ }
+    ensures { λ _. ⌜ now (e .exit) ≡ sets (now (e .entry)) 50 v ⌝ }
+{
+    e[50] = v[0];
+    e[51] = v[1];
+    e[52] = v[2];
+    e[53] = v[3];
+    e[54] = v[4];
+    e[55] = v[5];
+    e[56] = v[6];
+    e[57] = v[7];
+}
+
+// All 64 bytes of a record.
+fn fill(e: &mut [u8], m: Machine, devices: &[u8; 16], mem: &[u8], a: u16)
+    requires { ⌜ (length (now e) ≡ 64) × (length (now mem) ≡ 65536) ⌝ }
+    ensures { λ _. ⌜ ((b : List ℕ) → Before b (now (devices .entry)) (now (mem .entry))
+        → now (e .exit)
+        ≡ fieldsOf (recordOf (stateOf m b)) (bytesFrom b 0 16) a (bytesFrom b a 8)) ⌝ }
+{
+    state_record::write_record(&mut e[..32], m);
+    put_devices(e, devices);
+    little_endian::put_two(e, 48, a);
+    put_eight(e, eight_before(devices, mem, a));
+    little_endian::put_two(e, 58, 0);
+    little_endian::put_two(e, 60, 0);
+    little_endian::put_two(e, 62, 0);
+}
+
+// The number of records kept, and the place of the next.
+pub struct Ring {
+    pub kept: u32,
+    pub place: u32,
+}
+
+// One more kept, as far as there are places; and the place after this one.
+fn one_more(places: u32, r: Ring) -> Ring
+    requires { ⌜ (r .kept ≤ places) × (r .place < places) ⌝ }
+    ensures { λ x. ⌜ (x .kept ≡ oneMore places (r .kept))
+        × (x .place ≡ following places (r .place)) ⌝ }
+{
+    let mut kept = r.kept;
+    let mut place = r.place + 1;
+    if kept < places {
+        kept += 1;
+    }
+    if place == places {
+        place = 0;
+    }
+    Ring { kept, place }
+}

@@ -21,7 +21,7 @@ pub struct Decimal {
 }
 
 // What an instruction leaves in its destination and in the PSW.
-pub struct Outcome {
+pub struct Computed {
     pub value: u16,
     pub psw: u16,
 }
@@ -70,31 +70,31 @@ fn overflows(byte: bool, a: u16, b: u16, result: u16) -> bool
 }
 
 // A logical result written to the destination, with Z and N.
-pub fn logic_into(byte: bool, dst: u16, result: u16, psw: u16) -> Outcome
+pub fn logic_into(byte: bool, dst: u16, result: u16, psw: u16) -> Computed
     requires { ⌜ result < 2 ^ widthOf byte ⌝ }
     ensures { λ r. ⌜ r ≡ logical (widthOf byte) dst psw result ⌝ }
 {
     let p = word::put_zero(psw, result == 0);
-    Outcome {
+    Computed {
         value: word::with_low(byte, dst, result),
         psw: word::put_negative(p, word::top(byte) <= result),
     }
 }
 
 // A sum written to the destination, with C, Z, N and the given V.
-fn sum_into(byte: bool, dst: u16, sum: Sum, overflow: bool, psw: u16) -> Outcome
+fn sum_into(byte: bool, dst: u16, sum: Sum, overflow: bool, psw: u16) -> Computed
     requires { ⌜ sum .value < 2 ^ widthOf byte ⌝ }
     ensures { λ r. ⌜ r ≡ allFlags (widthOf byte) dst psw sum overflow ⌝ }
 {
     let o = logic_into(byte, dst, sum.value, word::put_carry(psw, sum.carry));
-    Outcome {
+    Computed {
         value: o.value,
         psw: word::put_overflow(o.psw, overflow),
     }
 }
 
 // dst + src + carry written to the destination, with all four flags.
-pub fn add_into(byte: bool, dst: u16, src: u16, carry: u16, psw: u16) -> Outcome
+pub fn add_into(byte: bool, dst: u16, src: u16, carry: u16, psw: u16) -> Computed
     requires { ⌜ carry ≤ 1 ⌝ }
     ensures { λ r. ⌜ r ≡ summed (widthOf byte) dst (low (widthOf byte) src) carry psw ⌝ }
 {
@@ -105,7 +105,7 @@ pub fn add_into(byte: bool, dst: u16, src: u16, carry: u16, psw: u16) -> Outcome
 }
 
 // dst + not src + carry written to the destination, with all four flags.
-pub fn subtract_into(byte: bool, dst: u16, src: u16, carry: u16, psw: u16) -> Outcome
+pub fn subtract_into(byte: bool, dst: u16, src: u16, carry: u16, psw: u16) -> Computed
     requires { ⌜ carry ≤ 1 ⌝ }
     ensures { λ r. ⌜ r ≡ summed (widthOf byte) dst (turned (widthOf byte) src) carry psw ⌝ }
 {
@@ -116,7 +116,7 @@ pub fn subtract_into(byte: bool, dst: u16, src: u16, carry: u16, psw: u16) -> Ou
 }
 
 // The low bits moved down by one below the given top bit, with C, Z and N.
-fn shift_into(byte: bool, dst: u16, high: u16, psw: u16) -> Outcome
+fn shift_into(byte: bool, dst: u16, high: u16, psw: u16) -> Computed
     requires { ⌜ high ≤ 1 ⌝ }
     ensures { λ r. ⌜ r ≡ shifted (widthOf byte) dst high psw ⌝ }
 {
@@ -176,24 +176,24 @@ fn decimal_sum(byte: bool, a: u16, b: u16, carry: u16) -> Decimal
 }
 
 // The decimal sum dst + src + C written to the destination, with C and Z.
-fn decimal_into(byte: bool, dst: u16, src: u16, psw: u16) -> Outcome
+fn decimal_into(byte: bool, dst: u16, src: u16, psw: u16) -> Computed
     ensures { λ r. ⌜ r ≡ decimal (widthOf byte) dst (low (widthOf byte) src) psw ⌝ }
 {
     let a = word::low_bits(byte, dst);
     let b = word::low_bits(byte, src);
     let sum = decimal_sum(byte, a, b, psw % 2);
     let p = word::put_carry(psw, sum.carry == 1);
-    Outcome {
+    Computed {
         value: word::with_low(byte, dst, sum.value),
         psw: word::put_zero(p, sum.value == 0),
     }
 }
 
 // The flags of an outcome, with the destination as it was.
-fn tested_only(dst: u16, o: Outcome) -> Outcome
+fn tested_only(dst: u16, o: Computed) -> Computed
     ensures { λ r. ⌜ r ≡ tested dst o ⌝ }
 {
-    Outcome {
+    Computed {
         value: dst,
         psw: o.psw,
     }
@@ -216,23 +216,23 @@ fn mask_of(byte: bool, src: u16) -> u16
 }
 
 // The bits of the mask cleared in the destination, with Z.
-fn clear_into(byte: bool, dst: u16, mask: u16, psw: u16) -> Outcome
+fn clear_into(byte: bool, dst: u16, mask: u16, psw: u16) -> Computed
     ensures { λ r. ⌜ r ≡ cleared (widthOf byte) dst mask psw ⌝ }
 {
     let v = word::low_bits(byte, dst) & word::turned_bits(byte, mask);
-    Outcome {
+    Computed {
         value: word::with_low(byte, dst, v),
         psw: word::put_zero(psw, v == 0),
     }
 }
 
 // The bits of the mask set in the destination; Z is cleared.
-fn raise_into(byte: bool, dst: u16, mask: u16, psw: u16) -> Outcome
+fn raise_into(byte: bool, dst: u16, mask: u16, psw: u16) -> Computed
     requires { ⌜ mask < 2 ^ widthOf byte ⌝ }
     ensures { λ r. ⌜ r ≡ raised (widthOf byte) dst mask psw ⌝ }
 {
     let v = word::low_bits(byte, dst) | mask;
-    Outcome {
+    Computed {
         value: word::with_low(byte, dst, v),
         psw: word::put_zero(psw, false),
     }
@@ -247,7 +247,7 @@ fn extend(x: u16) -> u16
 }
 
 // One arithmetic or logical instruction.
-pub fn alu(op: Op, byte: bool, dst: u16, src: u16, psw: u16) -> Outcome
+pub fn alu(op: Op, byte: bool, dst: u16, src: u16, psw: u16) -> Computed
     ensures { λ r. ⌜ r ≡ aluOf op (widthOf byte) dst src psw ⌝ }
 {
     let d = word::low_bits(byte, dst);
@@ -271,9 +271,9 @@ pub fn alu(op: Op, byte: bool, dst: u16, src: u16, psw: u16) -> Outcome
         Op::Swpb => {
             let high = dst % 256 * 256;
             let value = high + dst / 256;
-            Outcome { value, psw }
+            Computed { value, psw }
         }
-        Op::Sxt => Outcome {
+        Op::Sxt => Computed {
             value: extend(dst),
             psw,
         },

@@ -1,12 +1,14 @@
-// Values in a source: expression, term and factor call each other. Each call from factor to expression opens a bracket,
-// of which `left` may still be opened, and each turn of a loop takes a sign and a part, so both end.
+// Values in a source: expression, term and factor call each other. Each call from factor to
+// expression opens a bracket, of which `left` may still be opened, and each turn of a loop takes a
+// sign and a part, so both end.
 use asm_value::Value;
 ghost use mathlib.Core.Path.{_≡_};
 ghost use mathlib.Core.List.{List};
 ghost use Prim.Native.Nat.{ℕ, _≤_};
 ghost use Rattle.asm_value.specs.declared.Value.the-variants.{Unknown};
 ghost use Rattle.asm_text.specs.Text.{lookUpAt};
-ghost use Rattle.asm_expr.specs.Grammar.{digitsAt, nameAt, plainAt, factorOf, termOf, expressionOf, plus?, times?};
+ghost use Rattle.asm_expr.specs.Grammar.{digitsAt, nameAt, plainAt, factorOf};
+ghost use Rattle.asm_expr.specs.Grammar.{termOf, expressionOf, plus?, times?};
 ghost use Rattle.asm_expr.specs.Meaning.{answerOf, shut};
 
 // What stands at a place: its value and the place after it, or nothing that fits the grammar (17).
@@ -52,7 +54,8 @@ fn named(
     at: usize,
 ) -> Answer
     ensures { λ r. ⌜ r ≡ answerOf
-        (lookUpAt (now (source .entry)) (now (places .entry)) (now (keys .entry)) (now (values .entry)))
+        (lookUpAt (now (source .entry)) (now (places .entry))
+        (now (keys .entry)) (now (values .entry)))
         (nameAt (now (s .entry)) at) ⌝ }
 {
     let t = asm_text::read_word(s, at);
@@ -73,7 +76,8 @@ fn plain(
     at: usize,
 ) -> Answer
     ensures { λ r. ⌜ r ≡ answerOf
-        (lookUpAt (now (source .entry)) (now (places .entry)) (now (keys .entry)) (now (values .entry)))
+        (lookUpAt (now (source .entry)) (now (places .entry))
+        (now (keys .entry)) (now (values .entry)))
         (plainAt (now (s .entry)) at) ⌝ }
 {
     let b = asm_text::byte_at(s, at);
@@ -119,7 +123,8 @@ pub fn factor(
     left: usize,
 ) -> Answer
     ensures { λ r. ⌜ r ≡ answerOf
-        (lookUpAt (now (source .entry)) (now (places .entry)) (now (keys .entry)) (now (values .entry)))
+        (lookUpAt (now (source .entry)) (now (places .entry))
+        (now (keys .entry)) (now (values .entry)))
         (factorOf left (now (s .entry)) at) ⌝ }
 {
     let q = asm_text::skip_blanks(s, at);
@@ -144,7 +149,8 @@ pub fn term(
     left: usize,
 ) -> Answer
     ensures { λ r. ⌜ r ≡ answerOf
-        (lookUpAt (now (source .entry)) (now (places .entry)) (now (keys .entry)) (now (values .entry)))
+        (lookUpAt (now (source .entry)) (now (places .entry))
+        (now (keys .entry)) (now (values .entry)))
         (termOf left (now (s .entry)) at) ⌝ }
 {
     let first = factor(source, places, keys, values, s, at, left);
@@ -179,7 +185,8 @@ pub fn expression(
     left: usize,
 ) -> Answer
     ensures { λ r. ⌜ r ≡ answerOf
-        (lookUpAt (now (source .entry)) (now (places .entry)) (now (keys .entry)) (now (values .entry)))
+        (lookUpAt (now (source .entry)) (now (places .entry))
+        (now (keys .entry)) (now (values .entry)))
         (expressionOf left (now (s .entry)) at) ⌝ }
 {
     let first = term(source, places, keys, values, s, at, left);

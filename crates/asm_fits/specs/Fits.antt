@@ -1,5 +1,5 @@
--- Which values fit which place, and the number that then stands in the word (document 02, §12; 003 chapters 4, 6 and 14).
--- Assumes nothing.
+-- Which values fit which place, and the number that then stands in the word (document 02, §12; 003 chapters 4, 6 and
+-- 14). Assumes nothing.
 use Prim.Native.Nat.{ℕ, _+_, _-_, _/_, _%_, _<_}
 use mathlib.Core.Bool.{Bool, cond}
 use lib.Dec.{ltb, eqb}
@@ -57,8 +57,8 @@ countFit limit = fitOf 0 limit
 abbrev pub offsetFit : Value → Fit
 offsetFit v = mapFit (λ (n : ℕ). n % 128) (fitOf 64 64 v)
 
--- MOVL, MOVLZ, MOVLS (op 0, 1, 2) and MOVH (op 3): a number is the byte itself; of a name or an expression, a word, "the
--- lower 8-bits of Value for MOVL, MOVLZ, and MOVLS and the higher 8-bits for MOVH". [02 §12; 003 6]
+-- MOVL, MOVLZ, MOVLS (op 0, 1, 2) and MOVH (op 3): a number is the byte itself; of a name or an expression, a word,
+-- "the lower 8-bits of Value for MOVL, MOVLZ, and MOVLS and the higher 8-bits for MOVH". [02 §12; 003 6]
 abbrev pub immediateFit : (op : ℕ) (number : Bool) → Value → Fit
 immediateFit op number v =
     cond number (byteFit v)

@@ -56,7 +56,8 @@ fn store_line(
     p: u32,
 ) -> Stored
     requires { ⌜ length (now memory) ≡ 65536 ⌝ }
-    ensures { λ r. ⌜ now (memory .exit) ≡ imageOf (statementsAt p (lineOf (lookUpAt (now (source .entry))
+    ensures { λ r. ⌜ now (memory .exit)
+        ≡ imageOf (statementsAt p (lineOf (lookUpAt (now (source .entry))
         (now (places .entry)) (now (keys .entry)) (now (values .entry))) (now (part .entry))))
         (now (memory .entry)) ⌝ }
     ensures { λ r. ⌜ r .place ≡ placeOn p (lineOf (lookUpAt (now (source .entry))

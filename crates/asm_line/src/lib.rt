@@ -1,5 +1,6 @@
-// A line of a source: its name, its statement with the values of its names, and whether it fits the language at all.
-// The bytes of the line alone decide (a slice without the line's end); the table of names is three slices.
+// A line of a source: its name, its statement with the values of its names, and whether it fits the
+// language at all. The bytes of the line alone decide (a slice without the line's end); the table
+// of names is three slices.
 use asm_expr::Answer;
 use asm_operands::Address;
 use asm_operands::Found;
@@ -11,9 +12,12 @@ ghost use Prim.Native.Nat.{ℕ, _≤_};
 ghost use Rattle.asm_text.specs.Text.{lookUpAt};
 ghost use Rattle.asm_operands.specs.declared.Found.the-variants.{Missing};
 ghost use Rattle.asm_operands.specs.Operands.{registerAt};
-ghost use Rattle.asm_line.specs.Statement.{withValue, oneValue, arithmeticFrom, arithmetic, move, exchange, unary};
-ghost use Rattle.asm_line.specs.Statement.{oneRegister, onRegisters, onFlags, conditional, onControl, load, store};
-ghost use Rattle.asm_line.specs.Statement.{moveByte, loadRelative, storeRelative, onMemory, directiveOf, statementOf};
+ghost use Rattle.asm_line.specs.Statement.{withValue, oneValue, arithmeticFrom};
+ghost use Rattle.asm_line.specs.Statement.{arithmetic, move, exchange, unary};
+ghost use Rattle.asm_line.specs.Statement.{oneRegister, onRegisters, onFlags};
+ghost use Rattle.asm_line.specs.Statement.{conditional, onControl, load, store};
+ghost use Rattle.asm_line.specs.Statement.{moveByte, loadRelative, storeRelative};
+ghost use Rattle.asm_line.specs.Statement.{onMemory, directiveOf, statementOf};
 ghost use Rattle.asm_line.specs.Line.{ended, statementAt, afterName, lineFrom, lineOf};
 
 // A statement with its values.
@@ -27,7 +31,8 @@ pub enum Statement {
     Byte(Value),
     Word(Value),
     End,
-    // an instruction that needs no value: ADD to BIS of two registers, MOV, SWAP, SRA to SXT, SETCC, CLRCC, LD, ST
+    // an instruction that needs no value: ADD to BIS of two registers, MOV, SWAP, SRA to SXT,
+    // SETCC, CLRCC, LD, ST
     Fixed(Instr),
     // BL
     Bl(Value),
@@ -52,7 +57,8 @@ pub enum Statement {
         true_count: Value,
         false_count: Value,
     },
-    // MOVL, MOVLZ, MOVLS, MOVH by op; plain: the value is a plain number, not a name or an expression
+    // MOVL, MOVLZ, MOVLS, MOVH by op; plain: the value is a plain number, not a name or an
+    // expression
     MovImm {
         op: u8,
         plain: bool,
@@ -80,8 +86,8 @@ pub enum Stated {
     Misfit,
 }
 
-// A line: whether it has a name, the place of its first byte that is no blank, where the name stands if it has one,
-// and its statement; or a line that fits no statement (17).
+// A line: whether it has a name, the place of its first byte that is no blank, where the name
+// stands if it has one, and its statement; or a line that fits no statement (17).
 pub enum Reading {
     Line {
         named: bool,
@@ -136,7 +142,8 @@ fn one_value(
     at: usize,
 ) -> Stated
     ensures { λ r. ⌜ r ≡ oneValue
-        (lookUpAt (now (source .entry)) (now (places .entry)) (now (keys .entry)) (now (values .entry)))
+        (lookUpAt (now (source .entry)) (now (places .entry))
+        (now (keys .entry)) (now (values .entry)))
         (now (line .entry)) m at ⌝ }
 {
     let a = asm_expr::factor(source, places, keys, values, line, at, 16);
@@ -158,7 +165,8 @@ fn constant(
     at: usize,
 ) -> Stated
     ensures { λ r. ⌜ r ≡ arithmeticFrom
-        (lookUpAt (now (source .entry)) (now (places .entry)) (now (keys .entry)) (now (values .entry)))
+        (lookUpAt (now (source .entry)) (now (places .entry))
+        (now (keys .entry)) (now (values .entry)))
         (now (line .entry)) op wb at Missing ⌝ }
 {
     let a = asm_expr::factor(source, places, keys, values, line, at, 16);
@@ -184,7 +192,8 @@ fn arithmetic_from(
     at: usize,
 ) -> Stated
     ensures { λ r. ⌜ r ≡ arithmeticFrom
-        (lookUpAt (now (source .entry)) (now (places .entry)) (now (keys .entry)) (now (values .entry)))
+        (lookUpAt (now (source .entry)) (now (places .entry))
+        (now (keys .entry)) (now (values .entry)))
         (now (line .entry)) op wb at (registerAt (now (line .entry)) at) ⌝ }
 {
     let a = asm_operands::read_register(line, at);
@@ -216,7 +225,8 @@ fn read_arithmetic(
     at: usize,
 ) -> Stated
     ensures { λ r. ⌜ r ≡ arithmetic
-        (lookUpAt (now (source .entry)) (now (places .entry)) (now (keys .entry)) (now (values .entry)))
+        (lookUpAt (now (source .entry)) (now (places .entry))
+        (now (keys .entry)) (now (values .entry)))
         (now (line .entry)) op at ⌝ }
 {
     let w = asm_operands::read_width(line, at);
@@ -322,7 +332,8 @@ fn on_registers(
 ) -> Stated
     requires { ⌜ 10 ≤ m ⌝ }
     ensures { λ r. ⌜ r ≡ onRegisters
-        (lookUpAt (now (source .entry)) (now (places .entry)) (now (keys .entry)) (now (values .entry)))
+        (lookUpAt (now (source .entry)) (now (places .entry))
+        (now (keys .entry)) (now (values .entry)))
         (now (line .entry)) m at ⌝ }
 {
     if m < 22 {
@@ -350,7 +361,8 @@ fn read_conditional(
     at: usize,
 ) -> Stated
     ensures { λ r. ⌜ r ≡ conditional
-        (lookUpAt (now (source .entry)) (now (places .entry)) (now (keys .entry)) (now (values .entry)))
+        (lookUpAt (now (source .entry)) (now (places .entry))
+        (now (keys .entry)) (now (values .entry)))
         (now (line .entry)) at ⌝ }
 {
     let w = asm_operands::read_condition(line, at);
@@ -384,7 +396,8 @@ fn on_control(
     at: usize,
 ) -> Stated
     ensures { λ r. ⌜ r ≡ onControl
-        (lookUpAt (now (source .entry)) (now (places .entry)) (now (keys .entry)) (now (values .entry)))
+        (lookUpAt (now (source .entry)) (now (places .entry))
+        (now (keys .entry)) (now (values .entry)))
         (now (line .entry)) m at ⌝ }
 {
     if m < 31 {
@@ -475,7 +488,8 @@ fn move_byte(
     at: usize,
 ) -> Stated
     ensures { λ r. ⌜ r ≡ moveByte
-        (lookUpAt (now (source .entry)) (now (places .entry)) (now (keys .entry)) (now (values .entry)))
+        (lookUpAt (now (source .entry)) (now (places .entry))
+        (now (keys .entry)) (now (values .entry)))
         (now (line .entry)) op at ⌝ }
 {
     let a = asm_expr::factor(source, places, keys, values, line, at, 16);
@@ -505,7 +519,8 @@ fn load_relative(
     at: usize,
 ) -> Stated
     ensures { λ r. ⌜ r ≡ loadRelative
-        (lookUpAt (now (source .entry)) (now (places .entry)) (now (keys .entry)) (now (values .entry)))
+        (lookUpAt (now (source .entry)) (now (places .entry))
+        (now (keys .entry)) (now (values .entry)))
         (now (line .entry)) at ⌝ }
 {
     let w = asm_operands::read_width(line, at);
@@ -537,7 +552,8 @@ fn store_relative(
     at: usize,
 ) -> Stated
     ensures { λ r. ⌜ r ≡ storeRelative
-        (lookUpAt (now (source .entry)) (now (places .entry)) (now (keys .entry)) (now (values .entry)))
+        (lookUpAt (now (source .entry)) (now (places .entry))
+        (now (keys .entry)) (now (values .entry)))
         (now (line .entry)) at ⌝ }
 {
     let w = asm_operands::read_width(line, at);
@@ -571,7 +587,8 @@ fn on_memory(
 ) -> Stated
     requires { ⌜ 34 ≤ m ⌝ }
     ensures { λ r. ⌜ r ≡ onMemory
-        (lookUpAt (now (source .entry)) (now (places .entry)) (now (keys .entry)) (now (values .entry)))
+        (lookUpAt (now (source .entry)) (now (places .entry))
+        (now (keys .entry)) (now (values .entry)))
         (now (line .entry)) m at ⌝ }
 {
     if m < 35 {
@@ -601,7 +618,8 @@ fn directive(
     at: usize,
 ) -> Stated
     ensures { λ r. ⌜ r ≡ directiveOf
-        (lookUpAt (now (source .entry)) (now (places .entry)) (now (keys .entry)) (now (values .entry)))
+        (lookUpAt (now (source .entry)) (now (places .entry))
+        (now (keys .entry)) (now (values .entry)))
         (now (line .entry)) named m at ⌝ }
 {
     if m < 47 {
@@ -628,7 +646,8 @@ fn read_statement(
     at: usize,
 ) -> Stated
     ensures { λ r. ⌜ r ≡ statementOf
-        (lookUpAt (now (source .entry)) (now (places .entry)) (now (keys .entry)) (now (values .entry)))
+        (lookUpAt (now (source .entry)) (now (places .entry))
+        (now (keys .entry)) (now (values .entry)))
         (now (line .entry)) named m at ⌝ }
 {
     if m == 0 {
@@ -677,7 +696,8 @@ fn after_name(
     at: usize,
 ) -> Reading
     ensures { λ r. ⌜ r ≡ afterName
-        (lookUpAt (now (source .entry)) (now (places .entry)) (now (keys .entry)) (now (values .entry)))
+        (lookUpAt (now (source .entry)) (now (places .entry))
+        (now (keys .entry)) (now (values .entry)))
         (now (line .entry)) name at ⌝ }
 {
     if asm_operands::is_over(line, at) {
@@ -693,8 +713,8 @@ fn after_name(
     end_line(line, true, name, x)
 }
 
-// The line, with the values of the names in a table: places[k] is where in the source the k-th name given starts,
-// keys[k] its key, values[k] its value.
+// The line, with the values of the names in a table: places[k] is where in the source the k-th name
+// given starts, keys[k] its key, values[k] its value.
 pub fn read_line(
     source: &[u8],
     places: &[usize],
@@ -703,7 +723,8 @@ pub fn read_line(
     line: &[u8],
 ) -> Reading
     ensures { λ r. ⌜ r ≡ lineOf
-        (lookUpAt (now (source .entry)) (now (places .entry)) (now (keys .entry)) (now (values .entry)))
+        (lookUpAt (now (source .entry)) (now (places .entry))
+        (now (keys .entry)) (now (values .entry)))
         (now (line .entry)) ⌝ }
 {
     let q = asm_text::skip_blanks(line, 0);

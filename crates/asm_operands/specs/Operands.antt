@@ -40,7 +40,8 @@ conditionAt s i = wordBelow 16 conditionOf s i
 unfoldable pub flagsAt : List ℕ → ℕ → Found
 flagsAt s i = wordBelow 32 flagsOf s i
 
--- .B is 1, .W and nothing 0, right behind the word, and no letter or digit behind it; . is byte 46, B 66, W 87. [02 §12]
+-- .B is 1, .W and nothing 0, right behind the word, and no letter or digit behind it; . is byte 46, B 66, W 87. [02
+-- §12]
 unfoldable pub widthAt : List ℕ → ℕ → Found
 widthAt s i =
     cond (not (eqb (byteAt s i) 46)) (At 0 i)

@@ -1,12 +1,15 @@
-// What may stand between a statement's word and the end of its line: registers, values, flags, a condition, an address.
-// Places are of one line's bytes, a slice without the line's end; the table of names is three slices.
+// What may stand between a statement's word and the end of its line: registers, values, flags, a
+// condition, an address. Places are of one line's bytes, a slice without the line's end; the table
+// of names is three slices.
 use asm_expr::Answer;
 ghost use mathlib.Core.Path.{_≡_};
 ghost use mathlib.Core.List.{List};
 ghost use Prim.Native.Nat.{ℕ};
 ghost use Rattle.asm_text.specs.Text.{lookUpAt};
-ghost use Rattle.asm_operands.specs.Operands.{over?, registerAt, conditionAt, flagsAt, widthAt, number?};
-ghost use Rattle.asm_operands.specs.Operands.{commaRegister, commaValue, changedBefore, changedAfter, addressAt, commaAddress};
+ghost use Rattle.asm_operands.specs.Operands.{over?, registerAt, conditionAt};
+ghost use Rattle.asm_operands.specs.Operands.{flagsAt, widthAt, number?};
+ghost use Rattle.asm_operands.specs.Operands.{commaRegister, commaValue, changedBefore};
+ghost use Rattle.asm_operands.specs.Operands.{changedAfter, addressAt, commaAddress};
 
 // A number that a word or its absence stands for, and the place after it.
 pub enum Found {
@@ -121,7 +124,8 @@ pub fn comma_value(
     at: usize,
 ) -> Answer
     ensures { λ r. ⌜ r ≡ commaValue
-        (lookUpAt (now (source .entry)) (now (places .entry)) (now (keys .entry)) (now (values .entry)))
+        (lookUpAt (now (source .entry)) (now (places .entry))
+        (now (keys .entry)) (now (values .entry)))
         (now (line .entry)) at ⌝ }
 {
     let q = asm_text::skip_blanks(line, at);

@@ -30,14 +30,19 @@ firstOf f k = cond (eqb f 0) k f
 
 -- this line has an unknown name, or one name too many: 18; or a value outside its range: 19. [02 §12]
 abbrev pub noteUnknown : Tally → Tally
-noteUnknown t = record { count = t .count; place = t .place; line = t .line; unknown = firstOf (t .unknown) (t .line); outside = t .outside }
+noteUnknown t =
+    let u = firstOf (t .unknown) (t .line) in
+    record { count = t .count; place = t .place; line = t .line; unknown = u; outside = t .outside }
 
 abbrev pub noteOutside : Tally → Tally
-noteOutside t = record { count = t .count; place = t .place; line = t .line; unknown = t .unknown; outside = firstOf (t .outside) (t .line) }
+noteOutside t =
+    let o = firstOf (t .outside) (t .line) in
+    record { count = t .count; place = t .place; line = t .line; unknown = t .unknown; outside = o }
 
 -- the place after a statement; where ORG's or BSS's value is at fault, it stays. [02 §12]
 abbrev pub placedAt : Tally → Next → Tally
-placedAt t (next.Place n) = record { count = t .count; place = n; line = t .line; unknown = t .unknown; outside = t .outside }
+placedAt t (next.Place n) =
+    record { count = t .count; place = n; line = t .line; unknown = t .unknown; outside = t .outside }
 placedAt t next.Unknown = noteUnknown t
 placedAt t next.Outside = noteOutside t
 
@@ -49,7 +54,8 @@ noteValue t Outside = noteOutside t
 
 -- the next line
 abbrev pub nextLine : Tally → Tally
-nextLine t = record { count = t .count; place = t .place; line = t .line + 1; unknown = t .unknown; outside = t .outside }
+nextLine t =
+    record { count = t .count; place = t .place; line = t .line + 1; unknown = t .unknown; outside = t .outside }
 
 -- "at first 0". [02 §12]
 abbrev pub noTally : Tally
@@ -79,7 +85,8 @@ storedOf Unknown = pos 0
 storedOf Outside = pos 0
 
 abbrev pub oneMore : Tally → Tally
-oneMore t = record { count = t .count + 1; place = t .place; line = t .line; unknown = t .unknown; outside = t .outside }
+oneMore t =
+    record { count = t .count + 1; place = t .place; line = t .line; unknown = t .unknown; outside = t .outside }
 
 -- "18 when a name is .. already given or the 1,025th": it is then not added; else it has its value, which is the place
 -- before its statement or that of EQU. [02 §12]

@@ -279,7 +279,8 @@ fn name_line(
 ) -> Noted
     requires { ⌜ Holds (now source) (now places) (now keys) (now values) t
         × Apart (now source) at stop ⌝ }
-    ensures { λ r. ⌜ tableAt (now (source .entry)) (now (places .exit)) (now (values .exit)) (r .tally)
+    ensures { λ r. ⌜ tableAt (now (source .entry)) (now (places .exit)) (now (values .exit))
+        (r .tally)
         ≡ lineAfter (lineAt (now (source .entry)) at stop)
         (readAbove (lineAt (now (source .entry)) at stop)
         (tableAt (now (source .entry)) (now (places .entry)) (now (values .entry)) t))

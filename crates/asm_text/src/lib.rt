@@ -1,5 +1,5 @@
-// The assembler's text: blanks, digits, words and names of a source, read at a place. A place past the end reads as the byte
-// 0, which is no blank, no digit and no letter.
+// The assembler's text: blanks, digits, words and names of a source, read at a place. A place past
+// the end reads as the byte 0, which is no blank, no digit and no letter.
 use asm_value::Value;
 ghost use mathlib.Core.Path.{_≡_};
 ghost use Prim.Native.Nat.{ℕ, _+_, _*_, _%_, _≤_, _<_, _^_, min};
@@ -7,7 +7,8 @@ ghost use mathlib.Core.List.{List};
 ghost use mathlib.Core.Bool.{_&&_};
 ghost use lib.Dec.{eqb};
 ghost use lib.ListN.{drop, length};
-ghost use Rattle.asm_text.specs.Text.{byteAt, blank?, letter?, nameByte?, digitOf, after, digit?, numeral};
+ghost use Rattle.asm_text.specs.Text.{byteAt, blank?, letter?, nameByte?};
+ghost use Rattle.asm_text.specs.Text.{digitOf, after, digit?, numeral};
 ghost use Rattle.asm_text.specs.Text.{word, same, spelled, keyOf, lookUpAt};
 
 // The byte at i, or 0 past the end.
@@ -194,9 +195,11 @@ fn same_word(t: &[u8], p: usize, s: &[u8], q: usize) -> bool
     }
 }
 
-// The name of the source at `place`, with the key `there`, is the word of s at `at`, with the key `key`.
+// The name of the source at `place`, with the key `there`, is the word of s at `at`, with the key
+// `key`.
 fn is_name(source: &[u8], place: usize, there: u32, s: &[u8], at: usize, key: u32) -> bool
-    ensures { λ r. ⌜ r ≡ eqb there key && same (word (drop place (now (source .entry)))) (word (drop at (now (s .entry)))) ⌝ }
+    ensures { λ r. ⌜ r ≡ eqb there key
+        && same (word (drop place (now (source .entry)))) (word (drop at (now (s .entry)))) ⌝ }
 {
     if there != key {
         return false;
@@ -204,8 +207,8 @@ fn is_name(source: &[u8], place: usize, there: u32, s: &[u8], at: usize, key: u3
     same_word(source, place, s, at)
 }
 
-// The value of the name of s at `at`, whose key is `key`: places[k] is where in the source the k-th name given starts,
-// keys[k] its key, values[k] its value.
+// The value of the name of s at `at`, whose key is `key`: places[k] is where in the source the k-th
+// name given starts, keys[k] its key, values[k] its value.
 pub fn look_up(
     source: &[u8],
     places: &[usize],
@@ -217,7 +220,8 @@ pub fn look_up(
 ) -> Value
     requires { ⌜ key ≡ keyOf (word (drop at (now s))) ⌝ }
     ensures { λ r. ⌜ r ≡ lookUpAt
-        (now (source .entry)) (now (places .entry)) (now (keys .entry)) (now (values .entry)) (word (drop at (now (s .entry)))) ⌝ }
+        (now (source .entry)) (now (places .entry)) (now (keys .entry)) (now (values .entry))
+        (word (drop at (now (s .entry)))) ⌝ }
 {
     let mut k = 0;
     while k < places.len() {

@@ -1,5 +1,6 @@
-// Values of the assembler's expressions: 32 signed bits, or why there is none. A name that is not known (18) comes
-// before a value outside 32 bits (19), whatever the order in which an expression meets them.
+// Values of the assembler's expressions: 32 signed bits, or why there is none. A name that is not
+// known (18) comes before a value outside 32 bits (19), whatever the order in which an expression
+// meets them.
 ghost use mathlib.Core.Path.{_≡_};
 ghost use Prim.Native.Nat.{_≤_, _^_};
 ghost use lib.Signed.{mag};

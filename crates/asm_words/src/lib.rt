@@ -1,11 +1,13 @@
-// Words of the language, looked up by their spelling as a number: an operation, a directive, a register, a condition, or
-// flags. A word's row is its spelling times 256, and then what the word stands for.
+// Words of the language, looked up by their spelling as a number: an operation, a directive, a
+// register, a condition, or flags. A word's row is its spelling times 256, and then what the word
+// stands for.
 ghost use mathlib.Core.Path.{_≡_};
 ghost use Prim.Native.Nat.{ℕ, _≤_, _<_};
 ghost use mathlib.Core.List.{List};
 ghost use lib.ListN.{drop};
 ghost use Rattle.asm_text.specs.Text.{word};
-ghost use Rattle.asm_words.specs.Words.{numberIn, words, registerNumber, conditions, addFlag, flagsOf};
+ghost use Rattle.asm_words.specs.Words.{numberIn, words, registerNumber};
+ghost use Rattle.asm_words.specs.Words.{conditions, addFlag, flagsOf};
 
 // All words, in groups by the remainder of the spelling divided by 61.
 const ROWS: [u64; 107] = [
@@ -328,7 +330,8 @@ fn row_number(rows: &[u64], none: u8, p: u64) -> u8
     none
 }
 
-// The number of a word: 1 to 41 an operation, 42 to 47 a directive, 48 any other word of the language, 0 none.
+// The number of a word: 1 to 41 an operation, 42 to 47 a directive, 48 any other word of the
+// language, 0 none.
 pub fn word_number(p: u64) -> u8
     ensures { λ r. ⌜ r ≡ numberIn 0 words p ⌝ }
 {

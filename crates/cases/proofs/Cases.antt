@@ -12,7 +12,7 @@ use Rattle.isa.specs.Decode.{decodeOf}
 use Rattle.machine.specs.State.{reg, sp, pc}
 use Rattle.machine.specs.Devices.{deliverAt}
 use Rattle.machine.specs.Entry.{bestFrom, vectored, enteredPsw}
-use Rattle.machine.specs.Effect.{binaryOf, unaryOf, effectOf, takenOf}
+use Rattle.machine.specs.Effect.{binaryOp, unaryOp, effectOf, takenOf}
 use Rattle.machine.specs.Step.{advanced, granted, interruptOf, instructionOf, planOf, perform, stepOf}
 use Rattle.cases.specs.Cases.{Row, arithmetic, entry, branch, cases, Says, test, after}
 
@@ -36,7 +36,7 @@ every (r ∷ rs) = test r && every rs
 
 all : T (every cases)
 unfolding test after stepOf deliverAt planOf interruptOf bestFrom instructionOf advanced decodeOf effectOf granted perform
-    binaryOf unaryOf takenOf widthOf aluOf addWithCarry overflowOf decimalSum digitOf digitCarry vectored enteredPsw
+    binaryOp unaryOp takenOf widthOf aluOf addWithCarry overflowOf decimalSum digitOf digitCarry vectored enteredPsw
 all = tt
 
 from : (rs : List Row) → T (every rs) → {r : Row} → List·Memᴰ r rs → Says r

@@ -8,7 +8,7 @@
 --   index-early   a record of a step below k is passed over, and the index moves on;
 --   index-later   at a record of a step above k, nothing more is to be applied;
 --   index-end     nor is anything at the list's end;
---   index-quiet   so, while the record at the index is of a later step, step k has no event.
+--   index-none-due   so, while the record at the index is of a later step, step k has no event.
 -- `behind-next` and `behind-later` say that the index stays good for the steps that follow.
 -- Assumes nothing.
 use Prim.Native.Nat.{ℕ, zero, suc, _+_, _-_, _*_, _≤_, _<_}
@@ -149,9 +149,9 @@ module _ (b : List ℕ) (k : ℕ) where
   pub index-end : (at : ℕ) (s : State) → eventCount b ≤ at → deliverAt k (restFrom b at) s ≡ s
   index-end at s h = none at s (λ j g u q. omega arith)
 
-  pub index-quiet :
+  pub index-none-due :
       (next : ℕ) (s : State) → Ordered b → Behind b next k → (next < eventCount b → k < stepAt b next) → deliverAt k (eventsOf b) s ≡ s
-  index-quiet next s o p l =
+  index-none-due next s o p l =
       sym (index-start next s p)
       ∙ ⊎-elim
       (λ (e : eventCount b ≤ next). index-end next s e)

@@ -10,16 +10,16 @@ use Rattle.machine.specs.Entry.{priority, bestFrom, best, above}
 use Rattle.machine_laws.proofs.Cases.{bool-cases, and-left, and-both}
 use Rattle.entry.specs.Lines.{lineAbove}
 
-best-quiet : (m : List ℕ) → best 0 m ≡ 8
+best-no-lines : (m : List ℕ) → best 0 m ≡ 8
 unfolding bestFrom
-best-quiet m = refl
+best-no-lines m = refl
 
 module _ (m : List ℕ) (l p : ℕ) where
   line-none : best l m ≡ 8 → 8 ≡ lineAbove m l p
   line-none e = ap (λ (d : ℕ). cond (above m d p) d 8) (sym e)
 
-  pub line-quiet : l ≡ 0 → 8 ≡ lineAbove m l p
-  line-quiet e = line-none (ap (λ (x : ℕ). best x m) e ∙ best-quiet m)
+  pub line-no-lines : l ≡ 0 → 8 ≡ lineAbove m l p
+  line-no-lines e = line-none (ap (λ (x : ℕ). best x m) e ∙ best-no-lines m)
 
   pub line-absent : (d : ℕ) → d ≡ best l m → 8 ≤ d → d ≤ 8 → 8 ≡ lineAbove m l p
   line-absent d e h k =

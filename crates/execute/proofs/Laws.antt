@@ -11,14 +11,14 @@ use lib.ListN.{getD, set}
 use lib.Seq.{getD-set-other}
 use Rattle.word.specs.Width.{widthOf}
 use Rattle.alu.specs.declared.Op.{Op}
-use Rattle.alu.specs.declared.Outcome.{Outcome}
+use Rattle.alu.specs.declared.Computed.{Computed}
 use Rattle.alu.specs.Alu.{aluOf}
 use Rattle.isa.specs.declared.Instr.{Instr}
 use Rattle.isa.specs.declared.Instr.the-variants as Instr
 use Rattle.machine.specs.declared.Access.{Access}
 use Rattle.machine.specs.declared.Access.the-variants.{Nothing, Load, Store}
 use Rattle.machine.specs.State.{Core, coreOf, moved, doubled, withPsw}
-use Rattle.machine.specs.Effect.{Effect, effect, effectOf, plainly, operated, operand, binaryOf, unaryOf, flagsOnly?, takenOf}
+use Rattle.machine.specs.Effect.{Effect, effect, effectOf, plainly, operated, operand, binaryOp, unaryOp, flagsOnly?, takenOf}
 use Rattle.machine.specs.Effect.{byteAddr, moves?, adjusted, adjust, indexed}
 use Rattle.execute.specs.declared.Executed.{Executed}
 use Rattle.execute.specs.Executed.{effectWith}
@@ -49,7 +49,7 @@ pub arm-asks : (c : Core) {d : Executed} {a : Access} {i j : Instr} → i ≡ j 
 arm-asks c e q f = arm c e (effect-parts c refl (q .0) (q .1) (q .2) ∙ f)
 
 -- an operation on one register, its number read
-pub arm-one : (l : List ℕ) (p x op wb dst : ℕ) {r : Effect} {o : Op} {i : Instr} → i ≡ Instr.Unary op wb dst → o ≡ unaryOf op
+pub arm-one : (l : List ℕ) (p x op wb dst : ℕ) {r : Effect} {o : Op} {i : Instr} → i ≡ Instr.Unary op wb dst → o ≡ unaryOp op
     → r ≡ plainly (operated (coreOf l p x) dst (aluOf o (widthOf (eqb wb 1)) (getD l dst 0) 0 p)) → r ≡ effectOf (coreOf l p x) i
 unfolding effectOf
 arm-one l p x op wb dst e h f =
@@ -60,26 +60,26 @@ arm-one l p x op wb dst e h f =
 -- ---- operations
 
 -- flags alone
-pub flagged : (l : List ℕ) (p x : ℕ) {d : Executed} {o e : Outcome} → o ≡ e → AsksNothing d (o .psw) x
+pub flagged : (l : List ℕ) (p x : ℕ) {d : Executed} {o e : Computed} → o ≡ e → AsksNothing d (o .psw) x
     → effectWith l d ≡ plainly (withPsw (coreOf l p x) (e .psw))
-flagged l p x h q = effect-parts _ refl (q .0 ∙ ap (λ (o : Outcome). o .psw) h) (q .1) (q .2)
+flagged l p x h q = effect-parts _ refl (q .0 ∙ ap (λ (o : Computed). o .psw) h) (q .1) (q .2)
 
 -- flags and a register
-pub operating : (l l′ : List ℕ) (p x y i : ℕ) {d : Executed} {o e : Outcome} → o ≡ e → Written l l′ x y i (o .value)
+pub operating : (l l′ : List ℕ) (p x y i : ℕ) {d : Executed} {o e : Computed} → o ≡ e → Written l l′ x y i (o .value)
     → AsksNothing d (o .psw) y → effectWith l′ d ≡ plainly (operated (coreOf l p x) i e)
 operating l l′ p x y i h w q =
-    effect-parts _ (w .0 ∙ ap (λ (o : Outcome). set l i (o .value)) h) (q .0 ∙ ap (λ (o : Outcome). o .psw) h) (q .1 ∙ w .1) (q .2)
+    effect-parts _ (w .0 ∙ ap (λ (o : Computed). set l i (o .value)) h) (q .0 ∙ ap (λ (o : Computed). o .psw) h) (q .1 ∙ w .1) (q .2)
 
 -- one operand
-pub single : (l l′ : List ℕ) (p x y i : ℕ) (b : Op) (byte : Bool) {v : ℕ} {d : Executed} {o : Outcome} → v ≡ getD l i 0
+pub single : (l l′ : List ℕ) (p x y i : ℕ) (b : Op) (byte : Bool) {v : ℕ} {d : Executed} {o : Computed} → v ≡ getD l i 0
     → o ≡ aluOf b (widthOf byte) v 0 p → Written l l′ x y i (o .value) → AsksNothing d (o .psw) y
     → effectWith l′ d ≡ plainly (operated (coreOf l p x) i (aluOf b (widthOf byte) (getD l i 0) 0 p))
 single l l′ p x y i b byte h ho w q = operating l l′ p x y i (ho ∙ ap (λ (v : ℕ). aluOf b (widthOf byte) v 0 p) h) w q
 
 -- two operands
-module _ (l : List ℕ) (p x op rc wb src dst : ℕ) {v s : ℕ} {b : Op} {o : Outcome} (hv : v ≡ getD l dst 0)
-    (hs : s ≡ operand (coreOf l p x) rc src) (hb : b ≡ binaryOf op) (ho : o ≡ aluOf b (widthOf (eqb wb 1)) v s p) where
-  result : o ≡ aluOf (binaryOf op) (widthOf (eqb wb 1)) (getD l dst 0) (operand (coreOf l p x) rc src) p
+module _ (l : List ℕ) (p x op rc wb src dst : ℕ) {v s : ℕ} {b : Op} {o : Computed} (hv : v ≡ getD l dst 0)
+    (hs : s ≡ operand (coreOf l p x) rc src) (hb : b ≡ binaryOp op) (ho : o ≡ aluOf b (widthOf (eqb wb 1)) v s p) where
+  result : o ≡ aluOf (binaryOp op) (widthOf (eqb wb 1)) (getD l dst 0) (operand (coreOf l p x) rc src) p
   result = cc
 
   pub tested : flagsOnly? op ≡ true → {d : Executed} → AsksNothing d (o .psw) x

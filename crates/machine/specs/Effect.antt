@@ -14,7 +14,7 @@ use Rattle.word.specs.Psw.{carry?, zero?, negative?, current}
 use Rattle.alu.specs.declared.Op.{Op}
 use Rattle.alu.specs.declared.Op.the-variants.{Add, Addc, Sub, Subc, Cmp, Dadd, And, Or, Xor, Bit, Bic, Bis}
 use Rattle.alu.specs.declared.Op.the-variants.{Sra, Rrc, Comp, Swpb, Sxt}
-use Rattle.alu.specs.declared.Outcome.{Outcome}
+use Rattle.alu.specs.declared.Computed.{Computed}
 use Rattle.alu.specs.Alu.{aluOf}
 use Rattle.isa.specs.declared.Instr.{Instr}
 use Rattle.isa.specs.declared.Instr.the-variants as i
@@ -45,11 +45,11 @@ abbrev pub byte? : ℕ → Bool
 byte? wb = eqb wb 1
 
 -- The operations by number: twelve with two operands, three with one. [003 14]
-unfoldable pub binaryOf : ℕ → Op
-binaryOf op = getD (Add ∷ Addc ∷ Sub ∷ Subc ∷ Dadd ∷ Cmp ∷ Xor ∷ And ∷ Or ∷ Bit ∷ Bic ∷ []) op Bis
+unfoldable pub binaryOp : ℕ → Op
+binaryOp op = getD (Add ∷ Addc ∷ Sub ∷ Subc ∷ Dadd ∷ Cmp ∷ Xor ∷ And ∷ Or ∷ Bit ∷ Bic ∷ []) op Bis
 
-unfoldable pub unaryOf : ℕ → Op
-unaryOf op = getD (Sra ∷ Rrc ∷ []) op Comp
+unfoldable pub unaryOp : ℕ → Op
+unaryOp op = getD (Sra ∷ Rrc ∷ []) op Comp
 
 -- CMP and BIT change flags alone. [01 Arithmetic; 003 8]
 abbrev pub flagsOnly? : ℕ → Bool
@@ -63,7 +63,7 @@ abbrev pub operand : Core → (rc src : ℕ) → ℕ
 operand c rc src = cond (eqb rc 1) (constantOf src) (reg c src)
 
 -- an operation's result, written with its flags, or its flags alone
-abbrev pub operated : Core → ℕ → Outcome → Core
+abbrev pub operated : Core → ℕ → Computed → Core
 operated c dst o = withPsw (put c dst (o .value)) (o .psw)
 
 -- Branches: the offset counts words from the address after the instruction. [01 State and memory; 003 6]
@@ -124,14 +124,14 @@ effectOf c i.Illegal = effect c (Fault 8)
 effectOf c (i.Bl off) = plainly (branched (put c 5 (pc c)) off)
 effectOf c (i.Branch n off) = plainly (cond (takenOf n (c .psw)) (branched c off) c)
 effectOf c (i.Alu op rc wb src dst) =
-    let o = aluOf (binaryOf op) (widthOf (byte? wb)) (reg c dst) (operand c rc src) (c .psw) in
+    let o = aluOf (binaryOp op) (widthOf (byte? wb)) (reg c dst) (operand c rc src) (c .psw) in
     plainly (cond (flagsOnly? op) (withPsw c (o .psw)) (operated c dst o))
 effectOf c (i.Mov wb src dst) =
     let w = widthOf (byte? wb) in
     plainly (put c dst (withLow w (reg c dst) (low w (reg c src))))
 effectOf c (i.Swap src dst _) = plainly (put (put c src (reg c dst)) dst (reg c src))
 effectOf c (i.Unary op wb dst) =
-    plainly (operated c dst (aluOf (unaryOf op) (widthOf (byte? wb)) (reg c dst) 0 (c .psw)))
+    plainly (operated c dst (aluOf (unaryOp op) (widthOf (byte? wb)) (reg c dst) 0 (c .psw)))
 effectOf c (i.Swpb dst _) = plainly (operated c dst (aluOf Swpb 16 (reg c dst) 0 (c .psw)))
 effectOf c (i.Sxt dst _) = plainly (operated c dst (aluOf Sxt 16 (reg c dst) 0 (c .psw)))
 effectOf c (i.SetPri level) =

@@ -1,14 +1,15 @@
--- Which runs are turned back (document 01, "Who can be turned back"; document 02, §1, §3): a definition over the raw buffers
--- and numbers.
--- Assumes nothing.
+-- Which runs are turned back (document 01, "Who can be turned back"; document 02, §1, §3): a definition over the raw
+-- buffers and numbers. Assumes nothing.
 use Prim.Native.Nat.{ℕ, zero, suc, _+_, _*_, _/_, _%_}
 use mathlib.Core.Bool.{Bool, true, false, cond, not, _&&_, _||_}
 use mathlib.Core.List.{List, [], _∷_, _++_}
 use lib.Dec.{eqb, ltb, leb}
 use lib.ListN.{length}
 use Rattle.machine.specs.declared.Verdict.{Verdict}
-use Rattle.machine.specs.declared.Verdict.the-variants.{Accepted, MemoryLength, StepCount, RecordLength, RecordBits}
-use Rattle.machine.specs.declared.Verdict.the-variants.{EventsLength, EventFields, EventOrder, EventTwins, LogLength}
+use Rattle.machine.specs.declared.Verdict.the-variants.{Accepted, MemoryLength}
+use Rattle.machine.specs.declared.Verdict.the-variants.{StepCount, RecordLength, RecordBits}
+use Rattle.machine.specs.declared.Verdict.the-variants.{EventsLength, EventFields}
+use Rattle.machine.specs.declared.Verdict.the-variants.{EventOrder, EventTwins, LogLength}
 use Rattle.machine.specs.Memory.{byteAt}
 use Rattle.machine.specs.Record.{twoAt, fourAt}
 use Rattle.machine.specs.Events.{eventAt, eventCount}

@@ -5,8 +5,8 @@
 // The lines: eight counts of waiting events, four bits each, device 0 lowest.
 pub type Lines = u32;
 
-// One machine: eight registers (R5 is LR, R6 SP, R7 PC), PSW, CEX state, lines, halted mark and step
-// count. Memory is lent beside it.
+// One machine: eight registers (R5 is LR, R6 SP, R7 PC), PSW, CEX state, lines, halted mark and
+// step count. Memory is lent beside it.
 pub struct Machine {
     pub regs: [u16; 8],
     pub psw: u16,

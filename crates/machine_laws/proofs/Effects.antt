@@ -21,7 +21,7 @@ use Rattle.alu.specs.Alu.{aluOf}
 use Rattle.alu.proofs.Laws.{alu-value-word, alu-psw-word, alu-unused, alu-current, alu-previous}
 use Rattle.machine.specs.State.{Core, reg, pc, moved, doubled, withPsw, withCex, put}
 use Rattle.machine.specs.Cex.{conditionOf, lowered, trueCount, falseCount}
-use Rattle.machine.specs.Effect.{effectOf, takenOf, moves?, adjusted, adjust, indexed, byte?, binaryOf, unaryOf, operand, flagsOnly?}
+use Rattle.machine.specs.Effect.{effectOf, takenOf, moves?, adjusted, adjust, indexed, byte?, binaryOp, unaryOp, operand, flagsOnly?}
 use Rattle.machine.specs.Effect.{immediateOf, loaded, allowedFlags}
 use Rattle.machine.specs.Step.{advanced}
 use Rattle.machine_laws.specs.Bounds.{TidyCore, Quits, AccessFits}
@@ -166,9 +166,9 @@ alu-tidy : (c : Core) (op rc wb src dst : ℕ) → TidyCore c → TidyCore (effe
 unfolding effectOf
 alu-tidy c op rc wb src dst t =
     bool-cases (flagsOnly? op)
-    (λ q. rw q (psw-tidy c _ t (alu-psw-word (binaryOf op) (widthOf (byte? wb)) (reg c dst) (operand c rc src) (c .psw) (t .psw-word))
-    (alu-unused (binaryOf op) (widthOf (byte? wb)) (reg c dst) (operand c rc src) (c .psw) ∙ t .psw-zeros)))
-    (λ q. rw q (operated-tidy c (binaryOf op) (byte? wb) dst (operand c rc src) t))
+    (λ q. rw q (psw-tidy c _ t (alu-psw-word (binaryOp op) (widthOf (byte? wb)) (reg c dst) (operand c rc src) (c .psw) (t .psw-word))
+    (alu-unused (binaryOp op) (widthOf (byte? wb)) (reg c dst) (operand c rc src) (c .psw) ∙ t .psw-zeros)))
+    (λ q. rw q (operated-tidy c (binaryOp op) (byte? wb) dst (operand c rc src) t))
 
 pub effect-tidy : (c : Core) (n : Instr) → Fields n → TidyCore c → TidyCore (effectOf c n .core)
 unfolding effectOf widthOf
@@ -180,7 +180,7 @@ effect-tidy c (i.Alu op rc wb src dst) f t = alu-tidy c op rc wb src dst t
 effect-tidy c (i.Mov wb src dst) f t = put-tidy c dst _ t (mov-word (byte? wb) (reg c dst) (reg c src) (t .words dst))
 effect-tidy c (i.Swap src dst _) f t =
     put-tidy (put c src (reg c dst)) dst (reg c src) (put-tidy c src (reg c dst) t (t .words dst)) (t .words src)
-effect-tidy c (i.Unary op wb dst) f t = operated-tidy c (unaryOf op) (byte? wb) dst 0 t
+effect-tidy c (i.Unary op wb dst) f t = operated-tidy c (unaryOp op) (byte? wb) dst 0 t
 effect-tidy c (i.Swpb dst _) f t = operated-tidy c Swpb false dst 0 t
 effect-tidy c (i.Sxt dst _) f t = operated-tidy c Sxt false dst 0 t
 effect-tidy c (i.SetPri level) f t =
@@ -265,14 +265,14 @@ effect-priorities c i.Illegal f u = (refl, refl)
 effect-priorities c (i.Bl off) f u = (refl, refl)
 effect-priorities c (i.Branch n off) f u = bool-cases (takenOf n (c .psw)) (λ q. rw q (refl, refl)) (λ q. rw q (refl, refl))
 effect-priorities c (i.Alu op rc wb src dst) f u =
-    let x = alu-current (binaryOf op) (widthOf (byte? wb)) (reg c dst) (operand c rc src) (c .psw) in
-    let y = alu-previous (binaryOf op) (widthOf (byte? wb)) (reg c dst) (operand c rc src) (c .psw) in
+    let x = alu-current (binaryOp op) (widthOf (byte? wb)) (reg c dst) (operand c rc src) (c .psw) in
+    let y = alu-previous (binaryOp op) (widthOf (byte? wb)) (reg c dst) (operand c rc src) (c .psw) in
     bool-cases (flagsOnly? op) (λ q. rw q (x, y)) (λ q. rw q (x, y))
 effect-priorities c (i.Mov wb src dst) f u = (refl, refl)
 effect-priorities c (i.Swap src dst _) f u = (refl, refl)
 effect-priorities c (i.Unary op wb dst) f u =
     let w = widthOf (byte? wb) in
-    (alu-current (unaryOf op) w (reg c dst) 0 (c .psw), alu-previous (unaryOf op) w (reg c dst) 0 (c .psw))
+    (alu-current (unaryOp op) w (reg c dst) 0 (c .psw), alu-previous (unaryOp op) w (reg c dst) 0 (c .psw))
 effect-priorities c (i.Swpb dst _) f u = (alu-current Swpb 16 (reg c dst) 0 (c .psw), alu-previous Swpb 16 (reg c dst) 0 (c .psw))
 effect-priorities c (i.Sxt dst _) f u = (alu-current Sxt 16 (reg c dst) 0 (c .psw), alu-previous Sxt 16 (reg c dst) 0 (c .psw))
 effect-priorities c (i.SetPri level) f u = absurd (u level refl)

@@ -1,6 +1,5 @@
--- Lines that count (document 02, §7), by what each device's count does. The proofs are in proofs/Lines.antt; that lines of 0
--- are no line waiting is `none-waiting-iff-zero` there.
--- Assumes nothing.
+-- Lines that count (document 02, §7), by what each device's count does. The proofs are in proofs/Lines.antt; that lines
+-- of 0 are no line waiting is `none-waiting-iff-zero` there. Assumes nothing.
 use Prim.Native.Nat.{ℕ, _+_, _-_, _<_}
 use mathlib.Core.Bool.{cond}
 use mathlib.Core.Logic.{_≢_}

@@ -70,8 +70,8 @@ pub fn step_by_value(m: Machine, memory: &mut [u8], events: &[u8]) -> Advanced
     }
 }
 
-// The open machine, advanced in place by n steps, fewer if it halts or the log is full. Turned back,
-// machine, memory and log are as handed over.
+// The open machine, advanced in place by n steps, fewer if it halts or the log is full. Turned
+// back, machine, memory and log are as handed over.
 pub fn advance(m: &mut Machine, memory: &mut [u8], events: &[u8], log: &mut [u8], n: u64) -> u64
     ensures { λ r. ⌜ (r ≡ advanceOf (stateOf (now (m .entry)) (now (memory .entry)))
         (now (events .entry)) (now (log .entry)) n .reply)

@@ -17,14 +17,14 @@ use Rattle.machine.specs.State.{moved, doubled}
 -- ---- tables
 
 -- n is none of the first k numbers, as the last arm of a `match` has it
-abbrev pub Passed : ℕ → ℕ → Type 0
-Passed n zero = Unit {0}
-Passed n (suc k) = Passed n k × (n ≡ k → ⊥)
+abbrev pub Past : ℕ → ℕ → Type 0
+Past n zero = Unit {0}
+Past n (suc k) = Past n k × (n ≡ k → ⊥)
 
 next : (n k : ℕ) → k ≤ n → (n ≡ k → ⊥) → suc k ≤ n
 next n k p q = omega arith
 
-pub past : (n k : ℕ) → Passed n k → k ≤ n
+pub past : (n k : ℕ) → Past n k → k ≤ n
 past n zero p = zero-le
 past n (suc k) p = next n k (past n k (p .0)) (p .1)
 

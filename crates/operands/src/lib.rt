@@ -8,7 +8,7 @@ ghost use lib.ListN.{getD, set};
 ghost use lib.Signed.{mag};
 ghost use Rattle.machine.specs.State.{moved, doubled};
 ghost use Rattle.machine.specs.Cex.{conditionOf, atLeast?, loadedCex};
-ghost use Rattle.machine.specs.Effect.{binaryOf, unaryOf, constantOf, takenOf, immediateOf};
+ghost use Rattle.machine.specs.Effect.{binaryOp, unaryOp, constantOf, takenOf, immediateOf};
 ghost use Rattle.machine.specs.Effect.{sizeOf, moves?, adjusted};
 ghost use Rattle.machine.specs.Effect.{allowedFlags, setFlags, clearFlags, putCurrent};
 use alu::Op;
@@ -79,7 +79,7 @@ pub fn operand(regs: &[u16; 8], rc: u8, src: u8) -> u16
 
 // The operation with two operands of this number.
 pub fn binary(op: u8) -> Op
-    ensures { λ r. ⌜ r ≡ binaryOf op ⌝ }
+    ensures { λ r. ⌜ r ≡ binaryOp op ⌝ }
 {
     match op {
         0 => Op::Add,
@@ -99,7 +99,7 @@ pub fn binary(op: u8) -> Op
 
 // The operation with one operand of this number.
 pub fn unary(op: u8) -> Op
-    ensures { λ r. ⌜ r ≡ unaryOf op ⌝ }
+    ensures { λ r. ⌜ r ≡ unaryOp op ⌝ }
 {
     match op {
         0 => Op::Sra,

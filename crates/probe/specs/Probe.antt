@@ -5,7 +5,7 @@ use Prim.Native.Nat.{ℕ, _+_, _*_}
 use lib.Dec.{ltb, eqb}
 use lib.ListN.{getD}
 use Rattle.word.specs.Width.{widthOf}
-use Rattle.alu.specs.declared.Outcome.{Outcome}
+use Rattle.alu.specs.declared.Computed.{Computed}
 use Rattle.alu.specs.declared.Op.{Op}
 use Rattle.alu.specs.declared.Op.the-variants.{Add, Addc, Sub, Subc, Cmp, Dadd, And, Or, Xor}
 use Rattle.alu.specs.declared.Op.the-variants.{Bit, Bic, Bis, Sra, Rrc, Comp, Swpb, Sxt}
@@ -21,7 +21,7 @@ unfoldable pub opOf : ℕ → Op
 opOf n = getD operations n Sxt
 
 -- the destination in bits 31 to 16, the PSW in bits 47 to 32, and a low byte of 0. [01 Arithmetic]
-abbrev pub packed : Outcome → ℕ
+abbrev pub packed : Computed → ℕ
 packed o = o .value * 0x10000 + o .psw * 0x100000000
 
 -- the reply for operation op, byte 0 (word) or 1 (byte); 1 if there is no such operation or width. [01 Arithmetic]

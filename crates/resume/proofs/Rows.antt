@@ -16,7 +16,7 @@ use Rattle.machine.specs.Record.{stateIn}
 use Rattle.machine.specs.Events.{Event, eventAt, eventsFrom, eventsOf}
 use Rattle.machine.specs.Devices.{deliver, deliverAt, fallen}
 use Rattle.machine.specs.Entry.{bestFrom, enteredPsw, pushes}
-use Rattle.machine.specs.Effect.{effectOf, binaryOf}
+use Rattle.machine.specs.Effect.{effectOf, binaryOp}
 use Rattle.machine.specs.Step.{planned, planOf, outcome, interruptOf, pulls, chains, accepts, advanced, granted, perform}
 use Rattle.machine.specs.declared.Act.the-variants as acts
 use Rattle.machine_laws.proofs.Memory.{over}
@@ -139,7 +139,7 @@ row1 =
 
 -- CMP R0,R0 in the first handler
 compare-plan : planOf (known c2 0 3 entered) ≡ planned c3 acts.Plain
-unfolding bestFrom interruptOf over effectOf advanced decodeOf granted aluOf addWithCarry overflowOf widthOf binaryOf
+unfolding bestFrom interruptOf over effectOf advanced decodeOf granted aluOf addWithCarry overflowOf widthOf binaryOp
 compare-plan = fetch-plan (known c2 0 3 entered) 0x4500 refl refl refl refl refl (word-is entered 320 (lit< tt))
 
 pub row2 : Row ev s 2 (known c2 0 3 entered) (known c2 0 3 entered) c3 acts.Plain (outerFrame ∷ []) 1 entryBytes

@@ -30,7 +30,7 @@ use Rattle.run_laws.proofs.Turns.{turn-start, turn-taken, turn-short, turn-stre
 use Rattle.output_log.specs.declared.Showing.{Showing}
 use Rattle.output_log.specs.Showing.{listed}
 use Rattle.devices.specs.Cursor.{Behind, Ordered, stateFrom}
-use Rattle.devices.proofs.Laws.{behind-later, index-quiet, device-lt}
+use Rattle.devices.proofs.Laws.{behind-later, index-none-due, device-lt}
 use Rattle.stretch.specs.Stretch.{Undisturbed}
 use Rattle.run.specs.Due.{dueOf, Awaits}
 use Rattle.run.specs.Reached.{Reached}
@@ -50,7 +50,7 @@ module _ (b : List ℕ) (next due k : ℕ) (a : Awaits b next due k) where
   -- before the step of the next record no event is due
   pub undisturbed : Ordered b → Undisturbed (eventsOf b) k due
   undisturbed o j h l s =
-      index-quiet b j next s o (awaits-later j h .0) (λ q. let e : due ≡ eventAt b next .step = a .1 ∙ due-in b next q in omega arith)
+      index-none-due b j next s o (awaits-later j h .0) (λ q. let e : due ≡ eventAt b next .step = a .1 ∙ due-in b next q in omega arith)
 
 -- the devices of a list that rule 6 accepts
 from-devices : (b : List ℕ) (n k : ℕ) → ((j : ℕ) → j < k + n → OfDevice (eventAt b j)) → Each OfDevice (eventsFrom b k n)

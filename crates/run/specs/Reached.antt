@@ -11,7 +11,8 @@ use Rattle.machine.specs.Call.{logAfter}
 
 -- The state s, the steps done, the records there, the log that was lent as it is now, and whether the run was stopped
 -- for want of room are those of x. [01 One step, in order; 02 §1]
-pub record Reached (x : Logged) (lent : List ℕ) (s : State) (done there : ℕ) (now : List ℕ) (stopped : Bool) : Type 0 where
+pub record Reached
+    (x : Logged) (lent : List ℕ) (s : State) (done there : ℕ) (now : List ℕ) (stopped : Bool) : Type 0 where
   pub state : s ≡ x .state
   pub steps : done ≡ x .steps
   pub added : there ≡ length (x .records)

@@ -102,23 +102,15 @@ fn rest_of(m: Machine) -> Rest
     }
 }
 
-// The machine put together again.
-fn put_together(regs: [u16; 8], t: Rest) -> Machine
-    ensures { λ r. ⌜ ((mem : List ℕ) → stateOf r mem ≡ stateWith regs t mem) ⌝ }
-{
-    Machine {
-        regs,
-        psw: t.psw,
-        cex: t.cex,
-        lines: t.lines,
-        halted: t.halted,
-        count: t.count,
-    }
-}
-
 // The same machine with other lines.
 fn with_lines(t: Rest, lines: Lines) -> Rest
-    ensures { λ r. ⌜ r ≡ record { psw = t .psw; cex = t .cex; lines = lines; halted = t .halted; count = t .count } ⌝ }
+    ensures { λ r. ⌜ r ≡ record {
+      psw = t .psw;
+      cex = t .cex;
+      lines = lines;
+      halted = t .halted;
+      count = t .count;
+    } ⌝ }
 {
     Rest {
         psw: t.psw,
@@ -126,6 +118,30 @@ fn with_lines(t: Rest, lines: Lines) -> Rest
         lines,
         halted: t.halted,
         count: t.count,
+    }
+}
+
+// What a run leaves: the machine put together again, and why it ended.
+fn ended(regs: [u16; 8], t: Rest, short: bool, done: u32, added: usize, next: usize) -> Ran
+    ensures machine { λ r. ⌜ ((mem : List ℕ) → stateOf (r .machine) mem ≡ stateWith regs t mem) ⌝ }
+    ensures reason { λ r. ⌜ r .reason ≡ cond short NoRoom (cond (t .halted) Halted Done) ⌝ }
+    ensures numbers { λ r. ⌜ (r .steps ≡ done) × (r .added ≡ added) × (r .next ≡ next) ⌝ }
+{
+    let machine = Machine {
+        regs,
+        psw: t.psw,
+        cex: t.cex,
+        lines: t.lines,
+        halted: t.halted,
+        count: t.count,
+    };
+    let reason = reason_of(t.halted, short);
+    Ran {
+        machine,
+        reason,
+        steps: done,
+        added,
+        next,
     }
 }
 
@@ -189,13 +205,7 @@ pub fn run(m: Machine, memory: &mut [u8], events: &[u8], from: usize, log: &mut 
         due = d.due;
         done += 1;
     }
-    Ran {
-        machine: put_together(regs, t),
-        reason: reason_of(t.halted, short),
-        steps: done,
-        added,
-        next,
-    }
+    ended(regs, t, short, done, added, next)
 }
 
 // The number of a reason.

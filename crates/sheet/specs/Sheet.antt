@@ -42,8 +42,8 @@ runIn b = runOf (eventsOf (eventsIn b)) (stateIn (recordIn b) (memoryIn b)) (ste
 abbrev pub spaced : List ℕ → List ℕ
 spaced t = 32 ∷ t
 
--- Reason and steps in base ten, then R0 to R7 and PSW (four digits each), CEX (two digits) and the lines: "the two digits
--- of lines give way to eight, device 7 first". Ended by LF. [01 Sheet for the markers; 02 §7]
+-- Reason and steps in base ten, then R0 to R7 and PSW (four digits each), CEX (two digits) and the lines: "the two
+-- digits of lines give way to eight, device 7 first". Ended by LF. [01 Sheet for the markers; 02 §7]
 unfoldable pub lineOf : Run → List ℕ
 lineOf x =
     let c = x .state .core in

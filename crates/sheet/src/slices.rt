@@ -1,5 +1,5 @@
-// The run that is printed, lent a log long enough: in slices over a short log, whose records are let
-// go between them.
+// The run that is printed, lent a log long enough: in slices over a short log, whose records are
+// let go between them.
 ghost use mathlib.Core.Path.{_≡_};
 ghost use mathlib.Core.Bool.{true};
 ghost use Prim.Native.Nat.{_+_, _≤_};

@@ -15,7 +15,7 @@ use Rattle.machine.specs.Record.{stateIn}
 use Rattle.machine.specs.Events.{Event, eventAt, eventsFrom, eventsOf}
 use Rattle.machine.specs.Devices.{deliver, deliverAt, fallen}
 use Rattle.machine.specs.Entry.{bestFrom, enteredPsw, pushes}
-use Rattle.machine.specs.Effect.{effectOf, binaryOf}
+use Rattle.machine.specs.Effect.{effectOf, binaryOp}
 use Rattle.machine.specs.Step.{planned, planOf, outcome, interruptOf, pulls, chains, accepts, advanced, granted, perform}
 use Rattle.machine.specs.declared.Act.the-variants as acts
 use Rattle.machine_laws.proofs.Memory.{over}
@@ -128,7 +128,7 @@ row0 =
 
 -- SUB $2,SP in the first handler
 take-first : planOf (known c1 0 2 w2) ≡ planned c2 acts.Plain
-unfolding bestFrom interruptOf over effectOf advanced decodeOf granted aluOf addWithCarry overflowOf widthOf binaryOf
+unfolding bestFrom interruptOf over effectOf advanced decodeOf granted aluOf addWithCarry overflowOf widthOf binaryOp
 take-first = fetch-plan (known c1 0 2 w2) 0x4296 refl refl refl refl refl (word-is w2 320 (lit< tt))
 
 pub row1 : Row ev s 1 (known c1 0 2 w2) (known c1 0 2 w2) c2 acts.Plain (outerFrame ∷ []) (h1 ∷ []) 1024
@@ -173,7 +173,7 @@ row4 =
 
 -- SUB $2,SP in the third handler
 take-third : planOf (known c5 0 6 w5) ≡ planned c6 acts.Plain
-unfolding bestFrom interruptOf over effectOf advanced decodeOf granted aluOf addWithCarry overflowOf widthOf binaryOf
+unfolding bestFrom interruptOf over effectOf advanced decodeOf granted aluOf addWithCarry overflowOf widthOf binaryOp
 take-third = fetch-plan (known c5 0 6 w5) 0x4296 refl refl refl refl refl (word-is w5 384 (lit< tt))
 
 pub row5 : Row ev s 5 (known c5 0 6 w5) (known c5 0 6 w5) c6 acts.Plain (innerFrame ∷ outerFrame ∷ []) (h3 ∷ h1 ∷ []) 1024
@@ -188,7 +188,7 @@ row5 =
 
 -- ADD $2,SP in the third handler
 give-third : planOf (known c6 0 7 w5) ≡ planned c7 acts.Plain
-unfolding bestFrom interruptOf over effectOf advanced decodeOf granted aluOf addWithCarry overflowOf widthOf binaryOf
+unfolding bestFrom interruptOf over effectOf advanced decodeOf granted aluOf addWithCarry overflowOf widthOf binaryOp
 give-third = fetch-plan (known c6 0 7 w5) 0x4096 refl refl refl refl refl (word-is w5 386 (lit< tt))
 
 pub row6 : Row ev s 6 (known c6 0 7 w5) (known c6 0 7 w5) c7 acts.Plain (innerFrame ∷ outerFrame ∷ []) (h3 ∷ h1 ∷ []) 1024
@@ -220,7 +220,7 @@ row8 =
 
 -- ADD $2,SP in the first handler
 give-first : planOf (known c2 0 10 w5) ≡ planned c10 acts.Plain
-unfolding bestFrom interruptOf over effectOf advanced decodeOf granted aluOf addWithCarry overflowOf widthOf binaryOf
+unfolding bestFrom interruptOf over effectOf advanced decodeOf granted aluOf addWithCarry overflowOf widthOf binaryOp
 give-first = fetch-plan (known c2 0 10 w5) 0x4096 refl refl refl refl refl (word-is w5 322 (lit< tt))
 
 pub row9 : Row ev s 9 (known c2 0 10 w5) (known c2 0 10 w5) c10 acts.Plain (outerFrame ∷ []) (h1 ∷ []) 1024

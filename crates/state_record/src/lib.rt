@@ -14,8 +14,8 @@ use little_endian::two_at;
 use machine::Lines;
 use machine::Machine;
 
-// The machine that a record of 32 bytes holds. Bytes 20, 30 and 31 are not looked at, nor is byte 21
-// beyond being 1.
+// The machine that a record of 32 bytes holds. Bytes 20, 30 and 31 are not looked at, nor is byte
+// 21 beyond being 1.
 pub fn read_record(r: &[u8]) -> Machine
     requires { ⌜ length (now r) ≡ 32 ⌝ }
     ensures { λ x. ⌜ ((mem : List ℕ) → stateOf x mem ≡ stateIn (now (r .entry)) mem) ⌝ }
@@ -40,8 +40,8 @@ pub fn read_record(r: &[u8]) -> Machine
     }
 }
 
-// Bytes 0-15, the registers; 16-21, from PSW to the halted mark; 22-31, the step count, the lines and
-// zeros.
+// Bytes 0-15, the registers; 16-21, from PSW to the halted mark; 22-31, the step count, the lines
+// and zeros.
 fn put_registers(r: &mut [u8], regs: [u16; 8])
     requires { ⌜ length (now r) ≡ 32 ⌝ }
     ensures { λ x. ⌜ now (r .exit) ≡ sets (now (r .entry)) 0 (registerBytes regs) ⌝ }

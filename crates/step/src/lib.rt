@@ -227,7 +227,8 @@ pub fn plan(regs: &mut [u16; 8], mem: &[u8], t: Rest) -> Planned
 fn load(regs: &mut [u16; 8], mem: &mut [u8], cex: u16, byte: bool, at: ByteAddr, dst: u8) -> u16
     requires { ⌜ (length (now mem) ≡ 65536) × (dst < 8) ⌝ }
     ensures core { λ r. ⌜ ((psw : ℕ) → coreOf (now (regs .exit)) psw r ≡
-        loaded (coreOf (now (regs .entry)) psw cex) byte dst (valueAt byte (now (mem .entry)) (at .0))) ⌝ }
+        loaded (coreOf (now (regs .entry)) psw cex) byte dst
+        (valueAt byte (now (mem .entry)) (at .0))) ⌝ }
     ensures memory { λ r. ⌜ now (mem .exit) ≡
         commit (loadWrites byte (now (mem .entry)) (at .0)) (now (mem .entry)) ⌝ }
 {
@@ -239,7 +240,13 @@ fn load(regs: &mut [u16; 8], mem: &mut [u8], cex: u16, byte: bool, at: ByteAddr,
 // The machine that a step leaves: the count has gained 1.
 fn after(psw: u16, cex: u16, lines: Lines, halted: bool, count: u32) -> Rest
     requires { ⌜ count < 4294967295 ⌝ }
-    ensures { λ r. ⌜ r ≡ record { psw = psw; cex = cex; lines = lines; halted = halted; count = count + 1 } ⌝ }
+    ensures { λ r. ⌜ r ≡ record {
+      psw = psw;
+      cex = cex;
+      lines = lines;
+      halted = halted;
+      count = count + 1;
+    } ⌝ }
 {
     Rest {
         psw,

@@ -15,13 +15,13 @@ use Rattle.word.specs.Width.{widthOf, low, withLow, turned}
 use Rattle.word.specs.Psw.{asleep?, current}
 use Rattle.alu.specs.declared.Op.{Op}
 use Rattle.alu.specs.declared.Op.the-variants.{And, Or, Xor, Cmp, Bit}
-use Rattle.alu.specs.declared.Outcome.{Outcome}
+use Rattle.alu.specs.declared.Computed.{Computed}
 use Rattle.alu.specs.Alu.{aluOf, logical, summed, tested}
 use Rattle.alu.proofs.Laws.{alu-asleep, alu-current, alu-psw-word}
 use Rattle.isa.specs.declared.Instr.{Instr}
 use Rattle.isa.specs.declared.Instr.the-variants as i
 use Rattle.machine.specs.State.{Core, moved, doubled, withPsw, put}
-use Rattle.machine.specs.Effect.{Effect, effectOf, plainly, operated, operand, binaryOf, flagsOnly?, branched, takenOf}
+use Rattle.machine.specs.Effect.{Effect, effectOf, plainly, operated, operand, binaryOp, flagsOnly?, branched, takenOf}
 use Rattle.execute.specs.declared.Executed.{Executed}
 use Rattle.execute.specs.Executed.{effectWith}
 use Rattle.stretch_registers.specs.Effected.{unblocked, Keeps, Effected}
@@ -112,7 +112,7 @@ module _ (l m : List ℕ) (p : ℕ) {d : Executed} (hp : p < 65536) where
 
 -- an operation b on one register, which is what the instruction x means
 module _ (l : List ℕ) (p : ℕ) (x : Instr) (b : Op) (w dst : ℕ) where
-  abbrev altered : Outcome
+  abbrev altered : Computed
   altered = aluOf b w (getD l dst 0) 0 p
 
   pub operating-on-one : (m : List ℕ) {d : Executed} → effectOf (unblocked l p) x ≡ plainly (operated (unblocked l p) dst altered) → dst < 7
@@ -125,14 +125,14 @@ module _ (l : List ℕ) (p : ℕ) (x : Instr) (b : Op) (w dst : ℕ) where
 -- ---- operations
 
 module _ (l : List ℕ) (p op rc wb src dst : ℕ) where
-  abbrev outcome : Outcome
-  outcome = aluOf (binaryOf op) (widthOf (eqb wb 1)) (getD l dst 0) (operand (unblocked l p) rc src) p
+  abbrev outcome : Computed
+  outcome = aluOf (binaryOp op) (widthOf (eqb wb 1)) (getD l dst 0) (operand (unblocked l p) rc src) p
 
   awake : asleep? (outcome .psw) ≡ asleep? p
-  awake = alu-asleep (binaryOf op) (widthOf (eqb wb 1)) (getD l dst 0) (operand (unblocked l p) rc src) p
+  awake = alu-asleep (binaryOp op) (widthOf (eqb wb 1)) (getD l dst 0) (operand (unblocked l p) rc src) p
 
   level : current (outcome .psw) ≡ current p
-  level = alu-current (binaryOf op) (widthOf (eqb wb 1)) (getD l dst 0) (operand (unblocked l p) rc src) p
+  level = alu-current (binaryOp op) (widthOf (eqb wb 1)) (getD l dst 0) (operand (unblocked l p) rc src) p
 
   flagged-kept : Kept l p (withPsw (unblocked l p) (outcome .psw))
   flagged-kept = (refl, ((λ s. s), awake, level))
@@ -147,7 +147,7 @@ module _ (l : List ℕ) (p op rc wb src dst : ℕ) where
       (left e) (ap (λ (x : Effect). x .core .psw) e) f
 
   -- by the code of the operation b, number n, on words
-  module _ (b : Op) (n : ℕ) {v s : ℕ} {o : Outcome} (hp : p < 65536) (hn : op ≡ n) (hb : b ≡ binaryOf n) (hw : wb ≡ 0)
+  module _ (b : Op) (n : ℕ) {v s : ℕ} {o : Computed} (hp : p < 65536) (hn : op ≡ n) (hb : b ≡ binaryOp n) (hw : wb ≡ 0)
       (hv : v ≡ getD l dst 0) (hs : s ≡ operand (unblocked l p) rc src) (ho : o ≡ aluOf b (widthOf false) v s p) where
     result : o ≡ outcome
     result =
@@ -155,7 +155,7 @@ module _ (l : List ℕ) (p op rc wb src dst : ℕ) where
         rw (ho, hb, hn, k, hv, hs)
 
     fits : o .psw < 65536
-    fits = rw result (alu-psw-word (binaryOf op) (widthOf (eqb wb 1)) (getD l dst 0) (operand (unblocked l p) rc src) p hp)
+    fits = rw result (alu-psw-word (binaryOp op) (widthOf (eqb wb 1)) (getD l dst 0) (operand (unblocked l p) rc src) p hp)
 
     pub computing : flagsOnly? n ≡ false → dst < 7 → (m : List ℕ) {r : ℕ} → (r ≡ o .psw) × (m ≡ set l dst (o .value))
         → Effected (i.Alu op rc wb src dst) l p m r
@@ -163,13 +163,13 @@ module _ (l : List ℕ) (p op rc wb src dst : ℕ) where
     computing t h m {r} w =
         settled l p (i.Alu op rc wb src dst) m r (operated (unblocked l p) dst outcome) (rw (hn, t) refl)
         (written l p dst (outcome .value) (outcome .psw) h awake level)
-        (w .1 ∙ ap (λ (x : Outcome). set l dst (x .value)) result) (w .0 ∙ ap (λ (x : Outcome). x .psw) result) (rw (w .0) fits)
+        (w .1 ∙ ap (λ (x : Computed). set l dst (x .value)) result) (w .0 ∙ ap (λ (x : Computed). x .psw) result) (rw (w .0) fits)
 
     pub testing : flagsOnly? n ≡ true → Effected (i.Alu op rc wb src dst) l p l (o .psw)
     unfolding effectOf
     testing t =
         settled l p (i.Alu op rc wb src dst) l (o .psw) (withPsw (unblocked l p) (outcome .psw)) (rw (hn, t) refl) flagged-kept refl
-        (ap (λ (x : Outcome). x .psw) result) fits
+        (ap (λ (x : Computed). x .psw) result) fits
 
 -- ---- logic on words
 
@@ -178,7 +178,7 @@ low-word : (x : ℕ) → x < 65536 → low (widthOf false) x ≡ x
 unfolding widthOf
 low-word x h = mod-eq-of-lt h
 
-module _ (d s p : ℕ) {o : Outcome} (hd : d < 65536) (hs : s < 65536) where
+module _ (d s p : ℕ) {o : Computed} (hd : d < 65536) (hs : s < 65536) where
   pub and-words : o ≡ logical (widthOf false) d p (bitAnd d s) → o ≡ aluOf And (widthOf false) d s p
   unfolding aluOf
   and-words h = rw (low-word d hd, low-word s hs) h
@@ -195,7 +195,7 @@ module _ (d s p : ℕ) {o : Outcome} (hd : d < 65536) (hs : s < 65536) where
   unfolding aluOf
   bit-words h = rw (low-word d hd, low-word s hs) (ap (tested d) h)
 
-pub cmp-words : (d s p : ℕ) {o : Outcome} → o ≡ summed (widthOf false) d (turned (widthOf false) s) 1 p
+pub cmp-words : (d s p : ℕ) {o : Computed} → o ≡ summed (widthOf false) d (turned (widthOf false) s) 1 p
     → tested d o ≡ aluOf Cmp (widthOf false) d s p
 unfolding aluOf
 cmp-words d s p h = ap (tested d) h

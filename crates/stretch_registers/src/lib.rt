@@ -9,14 +9,14 @@ ghost use lib.ListN.{set};
 ghost use Rattle.isa.specs.declared.Instr.the-variants as Instr;
 ghost use Rattle.isa.specs.Decode.{unaryOf, decodeOf};
 ghost use Rattle.stretch_registers.specs.Effected.{Effected, Tried, Words, operation, named};
+use alu::Computed;
 use alu::Op;
-use alu::Outcome;
 use operands::get;
 use operands::put;
 use word::signed;
 
 // The result of an operation written to a register that is not R7: its PSW.
-fn write(regs: &mut [u16; 8], dst: u8, o: Outcome) -> u32
+fn write(regs: &mut [u16; 8], dst: u8, o: Computed) -> u32
     requires { ⌜ dst < 7 ⌝ }
     ensures { λ r. ⌜
         (r ≡ o .psw) × (now (regs .exit) ≡ set (now (regs .entry)) dst (o .value))

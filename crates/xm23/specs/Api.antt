@@ -21,8 +21,8 @@ pub use Rattle.resume.specs.Resumption.{Resumption}
 -- of the text written. [02 §2]
 pub use Rattle.srec_call.specs.Call.{Loaded, loadCallOf, Written, writeCallOf}
 pub use Rattle.srec_call.specs.Trip.{Restores}
--- xm23_stack replies needReply of its buffers and numbers: needOf is the largest total over all choices of devices. That
--- no stack reaches further below is `within` of stack_need, from StackPremises to Within. [02 §9]
+-- xm23_stack replies needReply of its buffers and numbers: needOf is the largest total over all choices of devices.
+-- That no stack reaches further below is `within` of stack_need, from StackPremises to Within. [02 §9]
 pub use Rattle.stack_need.specs.Need.{needOf, needReply}
 -- xm23_assemble replies and leaves what assembleCallOf gives: verdictOf judges the source, placedOf has its statements
 -- at their places, imageOf is the image. [02 §12]

@@ -1,56 +1,56 @@
 -- `operands::binary` meets its contract. Assumes nothing.
 use lib.ListN.{List·getD-eq-default}
-use Rattle.machine.specs.Effect.{binaryOf}
+use Rattle.machine.specs.Effect.{binaryOp}
 use Rattle.operands.proofs.Laws.{past}
 use Rattle.operands.proofs.binary.Statement.{statement}
 use Rattle.operands.proofs.binary.Tie as tie
 
 returns : tie.Need-returns
-unfolding binaryOf
+unfolding binaryOp
 returns c = rw (c .match .keys1)
 
 returns-2 : tie.Need-returns-2
-unfolding binaryOf
+unfolding binaryOp
 returns-2 c = rw (c .match .keys2)
 
 returns-3 : tie.Need-returns-3
-unfolding binaryOf
+unfolding binaryOp
 returns-3 c = rw (c .match .keys3)
 
 returns-4 : tie.Need-returns-4
-unfolding binaryOf
+unfolding binaryOp
 returns-4 c = rw (c .match .keys4)
 
 returns-5 : tie.Need-returns-5
-unfolding binaryOf
+unfolding binaryOp
 returns-5 c = rw (c .match .keys5)
 
 returns-6 : tie.Need-returns-6
-unfolding binaryOf
+unfolding binaryOp
 returns-6 c = rw (c .match .keys6)
 
 returns-7 : tie.Need-returns-7
-unfolding binaryOf
+unfolding binaryOp
 returns-7 c = rw (c .match .keys7)
 
 returns-8 : tie.Need-returns-8
-unfolding binaryOf
+unfolding binaryOp
 returns-8 c = rw (c .match .keys8)
 
 returns-9 : tie.Need-returns-9
-unfolding binaryOf
+unfolding binaryOp
 returns-9 c = rw (c .match .keys9)
 
 returns-10 : tie.Need-returns-10
-unfolding binaryOf
+unfolding binaryOp
 returns-10 c = rw (c .match .keys10)
 
 returns-11 : tie.Need-returns-11
-unfolding binaryOf
+unfolding binaryOp
 returns-11 c = rw (c .match .keys11)
 
 returns-12 : tie.Need-returns-12
-unfolding binaryOf
+unfolding binaryOp
 returns-12 c = let h = past (c .before .args .op) 11 (c .match .rest) in rw List·getD-eq-default
 
 pub binary-spec : {M : Type 1} → statement M

@@ -228,29 +228,42 @@ exits c =
 
 same-length : tie.Need-same-length Inv-loop μ-loop
 same-length c =
-    let e = exits (c .before .before) .2 in
-    let i = c .before .before .before .loop .inv .1 in
+    let e = exits (c .before) .2 in
+    let i = c .before .before .loop .inv .1 in
     omega (arith, e, i)
 
 same-length-2 : tie.Need-same-length-2 Inv-loop μ-loop
-same-length-2 c = log-size _ _ _ _ _ _ _ _ (c .before .before .before .loop .inv .4)
+same-length-2 c = log-size _ _ _ _ _ _ _ _ (c .before .before .loop .inv .4)
 
 returns : tie.Need-returns Inv-loop μ-loop
 returns c =
-    let x = c .before .before .loop-test in
-    let l = c .before .before .before .loop in
-    let s = c .before .before .before .before .before .before .before .before .before .before in
+    let x = c .before .loop-test in
+    let l = c .before .before .loop in
+    let s = c .before .before .before .before .before .before .before .before .before in
     let a = s .args in
-    let g = exits (c .before .before) in
-    let e = c .before .before .before .before .before .rest-of .ensures (now (a .memory)) in
+    let b = now (a .events) in
+    let g = exits (c .before) in
+    let e = c .before .before .before .before .rest-of .ensures (now (a .memory)) in
     let h =
-    subst (λ (z : State). Reached (runLogged (eventsOf (now (a .events))) z (length (now (a .log)) / 8) (a .n)) (now (a .log))
+    subst (λ (z : State). Reached (runLogged (eventsOf b) z (length (now (a .log)) / 8) (a .n)) (now (a .log))
     (stateWith (x .regs) (x .t) (x .memory)) (x .done) (l .added) (l .log) (x .short)) e (g .0) in
-    let p = c .before .put-together .ensures (x .memory) in (
+    let r = c .ended .ensures in
+    let p = r .0 (x .memory) in
+    let k = r .1 .1 in (
       p ∙ h .state,
       (
-        c .reason-of .ensures ∙ (λ i. cond (h .short i) NoRoom (cond (h .state i .halted) Halted Done)),
-        (h .steps, (h .added, (h .log, subst (Behind (now (a .events)) (l .next)) (sym (ap (λ (z : State). z .count) p)) (g .1 .0)))),
+        r .1 .0 ∙ (λ i. cond (h .short i) NoRoom (cond (h .state i .halted) Halted Done)),
+        (
+          k .0 ∙ h .steps,
+          (
+            k .1 ∙ h .added,
+            (
+              h .log,
+              subst (λ i. Behind b i (c .ended .result .machine .count)) (sym (k .2))
+                  (subst (Behind b (l .next)) (sym (ap (λ (z : State). z .count) p)) (g .1 .0)),
+            ),
+          ),
+        ),
       ),
     )
 
@@ -282,7 +295,6 @@ run-spec =
     add-done-2
     loop-less
     loop-again
-    (λ c κs. search needs)
     (λ c κs. search needs)
     same-length
     same-length-2

@@ -5,7 +5,7 @@ use native.Mathlib.Omega.{arith}
 use lib.Bits.{and-lt}
 use Rattle.word.specs.Width.{widthOf}
 use Rattle.alu.specs.declared.Op.the-variants.{Bit}
-use Rattle.machine.specs.Effect.{binaryOf}
+use Rattle.machine.specs.Effect.{binaryOp}
 use Rattle.stretch_registers.proofs.Laws.{testing, bit-words}
 use borrow.Author.Needs.{needs}
 use Rattle.stretch_registers.proofs.bit_words.Statement.{statement}
@@ -16,7 +16,7 @@ unfolding widthOf
 logic-into-requires c κs = and-lt 16 (c .get .result) (c .before .args .s) (omega arith) (omega arith)
 
 returns : tie.Need-returns
-unfolding binaryOf
+unfolding binaryOp
 returns c =
     let start = c .before .before .before in
     testing (now (start .args .regs)) _ _ _ _ _ _ Bit 9 (omega arith) (start .pre .0 .2) refl (start .pre .0 .3)

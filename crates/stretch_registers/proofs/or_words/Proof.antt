@@ -6,7 +6,7 @@ use native.Mathlib.Omega.{arith}
 use lib.Bits.{or-lt}
 use Rattle.word.specs.Width.{widthOf}
 use Rattle.alu.specs.declared.Op.the-variants.{Or}
-use Rattle.machine.specs.Effect.{binaryOf}
+use Rattle.machine.specs.Effect.{binaryOp}
 use Rattle.stretch_registers.proofs.Laws.{computing, or-words}
 use borrow.Author.Needs.{needs}
 use Rattle.stretch_registers.proofs.or_words.Statement.{statement}
@@ -21,7 +21,7 @@ logic-into-requires c κs =
     or-lt 16 (c .before .get .result) (c .before .before .before .before .args .s) (omega arith) (omega arith)
 
 returns-2 : tie.Need-returns-2
-unfolding binaryOf
+unfolding binaryOp
 returns-2 c =
     let d = c .before .before .before in
     let start = d .before .before .before in

@@ -5,7 +5,7 @@ use denote.Ref.{now}
 use native.Mathlib.Omega.{arith}
 use Rattle.alu.specs.declared.Op.the-variants.{Sub}
 use Rattle.alu.specs.Alu.{aluOf}
-use Rattle.machine.specs.Effect.{binaryOf}
+use Rattle.machine.specs.Effect.{binaryOp}
 use Rattle.stretch_registers.proofs.Laws.{computing}
 use borrow.Author.Needs.{needs}
 use Rattle.stretch_registers.proofs.subtract_words.Statement.{statement}
@@ -15,7 +15,7 @@ returns : tie.Need-returns
 returns c = inl (refl, refl)
 
 returns-2 : tie.Need-returns-2
-unfolding binaryOf aluOf
+unfolding binaryOp aluOf
 returns-2 c =
     let d = c .before .before .before in
     let start = d .before .before .before in

@@ -11,6 +11,7 @@ use Rattle.machine.specs.Events.{eventsOf}
 use Rattle.machine.specs.Record.{stateIn}
 use Rattle.machine.specs.Refusal.{Rule, rule, callRules, firstBroken, refusalNumber, accepted?}
 use Rattle.machine.specs.Call.{Closing, closingOf, runOn}
+use Rattle.machine.specs.Depth.{deepestFrom}
 use Rattle.journal.specs.Ring.{Journal, journalAfter, journalFits}
 use Rattle.journal.specs.Back.{Lent, lentOf, backOf}
 
@@ -37,6 +38,13 @@ runJournalOf memory r events log j n =
       closing = closingOf v memory r log x;
       journal = cond (accepted? v) (journalAfter (eventsOf events) (stateIn r memory) j (x .steps)) j;
     }
+
+-- the figure of its depth, where it is accepted, else the number as handed over. [02 §8; 02 §10]
+unfoldable pub journalDeepest : (memory r events log : List ℕ) → Journal → (n number : ℕ) → ℕ
+journalDeepest memory r events log j n number =
+    cond (accepted? (journalVerdict memory r events log j n))
+    (deepestFrom (eventsOf events) (stateIn r memory) (runOn memory r events log n .steps))
+    number
 
 -- "going back tests 1, 3, 14 and 15": "15 when k exceeds the steps kept". [02 §8]
 abbrev pub backRules : (k : ℕ) → Lent → List Rule

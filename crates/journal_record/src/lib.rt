@@ -12,8 +12,9 @@ ghost use Rattle.machine.specs.Memory.{byteAt, even};
 ghost use Rattle.machine.specs.Record.{recordOf};
 ghost use Rattle.machine.specs.Devices.{device?};
 ghost use Rattle.journal.specs.Record.{firstStored, addressOf, bytesFrom, fieldsOf};
-ghost use Rattle.journal.specs.Ring.{journalOf, placesOf, following, oneMore, keep};
+ghost use Rattle.journal.specs.Ring.{following, oneMore};
 ghost use Rattle.journal_record.specs.Before.{Before};
+ghost use Rattle.journal_record.specs.Ring.{Lends, journalWith, keptIn};
 use machine::Act;
 use machine::ByteAddr;
 use machine::Machine;
@@ -175,4 +176,32 @@ fn one_more(places: u32, r: Ring) -> Ring
         place = 0;
     }
     Ring { kept, place }
+}
+
+// The record of a step put into the journal at the next place, and the ring after it. Registers and
+// `t` are from before the step, `sp` is what the act starts from. A journal of no length is none.
+pub fn keep_step(
+    journal: &mut [u8],
+    r: Ring,
+    m: Machine,
+    devices: &[u8; 16],
+    mem: &[u8],
+    a: Act,
+    sp: u16,
+) -> Ring
+    requires { ⌜ (length (now mem) ≡ 65536) × Lends (now journal) r ⌝ }
+    ensures kept { λ x. ⌜ ((b : List ℕ) (c : Core) → Before b (now (devices .entry))
+        (now (mem .entry)) → sp c ≡ sp
+        → journalWith (now (journal .exit)) x
+        ≡ keptIn (now (journal .entry)) r (fieldsOf (recordOf (stateOf m b)) (bytesFrom b 0 16)
+        (addressOf a c) (bytesFrom b (addressOf a c) 8))) ⌝ }
+    ensures lends { λ x. ⌜ Lends (now (journal .exit)) x ⌝ }
+{
+    if journal.len() == 0 {
+        return r;
+    }
+    let from = 64 * r.place as usize;
+    let to = from + 64;
+    fill(&mut journal[from..to], m, devices, mem, address_of(a, sp));
+    one_more((journal.len() / 64) as u32, r)
 }

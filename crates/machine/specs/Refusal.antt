@@ -10,6 +10,7 @@ use Rattle.machine.specs.declared.Verdict.the-variants.{Accepted, Memory
 use Rattle.machine.specs.declared.Verdict.the-variants.{StepCount, RecordLength, RecordBits}
 use Rattle.machine.specs.declared.Verdict.the-variants.{EventsLength, EventFields}
 use Rattle.machine.specs.declared.Verdict.the-variants.{EventOrder, EventTwins, LogLength}
+use Rattle.machine.specs.declared.Verdict.the-variants.{JournalFit, StepsKept}
 use Rattle.machine.specs.Memory.{byteAt}
 use Rattle.machine.specs.Record.{twoAt, fourAt}
 use Rattle.machine.specs.Events.{eventAt, eventCount}

@@ -41,16 +41,18 @@ pub fn moved(a: Act, p: Depth) -> Depth
     requires { ⌜ p .opened < 4294967295 ⌝ }
     ensures { λ r. ⌜ r ≡ depthAfter a p ⌝ }
 {
+    let more = pushed(p);
+    let fewer = pulled(p);
     match a {
         Act::Stopped => p,
-        Act::Pull => pulled(p),
+        Act::Pull => fewer,
         Act::Chain(..) => p,
-        Act::Accept(..) => pushed(p),
+        Act::Accept(..) => more,
         Act::Sleep => p,
-        Act::Fault(..) => pushed(p),
+        Act::Fault(..) => more,
         Act::Halt => p,
         Act::Skip => p,
-        Act::Trap(..) => pushed(p),
+        Act::Trap(..) => more,
         Act::Plain => p,
         Act::Loads { .. } => p,
         Act::Stores { .. } => p,

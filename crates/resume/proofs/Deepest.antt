@@ -22,7 +22,7 @@ use Rattle.machine_laws.proofs.Cases.{bool-cases, lt-of, ge-of, not-lt, not-eq}
 use Rattle.machine_laws.proofs.Records.{passed}
 use Rattle.run_laws.proofs.Room.{logged-le}
 use Rattle.run_laws.proofs.Verdicts.{call-start}
-use Rattle.run_laws.proofs.Depth.{depth-append, depth-room, open-le}
+use Rattle.run_laws.proofs.Depth.{depth-append, depth-slices, open-le}
 use Rattle.resume.specs.Frames.{Frame, older, chained, framesAfter, after, act, frames}
 use Rattle.resume.specs.Depth.{DepthPremises, lowest}
 use Rattle.resume.specs.Deepest.{deepestOf, deepestLeft, Reaches, Carried, Bounded, CallBounded}
@@ -152,18 +152,18 @@ module _ (ev : List Event) (s : State) where
       ∙ sym (depth-append ev s (depth 0 0) m n)
       ∙ depth-carried (m + n)
 
-  -- of a run with a log and then one with other room, each at its own steps, that of the one run with all the room
-  pub deepest-room : (k K n : ℕ) → k ≤ K
+  -- of a run over a log and of the one that goes on from it, each at its own steps, that of the one run with all the room
+  pub deepest-logged : (k n K N : ℕ) → length (runLogged ev s k n .records) ≤ K → runLogged ev s k n .steps ≤ N
       → depthFrom ev (runLogged ev s k n .state)
       (depth (length (frames ev s (runLogged ev s k n .steps))) (deepestOf ev s (runLogged ev s k n .steps)))
-      (runLogged ev (runLogged ev s k n .state) (K - length (runLogged ev s k n .records)) (n - runLogged ev s k n .steps) .steps)
+      (runLogged ev (runLogged ev s k n .state) (K - length (runLogged ev s k n .records)) (N - runLogged ev s k n .steps) .steps)
       .deepest
-      ≡ deepestOf ev s (runLogged ev s K n .steps)
-  deepest-room k K n h =
+      ≡ deepestOf ev s (runLogged ev s K N .steps)
+  deepest-logged k n K N w h =
       let x = runLogged ev s k n in
-      let y = runLogged ev (x .state) (K - length (x .records)) (n - x .steps) in
+      let y = runLogged ev (x .state) (K - length (x .records)) (N - x .steps) in
       ap (λ p. depthFrom ev (x .state) p (y .steps) .deepest) (sym (depth-carried (x .steps)))
-      ∙ ap (λ p. p .deepest) (depth-room ev s (depth 0 0) k K n h ∙ depth-carried (runLogged ev s K n .steps))
+      ∙ ap (λ p. p .deepest) (depth-slices ev s (depth 0 0) k n K N w h ∙ depth-carried (runLogged ev s K N .steps))
 
 pub carried : Carried
 carried = depth-carried

@@ -26,7 +26,7 @@ use Rattle.machine.specs.Call.{runOn}
 use Rattle.machine.specs.Depth.{depth, deeper, shallower, depthAfter, depthFrom, deepestFrom, callDeepest}
 use Rattle.machine_laws.proofs.Cases.{bool-cases, not-eq}
 use Rattle.machine_laws.proofs.Runs.{run-append}
-use Rattle.run_laws.proofs.Room.{logged-run, logged-wider}
+use Rattle.run_laws.proofs.Room.{logged-run, logged-slices}
 
 -- ---- one act
 
@@ -100,32 +100,33 @@ module _ (ev : List Event) (s : State) (p : Depth) where
       let l = open-le n in
       omega arith
 
+module _ (ev : List Event) (s : State) (p : Depth) where
   -- a stretch from the state t that n steps have reached
   pub depth-stretch : (n j : ℕ) (t : State) → t ≡ runOf ev s n .state → Uneventful ev t j
       → depthFrom ev s p (n + j) ≡ depthFrom ev s p n
   depth-stretch n j t e f =
-      depth-append n j
+      depth-append ev s p n j
       ∙ ap (λ u. depthFrom ev u (depthFrom ev s p n) j) (sym e)
       ∙ uneventful-depth ev t (depthFrom ev s p n) j f
 
-  -- Slices by room: the depth at the first run's steps, carried over the second run's, is that of the one run with all the room,
-  -- at its own steps.
-  pub depth-room : (k K n : ℕ) → k ≤ K
+  -- Slices over a log: the depth at the steps of a first run of n with room for k records, carried over the steps of the run that
+  -- goes on from it, is that of the one run of N with room for K, at its own steps.
+  pub depth-slices : (k n K N : ℕ) → length (runLogged ev s k n .records) ≤ K → runLogged ev s k n .steps ≤ N
       → depthFrom ev (runLogged ev s k n .state) (depthFrom ev s p (runLogged ev s k n .steps))
-      (runLogged ev (runLogged ev s k n .state) (K - length (runLogged ev s k n .records)) (n - runLogged ev s k n .steps) .steps)
-      ≡ depthFrom ev s p (runLogged ev s K n .steps)
-  depth-room k K n h =
+      (runLogged ev (runLogged ev s k n .state) (K - length (runLogged ev s k n .records)) (N - runLogged ev s k n .steps) .steps)
+      ≡ depthFrom ev s p (runLogged ev s K N .steps)
+  depth-slices k n K N w h =
       let x = runLogged ev s k n in
-      let y = runLogged ev (x .state) (K - length (x .records)) (n - x .steps) in
+      let y = runLogged ev (x .state) (K - length (x .records)) (N - x .steps) in
       ap (λ t. depthFrom ev t (depthFrom ev s p (x .steps)) (y .steps)) (ap (λ r. r .state) (logged-run ev s k n))
-      ∙ sym (depth-append (x .steps) (y .steps))
-      ∙ sym (ap (λ z. depthFrom ev s p (z .steps)) (logged-wider ev s k K h n))
+      ∙ sym (depth-append ev s p (x .steps) (y .steps))
+      ∙ sym (ap (λ z. depthFrom ev s p (z .steps)) (logged-slices ev s k K n N w h))
 
   -- a slice from the state t and the depth q that j steps have reached
   pub depth-slice : (j i : ℕ) (t : State) (q : Depth) → ran t j ≡ runOf ev s j → q ≡ depthFrom ev s p j
       → depthFrom ev t q i ≡ depthFrom ev s p (j + i)
   depth-slice j i t q e f =
-      (λ x. depthFrom ev (e x .state) (f x) i) ∙ sym (depth-append j i)
+      (λ x. depthFrom ev (e x .state) (f x) i) ∙ sym (depth-append ev s p j i)
 
 -- ---- the run call
 

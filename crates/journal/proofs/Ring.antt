@@ -10,7 +10,7 @@ use lib.Dec.{eqb, ltb, leb}
 use lib.ListN.{length, take, drop, set, length-take, length-drop}
 use lib.Seq.{sets, sets-eq, length-sets, ext-getD, take-at, drop-at, length-take-le, getD-take, getD-drop, getD-set-other}
 use Rattle.machine.specs.Memory.{byteAt}
-use Rattle.machine_laws.proofs.Cases.{bool-cases, eq-of, neq-of, lt-of, ge-of, le-of, is-eq, not-eq, is-lt, not-lt, and-left, and-right}
+use Rattle.machine_laws.proofs.Cases.{bool-cases, eq-of, neq-of, lt-of, ge-of, le-of, is-eq, not-eq, is-lt, not-lt, is-le, and-left, and-right, and-both}
 use Rattle.journal.specs.Ring.{Journal, journalOf, placesOf, recordAt, following, preceding, oneMore, keep, journalFits}
 use Rattle.journal.specs.Back.{lowered, loweredPlace}
 
@@ -79,6 +79,16 @@ ring-fits j e =
       place = lt-of (and-right (t1 && t2 && t3 && t4) t5 e);
     }
 
+-- and one that fits is not refused
+pub fits-ring : (j : Journal) → RingFits j → journalFits j ≡ true
+unfolding journalFits
+fits-ring j f =
+    let p = f .place in
+    let w = f .whole in
+    let some : length (j .bytes) ≢ 0 = omega arith in
+    let even : length (j .bytes) % 64 ≡ 0 = omega arith in
+    and-both (and-both (and-both (and-both (ap not (not-eq some)) (is-le (f .small))) (is-eq even)) (is-le (f .kept))) (is-lt p)
+
 -- ---- places
 
 following-lt : (r p : ℕ) → p < r → following r p < r
@@ -111,6 +121,12 @@ preceding-lowered r p d h k =
     bool-cases (eqb (p - d) 0)
     (λ o. let z : p - d ≡ 0 = eq-of o in rw (q, o, is-lt {m = p} {n = suc d} (omega arith)) (omega arith))
     (λ o. let z : p - d ≢ 0 = neq-of o in rw (q, o, not-lt {m = p} {n = suc d} (omega arith)) (omega arith)))
+
+pub lowered-lt : (r p k : ℕ) → p < r → k ≤ r → loweredPlace r p k < r
+lowered-lt r p k h l =
+    bool-cases (ltb p k)
+    (λ q. let g : p < k = lt-of q in rw q (omega arith))
+    (λ q. rw q (omega arith))
 
 -- fewer than r places back lies another place
 pub lowered-other : (r p d : ℕ) → p < r → 0 < d → d < r → loweredPlace r p d ≢ p

@@ -24,6 +24,7 @@ use Rattle.machine_laws.proofs.Memory.{over, commit-at, commit-length, word-bac
 use Rattle.machine_laws.proofs.Writes.{perform-writes, step-byte}
 use Rattle.machine_laws.proofs.Steps.{deliver-tidy, deliver-size, plan-fits, step-length}
 use Rattle.machine_laws.proofs.Records.{record-read}
+use Rattle.journal.proofs.Record.{bytes-length, record-length}
 use Rattle.journal.specs.Record.{firstStored, addressOf, addressIn, bytesFrom, fieldsOf, journalRecord, placed, stateOut, memoryOut}
 
 -- ---- which bytes a step can write: device bytes, and the eight bytes at its address
@@ -106,15 +107,6 @@ placed-hit m a (suc n) (suc i) h =
     (λ q. rw q (subst (λ x. writes? (placed (suc a) (bytesFrom m (suc a) n)) (wrap x) ≡ true) (suc-add a i ∙ sym (add-suc a i)) (placed-hit m (suc a) n i (omega arith))))
 
 -- ---- the fields of a record
-
-bytes-length : (m : List ℕ) (a n : ℕ) → length (bytesFrom m a n) ≡ n
-unfolding bytesFrom
-bytes-length m a zero = refl
-bytes-length m a (suc n) = ap suc (bytes-length m (suc a) n)
-
-record-length : (s : State) → length (recordOf s) ≡ 32
-unfolding recordOf
-record-length s = refl
 
 module _ (state devices eight : List ℕ) (a : ℕ) (l : length state ≡ 32) (d : length devices ≡ 16) (g : length eight ≡ 8) where
   abbrev e : List ℕ

@@ -20,10 +20,10 @@ use machine::ByteAddr;
 use machine::Machine;
 
 // The address of the last word that an entry pushes, bit 0 dropped.
-fn frame_at(sp: u16) -> u16
-    ensures { λ r. ⌜ r ≡ even (down sp 8) ⌝ }
+fn frame_at(stack: u16) -> u16
+    ensures { λ r. ⌜ r ≡ even (down stack 8) ⌝ }
 {
-    std::num::wrapping_sub_u16(sp, 8) / 2 * 2
+    std::num::wrapping_sub_u16(stack, 8) / 2 * 2
 }
 
 // The first byte of a store where it is outside the device bytes, else 0.
@@ -41,19 +41,19 @@ fn stored_at(byte: bool, at: ByteAddr) -> u16
 }
 
 // The address of a step that does this act, SP being what the act starts from.
-fn address_of(a: Act, sp: u16) -> u16
-    ensures { λ r. ⌜ ((c : Core) → sp c ≡ sp → r ≡ addressOf a c) ⌝ }
+fn address_of(a: Act, stack: u16) -> u16
+    ensures { λ r. ⌜ ((c : Core) → sp c ≡ stack → r ≡ addressOf a c) ⌝ }
 {
     match a {
         Act::Stopped => 0,
         Act::Pull => 0,
         Act::Chain(..) => 0,
-        Act::Accept(..) => frame_at(sp),
+        Act::Accept(..) => frame_at(stack),
         Act::Sleep => 0,
-        Act::Fault(..) => frame_at(sp),
+        Act::Fault(..) => frame_at(stack),
         Act::Halt => 0,
         Act::Skip => 0,
-        Act::Trap(..) => frame_at(sp),
+        Act::Trap(..) => frame_at(stack),
         Act::Plain => 0,
         Act::Loads { .. } => 0,
         Act::Stores { byte, at, .. } => stored_at(byte, at),
@@ -113,30 +113,16 @@ fn eight_before(devices: &[u8; 16], mem: &[u8], a: u16) -> [u8; 8]
     ]
 }
 
-// Bytes 32-47, the device bytes; 50-57, the eight bytes.
-fn put_devices(e: &mut [u8], devices: &[u8; 16])
-    requires { ⌜ length (now e) ≡ 64 ⌝ }
-    ensures { λ _. ⌜ now (e .exit) ≡ sets (now (e .entry)) 32 (now (devices .entry)) ⌝ }
+// Bytes put into a record from byte `at` on.
+fn put_bytes(e: &mut [u8], at: usize, v: &[u8])
+    requires { ⌜ at + length (now v) ≤ length (now e) ⌝ }
+    ensures { λ _. ⌜ now (e .exit) ≡ sets (now (e .entry)) at (now (v .entry)) ⌝ }
 {
     let mut i: usize = 0;
-    while i < 16 {
-        e[32 + i] = devices[i];
+    while i < v.len() {
+        e[at + i] = v[i];
         i += 1;
     }
-}
-
-fn put_eight(e: &mut [u8], v: [u8; 8])
-    requires { ⌜ length (now e) ≡ 64 ⌝ }
-    ensures { λ _. ⌜ now (e .exit) ≡ sets (now (e .entry)) 50 v ⌝ }
-{
-    e[50] = v[0];
-    e[51] = v[1];
-    e[52] = v[2];
-    e[53] = v[3];
-    e[54] = v[4];
-    e[55] = v[5];
-    e[56] = v[6];
-    e[57] = v[7];
 }
 
 // All 64 bytes of a record.
@@ -146,13 +132,25 @@ fn fill(e: &mut [u8], m: Machine, devices: &[u8; 16], mem: &[u8], a: u16)
         → now (e .exit)
         ≡ fieldsOf (recordOf (stateOf m b)) (bytesFrom b 0 16) a (bytesFrom b a 8)) ⌝ }
 {
+    let eight = eight_before(devices, mem, a);
+    let zeros: [u8; 6] = [0; 6];
     state_record::write_record(&mut e[..32], m);
-    put_devices(e, devices);
+    put_bytes(e, 32, devices);
     little_endian::put_two(e, 48, a);
-    put_eight(e, eight_before(devices, mem, a));
-    little_endian::put_two(e, 58, 0);
-    little_endian::put_two(e, 60, 0);
-    little_endian::put_two(e, 62, 0);
+    put_bytes(e, 50, &eight);
+    put_bytes(e, 58, &zeros);
+}
+
+// The record at place p of the journal.
+fn put_record(journal: &mut [u8], p: usize, m: Machine, devices: &[u8; 16], mem: &[u8], a: u16)
+    requires { ⌜ (64 * p + 64 ≤ length (now journal)) × (length (now mem) ≡ 65536) ⌝ }
+    ensures { λ _. ⌜ ((b : List ℕ) → Before b (now (devices .entry)) (now (mem .entry))
+        → now (journal .exit) ≡ sets (now (journal .entry)) (64 * p)
+        (fieldsOf (recordOf (stateOf m b)) (bytesFrom b 0 16) a (bytesFrom b a 8))) ⌝ }
+{
+    let from = 64 * p;
+    let to = from + 64;
+    fill(&mut journal[from..to], m, devices, mem, a);
 }
 
 // The number of records kept, and the place of the next.
@@ -161,25 +159,30 @@ pub struct Ring {
     pub place: u32,
 }
 
-// One more kept, as far as there are places; and the place after this one.
-fn one_more(places: u32, r: Ring) -> Ring
-    requires { ⌜ (r .kept ≤ places) × (r .place < places) ⌝ }
-    ensures { λ x. ⌜ (x .kept ≡ oneMore places (r .kept))
-        × (x .place ≡ following places (r .place)) ⌝ }
+// One more kept, as far as there are places.
+fn one_more(places: u32, kept: u32) -> u32
+    requires { ⌜ kept ≤ places ⌝ }
+    ensures { λ r. ⌜ r ≡ oneMore places kept ⌝ }
 {
-    let mut kept = r.kept;
-    let mut place = r.place + 1;
     if kept < places {
-        kept += 1;
+        return kept + 1;
     }
-    if place == places {
-        place = 0;
-    }
-    Ring { kept, place }
+    kept
 }
 
-// The record of a step put into the journal at the next place, and the ring after it. Registers and
-// `t` are from before the step, `sp` is what the act starts from. A journal of no length is none.
+// The place after p.
+fn place_after(places: u32, p: u32) -> u32
+    requires { ⌜ p < places ⌝ }
+    ensures { λ r. ⌜ r ≡ following places p ⌝ }
+{
+    if p + 1 == places {
+        return 0;
+    }
+    p + 1
+}
+
+// The record of a step put into the journal at the next place, and the ring after it. The machine
+// is that before the step, `stack` the SP that the act starts from. A journal of no length is none.
 pub fn keep_step(
     journal: &mut [u8],
     r: Ring,
@@ -187,11 +190,11 @@ pub fn keep_step(
     devices: &[u8; 16],
     mem: &[u8],
     a: Act,
-    sp: u16,
+    stack: u16,
 ) -> Ring
     requires { ⌜ (length (now mem) ≡ 65536) × Lends (now journal) r ⌝ }
     ensures kept { λ x. ⌜ ((b : List ℕ) (c : Core) → Before b (now (devices .entry))
-        (now (mem .entry)) → sp c ≡ sp
+        (now (mem .entry)) → sp c ≡ stack
         → journalWith (now (journal .exit)) x
         ≡ keptIn (now (journal .entry)) r (fieldsOf (recordOf (stateOf m b)) (bytesFrom b 0 16)
         (addressOf a c) (bytesFrom b (addressOf a c) 8))) ⌝ }
@@ -200,8 +203,17 @@ pub fn keep_step(
     if journal.len() == 0 {
         return r;
     }
-    let from = 64 * r.place as usize;
-    let to = from + 64;
-    fill(&mut journal[from..to], m, devices, mem, address_of(a, sp));
-    one_more((journal.len() / 64) as u32, r)
+    let places = (journal.len() / 64) as u32;
+    put_record(
+        journal,
+        r.place as usize,
+        m,
+        devices,
+        mem,
+        address_of(a, stack),
+    );
+    Ring {
+        kept: one_more(places, r.kept),
+        place: place_after(places, r.place),
+    }
 }

@@ -59,13 +59,7 @@ fn awaited(events: &[u8], k: usize) -> Awaited
 }
 
 // Point 1 of step `count`: applies the events that are due; where none is, looks at no record.
-fn deliver_due(
-    memory: &mut [u8],
-    events: &[u8],
-    at: Awaited,
-    count: u32,
-    lines: Lines,
-) -> Delivery
+fn deliver_due(memory: &mut [u8], events: &[u8], at: Awaited, count: u32, lines: Lines) -> Delivery
     requires { ⌜ (length (now memory) ≡ 65536) × Awaits (now events) (at .next) (at .due) count
         × Ordered (now events) × (eventsFitBelow (now events) (eventCount (now events)) ≡ true) ⌝ }
     ensures state { λ r. ⌜ ((c : Core) (h : Bool)
@@ -279,7 +273,15 @@ pub fn run_kept(
         }
         added = output_log::add(log, added, t.count, shown);
         depth = frame_depth::moved(act, depth);
-        ring = keep_step(journal, ring, machine_of(held, t), &devices, memory, act, regs[6]);
+        ring = keep_step(
+            journal,
+            ring,
+            machine_of(held, t),
+            &devices,
+            memory,
+            act,
+            regs[6],
+        );
         t = step::perform(&mut regs, memory, d.lines, t.count, p);
         at = d.at;
         done += 1;

@@ -1,6 +1,6 @@
 // Going back through the journal of steps: its records copied out unchecked, newest first.
 ghost use mathlib.Core.Path.{_≡_};
-ghost use Prim.Native.Nat.{ℕ, _+_, _-_, _*_, _<_, _≤_};
+ghost use Prim.Native.Nat.{_+_, _*_, _<_, _≤_};
 ghost use lib.ListN.{length};
 ghost use lib.Seq.{slice};
 ghost use Rattle.machine.specs.Memory.{commit};
@@ -8,6 +8,7 @@ ghost use Rattle.journal.specs.Record.{placed, stateOut, memoryOut};
 ghost use Rattle.journal.specs.Ring.{recordAt, journalOf, placesOf, preceding, journalFits};
 ghost use Rattle.journal.specs.Back.{lentOf, backOf};
 ghost use Rattle.journal.specs.Call.{backVerdict, backCallOf};
+use journal_record::Ring;
 use machine::Verdict;
 
 // Bytes from `from` on, n of them, copied to memory from address a on, wrapping.
@@ -113,24 +114,26 @@ fn place_before(places: u32, p: u32) -> u32
     p - 1
 }
 
-// The next place, once k steps, no more than are kept, are gone back. The journal's bytes stay.
-fn go_back(memory: &mut [u8], state: &mut [u8], journal: &[u8], place: u32, k: u32) -> u32
+// Back k steps, no more than are kept: the ring then. The journal's bytes stay.
+fn go_back(memory: &mut [u8], state: &mut [u8], journal: &[u8], r: Ring, k: u32) -> Ring
     requires { ⌜ (length (now memory) ≡ 65536) × (length (now state) ≡ 32)
-        × (length (now journal) ≤ 65536) × (place < placesOf (now journal)) ⌝ }
-    ensures { λ r. ⌜ ((n : ℕ) → lentOf (now (memory .exit)) (now (state .exit))
-        (journalOf (now (journal .entry)) (n - k) r)
+        × (length (now journal) ≤ 65536) × (r .place < placesOf (now journal)) × (k ≤ r .kept) ⌝ }
+    ensures { λ x. ⌜ lentOf (now (memory .exit)) (now (state .exit))
+        (journalOf (now (journal .entry)) (x .kept) (x .place))
         ≡ backOf k (lentOf (now (memory .entry)) (now (state .entry))
-        (journalOf (now (journal .entry)) n place))) ⌝ }
+        (journalOf (now (journal .entry)) (r .kept) (r .place))) ⌝ }
 {
     let places = (journal.len() / 64) as u32;
     let mut left = k;
-    let mut p = place;
+    let mut c = r.kept;
+    let mut p = r.place;
     while 0 < left {
         p = place_before(places, p);
         copy_out(memory, state, journal, p as usize);
+        c -= 1;
         left -= 1;
     }
-    p
+    Ring { kept: c, place: p }
 }
 
 // The call of going back: refused, it replies the refusal's number and leaves all as it was; else
@@ -156,8 +159,12 @@ pub fn back_call(
     if refused != 0 {
         return refused;
     }
-    let steps = k as u32;
-    *place = go_back(memory, state, journal, *place, steps);
-    *kept -= steps;
+    let r = Ring {
+        kept: *kept,
+        place: *place,
+    };
+    let x = go_back(memory, state, journal, r, k as u32);
+    *kept = x.kept;
+    *place = x.place;
     0
 }

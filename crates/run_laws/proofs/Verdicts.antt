@@ -11,13 +11,13 @@ use borrow.Author.Tests.{not-false}
 use Rattle.machine.specs.declared.Verdict.{Verdict}
 use Rattle.machine.specs.declared.Verdict.the-variants.{Accepted, LogLength}
 use Rattle.machine.specs.Record.{fourAt}
-use Rattle.machine.specs.Refusal.{Rule, rule, rulesOf, firstBroken, verdictOf, callVerdict, refusalNumber, accepted?}
+use Rattle.machine.specs.Refusal.{Rule, rule, rulesOf, callRules, firstBroken, verdictOf, callVerdict, refusalNumber, accepted?}
 use Rattle.machine_laws.specs.Bounds.{Each}
 use Rattle.machine_laws.proofs.Cases.{bool-cases, eq-of, is-eq, not-eq, not-lt}
 use Rattle.machine_laws.proofs.Records.{passed, not-met, is-accepted}
 
 -- rules that refuse, and then others
-first-then : (xs ys : List Rule) → Each (λ (x : Rule). accepted? (x .verdict) ≡ false) xs
+pub first-then : (xs ys : List Rule) → Each (λ (x : Rule). accepted? (x .verdict) ≡ false) xs
     → firstBroken (xs ++ ys) ≡ cond (accepted? (firstBroken xs)) (firstBroken ys) (firstBroken xs)
 first-then [] ys r = refl
 first-then (x ∷ xs) ys r =
@@ -28,6 +28,10 @@ first-then (x ∷ xs) ys r =
 module _ (memory r events log : List ℕ) (n : ℕ) where
   all-refuse : Each (λ (x : Rule). accepted? (x .verdict) ≡ false) (rulesOf memory r events n)
   all-refuse = (refl, (refl, (refl, (refl, (refl, (refl, (refl, (refl, (refl, tt)))))))))
+
+  -- so do those of a call
+  pub call-refuse : Each (λ (x : Rule). accepted? (x .verdict) ≡ false) (callRules memory r events log n)
+  call-refuse = (refl, (refl, (refl, (refl, (refl, (refl, (refl, (refl, (refl, (refl, tt))))))))))
 
   -- the log's length is looked at once the start has passed
   pub call-verdict : callVerdict memory r events log n

@@ -1,0 +1,5 @@
+pub mod Restore
+pub mod Recall
+pub mod Again
+pub mod Accepted
+pub mod Session

@@ -64,11 +64,11 @@ module _ (b e : List ℕ) (p : ℕ) (l : length e ≡ 64) (i : p < placesOf b) w
           memory = w .0 .memory;
           state = w .0 .state;
           entry = ap (recordAt b′) c′ ∙ record-other b e p l (loweredPlace r p (suc d)) (lowered-other r p (suc d) i (omega arith)
-          (omega arith))
+              (omega arith))
               ∙ ap (recordAt b) (sym c) ∙ w .0 .entry;
         },
         walk k (suc d) (preceding r q) (preceding (placesOf b′) q′) (n - 1) (n′ - 1) (t .state .mem) (recordOf (t .state)) h
-        (omega arith) c c′ (w .1),
+            (omega arith) c c′ (w .1),
       )
 
 -- what is lent after a step
@@ -102,7 +102,7 @@ module _ (ev : List Event) (s : State) (j : Journal) (h : List Past) (t : Taken 
   kept-more k l w = (
     newest,
     walk (j .bytes) e (j .place) (record-whole ev s) (f .place) k 0 (j .place) (lowered (keep e j) .place) (j .kept) (lowered
-    (keep e j) .kept)
+        (keep e j) .kept)
         (s .mem) (recordOf s) h (omega arith) (sym (lowered-zero (placesOf (j .bytes)) (j .place)))
         (came ∙ sym (lowered-zero (placesOf (j .bytes)) (j .place))) w,
   )

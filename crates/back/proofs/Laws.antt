@@ -7,7 +7,8 @@ use mathlib.Core.Path.{_≡_, refl, sym, ap, subst, _∙_}
 use mathlib.Core.Logic.{_≢_}
 use lib.Dec.{eqb}
 use lib.ListN.{length, take, drop, set, getD, length-take, length-drop}
-use lib.Seq.{slice, slice-cons, slice-empty, length-slice, take-take, ext-getD, getD-take, getD-drop, length-take-le, getD-set-same, getD-set-other}
+use lib.Seq.{slice, slice-cons, slice-empty, length-slice, take-take}
+use lib.Seq.{ext-getD, getD-take, getD-drop, length-take-le, getD-set-same, getD-set-other}
 use Rattle.machine_laws.proofs.Cases.{bool-cases, eq-of, neq-of, not-eq}
 use Rattle.machine.specs.State.{wrap}
 use Rattle.machine.specs.Memory.{byteAt, Write, commit}
@@ -78,7 +79,8 @@ pub state-turn : (s j : List ℕ) (p i : ℕ) → length s ≡ 32 → i < 32 →
 state-turn s j p i l h f k g =
     bool-cases (eqb i k)
     (λ q. let e : i ≡ k = eq-of q in
-    subst (λ x. byteAt (set s i (byteAt j (64 * p + i))) x ≡ byteAt j (64 * p + x)) e (getD-set-same s i (byteAt j (64 * p + i)) 0 (omega arith)))
+    subst (λ x. byteAt (set s i (byteAt j (64 * p + i))) x ≡ byteAt j (64 * p + x)) e (getD-set-same s i (byteAt j (64 * p + i)) 0
+    (omega arith)))
     (λ q. let e : i ≢ k = neq-of q in getD-set-other s i k (byteAt j (64 * p + i)) 0 (omega arith) ∙ f k (omega arith))
 
 -- a buffer of 32 bytes that are those of the record

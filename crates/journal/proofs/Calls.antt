@@ -49,9 +49,11 @@ back-suc k x = refl
 module _ (memory r events log : List ℕ) (j : Journal) (n : ℕ) where
   -- the journal is looked at once the run call has passed
   pub journal-verdict : journalVerdict memory r events log j n
-      ≡ cond (accepted? (callVerdict memory r events log n)) (cond (not (journalFits j)) JournalFit Accepted) (callVerdict memory r events log n)
+      ≡ cond (accepted? (callVerdict memory r events log n)) (cond (not (journalFits j)) JournalFit Accepted)
+      (callVerdict memory r events log n)
   unfolding journalVerdict callVerdict
-  journal-verdict = first-then (callRules memory r events log n) (rule (not (journalFits j)) JournalFit ∷ []) (call-refuse memory r events log n)
+  journal-verdict =
+      first-then (callRules memory r events log n) (rule (not (journalFits j)) JournalFit ∷ []) (call-refuse memory r events log n)
 
   passed-then : callVerdict memory r events log n ≡ Accepted
       → journalVerdict memory r events log j n ≡ cond (not (journalFits j)) JournalFit Accepted
@@ -77,7 +79,8 @@ module _ (memory r events log : List ℕ) (j : Journal) (n : ℕ) where
   journal-call e =
       bool-cases (accepted? (callVerdict memory r events log n))
       (λ q. is-accepted (callVerdict memory r events log n) (eq-of q))
-      (λ q. sym (journal-verdict ∙ ap (λ b. cond b (cond (not (journalFits j)) JournalFit Accepted) (callVerdict memory r events log n)) q) ∙ e)
+      (λ q. sym (journal-verdict ∙ ap (λ b. cond b (cond (not (journalFits j)) JournalFit Accepted)
+      (callVerdict memory r events log n)) q) ∙ e)
 
   pub journal-ring : journalVerdict memory r events log j n ≡ Accepted → RingFits j
   journal-ring e =

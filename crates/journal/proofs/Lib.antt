@@ -1,3 +1,4 @@
 pub mod Record
+pub mod Restore
 pub mod Ring
 pub mod Calls

@@ -10,7 +10,8 @@ use lib.Dec.{eqb, ltb, leb}
 use lib.ListN.{length, take, drop, set, length-take, length-drop}
 use lib.Seq.{sets, sets-eq, length-sets, ext-getD, take-at, drop-at, length-take-le, getD-take, getD-drop, getD-set-other}
 use Rattle.machine.specs.Memory.{byteAt}
-use Rattle.machine_laws.proofs.Cases.{bool-cases, eq-of, neq-of, lt-of, ge-of, le-of, is-eq, not-eq, is-lt, not-lt, is-le, and-left, and-right, and-both}
+use Rattle.machine_laws.proofs.Cases.{bool-cases, eq-of, neq-of, lt-of, ge-of, le-of, is-eq}
+use Rattle.machine_laws.proofs.Cases.{not-eq, is-lt, not-lt, is-le, and-left, and-right, and-both}
 use Rattle.journal.specs.Ring.{Journal, journalOf, placesOf, recordAt, following, preceding, oneMore, keep, journalFits}
 use Rattle.journal.specs.Back.{lowered, loweredPlace}
 

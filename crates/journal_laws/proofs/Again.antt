@@ -52,7 +52,8 @@ step-due ev ev′ s e =
 -- ---- the states that a journal recalls
 
 -- a state is known by its record and its memory
-same-state : (s t : State) → Tidy s → s .count ≤ 4294967295 → Tidy t → t .count ≤ 4294967295 → recordOf s ≡ recordOf t → s .mem ≡ t .mem → s ≡ t
+same-state : (s t : State) → Tidy s → s .count ≤ 4294967295 → Tidy t → t .count ≤ 4294967295 → recordOf s ≡ recordOf t → s .mem ≡ t .mem
+    → s ≡ t
 same-state s t a b c d p q = sym (record-read s a b) ∙ (λ i. stateIn (p i) (q i)) ∙ record-read t c d
 
 module _ (t : Past) (k : Taken t) where

@@ -1,4 +1,3 @@
-pub mod Restore
 pub mod Recall
 pub mod Again
 pub mod Accepted

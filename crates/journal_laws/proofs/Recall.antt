@@ -22,7 +22,7 @@ use Rattle.journal.specs.Record.{journalRecord, stateOut, memoryOut}
 use Rattle.journal.specs.Ring.{Journal, journalOf, placesOf, recordAt, following, preceding, oneMore, keep, journalAfter}
 use Rattle.journal.specs.Back.{Lent, lentOf, lowered, oneBack, backOf, loweredPlace}
 use Rattle.journal_laws.specs.Past.{Past, past, next, Taken, Newest, rewound, Recalls, pastsOf}
-use Rattle.journal_laws.proofs.Restore.{record-whole, state-back, memory-back}
+use Rattle.journal.proofs.Restore.{record-whole, state-back, memory-back}
 use Rattle.journal.proofs.Calls.{after-zero, after-next, back-zero, back-suc}
 use Rattle.journal.proofs.Ring.{record-same, record-other, RingFits, preceding-following, lowered-zero, preceding-lowered}
 use Rattle.journal.proofs.Ring.{lowered-other, keep-places, keep-fits}
@@ -63,10 +63,12 @@ module _ (b e : List ℕ) (p : ℕ) (l : length e ≡ 64) (i : p < placesOf b) w
           taken = w .0 .taken;
           memory = w .0 .memory;
           state = w .0 .state;
-          entry = ap (recordAt b′) c′ ∙ record-other b e p l (loweredPlace r p (suc d)) (lowered-other r p (suc d) i (omega arith) (omega arith))
+          entry = ap (recordAt b′) c′ ∙ record-other b e p l (loweredPlace r p (suc d)) (lowered-other r p (suc d) i (omega arith)
+              (omega arith))
               ∙ ap (recordAt b) (sym c) ∙ w .0 .entry;
         },
-        walk k (suc d) (preceding r q) (preceding (placesOf b′) q′) (n - 1) (n′ - 1) (t .state .mem) (recordOf (t .state)) h (omega arith) c c′ (w .1),
+        walk k (suc d) (preceding r q) (preceding (placesOf b′) q′) (n - 1) (n′ - 1) (t .state .mem) (recordOf (t .state)) h
+            (omega arith) c c′ (w .1),
       )
 
 -- what is lent after a step
@@ -99,7 +101,8 @@ module _ (ev : List Event) (s : State) (j : Journal) (h : List Past) (t : Taken 
   unfolding keep
   kept-more k l w = (
     newest,
-    walk (j .bytes) e (j .place) (record-whole ev s) (f .place) k 0 (j .place) (lowered (keep e j) .place) (j .kept) (lowered (keep e j) .kept)
+    walk (j .bytes) e (j .place) (record-whole ev s) (f .place) k 0 (j .place) (lowered (keep e j) .place) (j .kept) (lowered
+        (keep e j) .kept)
         (s .mem) (recordOf s) h (omega arith) (sym (lowered-zero (placesOf (j .bytes)) (j .place)))
         (came ∙ sym (lowered-zero (placesOf (j .bytes)) (j .place))) w,
   )
@@ -113,8 +116,10 @@ module _ (ev : List Event) (s : State) (j : Journal) (h : List Past) (t : Taken 
   unfolding keep
   keep-recalls w =
       bool-cases (ltb (j .kept) (placesOf (j .bytes)))
-      (λ q. subst (λ c. Recalls (stepped ev s j) (past s ev ∷ h) (cond c (suc (j .kept)) (j .kept))) (sym q) (kept-more (j .kept) (lt-of q) w))
-      (λ q. subst (λ c. Recalls (stepped ev s j) (past s ev ∷ h) (cond c (suc (j .kept)) (j .kept))) (sym q) (kept-full (j .kept) (f .kept) w))
+      (λ q. subst (λ c. Recalls (stepped ev s j) (past s ev ∷ h) (cond c (suc (j .kept)) (j .kept))) (sym q) (kept-more (j .kept)
+      (lt-of q) w))
+      (λ q. subst (λ c. Recalls (stepped ev s j) (past s ev ∷ h) (cond c (suc (j .kept)) (j .kept))) (sym q) (kept-full (j .kept)
+      (f .kept) w))
 
 -- ---- a run
 
@@ -124,7 +129,8 @@ steps-live ev s k n e h =
     bool-cases (runOf ev s k .state .halted)
     (λ q.
     let n-is : k + (n - k) ≡ n = omega arith in
-    let stays : runOf ev s n .steps ≡ runOf ev s k .steps = ap (λ i. runOf ev s i .steps) (sym n-is) ∙ ap (λ r. r .steps) (run-stays ev s k (n - k) q) in
+    let stays : runOf ev s n .steps ≡ runOf ev s k .steps = ap (λ i. runOf ev s i .steps) (sym n-is)
+    ∙ ap (λ r. r .steps) (run-stays ev s k (n - k) q) in
     let l = steps-le ev s k in
     absurd (omega arith))
     (λ q. q)
@@ -167,9 +173,11 @@ module _ (ev : List Event) (s : State) (j : Journal) where
       let taken : Taken (past u ev) = record { tidy = run-tidy ev s n e t; countable = omega arith; live = live; events = e } in
       let i = journalAfter ev s j n in
       subst (Stands (at (suc n))) (sym (past-next n h))
-      (subst (λ (x : Run). Stands (lentOf (x .state .mem) (recordOf (x .state)) (journalAfter ev s j (suc n))) (past u ev ∷ pastsOf ev s n h))
+      (subst (λ (x : Run). Stands (lentOf (x .state .mem) (recordOf (x .state)) (journalAfter ev s j (suc n)))
+      (past u ev ∷ pastsOf ev s n h))
       (sym (run-next ev s n live))
-      (subst (λ (k : Journal). Stands (lentOf (stepOf ev u .mem) (recordOf (stepOf ev u)) k) (past u ev ∷ pastsOf ev s n h)) (sym (after-next ev s j n))
+      (subst (λ (k : Journal). Stands (lentOf (stepOf ev u .mem) (recordOf (stepOf ev u)) k) (past u ev ∷ pastsOf ev s n h)) (sym
+      (after-next ev s j n))
       (keep-fits i (g .0) (journalRecord ev u), keep-recalls ev u i (pastsOf ev s n h) taken (g .0) (g .1))))
 
 -- ---- going back
@@ -202,7 +210,8 @@ one-lowers x = refl
 back-numbers : (k d : ℕ) (x : Lent) (b : List ℕ) (n p : ℕ) → p < placesOf b → d + k ≤ placesOf b
     → x .journal ≡ journalOf b (n - d) (loweredPlace (placesOf b) p d)
     → backOf k x .journal ≡ journalOf b (n - (d + k)) (loweredPlace (placesOf b) p (d + k))
-back-numbers zero d x b n p h l e = ap (λ y. y .journal) (back-zero x) ∙ e ∙ ap (λ c. journalOf b (n - c) (loweredPlace (placesOf b) p c)) (sym (add-zero d))
+back-numbers zero d x b n p h l e =
+    ap (λ y. y .journal) (back-zero x) ∙ e ∙ ap (λ c. journalOf b (n - c) (loweredPlace (placesOf b) p c)) (sym (add-zero d))
 back-numbers (suc k) d x b n p h l e =
     let c : n - d - 1 ≡ n - suc d = omega arith in
     let one : oneBack x .journal ≡ journalOf b (n - suc d) (loweredPlace (placesOf b) p (suc d)) =

@@ -114,7 +114,8 @@ back-bytes (suc k) n x (t ∷ h) a b w =
     (back-bytes k n (rewound x t) h (d .bytes) (record-bytes (t .state)) (v .1))
 
 -- the number kept is k and what is left
-split-kept : (k : ℕ) (x : Lent) (h : List Past) → k ≤ x .journal .kept → Recalls x h (x .journal .kept) → Recalls x h (k + (x .journal .kept - k))
+split-kept : (k : ℕ) (x : Lent) (h : List Past) → k ≤ x .journal .kept → Recalls x h (x .journal .kept)
+    → Recalls x h (k + (x .journal .kept - k))
 split-kept k x h l w = let e : x .journal .kept ≡ k + (x .journal .kept - k) = omega arith in subst (Recalls x h) e w
 
 told-back : (k : ℕ) (x : Lent) (h : List Past) → Told x h → backVerdict k x ≡ Accepted → Told (backOf k x) (drop k h)
@@ -145,7 +146,8 @@ told-call (backs k) x h b t =
     let v = backVerdict k x in
     bool-cases (accepted? v)
     (λ q. subst (λ c. Told (backCallOf k x .lent) (cond c (drop k h) h)) (sym q)
-    (subst (λ (a : BackClosing). Told (a .lent) (drop k h)) (sym (back-answer k x (is-accepted v (eq-of q)))) (told-back k x h t (is-accepted v (eq-of q)))))
+    (subst (λ (a : BackClosing). Told (a .lent) (drop k h)) (sym (back-answer k x (is-accepted v (eq-of q)))) (told-back k x h t
+    (is-accepted v (eq-of q)))))
     (λ q. subst (λ c. Told (backCallOf k x .lent) (cond c (drop k h) h)) (sym q)
     (subst (λ (a : BackClosing). Told (a .lent) h) (sym (back-refused k x (neq-of q))) t))
 
@@ -167,9 +169,11 @@ goes-back x cs b newer t older s k e a =
     let ac = back-passed k y a in
     let w = split-kept k y (stepsIn cs x []) (ac .few) (told x cs b .recalls) in
     let v : Recalls y (newer ++ t ∷ older) (suc (length newer) + (y .journal .kept - k)) =
-    subst (λ n. Recalls y (newer ++ t ∷ older) (n + (y .journal .kept - k))) e (subst (λ h. Recalls y h (k + (y .journal .kept - k))) s w) in
+    subst (λ n. Recalls y (newer ++ t ∷ older) (n + (y .journal .kept - k))) e (subst (λ h. Recalls y h (k +
+    (y .journal .kept - k))) s w) in
     let g = back-to newer t older (y .journal .kept - k) y v in
-    let c : backCallOf k y .lent ≡ backOf (suc (length newer)) y = ap (λ (z : BackClosing). z .lent) (back-answer k y a) ∙ ap (λ n. backOf n y) e in
+    let c : backCallOf k y .lent ≡ backOf (suc (length newer)) y = ap (λ (z : BackClosing). z .lent) (back-answer k y a)
+    ∙ ap (λ n. backOf n y) e in
     (ap (λ z. z .memory) c ∙ g .0, ap (λ z. z .state) c ∙ g .1)
 
 -- ---- running on gives what came of it
@@ -263,14 +267,16 @@ leaves-journal memory r events log j k y f g =
     subst (λ (c : JournalClosing). Leaves (c .closing) y) (sym (journal-answer memory r events log j k a)) (f a))
     (λ q.
     let h : refusalNumber v ≢ 0 = neq-of q in
-    subst (λ (c : JournalClosing). Leaves (c .closing) y) (sym (journal-refused memory r events log j k h)) (record { memory = g h .0; state = g h .1 }))
+    subst (λ (c : JournalClosing). Leaves (c .closing) y) (sym (journal-refused memory r events log j k h))
+    (record { memory = g h .0; state = g h .1 }))
 
 -- no step: refused or not, nothing moves
 none-again : (events log : List ℕ) (y : Lent) → Bytes (y .state) → LongEnough log events 0 y → Again events log 0 y y
 none-again events log y b enough =
     let s = stateIn (y .state) (y .memory) in
     let zero-run = run-zero (eventsOf events) s in
-    let go : callVerdict (y .memory) (y .state) events log 0 ≡ Accepted → Leaves (closing log (runOn (y .memory) (y .state) events log 0)) y =
+    let go : callVerdict (y .memory) (y .state) events log 0 ≡ Accepted
+    → Leaves (closing log (runOn (y .memory) (y .state) events log 0)) y =
     λ a.
     let P = passed (y .memory) (y .state) events 0 (call-start (y .memory) (y .state) events log 0 a) in
     run-same events log 0 y y enough

@@ -140,7 +140,8 @@ module _
         → journalWith b′ y ≡ runJournalOf memory r events log j n .journal
     journal-ran b b′ x y lent some q =
         q
-        ∙ ap (λ c. cond c (journalWith b x) (journalAfter (eventsOf events) (stateOf m memory) (journalWith b x) (ran .steps))) (not-eq some)
+        ∙ ap (λ c. cond c (journalWith b x) (journalAfter (eventsOf events) (stateOf m memory) (journalWith b x) (ran .steps)))
+        (not-eq some)
         ∙ (λ i. journalAfter (eventsOf events) (read memory i) (sym lent i) (run-is i .steps))
         ∙ sym (ap (λ (z : JournalClosing). z .journal) (journal-answer memory r events log j n (accepted h)))
 

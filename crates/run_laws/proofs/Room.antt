@@ -244,7 +244,8 @@ module _ (ev : List Event) (s : State) (k : ℕ) where
       let c = records-next (x .steps) in
       let n-is : suc (x .steps) + (n - suc (x .steps)) ≡ n = omega arith in
       let d : length (recordsOf ev s (suc (x .steps))) ≤ length (recordsOf ev s n) =
-      subst (λ i. length (recordsOf ev s (suc (x .steps))) ≤ length (recordsOf ev s i)) n-is (records-more (suc (x .steps)) (n - suc (x .steps))) in
+      subst (λ i. length (recordsOf ev s (suc (x .steps))) ≤ length (recordsOf ev s i)) n-is (records-more (suc (x .steps)) (n - suc
+      (x .steps))) in
       absurd (omega arith))
       (λ q. q)
 

@@ -185,16 +185,20 @@ pub extern "C" fn xm23_back(
         (journalOf (now (journal .entry)) (now (kept .entry)) (now (place .entry)))) .reply ⌝ }
     ensures memory { λ r. ⌜ now (memory .exit) ≡ backCallOf k
         (lentOf (now (memory .entry)) (now (state .entry))
-        (journalOf (now (journal .entry)) (now (kept .entry)) (now (place .entry)))) .lent .memory ⌝ }
+        (journalOf (now (journal .entry)) (now (kept .entry)) (now (place .entry))))
+        .lent .memory ⌝ }
     ensures state { λ r. ⌜ now (state .exit) ≡ backCallOf k
         (lentOf (now (memory .entry)) (now (state .entry))
-        (journalOf (now (journal .entry)) (now (kept .entry)) (now (place .entry)))) .lent .state ⌝ }
+        (journalOf (now (journal .entry)) (now (kept .entry)) (now (place .entry))))
+        .lent .state ⌝ }
     ensures number { λ r. ⌜ now (kept .exit) ≡ backCallOf k
         (lentOf (now (memory .entry)) (now (state .entry))
-        (journalOf (now (journal .entry)) (now (kept .entry)) (now (place .entry)))) .lent .journal .kept ⌝ }
+        (journalOf (now (journal .entry)) (now (kept .entry)) (now (place .entry))))
+        .lent .journal .kept ⌝ }
     ensures place { λ r. ⌜ now (place .exit) ≡ backCallOf k
         (lentOf (now (memory .entry)) (now (state .entry))
-        (journalOf (now (journal .entry)) (now (kept .entry)) (now (place .entry)))) .lent .journal .place ⌝ }
+        (journalOf (now (journal .entry)) (now (kept .entry)) (now (place .entry))))
+        .lent .journal .place ⌝ }
 {
     back::back_call(memory, state, journal, kept, place, k)
 }

@@ -36,15 +36,23 @@ cast-go-back : tie.Need-cast-go-back
 cast-go-back c =
     let a = c .before .before .before .before .before .before .before .before .before .before .before .before .args in
     let x = lentAt (now (a .memory)) (now (a .state)) (now (a .journal)) (now (a .kept)) (now (a .place)) in
-    let r = c .before .before .before .refusal-number .ensures .0 ∙ ap refusalNumber (c .before .before .before .before .back-verdict .ensures) in
+    let r = c .before .before .before .refusal-number .ensures .0
+    ∙ ap refusalNumber (c .before .before .before .before .back-verdict .ensures) in
     let p = back-passed (a .k) x (passed-of (a .k) x _ r (c .before .before .if1 .left)) in
-    omega (arith, p .few, c .before .before .before .before .before .before .row-known .given, c .before .before .before .before .before .row-known2 .given)
+    omega (
+      arith,
+      p .few,
+      c .before .before .before .before .before .before .row-known .given,
+      c .before .before .before .before .before
+          .row-known2 .given,
+    )
 
 go-back-requires : tie.Need-go-back-requires
 go-back-requires c κs =
     let a = c .before .before .before .before .before .before .before .before .before .before .before .before .args in
     let x = lentAt (now (a .memory)) (now (a .state)) (now (a .journal)) (now (a .kept)) (now (a .place)) in
-    let r = c .before .before .before .refusal-number .ensures .0 ∙ ap refusalNumber (c .before .before .before .before .back-verdict .ensures) in
+    let r = c .before .before .before .refusal-number .ensures .0
+    ∙ ap refusalNumber (c .before .before .before .before .back-verdict .ensures) in
     let p = back-passed (a .k) x (passed-of (a .k) x _ r (c .before .before .if1 .left)) in
     (p .memory-size, p .state-size, p .ring .small, p .ring .place, p .few)
 
@@ -56,9 +64,11 @@ same-length-4 c = search needs
 
 returns-2 : tie.Need-returns-2
 returns-2 c =
-    let a = c .before .before .before .before .before .before .before .before .before .before .before .before .before .before .before .before .before .args in
+    let a = c .before .before .before .before .before .before .before .before .before .before .before .before .before .before .before
+    .before .before .args in
     let x = lentAt (now (a .memory)) (now (a .state)) (now (a .journal)) (now (a .kept)) (now (a .place)) in
-    let r = c .before .before .before .before .before .before .before .before .refusal-number .ensures .0 ∙ ap refusalNumber (c .before .before .before .before .before .before .before .before .before .back-verdict .ensures) in
+    let r = c .before .before .before .before .before .before .before .before .refusal-number .ensures .0
+    ∙ ap refusalNumber (c .before .before .before .before .before .before .before .before .before .back-verdict .ensures) in
     let e = back-answer (a .k) x (passed-of (a .k) x _ r (c .before .before .before .before .before .before .before .if1 .left)) in
     (sym (ap (λ z. z .reply) e), c .before .before .before .before .go-back .ensures ∙ sym (ap (λ z. z .lent) e))
 

@@ -34,14 +34,26 @@ returns-4 : tie.Need-returns-4
 unfolding backVerdict
 returns-4 c =
     let e3 = sym (c .before .before .journal-fits .ensures) ∙ not-false _ (c .before .if3 .left) in
-    rw (eq-eqb _ _ (c .before .before .before .before .if1 .left), eq-eqb _ _ (c .before .before .before .if2 .left), e3, lt-ltb _ _ (c .if4 .taken))
+    rw (
+      eq-eqb _ _ (c .before .before .before .before .if1 .left),
+      eq-eqb _ _ (c .before .before .before .if2 .left),
+      e3,
+      lt-ltb _ _
+          (c .if4 .taken),
+    )
 
 -- src/lib.rt:80:1
 returns-5 : tie.Need-returns-5
 unfolding backVerdict
 returns-5 c =
     let e3 = sym (c .before .before .journal-fits .ensures) ∙ not-false _ (c .before .if3 .left) in
-    rw (eq-eqb _ _ (c .before .before .before .before .if1 .left), eq-eqb _ _ (c .before .before .before .if2 .left), e3, le-ltb _ _ (c .if4 .left))
+    rw (
+      eq-eqb _ _ (c .before .before .before .before .if1 .left),
+      eq-eqb _ _ (c .before .before .before .if2 .left),
+      e3,
+      le-ltb _ _
+          (c .if4 .left),
+    )
 
 pub back-verdict-spec : {M : Type 1} → statement M
 back-verdict-spec =

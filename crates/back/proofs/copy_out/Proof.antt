@@ -58,7 +58,8 @@ same-length-2 c = search needs
 -- src/lib.rt:40:1
 returns : tie.Need-returns
 returns c =
-    let s = c .before .before .before .before .before .before .before .before .before .before .before .before .before .before .before .before in
+    let s = c .before .before .before .before .before .before .before .before .before .before .before .before .before .before .before
+    .before in
     let j = now (s .args .journal) in
     let o = 64 * s .args .p in
     let a = c .before .before .before .before .two-at .result in

@@ -78,7 +78,8 @@ returns c =
     let l = c .before .loop in
     let b = now (s .args .journal) in
     let e : l .i ≡ s .args .n = omega (arith, l .inv .1, c .loop-test .left) in
-    sym (ap (rest (l .memory) b (s .args .from) (s .args .a) (s .args .n)) e ∙ bytes-end (l .memory) b (s .args .from) (s .args .a) (s .args .n))
+    sym (ap (rest (l .memory) b (s .args .from) (s .args .a) (s .args .n)) e
+    ∙ bytes-end (l .memory) b (s .args .from) (s .args .a) (s .args .n))
     ∙ l .inv .3 ∙ bytes-start (now (s .args .memory)) b (s .args .from) (s .args .a) (s .args .n)
 
 pub put-bytes-spec : {M : Type 1} → statement M

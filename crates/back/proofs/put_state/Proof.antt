@@ -66,7 +66,8 @@ returns : tie.Need-returns Inv-loop μ-loop
 returns c =
     let s = c .before .before in
     let l = c .before .loop in
-    state-copied (l .state) (now (s .args .journal)) (s .args .p) (l .inv .0) (s .pre .1) (λ k h. l .inv .3 k (omega (arith, l .inv .1, c .loop-test .left)))
+    state-copied (l .state) (now (s .args .journal)) (s .args .p) (l .inv .0) (s .pre .1) (λ k h. l .inv .3 k (omega
+    (arith, l .inv .1, c .loop-test .left)))
 
 pub put-state-spec : {M : Type 1} → statement M
 put-state-spec =

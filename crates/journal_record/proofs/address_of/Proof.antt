@@ -93,7 +93,8 @@ returns-3 c k q = ap (λ a. addressOf a k) (sym (c .enum-told3 .given .1))
 -- src/lib.rt:44:1
 returns-4 : tie.Need-returns-4
 unfolding addressOf
-returns-4 c k q = c .frame-at .ensures ∙ ap (λ (s : ℕ). even (down s 8)) (sym q) ∙ ap (λ a. addressOf a k) (sym (c .before .enum-told4 .given .1))
+returns-4 c k q =
+    c .frame-at .ensures ∙ ap (λ (s : ℕ). even (down s 8)) (sym q) ∙ ap (λ a. addressOf a k) (sym (c .before .enum-told4 .given .1))
 
 -- src/lib.rt:44:1
 returns-5 : tie.Need-returns-5
@@ -103,7 +104,8 @@ returns-5 c k q = ap (λ a. addressOf a k) (sym (c .enum-told5 .given .1))
 -- src/lib.rt:44:1
 returns-6 : tie.Need-returns-6
 unfolding addressOf
-returns-6 c k q = c .frame-at2 .ensures ∙ ap (λ (s : ℕ). even (down s 8)) (sym q) ∙ ap (λ a. addressOf a k) (sym (c .before .enum-told6 .given .1))
+returns-6 c k q =
+    c .frame-at2 .ensures ∙ ap (λ (s : ℕ). even (down s 8)) (sym q) ∙ ap (λ a. addressOf a k) (sym (c .before .enum-told6 .given .1))
 
 -- src/lib.rt:44:1
 returns-7 : tie.Need-returns-7
@@ -118,7 +120,8 @@ returns-8 c k q = ap (λ a. addressOf a k) (sym (c .enum-told8 .given .1))
 -- src/lib.rt:44:1
 returns-9 : tie.Need-returns-9
 unfolding addressOf
-returns-9 c k q = c .frame-at3 .ensures ∙ ap (λ (s : ℕ). even (down s 8)) (sym q) ∙ ap (λ a. addressOf a k) (sym (c .before .enum-told9 .given .1))
+returns-9 c k q =
+    c .frame-at3 .ensures ∙ ap (λ (s : ℕ). even (down s 8)) (sym q) ∙ ap (λ a. addressOf a k) (sym (c .before .enum-told9 .given .1))
 
 -- src/lib.rt:44:1
 returns-10 : tie.Need-returns-10

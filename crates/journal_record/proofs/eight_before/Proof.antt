@@ -81,9 +81,11 @@ byte-before-requires-8 c κs = search needs
 -- src/lib.rt:96:1
 returns-2 : tie.Need-returns-2
 returns-2 c b w =
-    let s = c .before .before .before .before .before .before .before .before .before .before .before .before .before .before .before .before .before in
+    let s = c .before .before .before .before .before .before .before .before .before .before .before .before .before .before .before
+    .before .before in
     eight-wrapped b (s .args .a) _ _ _ _ _ _ _ _ _ _ _ _ _ _ _ (omega arith)
-    (c .before .before .before .before .before .before .before .before .before .before .before .before .before .before .byte-before .ensures b w)
+    (c .before .before .before .before .before .before .before .before .before .before .before .before .before .before .byte-before
+    .ensures b w)
     (c .before .before .before .before .before .before .before .before .before .before .before .before .before .wrapping-add-u16 .ensures)
     (c .before .before .before .before .before .before .before .before .before .before .before .before .byte-before2 .ensures b w)
     (c .before .before .before .before .before .before .before .before .before .before .before .wrapping-add-u162 .ensures)

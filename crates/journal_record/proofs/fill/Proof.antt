@@ -27,11 +27,13 @@ slice-relend-prefix-write-record c = search needs
 
 -- src/lib.rt:137:32
 slice-aggregate-write-record : tie.Need-slice-aggregate-write-record
-slice-aggregate-write-record c = sym (length-take-le 32 (now (c .before .before .before .before .args .e)) (omega (arith, c .before .before .before .before .pre .0)))
+slice-aggregate-write-record c =
+    sym (length-take-le 32 (now (c .before .before .before .before .args .e)) (omega (arith, c .before .before .before .before .pre .0)))
 
 -- src/lib.rt:137:5
 write-record-requires : tie.Need-write-record-requires
-write-record-requires c κs = length-take-le 32 (now (c .before .before .before .before .args .e)) (omega (arith, c .before .before .before .before .pre .0))
+write-record-requires c κs =
+    length-take-le 32 (now (c .before .before .before .before .args .e)) (omega (arith, c .before .before .before .before .pre .0))
 
 -- src/lib.rt:138:5
 put-bytes-requires : tie.Need-put-bytes-requires
@@ -64,11 +66,13 @@ same-length c = search needs
 -- src/lib.rt:129:1
 returns : tie.Need-returns
 returns c b w =
-    let s = c .before .before .before .before .before .before .before .before .before .before .before .before .before .before .before .before .before .before .before .before .before .before .before .before .before .before in
+    let s = c .before .before .before .before .before .before .before .before .before .before .before .before .before .before .before
+    .before .before .before .before .before .before .before .before .before .before .before in
     let e = now (s .args .e) in
     let d = now (s .args .devices) in
     let a = s .args .a in
-    let g = c .before .before .before .before .before .before .before .before .before .before .before .before .before .before .before .before .before .before .before .before .before .before .before .eight-before in
+    let g = c .before .before .before .before .before .before .before .before .before .before .before .before .before .before .before
+    .before .before .before .before .before .before .before .before .eight-before in
     let l = length-drop 32 e in
     c .before .before .put-bytes3 .ensures
     ∙ ap (λ x. sets x 58 zeros)
@@ -76,8 +80,11 @@ returns c b w =
     ∙ ap (λ x. sets x 50 (g .result))
     (c .before .before .before .before .before .before .before .before .before .before .before .before .put-two .ensures
     ∙ ap (λ x. twoPut x 48 a)
-    (c .before .before .before .before .before .before .before .before .before .before .before .before .before .before .before .before .put-bytes .ensures ∙ ap (λ r. sets (r ++ drop 32 e) 32 d) (c .before .before .before .before .before .before .before .before .before .before .before .before .before .before .before .before .before .before .before .before .before .write-record .ensures b))))
-    ∙ filled-before (stateOf (s .args .m) b) b d (now (s .args .mem)) (drop 32 e) (g .result) a w (omega (arith, s .pre .0)) (g .ensures b w)
+    (c .before .before .before .before .before .before .before .before .before .before .before .before .before .before .before .before
+    .put-bytes .ensures ∙ ap (λ r. sets (r ++ drop 32 e) 32 d) (c .before .before .before .before .before .before .before .before .before
+    .before .before .before .before .before .before .before .before .before .before .before .before .write-record .ensures b))))
+    ∙ filled-before (stateOf (s .args .m) b) b d (now (s .args .mem)) (drop 32 e) (g .result) a w (omega (arith, s .pre .0))
+    (g .ensures b w)
 
 pub fill-spec : {M : Type 1} → statement M
 fill-spec =

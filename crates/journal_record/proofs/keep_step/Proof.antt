@@ -71,8 +71,10 @@ returns-2 c =
     let k = c .before .one-more .ensures in
     let q = c .place-after .ensures in (
       (λ b u w e. let a = c .before .before .before .before .before .address-of .ensures u e in
-          one-kept j _ (s .args .r) _ _ (omega (arith, c .before .before .before .before .before .before .before .before .if1 .left)) (p .ensures b w
-          ∙ ap (λ a. sets j (64 * s .args .r .place) (fieldsOf (recordOf (stateOf (s .args .m) b)) (bytesFrom b 0 16) a (bytesFrom b a 8))) a) k q),
+          one-kept j _ (s .args .r) _ _ (omega (arith, c .before .before .before .before .before .before .before .before .if1 .left))
+          (p .ensures b w
+          ∙ ap (λ a. sets j (64 * s .args .r .place) (fieldsOf (recordOf (stateOf (s .args .m) b)) (bytesFrom b 0 16) a
+          (bytesFrom b a 8))) a) k q),
       still-lends j _ (s .args .r) _ f (omega arith) k q,
     )
 

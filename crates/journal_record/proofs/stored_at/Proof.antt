@@ -12,7 +12,8 @@ returns c = let a = c .before .before .args in stored-device (a .byte) (a .at .0
 
 -- src/lib.rt:38:9
 returns-2 : tie.Need-returns-2
-returns-2 c = let a = c .before .before .before .args in stored-byte (a .byte) (a .at .0) (omega (arith, c .before .if1 .left)) (c .if2 .taken)
+returns-2 c =
+    let a = c .before .before .before .args in stored-byte (a .byte) (a .at .0) (omega (arith, c .before .if1 .left)) (c .if2 .taken)
 
 -- src/lib.rt:40:5
 mul-result : tie.Need-mul-result

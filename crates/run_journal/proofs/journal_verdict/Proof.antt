@@ -18,12 +18,14 @@ journal-fits-requires c κs = search needs
 
 returns-2 : tie.Need-returns-2
 returns-2 c =
-    then-accepted _ _ _ _ _ _ _ _ (c .before .before .before .before .call-verdict .ensures) (c .before .before .before .refusal-number .ensures .0) (c .before .before .if1 .left) _ (c .before .journal-fits .ensures)
+    then-accepted _ _ _ _ _ _ _ _ (c .before .before .before .before .call-verdict .ensures)
+    (c .before .before .before .refusal-number .ensures .0) (c .before .before .if1 .left) _ (c .before .journal-fits .ensures)
     (c .if2 .taken)
 
 returns-3 : tie.Need-returns-3
 returns-3 c =
-    then-fourteen _ _ _ _ _ _ _ _ (c .before .before .before .before .call-verdict .ensures) (c .before .before .before .refusal-number .ensures .0) (c .before .before .if1 .left) _ (c .before .journal-fits .ensures)
+    then-fourteen _ _ _ _ _ _ _ _ (c .before .before .before .before .call-verdict .ensures)
+    (c .before .before .before .refusal-number .ensures .0) (c .before .before .if1 .left) _ (c .before .journal-fits .ensures)
     (c .if2 .left)
 
 pub journal-verdict-spec : {M : Type 1} → statement M

@@ -78,17 +78,24 @@ run-kept-requires c κs =
 
 write-record-requires : tie.Need-write-record-requires
 write-record-requires c κs =
-    let v = c .before .before .before .before .before .before .before .before .before .before .before .before .before .before .before .journal-verdict .ensures in
-    let k = c .before .before .before .before .before .before .before .before .before .before .before .before .before .before .refusal-number .ensures .0 in
-    passed-all _ _ _ _ _ _ _ _ v k (c .before .before .before .before .before .before .before .before .before .before .before .before .before .if1 .left) .record-size
+    let v = c .before .before .before .before .before .before .before .before .before .before .before .before .before .before .before
+    .journal-verdict .ensures in
+    let k = c .before .before .before .before .before .before .before .before .before .before .before .before .before .before
+    .refusal-number .ensures .0 in
+    passed-all _ _ _ _ _ _ _ _ v k (c .before .before .before .before .before .before .before .before .before .before .before .before
+    .before .if1 .left) .record-size
 
 reply-of-requires : tie.Need-reply-of-requires
 reply-of-requires c κs =
-    let v = c .before .before .before .before .before .before .before .before .before .before .before .before .before .before .before .before .before .before .journal-verdict .ensures in
-    let k = c .before .before .before .before .before .before .before .before .before .before .before .before .before .before .before .before .before .refusal-number .ensures .0 in
-    let i = c .before .before .before .before .before .before .before .before .before .before .before .before .before .before .before .before .if1 .left in
+    let v = c .before .before .before .before .before .before .before .before .before .before .before .before .before .before .before
+    .before .before .before .journal-verdict .ensures in
+    let k = c .before .before .before .before .before .before .before .before .before .before .before .before .before .before .before
+    .before .before .refusal-number .ensures .0 in
+    let i = c .before .before .before .before .before .before .before .before .before .before .before .before .before .before .before
+    .before .if1 .left in
     let r = c .before .before .before .before .before .before .before .before .before .before .run-kept .ensures in
-    let m = c .before .before .before .before .before .before .before .before .before .before .before .before .before .before .read-record in (
+    let m = c .before .before .before .before .before .before .before .before .before .before .before .before .before .before .read-record
+    in (
       subst (λ x. x ≤ 1000000) (sym (r .1 .1 .0)) (steps-few _ _ _ _ _ _ _ _ v k i (m .result) (m .ensures)),
       subst (λ x. x ≤ 1000000) (sym (r .1 .1 .1 .0)) (records-few _ _ _ _ _ _ _ _ v k i (m .result) (m .ensures)),
     )
@@ -107,17 +114,23 @@ same-length-8 c = search needs
 
 returns-2 : tie.Need-returns-2
 returns-2 c =
-    let v = c .before .before .before .before .before .before .before .before .before .before .before .before .before .before .before .before .before .before .before .journal-verdict .ensures in
-    let k = c .before .before .before .before .before .before .before .before .before .before .before .before .before .before .before .before .before .before .refusal-number .ensures .0 in
-    let i = c .before .before .before .before .before .before .before .before .before .before .before .before .before .before .before .before .before .if1 .left in
-    let s = c .before .before .before .before .before .before .before .before .before .before .before .before .before .before .before .before .before .before .before .before .before .before .before .before .before .before .before .before .before .before .before in
+    let v = c .before .before .before .before .before .before .before .before .before .before .before .before .before .before .before
+    .before .before .before .before .journal-verdict .ensures in
+    let k = c .before .before .before .before .before .before .before .before .before .before .before .before .before .before .before
+    .before .before .before .refusal-number .ensures .0 in
+    let i = c .before .before .before .before .before .before .before .before .before .before .before .before .before .before .before
+    .before .before .if1 .left in
+    let s = c .before .before .before .before .before .before .before .before .before .before .before .before .before .before .before
+    .before .before .before .before .before .before .before .before .before .before .before .before .before .before .before .before in
     let r = c .before .before .before .before .before .before .before .before .before .before .before .run-kept .ensures in
-    let m = c .before .before .before .before .before .before .before .before .before .before .before .before .before .before .before .read-record in
+    let m = c .before .before .before .before .before .before .before .before .before .before .before .before .before .before .before
+    .read-record in
     let e =
     closing-ran _ _ _ _ _ _ _ _ v k i (m .result) (m .ensures) _ _ _ _ _ _ _ _ (r .0) (r .1 .0) (r .1 .1 .0) (r .1 .1 .1 .0)
     (r .1 .1 .1 .1 .0) (c .before .before .before .write-record .ensures) (c .reply-of .ensures) in
     let some = some-length _ _ _ _ _ _ _ _ v k (now (s .args .journal)) _ refl i in
-    let j = journal-ran _ _ _ _ _ _ _ _ v k i (m .result) (m .ensures) (now (s .args .journal)) _ _ _ refl some (r .1 .1 .1 .1 .1 .1 .1) in (
+    let j = journal-ran _ _ _ _ _ _ _ _ v k i (m .result) (m .ensures) (now (s .args .journal)) _ _ _ refl some
+    (r .1 .1 .1 .1 .1 .1 .1) in (
       ap (λ x. x .reply) e,
       (
         ap (λ x. x .memory) e,

@@ -104,7 +104,8 @@ placed-hit m a (suc n) zero h = rw (is-eq {m = wrap a} {n = wrap (a + 0)} (omega
 placed-hit m a (suc n) (suc i) h =
     bool-cases (eqb (wrap a) (wrap (a + suc i)))
     (λ q. rw q refl)
-    (λ q. rw q (subst (λ x. writes? (placed (suc a) (bytesFrom m (suc a) n)) (wrap x) ≡ true) (suc-add a i ∙ sym (add-suc a i)) (placed-hit m (suc a) n i (omega arith))))
+    (λ q. rw q (subst (λ x. writes? (placed (suc a) (bytesFrom m (suc a) n)) (wrap x) ≡ true) (suc-add a i
+    ∙ sym (add-suc a i)) (placed-hit m (suc a) n i (omega arith))))
 
 -- ---- the fields of a record
 
@@ -156,10 +157,12 @@ module _ (state devices eight : List ℕ) (a : ℕ) (l : length state ≡ 32) (d
 
   pub entry-address : a < 65536 → twoAt e 48 ≡ a
   entry-address h =
-      let lo : byteAt e 48 ≡ lowByte a = ap (λ x. byteAt x 48) cut ∙ getD-at front (lowByte a) (highByte a ∷ (eight ++ zeros)) 0 48 front-length in
+      let lo : byteAt e 48 ≡ lowByte a = ap (λ x. byteAt x 48) cut
+      ∙ getD-at front (lowByte a) (highByte a ∷ (eight ++ zeros)) 0 48 front-length in
       let hi : byteAt e 49 ≡ highByte a =
       ap (λ x. byteAt x 49) (cut ∙ sym (append-assoc front (lowByte a ∷ []) (highByte a ∷ (eight ++ zeros))))
-      ∙ getD-at (front ++ (lowByte a ∷ [])) (highByte a) (eight ++ zeros) 0 49 (length-append front (lowByte a ∷ []) ∙ ap (λ n. n + 1) front-length) in
+      ∙ getD-at (front ++ (lowByte a ∷ [])) (highByte a) (eight ++ zeros) 0 49 (length-append front (lowByte a ∷ [])
+      ∙ ap (λ n. n + 1) front-length) in
       (λ i. lo i + 256 * hi i) ∙ word-back a h
 
 -- ---- the address is one
@@ -230,7 +233,8 @@ module _ (ev : List Event) (s : State) where
       ∙ ap (over W₂ b) (commit-at W₁ m b (rw l h))
       ∙ over-from (s .mem) W₂ b (over W₁ b (byteAt m b)) (placed-from (s .mem) a 8)
       (λ p. over-from (s .mem) W₁ b (byteAt m b) (placed-from (s .mem) 0 16)
-      (λ q. k (outside q) (λ e. absurd (true≢false (sym (placed-hit (s .mem) a 8 (e .0) (e .1 .0)) ∙ ap (writes? W₂) (sym (e .1 .1)) ∙ p)))))
+      (λ q. k (outside q) (λ e. absurd (true≢false (sym (placed-hit (s .mem) a 8 (e .0) (e .1 .0)) ∙ ap (writes? W₂) (sym (e .1 .1))
+      ∙ p)))))
     where
       outside : writes? W₁ b ≡ false → 16 ≤ b
       outside q =

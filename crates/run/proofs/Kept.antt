@@ -88,13 +88,13 @@ before-kept d m ed em =
       size = length-sets m 0 d ∙ em;
       devices = sym (ap (take 16) joined ∙ take-at d (drop 16 m) 16 ed);
       others = λ a h l.
-        let i : length d + (a - 16) ≡ a = omega arith in
-        let k : 16 + (a - 16) ≡ a = omega arith in
-        sym (ap (λ x. getD x a 0) joined
-        ∙ ap (λ n. getD (d ++ drop 16 m) n 0) (sym i)
-        ∙ getD-append-add d (drop 16 m) (a - 16) 0
-        ∙ getD-drop 16 m (a - 16) 0
-        ∙ ap (λ n. getD m n 0) k);
+          let i : length d + (a - 16) ≡ a = omega arith in
+          let k : 16 + (a - 16) ≡ a = omega arith in
+          sym (ap (λ x. getD x a 0) joined
+          ∙ ap (λ n. getD (d ++ drop 16 m) n 0) (sym i)
+          ∙ getD-append-add d (drop 16 m) (a - 16) 0
+          ∙ getD-drop 16 m (a - 16) 0
+          ∙ ap (λ n. getD m n 0) k);
     }
 
 -- that of the state, once its memory is the one before the events

@@ -189,16 +189,12 @@ address-lt (act.Stores false a v) c f =
 module _ (ev : List Event) (s : State) where
   pub record-whole : length (journalRecord ev s) ≡ 64
   unfolding journalRecord
-  record-whole =
-      entry-length (recordOf s) (bytesFrom (s .mem) 0 16) (bytesFrom (s .mem) (addressIn ev s) 8) (addressIn ev s)
-      (record-length s) (bytes-length (s .mem) 0 16) (bytes-length (s .mem) (addressIn ev s) 8)
+  record-whole = entry-length _ _ _ _ (record-length s) (bytes-length _ 0 16) (bytes-length _ (addressIn ev s) 8)
 
   -- the state record comes back
   pub state-back : stateOut (journalRecord ev s) ≡ recordOf s
   unfolding journalRecord
-  state-back =
-      entry-state (recordOf s) (bytesFrom (s .mem) 0 16) (bytesFrom (s .mem) (addressIn ev s) 8) (addressIn ev s)
-      (record-length s) (bytes-length (s .mem) 0 16) (bytes-length (s .mem) (addressIn ev s) 8)
+  state-back = entry-state _ _ _ _ (record-length s) (bytes-length _ 0 16) (bytes-length _ (addressIn ev s) 8)
 
   abbrev W₁ : List Write
   W₁ = placed 0 (bytesFrom (s .mem) 0 16)

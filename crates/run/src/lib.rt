@@ -49,7 +49,7 @@ struct Delivery {
 }
 
 // The record awaited from record k on.
-fn awaited(events: &[u8], k: usize) -> Awaited
+fn awaiting(events: &[u8], k: usize) -> Awaited
     ensures { λ r. ⌜ (r .next ≡ k) × (r .due ≡ dueOf (now (events .entry)) k) ⌝ }
 {
     Awaited {
@@ -72,7 +72,7 @@ fn deliver_due(memory: &mut [u8], events: &[u8], at: Awaited, count: u32, lines:
         return Delivery { lines, at };
     }
     let d = devices::deliver(memory, events, at.next, count, lines);
-    let next = awaited(events, d.next);
+    let next = awaiting(events, d.next);
     Delivery {
         lines: d.lines,
         at: next,
@@ -136,6 +136,20 @@ fn with_lines(t: Rest, lines: Lines) -> Rest
     }
 }
 
+// The machine put together again.
+fn machine_of(regs: [u16; 8], t: Rest) -> Machine
+    ensures { λ r. ⌜ ((mem : List ℕ) → stateOf r mem ≡ stateWith regs t mem) ⌝ }
+{
+    Machine {
+        regs,
+        psw: t.psw,
+        cex: t.cex,
+        lines: t.lines,
+        halted: t.halted,
+        count: t.count,
+    }
+}
+
 // What a run leaves: the machine put together again, and why it ended.
 fn ended(
     regs: [u16; 8],
@@ -152,18 +166,9 @@ fn ended(
     ensures numbers { λ r. ⌜ (r .steps ≡ done) × (r .added ≡ added) × (r .next ≡ next)
         × (r .depth ≡ depth) × (r .ring ≡ ring) ⌝ }
 {
-    let machine = Machine {
-        regs,
-        psw: t.psw,
-        cex: t.cex,
-        lines: t.lines,
-        halted: t.halted,
-        count: t.count,
-    };
-    let reason = reason_of(t.halted, short);
     Ran {
-        machine,
-        reason,
+        machine: machine_of(regs, t),
+        reason: reason_of(t.halted, short),
         steps: done,
         added,
         next,
@@ -180,20 +185,6 @@ fn at_once(lent: bool, left: u32) -> u32
         return 0;
     }
     left
-}
-
-// The machine put together again.
-fn machine_of(regs: [u16; 8], t: Rest) -> Machine
-    ensures { λ r. ⌜ ((mem : List ℕ) → stateOf r mem ≡ stateWith regs t mem) ⌝ }
-{
-    Machine {
-        regs,
-        psw: t.psw,
-        cex: t.cex,
-        lines: t.lines,
-        halted: t.halted,
-        count: t.count,
-    }
 }
 
 // A run of n steps, fewer if the machine halts or the log has no room for what a step would show,
@@ -245,7 +236,7 @@ pub fn run_kept(
     let mut regs = m.regs;
     let mut t = rest_of(m);
     let mut devices: [u8; 16] = [0; 16];
-    let mut at = awaited(events, from);
+    let mut at = awaiting(events, from);
     let mut done: u32 = 0;
     let mut added: usize = 0;
     let mut depth = begun;
@@ -258,7 +249,7 @@ pub fn run_kept(
         if t.halted | (done == n) {
             break;
         }
-        let held = regs;
+        let held = machine_of(regs, t);
         let wanted = lent | ((added == room) & (at.due <= t.count as u64));
         output_log::keep(memory, wanted, &mut devices);
         let d = deliver_due(memory, events, at, t.count, t.lines);
@@ -266,22 +257,14 @@ pub fn run_kept(
         let act = p.act;
         let shown = output_log::shown_by(memory, act);
         if output_log::lacks_room(shown, added, room) {
-            regs = held;
+            regs = held.regs;
             output_log::put_back(memory, wanted, &devices);
             short = true;
             break;
         }
         added = output_log::add(log, added, t.count, shown);
         depth = frame_depth::moved(act, depth);
-        ring = keep_step(
-            journal,
-            ring,
-            machine_of(held, t),
-            &devices,
-            memory,
-            act,
-            regs[6],
-        );
+        ring = keep_step(journal, ring, held, &devices, memory, act, regs[6]);
         t = step::perform(&mut regs, memory, d.lines, t.count, p);
         at = d.at;
         done += 1;

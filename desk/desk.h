@@ -96,7 +96,7 @@ struct machine {
 /* How a run ended. `screen` takes what the output devices showed, in order; NULL where nobody asks. */
 struct outcome {
     unsigned refusal, reason;
-    uint32_t steps;
+    uint32_t steps, deepest;
     struct text *screen;
 };
 
@@ -129,7 +129,7 @@ struct field {
     char name[8], value[12], says[192];
 };
 
-enum { FIELDS = 13 };
+enum { FIELDS = 14 };
 
 /* Fills the rows, and gives how many: one where the run was refused. */
 int line_fields(const uint8_t *record, const struct outcome *o, struct field *rows);

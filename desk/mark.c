@@ -55,7 +55,7 @@ static int mark_one(const struct sitting *s, size_t i)
 {
     static struct machine before, after;
     struct row r = {0};
-    struct outcome o = {0, 0, 0, &r.screen};
+    struct outcome o = {0, 0, 0, 0, &r.screen};
     size_t length = 0;
     char *bytes;
     int ran = 0, status = UNREADABLE;

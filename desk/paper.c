@@ -102,7 +102,7 @@ static uint32_t line_at_fault(const struct paper *p, unsigned refusal, uint32_t 
 static int judge(const struct paper *p)
 {
     struct machine *m = (struct machine *)room_for(NULL, sizeof *m);
-    struct outcome o = {0, 0, 0, NULL};
+    struct outcome o = {0, 0, 0, 0, NULL};
     uint32_t line, first = 0;
     memset(m->memory, 0, sizeof m->memory);
     memcpy(m->record, p->record, sizeof m->record);

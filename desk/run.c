@@ -43,7 +43,7 @@ static int run_program(const struct paper *p, const char *name, const char *byte
 {
     static struct machine m;
     struct text screen = {0};
-    struct outcome o = {0, 0, 0, &screen};
+    struct outcome o = {0, 0, 0, 0, &screen};
     struct fault f = {0};
     int status;
     if (open_program(p, bytes, length, &m, &f)) {

@@ -8,7 +8,7 @@ xm23=$(realpath "${1:-build/xm23}")
 top=$PWD
 paper=$top/examples/sitting/sum.paper
 sound=$top/examples/sitting/programs/sound.s19
-line='0 120 001F 0120 0000 0006 0000 FFFF 0800 1016 0003 00 00000000'
+line='0 120 001F 0120 0000 0006 0000 FFFF 0800 1016 0003 00 00000000 1'
 usage() { echo "usage: xm23 $1 .*"; }
 
 # ---- the program itself
@@ -42,7 +42,7 @@ same 'the legend is that of legend.py' "$("$xm23" run -l "$paper" "$sound")" "$(
 same 'a legend on a terminal' "$(python3 -B tests/desk/terminal.py "$xm23" run "$paper" "$sound" | tr -d '\r')" \
     "$(echo "$line" | python3 -B scripts/legend.py)"
 same 'the screen' "$("$xm23" run -l "$paper" "${sound%/*}/screen.s19" 2> /dev/null | tail -1)" '  screen  SUM'
-expect 'no screen without -l' 1 '0 120 004D 0005 .*0' '.*another line.*' "$xm23" run "$paper" "${sound%/*}/screen.s19"
+expect 'no screen without -l' 1 '0 120 004D 0005 .*0 1' '.*another line.*' "$xm23" run "$paper" "${sound%/*}/screen.s19"
 expect 'another line' 1 '0 120 0019 .*' "$paper:21: another line was expected: $line" \
     "$xm23" run "$paper" "${sound%/*}/unsound.s19"
 expect 'a refused program' 1 'R11' ".*refused.s19:2: R11: a line's checksum differs.*" "$xm23" run "$paper" "${sound%/*}/refused.s19"
@@ -122,17 +122,17 @@ wrong '4:' 'R13: two events share step and device: lines 2 and 4' 'steps 5\n1 1 
 expect 'too many events' 1 '' "$room/p.paper:4098: R5: .*" "$xm23" run "$room/p.paper" "$sound"
 head -c 300000 /dev/urandom > "$room/p.paper"
 expect 'random bytes' 1 '' "$room/p.paper:[0-9]+: .*" "$xm23" run "$room/p.paper" "$sound"
-right 'the least paper' '0 0 0000 0000 0000 0000 0000 0000 0000 1000 0000 00 00000000' 'steps 0'
-right 'CR LF, blanks, comments' '0 0 0005 0000 0000 0000 0000 0000 0000 1000 0000 00 00000000' \
+right 'the least paper' '0 0 0000 0000 0000 0000 0000 0000 0000 1000 0000 00 00000000 0' 'steps 0'
+right 'CR LF, blanks, comments' '0 0 0005 0000 0000 0000 0000 0000 0000 1000 0000 00 00000000 0' \
     '; a paper\r\n\r\n\tsteps 0 ; none\r\nstart\tR0=5 ;\r\n'
-right 'every part of the start' '1 0 0001 0002 0003 0004 0005 0006 0007 0008 E1FF 7F 12345678' \
+right 'every part of the start' '1 0 0001 0002 0003 0004 0005 0006 0007 0008 E1FF 7F 12345678 0' \
     'steps 3\nstart R0=1 R1=2 R2=3 R3=4 R4=5 LR=6 SP=7 PC=8 PSW=#E1FF CEX=#7F HALTED=1 COUNT=9 LINES=#12345678\n'
-right 'a later line wins' '0 1 0001 0000 0000 0000 0000 0000 0000 1002 0000 00 00000000' \
+right 'a later line wins' '0 1 0001 0000 0000 0000 0000 0000 0000 1002 0000 00 00000000 0' \
     "steps 1\nwords #1000 #4080\nwords #1000 #4088\n"
-right 'bytes, and a letter' '0 1 0000 0000 0000 0000 0000 0000 0000 1002 0000 00 00000000' \
+right 'bytes, and a letter' '0 1 0000 0000 0000 0000 0000 0000 0000 1002 0000 00 00000000 0' \
     "steps 1\nbytes #1000 #00 'L'\n"
 printf 'steps 0\nS9032000DC\n' > "$room/p.paper"
-expect 'the PC of its S9' 0 '0 0 .* 2000 0000 00 00000000' '' "$xm23" run "$room/p.paper" "$sound"
+expect 'the PC of its S9' 0 '0 0 .* 2000 0000 00 00000000 0' '' "$xm23" run "$room/p.paper" "$sound"
 
 # ---- asm
 for name in halting screen sound unsound; do

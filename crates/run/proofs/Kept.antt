@@ -111,14 +111,14 @@ record-kept ev regs t mem held is b eb q eq =
 
 -- ---- a stretch of the loop
 
+pub at-most : (lent : Bool) (left x : ℕ) → x ≡ cond lent 0 left → x ≤ left
+at-most true left x e = omega (arith, e)
+at-most false left x e = omega (arith, e)
+
 -- its steps, from a count a to a count b, are as many as it may do at once, and not past the steps of the run
 pub stretched : (lent : Bool) (a b done n x : ℕ) → x ≡ cond lent 0 (n - done) → done ≤ n → (a ≤ b) × (b ≤ a + x)
     → (b - a ≤ cond lent 0 (n - done)) × (done + (b - a) ≤ n)
 stretched lent a b done n x e h l =
-    let few : x ≤ n - done = subst (λ k. k ≤ n - done) (sym e) (at-most lent) in
+    let few = at-most lent (n - done) x e in
     let some : b - a ≤ x = omega (arith, l) in
     (subst (λ k. b - a ≤ k) e some, omega arith)
-  where
-    at-most : (c : Bool) → cond c 0 (n - done) ≤ n - done
-    at-most true = omega arith
-    at-most false = omega arith

@@ -25,7 +25,7 @@ use Rattle.journal_record.specs.Ring.{Lends, journalWith}
 use Rattle.run.specs.Due.{Awaits}
 use Rattle.run.specs.Kept.{keptOver}
 use Rattle.run.specs.Reached.{Reached}
-use Rattle.run.proofs.Kept.{kept-start, kept-size, kept-stretch, before-kept, stretched}
+use Rattle.run.proofs.Kept.{kept-start, kept-size, kept-stretch, before-kept, at-most, stretched}
 use Rattle.run.proofs.Laws.{awaits-from, awaits-later, undisturbed, of-devices, reached-start, added-fit, log-size, reached-stretch}
 use Rattle.run.proofs.Laws.{reached-full, reached-left, carried, step-taken, goes-on, undone-memory, undone, room-for}
 use Rattle.run.proofs.Laws.{depth-on, step-depth, opened-fits, step-kept}
@@ -68,45 +68,65 @@ loop-holds c =
       s .pre .6,
     )
 
+-- ways back: from the loop to the start, from a stretch to the loop, from a turn that goes on to its stretch, from a plan and from the
+-- end of a turn to where it goes on
+abbrev start : tie.At-loop Inv-loop μ-loop → tie.Start Inv-loop μ-loop
+start c = c .before .before .before .before .before .before .before .before
+
+abbrev loop-of : tie.After-stretch Inv-loop μ-loop → tie.At-loop Inv-loop μ-loop
+loop-of c = c .before .before .before .before .before
+
+abbrev stretch-of : tie.Else1 Inv-loop μ-loop → tie.After-stretch Inv-loop μ-loop
+stretch-of c = c .before .before .before .before .before
+
+abbrev turn-of : tie.After-plan Inv-loop μ-loop → tie.Else1 Inv-loop μ-loop
+turn-of c = c .before .before .before .before .before .before .before .before .before .before .before .before .before .before .before
+
+abbrev plan-of : tie.After-add Inv-loop μ-loop → tie.After-plan Inv-loop μ-loop
+plan-of c = c .before .before .before .before .before .before
+
+abbrev add-of : tie.After-at Inv-loop μ-loop → tie.After-add Inv-loop μ-loop
+add-of c = c .before .before .before .before .before .before .before .before .before .before .before .before .before .before .before
+
 -- how far a stretch goes
 few : (c : tie.After-stretch Inv-loop μ-loop)
-    → let f = c .stretch in
-    let l = c .before .before .before .before .before .loop in
-    let n = c .before .before .before .before .before .before .before .before .before .before .before .before .before .args .n in
-    l .done + (f .result .count - l .t .count) ≤ n
+    → let l = loop-of c .loop in
+    l .done + (c .stretch .result .count - l .t .count) ≤ start (loop-of c) .args .n
 few c =
-    let l = c .before .before .before .before .before .loop in
-    let s = c .before .before .before .before .before .before .before .before .before .before .before .before .before in
-    stretched (not (eqb (length (now (s .args .journal))) 0)) _ _ (l .done) (s .args .n) _ (c .before .at-once .ensures) (l .inv .0) (c .stretch .ensures .1 .1) .1
+    let l = loop-of c .loop in
+    let a = start (loop-of c) .args in
+    let lent = not (eqb (length (now (a .journal))) 0) in
+    stretched lent _ _ (l .done) (a .n) _ (c .before .at-once .ensures) (l .inv .0) (c .stretch .ensures .1 .1) .1
 
 stretch-requires : tie.Need-stretch-requires Inv-loop μ-loop
 stretch-requires c κs =
     let l = c .before .before .before .before in
-    let s = l .before .before .before .before .before .before .before .before in
-    let r = l .before .before .rest-of in
-    let e = ap (λ (x : State). x .count) (r .ensures []) in
+    let s = start l in
+    let e = ap (λ (x : State). x .count) (l .before .before .rest-of .ensures []) in
     let i = l .loop .inv in
-    let m = stretched (not (eqb (length (now (s .args .journal))) 0)) 0 (c .at-once .result) (l .loop .done) (s .args .n) _ (c .at-once .ensures) (i .0) (omega arith, omega arith) .1 in
-    (omega (arith, s .pre .0, i .1), omega (arith, s .pre .1, i .2, e, m))
+    let lent = not (eqb (length (now (s .args .journal))) 0) in
+    let m = at-most lent (s .args .n - l .loop .done) _ (c .at-once .ensures) in
+    (omega (arith, s .pre .0, i .1), omega (arith, s .pre .1, i .0, i .2, e, m))
 
 add-done : tie.Need-add-done Inv-loop μ-loop
 add-done c = omega (arith, few (c .before .before .before))
 
 slice-aggregate-keep : tie.Need-slice-aggregate-keep Inv-loop μ-loop
-slice-aggregate-keep c = let l = c .before .before .before .before .before .before .before .before .before .before .before .before .before .before .before in omega (arith, l .loop .inv .6)
+slice-aggregate-keep c =
+    let i = c .before .before .before .before .before in
+    omega (arith, loop-of (stretch-of i) .loop .inv .6)
 
 keep-requires : tie.Need-keep-requires Inv-loop μ-loop
 keep-requires c κs =
     let k = c .before .before .before .before .before .before .before .before in
     let l = k .before .before .before .before .before .before .before in
-    let s = l .before .before .before .before .before .before .before .before in
-    (omega (arith, s .pre .0, l .loop .inv .1), omega (arith, l .loop .inv .6))
+    (omega (arith, start l .pre .0, l .loop .inv .1), omega (arith, l .loop .inv .6))
 
 deliver-due-requires : tie.Need-deliver-due-requires Inv-loop μ-loop
 deliver-due-requires c κs =
     let f = c .before .before .before .before .before .before .before .before .before .before .before .before .before in
-    let l = f .before .before .before .before .before in
-    let s = l .before .before .before .before .before .before .before .before in (
+    let l = loop-of f in
+    let s = start l in (
       omega (arith, s .pre .0, l .loop .inv .1),
       awaits-later _ _ _ _ (l .loop .inv .3) _ (omega (arith, f .stretch .ensures .1 .1)),
       s .pre .2,
@@ -116,48 +136,49 @@ deliver-due-requires c κs =
 -- which leaves the journal
 kept-on : (c : tie.At-loop Inv-loop μ-loop)
     → let l = c .loop in
-    let a = c .before .before .before .before .before .before .before .before .args in
+    let a = start c .args in
     let b = now (a .journal) in
     let s₀ = stateWith (a .m .regs) (c .before .before .rest-of .result) (now (a .memory)) in
     (j : ℕ) → j ≤ cond (not (eqb (length b) 0)) 0 (a .n - l .done)
     → journalWith (l .journal) (l .ring) ≡ keptOver b (a .begins) (eventsOf (now (a .events))) s₀ (l .done + j)
 kept-on c j h =
     let l = c .loop in
-    let a = c .before .before .before .before .before .before .before .before .args in
+    let a = start c .args in
     let b = now (a .journal) in
     let s₀ = stateWith (a .m .regs) (c .before .before .rest-of .result) (now (a .memory)) in
     kept-stretch b (a .begins) (eventsOf (now (a .events))) s₀ (not (eqb (length b) 0)) refl (l .done) j (a .n - l .done) h
     (journalWith (l .journal) (l .ring)) (l .inv .8)
 
 -- a turn that goes on is not halted and not at its end
-on : (c : tie.Else1 Inv-loop μ-loop) → let f = c .before .before .before .before .before in
-    let l = f .before .before .before .before .before in
-    let n = l .before .before .before .before .before .before .before .before .args .n in
+on : (c : tie.Else1 Inv-loop μ-loop)
+    → let f = stretch-of c in
+    let l = loop-of f in
+    let n = start l .args .n in
     (f .stretch .result .halted ≡ false) × (l .loop .done + (f .stretch .result .count - l .loop .t .count) ≡ n → ⊥)
 on c =
-    let f = c .before .before .before .before .before in
-    let l = f .before .before .before .before .before in
-    let n = l .before .before .before .before .before .before .before .before .args .n in
+    let f = stretch-of c in
+    let l = loop-of f in
+    let n = start l .args .n in
     goes-on (f .stretch .result .halted) (l .loop .done + (f .stretch .result .count - l .loop .t .count)) n (c .if1 .left)
 
 plan-requires : tie.Need-plan-requires Inv-loop μ-loop
 plan-requires c κs =
     let i = c .before .before .before .before .before .before .before .before .before .before .before .before .before .before in
-    let l = i .before .before .before .before .before .before .before .before .before .before in
-    let s = l .before .before .before .before .before .before .before .before in
-    (omega (arith, s .pre .0, l .loop .inv .1), ap (λ (x : Rest). x .halted) (c .with-lines .ensures) ∙ on i .0)
+    let l = loop-of (stretch-of i) in
+    (omega (arith, start l .pre .0, l .loop .inv .1), ap (λ (x : Rest). x .halted) (c .with-lines .ensures) ∙ on i .0)
 
 shown-by-requires : tie.Need-shown-by-requires Inv-loop μ-loop
 shown-by-requires c κs = plan-requires (c .before .before) (c .before .plan .lifetimes) .0
 
 lacks-room-requires : tie.Need-lacks-room-requires Inv-loop μ-loop
 lacks-room-requires c κs =
-    let i = c .before .before .before .before .before .before .before .before .before .before .before .before .before .before .before .before .before in
-    added-fit _ _ _ _ _ _ _ _ (i .before .before .before .before .before .before .before .before .before .before .loop .inv .4)
+    let i = turn-of (c .before .before) in
+    added-fit _ _ _ _ _ _ _ _ (loop-of (stretch-of i) .loop .inv .4)
 
 slice-aggregate-put-back : tie.Need-slice-aggregate-put-back Inv-loop μ-loop
 slice-aggregate-put-back c =
-    let k = c .before .before .before .before .before .before .before .before .before .before .before .before .before .before .before .before in
+    let p = c .before .before .before .before .before .before .before in
+    let k = p .before .before .before .before .before .before .before .before .before in
     omega (arith, k .keep .ensures .1)
 
 put-back-requires : tie.Need-put-back-requires Inv-loop μ-loop
@@ -169,36 +190,33 @@ put-back-requires c κs =
 add-requires : tie.Need-add-requires Inv-loop μ-loop
 add-requires c κs =
     let x = c .before .before .before in
-    let i = x .before .before .before .before .before .before .before .before .before .before .before .before .before .before .before .before .before in
-    let f = i .before .before .before .before .before in
-    let l = f .before .before .before .before .before in
-    let s = l .before .before .before .before .before .before .before .before in
+    let f = stretch-of (turn-of (x .before .before)) in
+    let l = loop-of f in
+    let s = start l in
     let n = f .stretch .result .count in
     room-for n (x .shown-by .result) (l .loop .added) (now (s .args .log)) (l .loop .log) _ (c .before .before .lacks-room .ensures n)
     (c .before .if2 .left) (log-size _ _ _ _ _ _ _ _ (l .loop .inv .4))
 
 moved-requires : tie.Need-moved-requires Inv-loop μ-loop
 moved-requires c κs =
-    let x = c .before .before .before .before .before .before in
-    let t = x .before .before .before .before .before .before .before .before .before .before .before .before .before .before .before .before .before .before .before .before .before .before .before .before .before .before in
-    let l = t .before in
-    let s = l .before .before .before .before .before .before .before .before in
+    let f = stretch-of (turn-of (plan-of (c .before .before))) in
+    let t = f .before .before .before .before in
+    let l = loop-of f in
+    let s = start l in
     opened-fits _ _ _ _ _ (s .args .n) (l .loop .inv .7) (t .loop-test .taken) (s .pre .5)
 
 keep-step-requires : tie.Need-keep-step-requires Inv-loop μ-loop
 keep-step-requires c κs =
     let p = c .before .before .before .before .before .before .before .before .before .before .before .before in
-    let i = p .before .before .before .before .before .before .before .before .before .before .before .before .before .before .before in
-    let l = i .before .before .before .before .before .before .before .before .before .before in
-    (plan-requires (p .before) (p .plan .lifetimes) .0, l .loop .inv .9)
+    (plan-requires (p .before) (p .plan .lifetimes) .0, loop-of (stretch-of (turn-of p)) .loop .inv .9)
 
 perform-requires : tie.Need-perform-requires Inv-loop μ-loop
 perform-requires c κs =
-    let p = c .before .before .before .before .before .before .before .before .before .before .before .before .before .before .before .before .before in
-    let i = p .before .before .before .before .before .before .before .before .before .before .before .before .before .before .before in
-    let f = i .before .before .before .before .before in
-    let l = f .before .before .before .before .before in
-    let s = l .before .before .before .before .before .before .before .before in
+    let p = plan-of (c .before .before .before .before .before .before .before .before .before .before .before) in
+    let i = turn-of p in
+    let f = stretch-of i in
+    let l = loop-of f in
+    let s = start l in
     let e = ap (λ (x : State). x .count) (l .before .before .rest-of .ensures []) in (
       plan-requires (p .before) (p .plan .lifetimes) .0,
       omega (arith, on i .1, few f, f .stretch .ensures .1 .1, l .loop .inv .2, s .pre .1, e),
@@ -206,19 +224,18 @@ perform-requires c κs =
     )
 
 -- a step that is taken is one step more, and no more than there are
-within : (c : tie.After-at Inv-loop μ-loop) → let i = c .before .before .before .before .before .before .before .before .before .before .before .before .before .before .before .before .before .before .before .before .before .before .before .before .before .before .before .before .before .before .before .before .before .before .before .before in
-    let f = i .before .before .before .before .before in
-    let l = f .before .before .before .before .before in
-    suc (l .loop .done + (f .stretch .result .count - l .loop .t .count)) ≤ l .before .before .before .before .before .before .before .before .args .n
+within : (c : tie.After-at Inv-loop μ-loop)
+    → let f = stretch-of (turn-of (plan-of (add-of c))) in
+    let l = loop-of f in
+    suc (l .loop .done + (f .stretch .result .count - l .loop .t .count)) ≤ start l .args .n
 within c =
-    let i = c .before .before .before .before .before .before .before .before .before .before .before .before .before .before .before .before .before .before .before .before .before .before .before .before .before .before .before .before .before .before .before .before .before .before .before .before in
-    let f = i .before .before .before .before .before in
-    omega (arith, on i .1, few f)
+    let i = turn-of (plan-of (add-of c)) in
+    omega (arith, on i .1, few (stretch-of i))
 
 add-done-2 : tie.Need-add-done-2 Inv-loop μ-loop
 add-done-2 c =
-    let i = c .before .before .before .before .before .before .before .before .before .before .before .before .before .before .before .before .before .before .before .before .before .before .before .before .before .before .before .before .before .before .before .before .before .before .before .before in
-    omega (arith, within c, i .before .before .before .before .before .before .before .before .before .before .before .before .before .before .before .before .before .before .pre .1)
+    let f = stretch-of (turn-of (plan-of (add-of c))) in
+    omega (arith, within c, start (loop-of f) .pre .1)
 
 loop-less : tie.Need-loop-less Inv-loop μ-loop
 loop-less c = omega (arith, within c)
@@ -226,13 +243,13 @@ loop-less c = omega (arith, within c)
 loop-again : tie.Need-loop-again Inv-loop μ-loop
 loop-again c =
     let y = c .before .before .before .before .before .before .before .before in
-    let a = y .before .before .before .before .before .before .before in
-    let p = a .before .before .before .before .before .before in
+    let a = add-of c in
+    let p = plan-of a in
     let k = p .before .before .before .before .before .before .before .before .before in
-    let i = k .before .before .before .before .before .before in
-    let f = i .before .before .before .before .before in
-    let l = f .before .before .before .before .before in
-    let s = l .before .before .before .before .before .before .before .before in
+    let i = turn-of p in
+    let f = stretch-of i in
+    let l = loop-of f in
+    let s = start l in
     let d = p .before .before .before .before .before .before .deliver-due in
     let w = p .before .with-lines in
     let x = a .before .before .before .before .shown-by in
@@ -250,8 +267,9 @@ loop-again c =
     let g = f .stretch .ensures in
     let h = reached-stretch _ _ _ _ _ _ _ _ (l .loop .inv .4) _ _ (g .0 ev u) (g .1 .0 ev u) in
     let e = depth-on _ _ _ _ _ _ _ _ (l .loop .inv .4) _ _ (l .loop .inv .7) _ (g .1 .0 ev u) in
-    let o = stretched (not (eqb (length (now (s .args .journal))) 0)) _ _ (l .loop .done) (s .args .n) _ (f .before .at-once .ensures) (l .loop .inv .0) (g .1 .1) .0 in
     let b₀ = now (s .args .journal) in
+    let lent = not (eqb (length b₀) 0) in
+    let o = stretched lent _ _ (l .loop .done) (s .args .n) _ (f .before .at-once .ensures) (l .loop .inv .0) (g .1 .1) .0 in
     let full = eqb (l .loop .added) (length (now (s .args .log)) / 8) && leb (l .loop .at .due) n in
     let z = kept-on l (n - l .loop .t .count) o in (
       omega (arith, within c),
@@ -266,7 +284,7 @@ loop-again c =
           _ (r .ensures) _ _ _ e (v .ensures),
       step-kept _ _ _ _ _ _ _ _ _ _ h (on i .0) _ _ (d .ensures .0) _ (w .ensures) _ (p .plan .ensures .0) (x .result) (x .ensures)
           _ (r .ensures) (of-devices b (s .pre .3)) (omega (arith, s .pre .0, l .loop .inv .1)) b₀ (s .args .begins)
-          (not (eqb (length b₀) 0)) full refl _ (k .keep .ensures .0) _ (held .ensures) _ _ z _
+          lent full refl _ (k .keep .ensures .0) _ (held .ensures) _ _ z _
           (y .keep-step .ensures .0 _ _ (before-kept _ _ (k .keep .ensures .1) size) refl),
       y .keep-step .ensures .1,
     )
@@ -275,7 +293,7 @@ loop-again c =
 exits : (c : tie.Left-loop Inv-loop μ-loop)
     → let x = c .loop-test in
     let l = c .before .loop in
-    let s = c .before .before .before .before .before .before .before .before .before in
+    let s = start (c .before) in
     let b = now (s .args .events) in
     let s₀ = stateWith (s .args .m .regs) (c .before .before .before .rest-of .result) (now (s .args .memory)) in
     Reached (runLogged (eventsOf b) s₀ (length (now (s .args .log)) / 8) (s .args .n)) (now (s .args .log))
@@ -287,7 +305,7 @@ exits : (c : tie.Left-loop Inv-loop μ-loop)
 exits c =
     let x = c .loop-test in
     let l = c .before .loop in
-    let s = c .before .before .before .before .before .before .before .before .before in
+    let s = start (c .before) in
     let a = s .args in
     let b = now (a .events) in
     let ev = eventsOf b in
@@ -353,7 +371,7 @@ same-length-2 c = log-size _ _ _ _ _ _ _ _ (c .before .before .loop .inv .4)
 same-length-3 : tie.Need-same-length-3 Inv-loop μ-loop
 same-length-3 c =
     let l = c .before .before in
-    let a = l .before .before .before .before .before .before .before .before .args in
+    let a = start l .args in
     let s₀ = stateWith (a .m .regs) (l .before .before .rest-of .result) (now (a .memory)) in
     ap (λ (z : Journal). length (z .bytes)) (l .loop .inv .8)
     ∙ kept-size (now (a .journal)) (a .begins) (eventsOf (now (a .events))) s₀ (l .loop .done)
@@ -362,7 +380,7 @@ returns : tie.Need-returns Inv-loop μ-loop
 returns c =
     let x = c .before .loop-test in
     let l = c .before .before .loop in
-    let s = c .before .before .before .before .before .before .before .before .before .before in
+    let s = start (c .before .before) in
     let a = s .args in
     let b = now (a .events) in
     let g = exits (c .before) in

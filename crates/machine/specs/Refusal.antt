@@ -10,6 +10,7 @@ use Rattle.machine.specs.declared.Verdict.the-variants.{Accepted, Memory
 use Rattle.machine.specs.declared.Verdict.the-variants.{StepCount, RecordLength, RecordBits}
 use Rattle.machine.specs.declared.Verdict.the-variants.{EventsLength, EventFields}
 use Rattle.machine.specs.declared.Verdict.the-variants.{EventOrder, EventTwins, LogLength}
+use Rattle.machine.specs.declared.Verdict.the-variants.{JournalFit, StepsKept}
 use Rattle.machine.specs.Memory.{byteAt}
 use Rattle.machine.specs.Record.{twoAt, fourAt}
 use Rattle.machine.specs.Events.{eventAt, eventCount}
@@ -96,7 +97,7 @@ verdictOf memory r events n = firstBroken (rulesOf memory r events n)
 unfoldable pub callVerdict : (memory r events log : List ℕ) (n : ℕ) → Verdict
 callVerdict memory r events log n = firstBroken (callRules memory r events log n)
 
--- The papers' number of each case; 0 stands for none. [01 Who can be turned back; 02 §1; 02 §3]
+-- The papers' number of each case; 0 stands for none. [01 Who can be turned back; 02 §1; 02 §3; 02 §8]
 abbrev pub refusalNumber : Verdict → ℕ
 refusalNumber Accepted = 0
 refusalNumber MemoryLength = 1
@@ -108,6 +109,8 @@ refusalNumber EventFields = 6
 refusalNumber EventOrder = 7
 refusalNumber EventTwins = 13
 refusalNumber LogLength = 9
+refusalNumber JournalFit = 14
+refusalNumber StepsKept = 15
 
 abbrev pub accepted? : Verdict → Bool
 accepted? v = eqb (refusalNumber v) 0

@@ -62,7 +62,8 @@ pub struct Depth {
     pub deepest: u32,
 }
 
-// Whether a run's buffers and step count are accepted, or the first rule that they break.
+// Whether the buffers and numbers of a call are accepted, or the first rule that they break: of a
+// run, and of a run with a journal or of going back.
 pub enum Verdict {
     Accepted,
     MemoryLength,
@@ -74,6 +75,8 @@ pub enum Verdict {
     EventOrder,
     EventTwins,
     LogLength,
+    JournalFit,
+    StepsKept,
 }
 
 // What a step does. A halted machine takes none. A line or a vector is named by its number; a load

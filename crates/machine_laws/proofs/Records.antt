@@ -13,8 +13,8 @@ use borrow.Author.Tests.{not-false}
 use Rattle.word.proofs.Laws.{bit-read, bit-back}
 use Rattle.machine.specs.declared.Verdict.{Verdict}
 use Rattle.machine.specs.declared.Verdict.the-variants.{Accepted, MemoryLength, StepCount, RecordLength, RecordBits, EventsLength}
-use Rattle.machine.specs.declared.Verdict.the-variants.{EventFields, EventOrder, EventTwins, LogLength}
-use Rattle.machine.specs.State.{State, reg}
+use Rattle.machine.specs.declared.Verdict.the-variants.{EventFields, EventOrder, EventTwins, LogLength, JournalFit, StepsKept}
+use Rattle.machine.specs.State.{Core, State, reg}
 use Rattle.machine.specs.Memory.{byteAt, lowByte, highByte}
 use Rattle.machine.specs.Record.{twoAt, fourAt, stateIn, recordOf, countByte}
 use Rattle.machine.specs.Events.{eventAt, eventsFrom, eventsOf, eventCount}
@@ -92,6 +92,35 @@ four-back n h =
   where
     join : (n q r t x y z u : ℕ) → n ≡ q * 256 + x → q ≡ r * 256 + y → r ≡ t * 256 + z → u ≡ t → x + 256 * y + 65536 * (z + 256 * u) ≡ n
     join n q r t x y z u a b c d = omega arith
+
+-- ---- a record is bytes
+
+reduced : List ℕ → List ℕ
+reduced [] = []
+reduced (x ∷ xs) = x % 256 ∷ reduced xs
+
+reduced-bytes : (xs : List ℕ) → Bytes (reduced xs)
+unfolding reduced
+reduced-bytes [] i = lit< tt
+reduced-bytes (x ∷ xs) zero = omega arith
+reduced-bytes (x ∷ xs) (suc i) = reduced-bytes xs i
+
+-- what a record reduces: each part from its lowest byte on
+parts : Core → (lines halted count : ℕ) → List ℕ
+parts c l h n =
+    reg c 0 ∷ reg c 0 / 256 ∷ reg c 1 ∷ reg c 1 / 256 ∷ reg c 2 ∷ reg c 2 / 256 ∷ reg c 3 ∷ reg c 3 / 256
+    ∷ reg c 4 ∷ reg c 4 / 256 ∷ reg c 5 ∷ reg c 5 / 256 ∷ reg c 6 ∷ reg c 6 / 256 ∷ reg c 7 ∷ reg c 7 / 256
+    ∷ c .psw ∷ c .psw / 256 ∷ c .cex ∷ c .cex / 256 ∷ 0 ∷ h ∷ n / 1 ∷ n / 0x100 ∷ n / 0x10000 ∷ n / 0x1000000
+    ∷ l / 1 ∷ l / 0x100 ∷ l / 0x10000 ∷ l / 0x1000000 ∷ 0 ∷ 0 ∷ []
+
+parts-bytes : (c : Core) (l : ℕ) (h : Bool) (n : ℕ) (m : List ℕ)
+    → Bytes (recordOf (record { core = c; lines = l; halted = h; count = n; mem = m }))
+unfolding recordOf reduced parts
+parts-bytes c l true n m = reduced-bytes (parts c l 1 n)
+parts-bytes c l false n m = reduced-bytes (parts c l 0 n)
+
+pub record-bytes : (s : State) → Bytes (recordOf s)
+record-bytes s = parts-bytes (s .core) (s .lines) (s .halted) (s .count) (s .mem)
 
 -- ---- reading after writing gives the state
 
@@ -176,6 +205,8 @@ is-accepted EventFields e = absurd (omega arith)
 is-accepted EventOrder e = absurd (omega arith)
 is-accepted EventTwins e = absurd (omega arith)
 is-accepted LogLength e = absurd (omega arith)
+is-accepted JournalFit e = absurd (omega arith)
+is-accepted StepsKept e = absurd (omega arith)
 
 fit-below : (b : List ℕ) (n : ℕ) → eventsFitBelow b n ≡ true → (k : ℕ) → k < n → eventFits b k ≡ true
 unfolding eventsFitBelow

@@ -217,6 +217,8 @@ pub fn refusal_number(v: Verdict) -> u64
         Verdict::EventOrder => 7,
         Verdict::EventTwins => 13,
         Verdict::LogLength => 9,
+        Verdict::JournalFit => 14,
+        Verdict::StepsKept => 15,
     }
 }
 

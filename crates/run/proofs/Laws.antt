@@ -1,7 +1,7 @@
--- A run with its log as its loop goes: steps with no event due, a stretch, one step that is taken or given up, and the ways in
--- which it ends. Assumes nothing.
+-- A run with its log and its journal as its loop goes: steps with no event due, a stretch, one step that is taken or given up, and
+-- the ways in which it ends. Assumes nothing.
 use Prim.Native.Nat.{ℕ, zero, suc, _+_, _-_, _*_, _/_, _<_, _≤_}
-use mathlib.Core.Bool.{Bool, true, false, cond, _&&_, _||_}
+use mathlib.Core.Bool.{Bool, true, false, cond, not, _&&_, _||_}
 use mathlib.Core.List.{List, [], _∷_, _++_}
 use mathlib.Core.Path.{_≡_, refl, sym, ap, subst, _∙_}
 use native.Mathlib.Numerals.{add-one}
@@ -12,8 +12,10 @@ use lib.Seq.{sets, length-sets}
 use mathlib.Mathlib.Data.Bool.Basic.{or-eq-false-eq-eq-false-and-eq-false}
 use borrow.Author.Tests.{lt-ltb, eqb-false}
 use Rattle.machine.specs.declared.Depth.{Depth}
+use Rattle.machine.specs.declared.Machine.{Machine}
 use Rattle.machine.specs.declared.Rest.{Rest}
-use Rattle.machine.specs.State.{Core, State}
+use Rattle.machine.specs.State.{Core, State, stateOf}
+use Rattle.machine.specs.Record.{recordOf}
 use Rattle.machine.specs.Rest.{coreWith, stateWith}
 use Rattle.machine.specs.Events.{Event, eventAt, eventsFrom, eventCount, eventsOf}
 use Rattle.machine.specs.Devices.{deliver, deliverAt}
@@ -35,8 +37,14 @@ use Rattle.output_log.specs.Showing.{listed}
 use Rattle.devices.specs.Cursor.{Behind, Ordered, stateFrom}
 use Rattle.devices.proofs.Laws.{behind-later, index-none-due, device-lt}
 use Rattle.stretch.specs.Stretch.{Undisturbed}
+use Rattle.journal.specs.Record.{addressBy, bytesFrom, fieldsOf}
+use Rattle.journal.specs.Ring.{Journal}
+use Rattle.journal_record.specs.declared.Ring.{Ring}
+use Rattle.journal_record.specs.Ring.{journalWith, keptIn}
 use Rattle.run.specs.Due.{dueOf, Awaits}
 use Rattle.run.specs.Reached.{Reached}
+use Rattle.run.specs.Kept.{keptOver}
+use Rattle.run.proofs.Kept.{kept-next, record-kept}
 
 due-in : (b : List ℕ) (k : ℕ) → k < eventCount b → dueOf b k ≡ eventAt b k .step
 unfolding dueOf
@@ -45,6 +53,10 @@ due-in b k h = rw (lt-ltb k (eventCount b) h)
 -- no record is behind before the first
 pub behind-none : (b : List ℕ) (k : ℕ) → Behind b 0 k
 behind-none b k = (omega arith, λ j h. absurd (omega arith))
+
+-- the record awaited, as it is looked up
+pub awaits-from : (b : List ℕ) (i next due k : ℕ) → Behind b i k → (next ≡ i) × (due ≡ dueOf b i) → Awaits b next due k
+awaits-from b i next due k h e = (subst (λ j. Behind b j k) (sym (e .0)) h, e .1 ∙ ap (dueOf b) (sym (e .0)))
 
 module _ (b : List ℕ) (next due k : ℕ) (a : Awaits b next due k) where
   pub awaits-later : (j : ℕ) → k ≤ j → Awaits b next due j
@@ -217,6 +229,25 @@ module _
       ∙ (λ i. depthAfter (act-is i) (e i))
       ∙ sym (depth-next ev s₀ p done (stateWith regs t mem) (state-is ev s₀ k lent (stateWith regs t mem) done added log h))
 
+  -- and the journal with its record: the device bytes kept give back the memory before its events
+  pub step-kept : Each OfDevice ev → 16 ≤ length mem
+      → (b : List ℕ) (r : Ring) (here first : Bool) → here ≡ not (eqb (length b) 0)
+      → (kept : List ℕ) → (here || first ≡ true → kept ≡ take 16 mem)
+      → (held : Machine) → ((n : List ℕ) → stateOf held n ≡ stateWith regs t n)
+      → (j : List ℕ) (v : Ring) → journalWith j v ≡ keptOver b r ev s₀ done
+      → (y : Journal) → y ≡ keptIn j v (fieldsOf (recordOf (stateOf held (sets m 0 kept))) (bytesFrom (sets m 0 kept) 0 16) (addressBy q)
+      (bytesFrom (sets m 0 kept) (addressBy q) 8))
+      → y ≡ keptOver b r ev s₀ (done + 1)
+  step-kept devices size b r here first eh kept keeps held is j v ej y ey =
+      let s = stateWith regs t mem in
+      kept-next b r ev s₀ done s (state-is ev s₀ k lent s done added log h) j v ej _
+      (λ e.
+      let there : here ≡ true = eh ∙ ap not e in
+      let back : sets m 0 kept ≡ mem =
+      (λ i. sets (begun-is i .mem) 0 (keeps (ap (λ c. c || first) there) i)) ∙ given-back ev s devices size in
+      record-kept ev regs t mem held is (sets m 0 kept) back q (plan-is ∙ ap planOf begun-is))
+      y ey
+
   -- given up
   pub step-short : (n : ℕ) → done < n → lacks ≡ true
       → Reached (runLogged ev s₀ k n) lent (stateWith regs t mem) done added log true
@@ -249,23 +280,25 @@ goes-on h k n e = let p = or-eq-false-eq-eq-false-and-eq-false h (eqb k n) .0 e 
 -- The device bytes kept, where an event was due, give back the memory before the events of the step.
 pub restored : (b : List ℕ) (next due : ℕ) (s : State) → Awaits b next due (s .count) → Ordered b
     → eventsFitBelow b (eventCount b) ≡ true → 16 ≤ length (s .mem)
-    → (full wanted : Bool) → full ≡ true → wanted ≡ full && leb due (s .count)
+    → (wanted : Bool) → (wanted ≡ false → s .count < due)
     → (kept m : List ℕ) → (wanted ≡ true → kept ≡ take 16 (s .mem)) → m ≡ deliver (eventsOf b) s .mem
     → cond wanted (sets m 0 kept) m ≡ s .mem
-restored b next due s a o f l full wanted ef ew kept m ek em =
-    let w : wanted ≡ leb due (s .count) = ew ∙ ap (λ c. c && leb due (s .count)) ef in
-    bool-cases (leb due (s .count))
-    (λ q.
-    let y : wanted ≡ true = w ∙ q in
+restored b next due s a o f l wanted ew kept m ek em =
+    bool-cases wanted
+    (λ y.
     ap (λ c. cond c (sets m 0 kept) m) y
     ∙ (λ i. sets (em i) 0 (ek y i))
     ∙ given-back (eventsOf b) s (of-devices b f) l)
-    (λ q.
-    let y : wanted ≡ false = w ∙ q in
-    let late : s .count < due = gt-of q in
+    (λ y.
+    let late : s .count < due = ew y in
     ap (λ c. cond c (sets m 0 kept) m) y
     ∙ em
     ∙ ap (λ t. t .mem) (undisturbed b next due (s .count) a o (s .count) (omega arith) late s))
+
+-- where they were not kept though the log is full, none was due
+late-of : (here : Bool) (full : Bool) (due n : ℕ) → full ≡ true → here || (full && leb due n) ≡ false → n < due
+late-of here full due n e q =
+    gt-of (sym (ap (λ c. c && leb due n) e) ∙ or-eq-false-eq-eq-false-and-eq-false here (full && leb due n) .0 q .1)
 
 -- a step given up, from what the loop holds before its events: memory is put back, and the run ends
 module _
@@ -282,12 +315,13 @@ module _
     (up : lacks ≡ true)
     (next due : ℕ) (awaits : Awaits b next due (t .count)) (ordered : Ordered b) (fits : eventsFitBelow b (eventCount b) ≡ true)
     (size : 16 ≤ length mem)
-    (kept : List ℕ) (keeps : eqb added k && leb due (t .count) ≡ true → kept ≡ take 16 mem) where
-  pub undone-memory : cond (eqb added k && leb due (t .count)) (sets m 0 kept) m ≡ mem
+    (here : Bool) (kept : List ℕ) (keeps : here || (eqb added k && leb due (t .count)) ≡ true → kept ≡ take 16 mem) where
+  pub undone-memory : cond (here || (eqb added k && leb due (t .count))) (sets m 0 kept) m ≡ mem
   undone-memory =
       let ev = eventsOf b in
-      restored b next due (stateWith regs t mem) awaits ordered fits size (eqb added k) (eqb added k && leb due (t .count))
-      (step-full ev s₀ k lent regs t mem done added log h live l m delivered w lines q planned x shows lacks test up) refl kept m keeps
+      let full = step-full ev s₀ k lent regs t mem done added log h live l m delivered w lines q planned x shows lacks test up in
+      restored b next due (stateWith regs t mem) awaits ordered fits size (here || (eqb added k && leb due (t .count)))
+      (late-of here (eqb added k) due (t .count) full) kept m keeps
       (step-memory ev s₀ k lent regs t mem done added log h live l m delivered w lines q planned x shows lacks test)
 
   pub undone : (n : ℕ) → done < n → Reached (runLogged (eventsOf b) s₀ k n) lent (stateWith regs t mem) done added log true

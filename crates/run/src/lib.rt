@@ -16,6 +16,10 @@ ghost use Rattle.machine.specs.Depth.{depthFrom, callDeepest};
 ghost use Rattle.devices.specs.Cursor.{Behind, Ordered, stateFrom};
 ghost use Rattle.machine.specs.Rest.{stateWith};
 ghost use Rattle.run.specs.Due.{dueOf, Awaits};
+ghost use Rattle.journal_record.specs.Ring.{Lends, journalWith};
+ghost use Rattle.run.specs.Kept.{keptOver};
+use journal_record::Ring;
+use journal_record::keep_step;
 use machine::Depth;
 use machine::Lines;
 use machine::Machine;
@@ -32,39 +36,46 @@ fn due_at(events: &[u8], k: usize) -> u64
     4294967296
 }
 
-// The lines after the events of a step, the first record not behind, and its step.
-struct Delivery {
-    lines: Lines,
+// The first event record not behind, and its step.
+struct Awaited {
     next: usize,
     due: u64,
 }
 
-// Point 1 of step `count`: applies the events that are due; where none is, looks at no record.
-fn deliver_due(
-    memory: &mut [u8],
-    events: &[u8],
-    next: usize,
-    due: u64,
-    count: u32,
+// The lines after the events of a step, and the record then awaited.
+struct Delivery {
     lines: Lines,
-) -> Delivery
-    requires { ⌜ (length (now memory) ≡ 65536) × Awaits (now events) next due count
+    at: Awaited,
+}
+
+// The record awaited from record k on.
+fn awaiting(events: &[u8], k: usize) -> Awaited
+    ensures { λ r. ⌜ (r .next ≡ k) × (r .due ≡ dueOf (now (events .entry)) k) ⌝ }
+{
+    Awaited {
+        next: k,
+        due: due_at(events, k),
+    }
+}
+
+// Point 1 of step `count`: applies the events that are due; where none is, looks at no record.
+fn deliver_due(memory: &mut [u8], events: &[u8], at: Awaited, count: u32, lines: Lines) -> Delivery
+    requires { ⌜ (length (now memory) ≡ 65536) × Awaits (now events) (at .next) (at .due) count
         × Ordered (now events) × (eventsFitBelow (now events) (eventCount (now events)) ≡ true) ⌝ }
     ensures state { λ r. ⌜ ((c : Core) (h : Bool)
         → stateFrom c (r .lines) h count (now (memory .exit))
         ≡ deliverAt count (eventsOf (now (events .entry)))
         (stateFrom c lines h count (now (memory .entry)))) ⌝ }
-    ensures awaits { λ r. ⌜ Awaits (now (events .entry)) (r .next) (r .due) (count + 1) ⌝ }
+    ensures awaits { λ r. ⌜ Awaits (now (events .entry)) (r .at .next) (r .at .due) (count + 1) ⌝ }
 {
-    if (count as u64) < due {
-        return Delivery { lines, next, due };
+    if (count as u64) < at.due {
+        return Delivery { lines, at };
     }
-    let d = devices::deliver(memory, events, next, count, lines);
-    let at = d.next;
+    let d = devices::deliver(memory, events, at.next, count, lines);
+    let next = awaiting(events, d.next);
     Delivery {
         lines: d.lines,
-        next: at,
-        due: due_at(events, at),
+        at: next,
     }
 }
 
@@ -82,7 +93,7 @@ fn reason_of(halted: bool, short: bool) -> Reason
 }
 
 // The machine that a run leaves, why it ended, the steps done, the log records added, the first
-// event record that is not behind, and how deep the run is and went.
+// event record that is not behind, how deep the run is and went, and the journal's two numbers.
 pub struct Ran {
     pub machine: Machine,
     pub reason: Reason,
@@ -90,6 +101,7 @@ pub struct Ran {
     pub added: usize,
     pub next: usize,
     pub depth: Depth,
+    pub ring: Ring,
 }
 
 // A machine taken apart: all but its registers.
@@ -124,6 +136,20 @@ fn with_lines(t: Rest, lines: Lines) -> Rest
     }
 }
 
+// The machine put together again.
+fn machine_of(regs: [u16; 8], t: Rest) -> Machine
+    ensures { λ r. ⌜ ((mem : List ℕ) → stateOf r mem ≡ stateWith regs t mem) ⌝ }
+{
+    Machine {
+        regs,
+        psw: t.psw,
+        cex: t.cex,
+        lines: t.lines,
+        halted: t.halted,
+        count: t.count,
+    }
+}
+
 // What a run leaves: the machine put together again, and why it ended.
 fn ended(
     regs: [u16; 8],
@@ -133,35 +159,120 @@ fn ended(
     added: usize,
     next: usize,
     depth: Depth,
+    ring: Ring,
 ) -> Ran
     ensures machine { λ r. ⌜ ((mem : List ℕ) → stateOf (r .machine) mem ≡ stateWith regs t mem) ⌝ }
     ensures reason { λ r. ⌜ r .reason ≡ cond short NoRoom (cond (t .halted) Halted Done) ⌝ }
     ensures numbers { λ r. ⌜ (r .steps ≡ done) × (r .added ≡ added) × (r .next ≡ next)
-        × (r .depth ≡ depth) ⌝ }
+        × (r .depth ≡ depth) × (r .ring ≡ ring) ⌝ }
 {
-    let machine = Machine {
-        regs,
-        psw: t.psw,
-        cex: t.cex,
-        lines: t.lines,
-        halted: t.halted,
-        count: t.count,
-    };
-    let reason = reason_of(t.halted, short);
     Ran {
-        machine,
-        reason,
+        machine: machine_of(regs, t),
+        reason: reason_of(t.halted, short),
         steps: done,
         added,
         next,
         depth,
+        ring,
     }
 }
 
-// A run of n steps, fewer if the machine halts or the log has no room for what a step would show.
-// The machine is taken apart where the loop begins and put together where it ends. Each turn is a
-// stretch, which may be empty and shows nothing, and then one step. A step that is not taken gives
-// back the registers that its plan changed and the device bytes that its events changed.
+// How many steps a stretch may do at once: none where a journal is lent, for each has its record.
+fn at_once(lent: bool, left: u32) -> u32
+    ensures { λ r. ⌜ r ≡ cond lent 0 left ⌝ }
+{
+    if lent {
+        return 0;
+    }
+    left
+}
+
+// A run of n steps, fewer if the machine halts or the log has no room for what a step would show,
+// each step kept in the journal, if one is lent. The machine is taken apart where the loop begins
+// and put together where it ends. Each turn is a stretch, which may be empty and shows nothing, and
+// then one step. A step that is not taken gives back the registers that its plan changed and the
+// device bytes that its events changed.
+pub fn run_kept(
+    m: Machine,
+    memory: &mut [u8],
+    events: &[u8],
+    from: usize,
+    log: &mut [u8],
+    begun: Depth,
+    journal: &mut [u8],
+    begins: Ring,
+    n: u32,
+) -> Ran
+    requires { ⌜ (length (now memory) ≡ 65536) × (m .count + n ≤ 4294967295) × Ordered (now events)
+        × (eventsFitBelow (now events) (eventCount (now events)) ≡ true)
+        × Behind (now events) from (m .count) × (begun .opened + n ≤ 4294967295)
+        × Lends (now journal) begins ⌝ }
+    ensures state { λ r. ⌜ stateOf (r .machine) (now (memory .exit))
+        ≡ runLogged (eventsOf (now (events .entry))) (stateOf m (now (memory .entry)))
+        (roomOf (now (log .entry))) n .state ⌝ }
+    ensures reason { λ r. ⌜ r .reason
+        ≡ reasonLogged (runLogged (eventsOf (now (events .entry)))
+        (stateOf m (now (memory .entry))) (roomOf (now (log .entry))) n) ⌝ }
+    ensures steps { λ r. ⌜ r .steps
+        ≡ runLogged (eventsOf (now (events .entry))) (stateOf m (now (memory .entry)))
+        (roomOf (now (log .entry))) n .steps ⌝ }
+    ensures added { λ r. ⌜ r .added
+        ≡ length (runLogged (eventsOf (now (events .entry))) (stateOf m (now (memory .entry)))
+        (roomOf (now (log .entry))) n .records) ⌝ }
+    ensures log { λ r. ⌜ now (log .exit) ≡ logAfter (now (log .entry))
+        (runLogged (eventsOf (now (events .entry))) (stateOf m (now (memory .entry)))
+        (roomOf (now (log .entry))) n) ⌝ }
+    ensures next { λ r. ⌜ Behind (now (events .entry)) (r .next) (r .machine .count) ⌝ }
+    ensures depth { λ r. ⌜ r .depth ≡ depthFrom (eventsOf (now (events .entry)))
+        (stateOf m (now (memory .entry))) begun (runLogged (eventsOf (now (events .entry)))
+        (stateOf m (now (memory .entry))) (roomOf (now (log .entry))) n .steps) ⌝ }
+    ensures journal { λ r. ⌜ journalWith (now (journal .exit)) (r .ring)
+        ≡ keptOver (now (journal .entry)) begins (eventsOf (now (events .entry)))
+        (stateOf m (now (memory .entry))) (runLogged (eventsOf (now (events .entry)))
+        (stateOf m (now (memory .entry))) (roomOf (now (log .entry))) n .steps) ⌝ }
+{
+    let room = log.len() / 8;
+    let lent = journal.len() != 0;
+    let mut regs = m.regs;
+    let mut t = rest_of(m);
+    let mut devices: [u8; 16] = [0; 16];
+    let mut at = awaiting(events, from);
+    let mut done: u32 = 0;
+    let mut added: usize = 0;
+    let mut depth = begun;
+    let mut ring = begins;
+    let mut short = false;
+    while done < n {
+        let before = t.count;
+        t = stretch::stretch(&mut regs, memory, t, at.due, at_once(lent, n - done));
+        done += t.count - before;
+        if t.halted | (done == n) {
+            break;
+        }
+        let held = machine_of(regs, t);
+        let wanted = lent | ((added == room) & (at.due <= t.count as u64));
+        output_log::keep(memory, wanted, &mut devices);
+        let d = deliver_due(memory, events, at, t.count, t.lines);
+        let p = step::plan(&mut regs, memory, with_lines(t, d.lines));
+        let act = p.act;
+        let shown = output_log::shown_by(memory, act);
+        if output_log::lacks_room(shown, added, room) {
+            regs = held.regs;
+            output_log::put_back(memory, wanted, &devices);
+            short = true;
+            break;
+        }
+        added = output_log::add(log, added, t.count, shown);
+        depth = frame_depth::moved(act, depth);
+        ring = keep_step(journal, ring, held, &devices, memory, act, regs[6]);
+        t = step::perform(&mut regs, memory, d.lines, t.count, p);
+        at = d.at;
+        done += 1;
+    }
+    ended(regs, t, short, done, added, at.next, depth, ring)
+}
+
+// A run whose steps are not kept.
 pub fn run(
     m: Machine,
     memory: &mut [u8],
@@ -194,44 +305,9 @@ pub fn run(
         (stateOf m (now (memory .entry))) begun (runLogged (eventsOf (now (events .entry)))
         (stateOf m (now (memory .entry))) (roomOf (now (log .entry))) n .steps) ⌝ }
 {
-    let room = log.len() / 8;
-    let mut regs = m.regs;
-    let mut t = rest_of(m);
-    let mut kept: [u8; 16] = [0; 16];
-    let mut next = from;
-    let mut due = due_at(events, from);
-    let mut done: u32 = 0;
-    let mut added: usize = 0;
-    let mut depth = begun;
-    let mut short = false;
-    while done < n {
-        let before = t.count;
-        t = stretch::stretch(&mut regs, memory, t, due, n - done);
-        done += t.count - before;
-        if t.halted | (done == n) {
-            break;
-        }
-        let held = regs;
-        let wanted = (added == room) & (due <= t.count as u64);
-        output_log::keep(memory, wanted, &mut kept);
-        let d = deliver_due(memory, events, next, due, t.count, t.lines);
-        let p = step::plan(&mut regs, memory, with_lines(t, d.lines));
-        let act = p.act;
-        let shown = output_log::shown_by(memory, act);
-        if output_log::lacks_room(shown, added, room) {
-            regs = held;
-            output_log::put_back(memory, wanted, &kept);
-            short = true;
-            break;
-        }
-        added = output_log::add(log, added, t.count, shown);
-        depth = frame_depth::moved(act, depth);
-        t = step::perform(&mut regs, memory, d.lines, t.count, p);
-        next = d.next;
-        due = d.due;
-        done += 1;
-    }
-    ended(regs, t, short, done, added, next, depth)
+    let mut nowhere: [u8; 0] = [0; 0];
+    let ring = Ring { kept: 0, place: 0 };
+    run_kept(m, memory, events, from, log, begun, &mut nowhere, ring, n)
 }
 
 // The number of a reason.

@@ -218,6 +218,37 @@ module _ (ev : List Event) (s : State) (k : ℕ) where
       absurd (omega arith))
       (λ q. q)
 
+  -- the records of more steps are no fewer; with room for those of n steps a run of n is not stopped
+  records-more : (m i : ℕ) → length (recordsOf ev s m) ≤ length (recordsOf ev s (m + i))
+  unfolding recordsOf
+  records-more m zero = rw (add-zero m) (omega arith)
+  records-more m (suc i) =
+      let h = records-more m i in
+      rw (add-suc m i, length-append (recordsOf ev s (m + i)) (loggedNext ev (runOf ev s (m + i) .state))) (omega arith)
+
+  records-next : (m : ℕ) → length (recordsOf ev s (suc m)) ≡ length (recordsOf ev s m) + length (loggedNext ev (runOf ev s m .state))
+  unfolding recordsOf
+  records-next m = length-append (recordsOf ev s m) (loggedNext ev (runOf ev s m .state))
+
+  pub records-enough : (n : ℕ) → length (recordsOf ev s n) ≤ k → runLogged ev s k n .short ≡ false
+  records-enough n h =
+      bool-cases (runLogged ev s k n .short)
+      (λ q.
+      let x = at n in
+      let st = stops n q in
+      let before = st .before in
+      let past = st .past in
+      let a : length (x .records) ≡ length (recordsOf ev s (x .steps)) = ap length (logged-records n) in
+      let b : length (loggedNext ev (x .state)) ≡ length (loggedNext ev (runOf ev s (x .steps) .state)) =
+      ap (λ r. length (loggedNext ev (r .state))) (logged-run n) in
+      let c = records-next (x .steps) in
+      let n-is : suc (x .steps) + (n - suc (x .steps)) ≡ n = omega arith in
+      let d : length (recordsOf ev s (suc (x .steps))) ≤ length (recordsOf ev s n) =
+      subst (λ i. length (recordsOf ev s (suc (x .steps))) ≤ length (recordsOf ev s i)) n-is (records-more (suc (x .steps)) (n - suc
+      (x .steps))) in
+      absurd (omega arith))
+      (λ q. q)
+
   -- with room enough it is the run of n
   pub roomy-run : (n : ℕ) → runLogged ev s k n .short ≡ false → ranOf (runLogged ev s k n) ≡ runOf ev s n
   roomy-run n q =

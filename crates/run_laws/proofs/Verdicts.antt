@@ -11,13 +11,13 @@ use borrow.Author.Tests.{not-false}
 use Rattle.machine.specs.declared.Verdict.{Verdict}
 use Rattle.machine.specs.declared.Verdict.the-variants.{Accepted, LogLength}
 use Rattle.machine.specs.Record.{fourAt}
-use Rattle.machine.specs.Refusal.{Rule, rule, rulesOf, firstBroken, verdictOf, callVerdict, refusalNumber, accepted?}
+use Rattle.machine.specs.Refusal.{Rule, rule, rulesOf, callRules, firstBroken, verdictOf, callVerdict, refusalNumber, accepted?}
 use Rattle.machine_laws.specs.Bounds.{Each}
 use Rattle.machine_laws.proofs.Cases.{bool-cases, eq-of, is-eq, not-eq, not-lt}
 use Rattle.machine_laws.proofs.Records.{passed, not-met, is-accepted}
 
 -- rules that refuse, and then others
-first-then : (xs ys : List Rule) → Each (λ (x : Rule). accepted? (x .verdict) ≡ false) xs
+pub first-then : (xs ys : List Rule) → Each (λ (x : Rule). accepted? (x .verdict) ≡ false) xs
     → firstBroken (xs ++ ys) ≡ cond (accepted? (firstBroken xs)) (firstBroken ys) (firstBroken xs)
 first-then [] ys r = refl
 first-then (x ∷ xs) ys r =
@@ -29,9 +29,14 @@ module _ (memory r events log : List ℕ) (n : ℕ) where
   all-refuse : Each (λ (x : Rule). accepted? (x .verdict) ≡ false) (rulesOf memory r events n)
   all-refuse = (refl, (refl, (refl, (refl, (refl, (refl, (refl, (refl, (refl, tt)))))))))
 
+  -- so do those of a call
+  pub call-refuse : Each (λ (x : Rule). accepted? (x .verdict) ≡ false) (callRules memory r events log n)
+  call-refuse = (refl, (refl, (refl, (refl, (refl, (refl, (refl, (refl, (refl, (refl, tt))))))))))
+
   -- the log's length is looked at once the start has passed
   pub call-verdict : callVerdict memory r events log n
-      ≡ cond (accepted? (verdictOf memory r events n)) (cond (not (eqb (length log % 8) 0)) LogLength Accepted) (verdictOf memory r events n)
+      ≡ cond (accepted? (verdictOf memory r events n)) (cond (not (eqb (length log % 8) 0)) LogLength Accepted)
+      (verdictOf memory r events n)
   unfolding verdictOf callVerdict
   call-verdict = first-then (rulesOf memory r events n) (rule (not (eqb (length log % 8) 0)) LogLength ∷ []) all-refuse
 
@@ -57,7 +62,8 @@ module _ (memory r events log : List ℕ) (n : ℕ) where
   call-start e =
       bool-cases (accepted? (verdictOf memory r events n))
       (λ q. is-accepted (verdictOf memory r events n) (eq-of q))
-      (λ q. sym (call-verdict ∙ ap (λ b. cond b (cond (not (eqb (length log % 8) 0)) LogLength Accepted) (verdictOf memory r events n)) q) ∙ e)
+      (λ q. sym (call-verdict ∙ ap (λ b. cond b (cond (not (eqb (length log % 8) 0)) LogLength Accepted)
+      (verdictOf memory r events n)) q) ∙ e)
 
   pub call-whole : callVerdict memory r events log n ≡ Accepted → length log % 8 ≡ 0
   call-whole e =

@@ -19,6 +19,13 @@ pub use Rattle.isa_card.specs.Words.{countOf, countReply, nextOf, nextReply}
 pub use Rattle.machine.specs.Call.{Closing, runCallOf}
 pub use Rattle.resume.specs.Deepest.{deepestOf, deepestLeft}
 pub use Rattle.resume.specs.Resumption.{Resumption}
+-- xm23_run_journal replies and leaves what runJournalOf gives, closing and journal, with the figure and the resumption
+-- of an accepted run call; xm23_back what backCallOf gives. What going back restores, over whole sessions, are GoesBack
+-- and RunsOnAgain of journal_laws. [02 §8; 02 §10; 01 Resumption; 02 §13]
+pub use Rattle.journal.specs.Ring.{Journal, journalOf}
+pub use Rattle.journal.specs.Back.{Lent, lentOf}
+pub use Rattle.journal.specs.Call.{JournalClosing, runJournalOf, BackClosing, backCallOf}
+pub use Rattle.xm23.specs.Journal.{journalDeepestLeft, JournalResumption}
 -- xm23_load_srec and xm23_write_srec reply and leave what loadCallOf and writeCallOf give; Restores is what 02 promises
 -- of the text written. [02 §2]
 pub use Rattle.srec_call.specs.Call.{Loaded, loadCallOf, Written, writeCallOf}
@@ -34,4 +41,4 @@ pub use Rattle.asm_call.specs.Call.{Assembled, assembleCallOf}
 
 -- xm23_version replies versionNumber: major, minor and patch, which are those of the header.
 abbrev pub versionNumber : ℕ
-versionNumber = 0 * 65536 + 16 * 256 + 0
+versionNumber = 0 * 65536 + 17 * 256 + 0

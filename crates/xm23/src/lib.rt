@@ -6,6 +6,8 @@ ghost use Rattle.xm23.specs.Api.{versionNumber, decodeOf, numberOf, enco
 ghost use Rattle.xm23.specs.Api.{rangeReply, countReply, nextReply};
 ghost use Rattle.xm23.specs.Api.{runCallOf, deepestLeft, Resumption};
 ghost use Rattle.xm23.specs.Api.{loadCallOf, writeCallOf, Restores, needReply};
+ghost use Rattle.xm23.specs.Api.{journalOf, runJournalOf, journalDeepestLeft};
+ghost use Rattle.xm23.specs.Api.{JournalResumption, lentOf, backCallOf};
 ghost use Rattle.xm23.specs.Api.{assembleCallOf};
 use isa::Encoded;
 use isa::decode;
@@ -24,7 +26,7 @@ use isa_ranges::operation_of;
 pub extern "C" fn xm23_version() -> u32
     ensures reply { λ r. ⌜ r ≡ versionNumber ⌝ }
 {
-    0x001000
+    0x001100
 }
 
 // The number of the instruction that a word means; that of the illegal one is 0.
@@ -108,6 +110,97 @@ pub extern "C" fn xm23_run(
         (now (events .entry)) (now (log .entry)) n (now (memory .exit)) (now (state .exit)) ⌝ }
 {
     run::run_call(memory, state, events, log, deepest, n)
+}
+
+// The run of xm23_run with each of its steps kept in a journal of 64-byte records: the same reply.
+// `kept` is the number of records kept and `place` the next place. Refused, memory, record, log,
+// journal and all three numbers stay as they were.
+#[no_mangle]
+pub extern "C" fn xm23_run_journal(
+    memory: &mut [u8],
+    state: &mut [u8],
+    events: &[u8],
+    log: &mut [u8],
+    deepest: &mut u32,
+    journal: &mut [u8],
+    kept: &mut u32,
+    place: &mut u32,
+    n: u64,
+) -> u64
+    ensures reply { λ r. ⌜ r ≡ runJournalOf
+        (now (memory .entry)) (now (state .entry)) (now (events .entry))
+        (now (log .entry)) (journalOf (now (journal .entry)) (now (kept .entry))
+        (now (place .entry))) n .closing .reply ⌝ }
+    ensures memory { λ r. ⌜ now (memory .exit) ≡ runJournalOf
+        (now (memory .entry)) (now (state .entry)) (now (events .entry))
+        (now (log .entry)) (journalOf (now (journal .entry)) (now (kept .entry))
+        (now (place .entry))) n .closing .memory ⌝ }
+    ensures state { λ r. ⌜ now (state .exit) ≡ runJournalOf
+        (now (memory .entry)) (now (state .entry)) (now (events .entry))
+        (now (log .entry)) (journalOf (now (journal .entry)) (now (kept .entry))
+        (now (place .entry))) n .closing .state ⌝ }
+    ensures log { λ r. ⌜ now (log .exit) ≡ runJournalOf
+        (now (memory .entry)) (now (state .entry)) (now (events .entry))
+        (now (log .entry)) (journalOf (now (journal .entry)) (now (kept .entry))
+        (now (place .entry))) n .closing .log ⌝ }
+    ensures deepest { λ r. ⌜ now (deepest .exit) ≡ journalDeepestLeft
+        (now (memory .entry)) (now (state .entry)) (now (events .entry))
+        (now (log .entry)) (journalOf (now (journal .entry)) (now (kept .entry))
+        (now (place .entry))) n
+        (now (deepest .entry)) ⌝ }
+    ensures resumption { λ r. ⌜ JournalResumption
+        (now (memory .entry)) (now (state .entry)) (now (events .entry))
+        (now (log .entry)) (journalOf (now (journal .entry)) (now (kept .entry))
+        (now (place .entry))) n
+        (now (memory .exit)) (now (state .exit)) ⌝ }
+    ensures journal { λ r. ⌜ now (journal .exit) ≡ runJournalOf
+        (now (memory .entry)) (now (state .entry)) (now (events .entry))
+        (now (log .entry)) (journalOf (now (journal .entry)) (now (kept .entry))
+        (now (place .entry))) n .journal .bytes ⌝ }
+    ensures number { λ r. ⌜ now (kept .exit) ≡ runJournalOf
+        (now (memory .entry)) (now (state .entry)) (now (events .entry))
+        (now (log .entry)) (journalOf (now (journal .entry)) (now (kept .entry))
+        (now (place .entry))) n .journal .kept ⌝ }
+    ensures place { λ r. ⌜ now (place .exit) ≡ runJournalOf
+        (now (memory .entry)) (now (state .entry)) (now (events .entry))
+        (now (log .entry)) (journalOf (now (journal .entry)) (now (kept .entry))
+        (now (place .entry))) n .journal .place ⌝ }
+{
+    run_journal::run_journal_call(memory, state, events, log, deepest, journal, kept, place, n)
+}
+
+// k steps back: the newest k records of the journal copied out, newest first; refusal in bits 7-0.
+// Both numbers are then k lower, the place wrapping. Refused, all stays as it was.
+#[no_mangle]
+pub extern "C" fn xm23_back(
+    memory: &mut [u8],
+    state: &mut [u8],
+    journal: &[u8],
+    kept: &mut u32,
+    place: &mut u32,
+    k: u64,
+) -> u32
+    ensures reply { λ r. ⌜ r ≡ backCallOf k
+        (lentOf (now (memory .entry)) (now (state .entry))
+        (journalOf (now (journal .entry)) (now (kept .entry)) (now (place .entry)))) .reply ⌝ }
+    ensures memory { λ r. ⌜ now (memory .exit) ≡ backCallOf k
+        (lentOf (now (memory .entry)) (now (state .entry))
+        (journalOf (now (journal .entry)) (now (kept .entry)) (now (place .entry))))
+        .lent .memory ⌝ }
+    ensures state { λ r. ⌜ now (state .exit) ≡ backCallOf k
+        (lentOf (now (memory .entry)) (now (state .entry))
+        (journalOf (now (journal .entry)) (now (kept .entry)) (now (place .entry))))
+        .lent .state ⌝ }
+    ensures number { λ r. ⌜ now (kept .exit) ≡ backCallOf k
+        (lentOf (now (memory .entry)) (now (state .entry))
+        (journalOf (now (journal .entry)) (now (kept .entry)) (now (place .entry))))
+        .lent .journal .kept ⌝ }
+    ensures place { λ r. ⌜ now (place .exit) ≡ backCallOf k
+        (lentOf (now (memory .entry)) (now (state .entry))
+        (journalOf (now (journal .entry)) (now (kept .entry)) (now (place .entry))))
+        .lent .journal .place ⌝ }
+{
+    back::back_call(memory, state, journal, kept, place, k)
 }
 
 // The text of S-records loaded into memory: refusal in bits 7-0, PC in bits 31-16, the line at

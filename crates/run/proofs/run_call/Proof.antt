@@ -19,18 +19,21 @@ returns c =
 
 read-record-requires : tie.Need-read-record-requires
 read-record-requires c κs =
-    let p = call-passed _ _ _ _ _ _ _ (c .before .before .before .call-verdict .ensures) (c .before .before .refusal-number .ensures .0) (c .before .if1 .left) in
+    let i = c .before in
+    let p = call-passed _ _ _ _ _ _ _ (i .before .before .call-verdict .ensures) (i .before .refusal-number .ensures .0) (i .if1 .left) in
     p .record-size
 
 cast-run : tie.Need-cast-run
 cast-run c =
-    let p = call-passed _ _ _ _ _ _ _ (c .before .before .before .before .before .before .call-verdict .ensures) (c .before .before .before .before .before .refusal-number .ensures .0) (c .before .before .before .before .if1 .left) in
+    let i = c .before .before .before .before in
+    let p = call-passed _ _ _ _ _ _ _ (i .before .before .call-verdict .ensures) (i .before .refusal-number .ensures .0) (i .if1 .left) in
     let few = p .few-steps in
     omega arith
 
 run-requires : tie.Need-run-requires
 run-requires c κs =
-    let p = call-passed _ _ _ _ _ _ _ (c .before .before .before .before .before .before .call-verdict .ensures) (c .before .before .before .before .before .refusal-number .ensures .0) (c .before .before .before .before .if1 .left) in
+    let i = c .before .before .before .before in
+    let p = call-passed _ _ _ _ _ _ _ (i .before .before .call-verdict .ensures) (i .before .refusal-number .ensures .0) (i .if1 .left) in
     let few = p .few-steps in (
       p .memory-size,
       count-fits _ _ _ _ p _ (c .before .before .read-record .ensures),
@@ -42,33 +45,38 @@ run-requires c κs =
 
 write-record-requires : tie.Need-write-record-requires
 write-record-requires c κs =
-    let p = call-passed _ _ _ _ _ _ _ (c .before .before .before .before .before .before .before .before .before .before .before .before .call-verdict .ensures) (c .before .before .before .before .before .before .before .before .before .before .before .refusal-number .ensures .0) (c .before .before .before .before .before .before .before .before .before .before .if1 .left) in
+    let i = c .before .before .before .before .before .before .before .before .before .before in
+    let p = call-passed _ _ _ _ _ _ _ (i .before .before .call-verdict .ensures) (i .before .refusal-number .ensures .0) (i .if1 .left) in
     p .record-size
 
 reply-of-requires : tie.Need-reply-of-requires
 reply-of-requires c κs =
-    let r = c .before .before .before .before .before .before .before .before .run .ensures in
-    let v = c .before .before .before .before .before .before .before .before .before .before .before .before .before .before .before .call-verdict .ensures in
-    let k = c .before .before .before .before .before .before .before .before .before .before .before .before .before .before .refusal-number .ensures .0 in
-    let i = c .before .before .before .before .before .before .before .before .before .before .before .before .before .if1 .left in
-    let m = c .before .before .before .before .before .before .before .before .before .before .before .read-record in (
+    let a = c .before .before .before .before .before .before .before .before in
+    let r = a .run .ensures in
+    let m = a .before .before .before .read-record in
+    let e = a .before .before .before .before .before in
+    let i = e .if1 .left in
+    let k = e .before .refusal-number .ensures .0 in
+    let v = e .before .before .call-verdict .ensures in (
       subst (λ j. j ≤ 1000000) (sym (r .1 .1 .0)) (few-steps _ _ _ _ _ _ _ v k i (m .result) (m .ensures)),
       subst (λ j. j ≤ 1000000) (sym (r .1 .1 .1 .0)) (few-records _ _ _ _ _ _ _ v k i (m .result) (m .ensures)),
     )
 
 returns-2 : tie.Need-returns-2
 returns-2 c =
-    let a-run = c .before .before .before .before .before .before .before .before .before in
-    let r = a-run .run .ensures in
-    let a-read = a-run .before .before .before in
-    let m = a-read .read-record in
-    let i = a-read .before .before .if1 .left in
-    let k = a-read .before .before .before .refusal-number .ensures .0 in
-    let v = a-read .before .before .before .before .call-verdict .ensures in
+    let a = c .before .before .before .before .before .before .before .before .before in
+    let r = a .run .ensures in
+    let x = r .1 .1 .1 in
+    let m = a .before .before .before .read-record in
+    let o = a .before .before .before .before .before in
+    let i = o .if1 .left in
+    let k = o .before .refusal-number .ensures .0 in
+    let v = o .before .before .call-verdict .ensures in
     let e =
     call-ran _ _ _ _ _ _ _ v k i (m .result) (m .ensures)
-    _ _ _ _ _ _ _ _ (r .0) (r .1 .0) (r .1 .1 .0) (r .1 .1 .1 .0) (r .1 .1 .1 .1 .0) (c .before .before .before .write-record .ensures) (c .reply-of .ensures) in
-    let f = figure-ran _ _ _ _ _ _ _ v k i (m .result) (m .ensures) _ _ (r .1 .1 .1 .1 .1 .1) in
+    _ _ _ _ _ _ _ _ (r .0) (r .1 .0) (r .1 .1 .0) (x .0) (x .1 .0) (c .before .before .before .write-record .ensures)
+    (c .reply-of .ensures) in
+    let f = figure-ran _ _ _ _ _ _ _ v k i (m .result) (m .ensures) _ _ (x .1 .1 .1) in
     (ap (λ x. x .reply) e, (ap (λ x. x .memory) e, (ap (λ x. x .state) e, (ap (λ x. x .log) e, f))))
 
 pub run-call-spec : {M : Type 1} → statement M

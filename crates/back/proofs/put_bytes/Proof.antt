@@ -1,0 +1,101 @@
+-- `back::put_bytes` meets its contract. The loop's invariant: what is left to copy, copied, gives what the whole does.
+-- Assumes nothing.
+use Prim.Native.Nat.{ℕ, _+_, _-_, _%_, _≤_, _<_}
+use mathlib.Core.Path.{_≡_, refl, sym, ap, _∙_}
+use native.Mathlib.Omega.{arith}
+use borrow.Author.Needs.{needs}
+use denote.Ref.{now}
+use lib.ListN.{length, length-set}
+use Rattle.back.proofs.Laws.{rest, bytes-start, bytes-turn, bytes-end}
+use Rattle.back.proofs.put_bytes.Statement.{statement}
+use Rattle.back.proofs.put_bytes.Tie as tie
+use Rattle.back.proofs.put_bytes.Reads as reads
+use Rattle.back.proofs.put_bytes.Lts as lts
+use Rattle.std.proofs.num.wrapping_add_u16.Reads as wrapping-add-u16-reads
+
+abbrev Inv-loop : tie.InvT-loop
+Inv-loop memory₀ journal from a n i₀ at₀ memory i at =
+    (length memory ≡ 65536) × (i ≤ n) × (at ≡ (a + i) % 65536)
+    × (rest memory journal from a n i ≡ rest memory₀ journal from a n 0)
+
+abbrev μ-loop : tie.MeasureT-loop
+μ-loop memory₀ journal from a n i₀ at₀ memory i at = n - i
+
+-- src/lib.rt:18:5
+loop-holds : tie.Need-loop-holds Inv-loop μ-loop
+loop-holds c = let s = c .before .before in (s .pre .0, omega arith, omega arith, refl)
+
+-- src/lib.rt:19:17
+cast-x : tie.Need-cast-x Inv-loop μ-loop
+cast-x c = search needs
+
+-- src/lib.rt:20:29
+add-memory : tie.Need-add-memory Inv-loop μ-loop
+add-memory c = search needs
+
+-- src/lib.rt:20:21
+shared-slice-read-memory : tie.Need-shared-slice-read-memory Inv-loop μ-loop
+shared-slice-read-memory c = search needs
+
+-- src/lib.rt:20:9
+slice-write-memory : tie.Need-slice-write-memory Inv-loop μ-loop
+slice-write-memory c = search needs
+
+-- src/lib.rt:21:9
+wrapping-add-u16-requires : tie.Need-wrapping-add-u16-requires Inv-loop μ-loop
+wrapping-add-u16-requires c κs = search needs
+
+-- src/lib.rt:22:9
+add-i : tie.Need-add-i Inv-loop μ-loop
+add-i c = search needs
+
+-- src/lib.rt:18:5
+loop-less : tie.Need-loop-less Inv-loop μ-loop
+loop-less c = search needs
+
+-- src/lib.rt:18:5
+loop-again : tie.Need-loop-again Inv-loop μ-loop
+loop-again c =
+    let s = c .before .before .before .before .before .before in
+    let l = c .before .before .before .loop in
+    let b = now (s .args .journal) in
+    let t = c .before .before .loop-test .taken in
+    let w = l .inv in (
+      simp length-set (w .0),
+      omega arith,
+      omega (arith, w .2, c .wrapping-add-u16 .ensures),
+      bytes-turn (l .memory) b (s .args .from) (s .args .a) (s .args .n) (l .i) (l .at) (s .pre .1) t (w .2) ∙ w .3,
+    )
+
+-- src/lib.rt:11:1
+same-length : tie.Need-same-length Inv-loop μ-loop
+same-length c = c .before .loop .inv .0 ∙ sym (c .before .before .before .before .pre .0)
+
+-- src/lib.rt:11:1
+returns : tie.Need-returns Inv-loop μ-loop
+returns c =
+    let s = c .before .before .before .before in
+    let l = c .before .loop in
+    let b = now (s .args .journal) in
+    let e : l .i ≡ s .args .n = omega (arith, l .inv .1, c .loop-test .left) in
+    sym (ap (rest (l .memory) b (s .args .from) (s .args .a) (s .args .n)) e
+    ∙ bytes-end (l .memory) b (s .args .from) (s .args .a) (s .args .n))
+    ∙ l .inv .3 ∙ bytes-start (now (s .args .memory)) b (s .args .from) (s .args .a) (s .args .n)
+
+pub put-bytes-spec : {M : Type 1} → statement M
+put-bytes-spec =
+    tie.close
+    (tie.spec
+    Inv-loop
+    μ-loop
+    loop-holds
+    cast-x
+    add-memory
+    shared-slice-read-memory
+    slice-write-memory
+    wrapping-add-u16-requires
+    add-i
+    loop-less
+    loop-again
+    same-length
+    returns)

@@ -1,0 +1,4 @@
+pub mod Record
+pub mod Restore
+pub mod Ring
+pub mod Calls

@@ -1,0 +1,4 @@
+pub mod Record
+pub mod Ring
+pub mod Back
+pub mod Call

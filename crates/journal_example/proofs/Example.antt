@@ -1,0 +1,109 @@
+-- The session, computed: what is in the journal after the run, and what going back leaves. Assumes nothing.
+use Prim.Native.Nat.{ℕ, zero, suc, _<_}
+use mathlib.Core.Bool.{Bool, true, _&&_}
+use mathlib.Core.List.{List, [], _∷_}
+use mathlib.Core.Path.{_≡_, refl}
+use lib.Dec.{ltb, lit<}
+use lib.ListN.{take, drop, replicate}
+use Rattle.machine.specs.Memory.{byteAt, write, commit}
+use Rattle.machine.specs.Record.{twoAt, stateIn, recordOf}
+use Rattle.machine.specs.Events.{eventsFrom}
+use Rattle.machine.specs.Devices.{deliverAt}
+use Rattle.machine.specs.Entry.{bestFrom, pushes, vectored, enteredPsw}
+use Rattle.machine.specs.Step.{interruptOf, instructionOf, planOf, perform, stepOf}
+use Rattle.machine.specs.Run.{runOf}
+use Rattle.machine.specs.Log.{loggedNext}
+use Rattle.machine.specs.Logged.{runLogged}
+use Rattle.machine.specs.Refusal.{recordFits, eventsFitBelow, inOrderBelow, twinsBelow}
+use Rattle.journal.specs.Record.{addressOf, bytesFrom, fieldsOf, journalRecord, placed, memoryOut}
+use Rattle.journal.specs.Ring.{Journal, recordAt, keep, journalAfter, journalFits}
+use Rattle.journal.specs.Back.{Lent, oneBack, backOf}
+use Rattle.journal.specs.Call.{journalVerdict, runJournalOf, backVerdict, backCallOf}
+use Rattle.machine_laws.specs.Bounds.{Each, Bytes}
+use Rattle.machine_laws.proofs.Cases.{lt-of, and-left, and-right}
+use Rattle.machine_laws.proofs.Memory.{commit-bytes}
+use Rattle.journal_laws.specs.Session.{lentAfter, Began}
+use Rattle.journal_example.specs.Example.{memory, r, x, run, session}
+
+all-low : List ℕ → Bool
+all-low [] = true
+all-low (v ∷ b) = ltb v 256 && all-low b
+
+-- what is lent after the run, and after going back too
+abbrev y : Lent
+y = lentAfter run x
+
+abbrev z : Lent
+z = lentAfter session x
+
+-- the run halts after two steps; both are kept and the place has gone from 1 to 0 and to 1
+pub numbers : (y .journal .kept ≡ 2) × (y .journal .place ≡ 1) × (byteAt (y .state) 21 ≡ 1) × (twoAt (y .state) 22 ≡ 2)
+unfolding lentAfter runJournalOf journalVerdict recordFits eventsFitBelow inOrderBelow twinsBelow eventsFrom journalFits runLogged loggedNext
+    runOf stepOf deliverAt planOf interruptOf bestFrom instructionOf perform pushes vectored enteredPsw commit stateIn recordOf journalAfter
+    keep journalRecord addressOf fieldsOf bytesFrom
+numbers = (refl, refl, refl, refl)
+
+-- the first step's record is at place 1: its address is that of the last word pushed, and its eight bytes, as they were before the
+-- step, are #FFFC to #FFFF and then 0 to 3
+pub first-record : (twoAt (recordAt (y .journal .bytes) 1) 48 ≡ 0xFFFC)
+    × (take 8 (drop 50 (recordAt (y .journal .bytes) 1)) ≡ 0 ∷ 7 ∷ 0 ∷ 0 ∷ 0 ∷ 9 ∷ 0 ∷ 0 ∷ [])
+unfolding lentAfter runJournalOf journalVerdict recordFits eventsFitBelow inOrderBelow twinsBelow eventsFrom journalFits runLogged loggedNext
+    runOf stepOf deliverAt planOf interruptOf bestFrom instructionOf perform pushes vectored enteredPsw commit stateIn recordOf journalAfter
+    keep journalRecord addressOf fieldsOf bytesFrom
+first-record = (refl, refl)
+
+-- the frame stands there now: CEX state and PSW, LR, PC, all zero but the PC, 1
+pub frame : take 4 (drop 0xFFFC (y .memory)) ≡ 0 ∷ 0 ∷ 0 ∷ 0 ∷ []
+unfolding lentAfter runJournalOf journalVerdict recordFits eventsFitBelow inOrderBelow twinsBelow eventsFrom journalFits runLogged loggedNext
+    runOf stepOf deliverAt planOf interruptOf bestFrom instructionOf perform pushes vectored enteredPsw commit stateIn recordOf journalAfter
+    keep journalRecord addressOf fieldsOf bytesFrom
+frame = refl
+
+pub frame-wrapped : take 4 (y .memory) ≡ 0 ∷ 0 ∷ 1 ∷ 0 ∷ []
+unfolding lentAfter runJournalOf journalVerdict recordFits eventsFitBelow inOrderBelow twinsBelow eventsFrom journalFits runLogged loggedNext
+    runOf stepOf deliverAt planOf interruptOf bestFrom instructionOf perform pushes vectored enteredPsw commit stateIn recordOf journalAfter
+    keep journalRecord addressOf fieldsOf bytesFrom
+frame-wrapped = refl
+
+-- the second step's record is at place 0; the state before it has PC 1, SP #FFFC and count 1
+pub second-record : (twoAt (recordAt (y .journal .bytes) 0) 48 ≡ 0) × (twoAt (recordAt (y .journal .bytes) 0) 12 ≡ 0xFFFC)
+    × (twoAt (recordAt (y .journal .bytes) 0) 22 ≡ 1)
+unfolding lentAfter runJournalOf journalVerdict recordFits eventsFitBelow inOrderBelow twinsBelow eventsFrom journalFits runLogged loggedNext
+    runOf stepOf deliverAt planOf interruptOf bestFrom instructionOf perform pushes vectored enteredPsw commit stateIn recordOf journalAfter
+    keep journalRecord addressOf fieldsOf bytesFrom
+second-record = (refl, refl, refl)
+
+-- going back 2 gives every byte of memory and of the record as it was, nothing kept, the place 1 again
+pub back : (z .memory ≡ memory) × (z .state ≡ r) × (z .journal .kept ≡ 0) × (z .journal .place ≡ 1)
+unfolding lentAfter runJournalOf journalVerdict recordFits eventsFitBelow inOrderBelow twinsBelow eventsFrom journalFits runLogged loggedNext
+    runOf stepOf deliverAt planOf interruptOf bestFrom instructionOf perform pushes vectored enteredPsw commit stateIn recordOf journalAfter
+    keep journalRecord addressOf fieldsOf bytesFrom backCallOf backVerdict backOf oneBack memoryOut placed
+back = (refl, refl, refl, refl)
+
+-- ---- the premises of the promises
+
+zero-at : (n a : ℕ) → byteAt (replicate n 0) a < 256
+zero-at zero a = lit< tt
+zero-at (suc n) zero = lit< tt
+zero-at (suc n) (suc a) = zero-at n a
+
+each-bytes : (b : List ℕ) → Each (λ v. v < 256) b → Bytes b
+each-bytes [] e i = lit< tt
+each-bytes (v ∷ b) e zero = e .0
+each-bytes (v ∷ b) e (suc i) = each-bytes b (e .1) i
+
+none-high : (b : List ℕ) → all-low b ≡ true → Each (λ v. v < 256) b
+unfolding all-low
+none-high [] e = tt
+none-high (v ∷ b) e = (lt-of (and-left (ltb v 256) (all-low b) e), none-high b (and-right (ltb v 256) (all-low b) e))
+
+pub began : Began x run
+unfolding all-low
+began =
+    record {
+      nothing-kept = refl;
+      memory-bytes = commit-bytes (write 0xFFE6 1 ∷ write 0xFFFD 7 ∷ write 1 9 ∷ []) (replicate 65536 0)
+          (lit< tt, (lit< tt, (lit< tt, tt))) (zero-at 65536);
+      state-bytes = each-bytes r (none-high r refl);
+      calls-bytes = ((λ i. lit< tt), tt);
+    }

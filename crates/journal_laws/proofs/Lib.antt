@@ -1,0 +1,4 @@
+pub mod Recall
+pub mod Again
+pub mod Accepted
+pub mod Session

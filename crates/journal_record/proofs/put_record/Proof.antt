@@ -1,0 +1,63 @@
+use Prim.Native.Nat.{_*_}
+use mathlib.Core.Path.{_≡_, refl, sym, ap, _∙_}
+use denote.Ref.{now}
+use lib.ListN.{length}
+use lib.Seq.{sets}
+use Rattle.machine.specs.State.{stateOf}
+use Rattle.journal_record.proofs.Laws.{fields-whole, part-put}
+use borrow.Author.Needs.{needs}
+use Rattle.journal_record.proofs.put_record.Statement.{statement}
+use Rattle.journal_record.proofs.put_record.Tie as tie
+use Rattle.journal_record.proofs.put_record.Reads as reads
+use Rattle.journal_record.proofs.put_record.Lts as lts
+use Rattle.journal_record.proofs.fill.Reads as fill-reads
+
+-- src/lib.rt:151:16
+mul-from : tie.Need-mul-from
+mul-from c = search needs
+
+-- src/lib.rt:152:14
+add-to : tie.Need-add-to
+add-to c = search needs
+
+-- src/lib.rt:153:10
+sub-fill : tie.Need-sub-fill
+sub-fill c = search needs
+
+-- src/lib.rt:153:10
+part-fill-start : tie.Need-part-fill-start
+part-fill-start c = search needs
+
+-- src/lib.rt:153:10
+part-fill-end : tie.Need-part-fill-end
+part-fill-end c = search needs
+
+-- src/lib.rt:153:5
+fill-requires : tie.Need-fill-requires
+fill-requires c κs = search needs
+
+-- src/lib.rt:145:1
+same-length : tie.Need-same-length
+same-length c = search needs
+
+-- src/lib.rt:145:1
+returns : tie.Need-returns
+returns c b w =
+    let s = c .before .before .before .before .before .before in
+    let e = c .before .before .fill .ensures b w in
+    let j = now (s .args .journal) in
+    let l = ap length e ∙ fields-whole (stateOf (s .args .m) b) b (s .args .a) in
+    part-put j (c .before .before .fill .last .0) (64 * s .args .p) (s .pre .0) l ∙ ap (λ x. sets j (64 * s .args .p) x) e
+
+pub put-record-spec : {M : Type 1} → statement M
+put-record-spec =
+    tie.close
+    (tie.spec
+    mul-from
+    add-to
+    sub-fill
+    part-fill-start
+    part-fill-end
+    fill-requires
+    same-length
+    returns)

@@ -1,0 +1,167 @@
+-- Refused, nothing is changed; else what the callees need is what the verdict has settled. Assumes nothing.
+use Prim.Native.Nat.{_≤_}
+use mathlib.Core.Path.{refl, ap, sym, subst}
+use native.Mathlib.Omega.{arith}
+use borrow.Author.Needs.{needs}
+use denote.Ref.{now}
+use Rattle.run.proofs.Laws.{behind-none}
+use Rattle.run.proofs.Calls.{events-fit, events-ordered, count-fits}
+use Rattle.run_journal.proofs.Laws.{passed-all, ring-passed, refused-closing, refused-journal, figure-kept, steps-few, records-few}
+use Rattle.run_journal.proofs.Laws.{figure-ran, closing-ran, journal-ran, some-length}
+use Rattle.run_journal.proofs.run_journal_call.Statement.{statement}
+use Rattle.run_journal.proofs.run_journal_call.Tie as tie
+
+journal-verdict-requires : tie.Need-journal-verdict-requires
+journal-verdict-requires c κs = search needs
+
+refusal-number-requires : tie.Need-refusal-number-requires
+refusal-number-requires c κs = search needs
+
+same-length : tie.Need-same-length
+same-length c = search needs
+
+same-length-2 : tie.Need-same-length-2
+same-length-2 c = search needs
+
+same-length-3 : tie.Need-same-length-3
+same-length-3 c = search needs
+
+same-length-4 : tie.Need-same-length-4
+same-length-4 c = search needs
+
+returns : tie.Need-returns
+returns c =
+    let v = c .before .before .journal-verdict .ensures in
+    let k = c .before .refusal-number .ensures .0 in
+    let e = refused-closing _ _ _ _ _ _ _ _ v k (c .if1 .taken) in (
+      ap (λ x. x .reply) e,
+      (
+        ap (λ x. x .memory) e,
+        (
+          ap (λ x. x .state) e,
+          (
+            ap (λ x. x .log) e,
+            (figure-kept _ _ _ _ _ _ _ _ v k (c .if1 .taken) _, refused-journal _ _ _ _ _ _ _ _ v k (c .if1 .taken)),
+          ),
+        ),
+      ),
+    )
+
+read-record-requires : tie.Need-read-record-requires
+read-record-requires c κs =
+    let v = c .before .before .before .journal-verdict .ensures in
+    let k = c .before .before .refusal-number .ensures .0 in
+    passed-all _ _ _ _ _ _ _ _ v k (c .before .if1 .left) .record-size
+
+cast-run-kept : tie.Need-cast-run-kept
+cast-run-kept c =
+    let v = c .before .before .before .before .before .before .before .journal-verdict .ensures in
+    let k = c .before .before .before .before .before .before .refusal-number .ensures .0 in
+    let few = passed-all _ _ _ _ _ _ _ _ v k (c .before .before .before .before .before .if1 .left) .few-steps in
+    omega arith
+
+run-kept-requires : tie.Need-run-kept-requires
+run-kept-requires c κs =
+    let v = c .before .before .before .before .before .before .before .journal-verdict .ensures in
+    let k = c .before .before .before .before .before .before .refusal-number .ensures .0 in
+    let i = c .before .before .before .before .before .if1 .left in
+    let p = passed-all _ _ _ _ _ _ _ _ v k i in
+    let few = p .few-steps in (
+      p .memory-size,
+      count-fits _ _ _ _ p _ (c .before .before .before .read-record .ensures),
+      events-ordered _ _ _ _ p,
+      events-fit _ _ _ _ p,
+      behind-none _ _,
+      omega arith,
+      (λ some. ring-passed _ _ _ _ _ _ _ _ v k i),
+    )
+
+write-record-requires : tie.Need-write-record-requires
+write-record-requires c κs =
+    let v = c .before .before .before .before .before .before .before .before .before .before .before .before .before .before .before
+    .journal-verdict .ensures in
+    let k = c .before .before .before .before .before .before .before .before .before .before .before .before .before .before
+    .refusal-number .ensures .0 in
+    passed-all _ _ _ _ _ _ _ _ v k (c .before .before .before .before .before .before .before .before .before .before .before .before
+    .before .if1 .left) .record-size
+
+reply-of-requires : tie.Need-reply-of-requires
+reply-of-requires c κs =
+    let v = c .before .before .before .before .before .before .before .before .before .before .before .before .before .before .before
+    .before .before .before .journal-verdict .ensures in
+    let k = c .before .before .before .before .before .before .before .before .before .before .before .before .before .before .before
+    .before .before .refusal-number .ensures .0 in
+    let i = c .before .before .before .before .before .before .before .before .before .before .before .before .before .before .before
+    .before .if1 .left in
+    let r = c .before .before .before .before .before .before .before .before .before .before .run-kept .ensures in
+    let m = c .before .before .before .before .before .before .before .before .before .before .before .before .before .before .read-record
+    in (
+      subst (λ x. x ≤ 1000000) (sym (r .1 .1 .0)) (steps-few _ _ _ _ _ _ _ _ v k i (m .result) (m .ensures)),
+      subst (λ x. x ≤ 1000000) (sym (r .1 .1 .1 .0)) (records-few _ _ _ _ _ _ _ _ v k i (m .result) (m .ensures)),
+    )
+
+same-length-5 : tie.Need-same-length-5
+same-length-5 c = search needs
+
+same-length-6 : tie.Need-same-length-6
+same-length-6 c = search needs
+
+same-length-7 : tie.Need-same-length-7
+same-length-7 c = search needs
+
+same-length-8 : tie.Need-same-length-8
+same-length-8 c = search needs
+
+returns-2 : tie.Need-returns-2
+returns-2 c =
+    let v = c .before .before .before .before .before .before .before .before .before .before .before .before .before .before .before
+    .before .before .before .before .journal-verdict .ensures in
+    let k = c .before .before .before .before .before .before .before .before .before .before .before .before .before .before .before
+    .before .before .before .refusal-number .ensures .0 in
+    let i = c .before .before .before .before .before .before .before .before .before .before .before .before .before .before .before
+    .before .before .if1 .left in
+    let s = c .before .before .before .before .before .before .before .before .before .before .before .before .before .before .before
+    .before .before .before .before .before .before .before .before .before .before .before .before .before .before .before .before in
+    let r = c .before .before .before .before .before .before .before .before .before .before .before .run-kept .ensures in
+    let m = c .before .before .before .before .before .before .before .before .before .before .before .before .before .before .before
+    .read-record in
+    let e =
+    closing-ran _ _ _ _ _ _ _ _ v k i (m .result) (m .ensures) _ _ _ _ _ _ _ _ (r .0) (r .1 .0) (r .1 .1 .0) (r .1 .1 .1 .0)
+    (r .1 .1 .1 .1 .0) (c .before .before .before .write-record .ensures) (c .reply-of .ensures) in
+    let some = some-length _ _ _ _ _ _ _ _ v k (now (s .args .journal)) _ refl i in
+    let j = journal-ran _ _ _ _ _ _ _ _ v k i (m .result) (m .ensures) (now (s .args .journal)) _ _ _ refl some
+    (r .1 .1 .1 .1 .1 .1 .1) in (
+      ap (λ x. x .reply) e,
+      (
+        ap (λ x. x .memory) e,
+        (
+          ap (λ x. x .state) e,
+          (
+            ap (λ x. x .log) e,
+            (figure-ran _ _ _ _ _ _ _ _ v k i (m .result) (m .ensures) _ _ (r .1 .1 .1 .1 .1 .1 .0), j),
+          ),
+        ),
+      ),
+    )
+
+pub run-journal-call-spec : {M : Type 1} → statement M
+run-journal-call-spec =
+    tie.close
+    (tie.spec
+    journal-verdict-requires
+    refusal-number-requires
+    same-length
+    same-length-2
+    same-length-3
+    same-length-4
+    returns
+    read-record-requires
+    cast-run-kept
+    run-kept-requires
+    write-record-requires
+    reply-of-requires
+    same-length-5
+    same-length-6
+    same-length-7
+    same-length-8
+    returns-2)

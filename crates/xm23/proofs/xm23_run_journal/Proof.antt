@@ -1,0 +1,51 @@
+-- All is `run_journal_call`'s, the journal in its three parts; the figure that it carries is the greatest number of open frames;
+-- demand 3 of the call follows from the equations of memory and record.
+use borrow.Author.Needs.{needs}
+use denote.Ref.{now}
+use mathlib.Core.Path.{ap, _∙_}
+use Rattle.journal.specs.Ring.{Journal, journalOf}
+use Rattle.xm23.proofs.Journal.{journal-carried, journal-resumes}
+use Rattle.xm23.proofs.xm23_run_journal.Statement.{statement}
+use Rattle.xm23.proofs.xm23_run_journal.Tie as tie
+
+returns : tie.Need-returns
+returns c =
+    let called = c .before .before .before .before .before .before .before .before in
+    let e = called .run-journal-call .ensures in
+    let a = called .before .before .before .before .before .before .before .before .before .before .before .before .before .args in
+    let lent = journalOf (now (a .journal)) (now (a .kept)) (now (a .place)) in
+    let memory = e .1 .0 in
+    let state = e .1 .1 .0 in
+    let figure = e .1 .1 .1 .1 .0
+    ∙ journal-carried (now (a .memory)) (now (a .state)) (now (a .events)) (now (a .log)) lent (a .n) (now (a .deepest)) in
+    let resumes = journal-resumes (now (a .memory)) (now (a .state)) (now (a .events)) (now (a .log)) lent (a .n) _ _ memory state in
+    let j = e .1 .1 .1 .1 .1 in (
+      e .0,
+      (
+        memory,
+        (
+          state,
+          (
+            e .1 .1 .1 .0,
+            (
+              figure,
+              (
+                resumes,
+                (ap (λ (x : Journal). x .bytes) j, (ap (λ (x : Journal). x .kept) j, ap (λ (x : Journal). x .place) j)),
+              ),
+            ),
+          ),
+        ),
+      ),
+    )
+
+pub xm23-run-journal-spec : {M : Type 1} → statement M
+xm23-run-journal-spec =
+    tie.close
+    (tie.spec
+    (λ c κs. search needs)
+    (λ c. search needs)
+    (λ c. search needs)
+    (λ c. search needs)
+    (λ c. search needs)
+    returns)

@@ -16,6 +16,7 @@ void add_line(struct text *t, const uint8_t *record, const struct outcome *o)
     add(t, " %04X %02X ", get_word(record, XM23_RECORD_PSW), record[XM23_RECORD_CEX]);
     for (int d = 7; d >= 0; d--)
         add(t, "%X", XM23_RECORD_WAITING(record, d));
+    add(t, " %lu", (unsigned long)o->deepest);
 }
 
 static void put_field(struct field *f, const char *name, const char *value, const char *says)
@@ -64,7 +65,7 @@ static void lines_say(const uint8_t *record, char *says, size_t room)
         snprintf(says + length, room - (size_t)length, " none");
 }
 
-/* The last field: eight digits, device 7 first. */
+/* Eight digits, device 7 first. */
 static void lines_value(const uint8_t *record, char *value)
 {
     for (int d = 7; d >= 0; d--)
@@ -98,7 +99,9 @@ int line_fields(const uint8_t *record, const struct outcome *o, struct field *ro
     put_field(rows++, "CEX", value, says);
     lines_value(record, value);
     lines_say(record, says, sizeof says);
-    put_field(rows, "lines", value, says);
+    put_field(rows++, "lines", value, says);
+    snprintf(value, sizeof value, "%lu", (unsigned long)o->deepest);
+    put_field(rows, "depth", value, "frames open together at most");
     return FIELDS;
 }
 

@@ -1,6 +1,4 @@
-/* xm23 dis: a listing of S-records. */
-#include <stdlib.h>
-#include <string.h>
+/* xm23 dis: a listing of a program, word by word. */
 #include <unistd.h>
 
 #include "desk.h"
@@ -36,30 +34,20 @@ void add_listing(struct text *t, const uint8_t *memory, const uint8_t *set, unsi
         add(t, "..\n");
 }
 
-static int list(const char *name, const char *to)
+static int list(const struct program *p, const char *to)
 {
-    uint8_t *memory = (uint8_t *)room_for(NULL, XM23_MEMORY_SIZE), *set = (uint8_t *)room_for(NULL, XM23_MEMORY_SIZE);
-    struct text t = {0}, why = {0};
+    static struct assembled a;
+    struct text t = {0};
     struct fault f = {0};
-    size_t length = 0;
-    char *bytes = read_file(name, 0, &length, &why);
-    uint16_t pc;
-    int status = UNREADABLE;
-    if (!bytes) {
-        say_at(name, 0, "%s", why.at);
-    } else if (!load_program(bytes, length, memory, set, &pc, &f)) {
-        say_at(name, f.line, "R%u: %s", f.refusal, f.why.at);
-        status = REFUSED;
+    int status = REFUSED;
+    if (!load_program(p, &a, &f)) {
+        say_fault(p->name, &f);
     } else {
-        add_listing(&t, memory, set, XM23_MEMORY_SIZE);
-        add(&t, "start %04X\n", pc);
+        add_listing(&t, a.memory, a.set, XM23_MEMORY_SIZE);
+        add(&t, "start %04X\n", a.pc);
         status = write_file(to, &t);
     }
-    free(bytes);
-    free(memory);
-    free(set);
     drop(&t);
-    drop(&why);
     drop(&f.why);
     return status;
 }
@@ -67,11 +55,18 @@ static int list(const char *name, const char *to)
 int xm23_desk_dis(int argc, char **argv)
 {
     const char *to = "-";
-    int option;
+    struct program p = {0};
+    int option, status;
     while ((option = getopt(argc, argv, "+:o:")) != -1) {
         if (option != 'o')
             return misused("dis");
         to = optarg;
     }
-    return argc - optind == 1 ? list(argv[optind], to) : misused("dis");
+    if (argc - optind != 1)
+        return misused("dis");
+    status = take_program(argv[optind], &p);
+    if (status == DONE)
+        status = list(&p, to);
+    drop_program(&p);
+    return status;
 }

@@ -4,7 +4,8 @@
 
 #include "desk.h"
 
-#define MOST_ROWS 1024 /* of memory, and of the listing */
+#define MOST_ROWS 512     /* of memory, of the listing and of the source */
+#define MOST_SOURCE 65536 /* bytes of a source that is listed */
 
 /* The number of the program among those of the sitting, and its name as far as it may stand in a file's name. */
 void add_page_path(struct text *t, const struct sitting *s, size_t i)
@@ -19,32 +20,12 @@ void add_page_path(struct text *t, const struct sitting *s, size_t i)
     add(t, ".html");
 }
 
-/* Black on white with grey rules: nothing is said by colour alone. */
 void add_page_head(struct text *t, const char *title)
 {
-    add(t, "<html lang=\"en\">\n<head>\n<meta charset=\"utf-8\">\n<title>");
+    add(t, "<html lang=\"en\">\n<head>\n<meta charset=\"utf-8\">\n"
+           "<meta name=\"viewport\" content=\"width=device-width\">\n<title>");
     add_html(t, title, strlen(title));
-    add(t, "</title>\n<style>\n"
-           "@page { size: A4; margin: 14mm; }\n"
-           "body { font: 16px/1.4 sans-serif; color: #000; background: #fff; }\n"
-           "body { max-width: 62em; margin: 1.5em auto; padding: 0 1em; }\n"
-           "h1 { font-size: 1.5em; margin: 0 0 .3em; overflow-wrap: anywhere; }\n"
-           "h2 { font-size: 1.1em; margin: 1.2em 0 .3em; border-bottom: 2px solid #000; break-after: avoid; }\n"
-           "p { margin: .3em 0; }\n"
-           "#verdict { font-size: 1.2em; font-weight: bold; }\n"
-           "pre, .n { font-family: 'DejaVu Sans Mono', Consolas, Menlo, monospace; font-size: .88em; }\n"
-           "pre { margin: .4em 0; padding: .4em .6em; border: 1px solid #6b6b6b; }\n"
-           "pre { white-space: pre-wrap; overflow-wrap: anywhere; }\n"
-           "pre.line { border: 2px solid #000; font-weight: bold; }\n"
-           "table { border-collapse: collapse; margin: .4em 0; }\n"
-           "th, td { border: 1px solid #6b6b6b; padding: .1em .45em; text-align: left; }\n"
-           "th, td { vertical-align: baseline; overflow-wrap: anywhere; }\n"
-           "thead th { background: #ececec; }\n"
-           "tr { break-inside: avoid; }\n"
-           "tr.other td { font-weight: bold; text-decoration: underline; }\n"
-           "footer { margin-top: 1.5em; border-top: 1px solid #6b6b6b; font-size: .8em; overflow-wrap: anywhere; }\n"
-           "@media print { body { font-size: 9.5pt; max-width: none; margin: 0; padding: 0; } }\n"
-           "</style>\n</head>\n<body>\n");
+    add(t, "</title>\n<style>\n%s</style>\n</head>\n<body>\n", page_css);
 }
 
 static void add_verdict(struct text *t, const struct row *r)
@@ -71,8 +52,16 @@ static void add_pre(struct text *t, const char *class, const char *bytes, size_t
     add(t, "</pre>\n");
 }
 
+/* Rows that are not broken on a screen, which moves them sideways instead. */
+static void add_wide(struct text *t, const struct text *rows)
+{
+    add(t, "<div class=\"wide\">");
+    add_pre(t, "", rows->at, rows->length);
+    add(t, "</div>\n");
+}
+
 /* The word of a line at a place among its fields, or none. */
-static void word_at(const char *line, int place, char *word, size_t room)
+static void field_at(const char *line, int place, char *word, size_t room)
 {
     word[0] = 0;
     for (int i = 0; line && i < place; i++) {
@@ -89,20 +78,19 @@ static void add_fields(struct text *t, const struct paper *p, const struct machi
     struct field rows[FIELDS];
     char expected[16];
     int many = line_fields(m->record, o, rows), other;
-    add(t, "<h2>Closing state</h2>\n<table>\n<thead><tr><th>Field</th><th>Value</th><th></th>%s</tr></thead>\n",
+    add(t, "<h2>Closing state</h2>\n<table>\n<thead><tr><th>Field</th><th>Value</th>%s<th>Says</th></tr></thead>\n",
         p->expected ? "<th>Expected</th>" : "");
     add(t, "<tbody>\n");
     for (int i = 0; i < many; i++) {
-        word_at(p->expected, i, expected, sizeof expected);
+        field_at(p->expected, i, expected, sizeof expected);
         other = p->expected && strcmp(expected, rows[i].value) != 0;
-        add(t, "<tr%s><th>%s</th><td class=\"n\">%s</td><td>%s</td>", other ? " class=\"other\"" : "", rows[i].name,
-            rows[i].value, rows[i].says);
+        add(t, "<tr%s><th>%s</th><td class=\"n\">%s</td>", other ? " class=\"other\"" : "", rows[i].name, rows[i].value);
         if (p->expected) {
             add(t, "<td class=\"n\">%s", other ? "not " : "");
             add_html(t, expected, strlen(expected));
             add(t, "</td>");
         }
-        add(t, "</tr>\n");
+        add(t, "<td>%s</td></tr>\n", rows[i].says);
     }
     add(t, "</tbody>\n</table>\n");
 }
@@ -116,24 +104,25 @@ static void add_sixteen(struct text *t, const uint8_t *bytes)
 /* Rows of sixteen bytes in which the run changed one. */
 static void add_memory(struct text *t, const struct machine *before, const struct machine *after)
 {
-    unsigned many = 0, more = 0;
-    add(t, "<h2>Memory that the run changed</h2>\n<pre>");
+    struct text rows = {0};
+    unsigned many = 0;
     for (unsigned at = 0; at < XM23_MEMORY_SIZE; at += 16) {
-        if (memcmp(before->memory + at, after->memory + at, 16) == 0)
+        if (memcmp(before->memory + at, after->memory + at, 16) == 0 || many++ >= MOST_ROWS)
             continue;
-        if (many++ >= MOST_ROWS) {
-            more++;
-            continue;
-        }
-        add(t, "%04X  before  ", at);
-        add_sixteen(t, before->memory + at);
-        add(t, "\n      after   ");
-        add_sixteen(t, after->memory + at);
-        add(t, "\n");
+        add(&rows, "%04X  before  ", at);
+        add_sixteen(&rows, before->memory + at);
+        add(&rows, "\n      after   ");
+        add_sixteen(&rows, after->memory + at);
+        add(&rows, "\n");
     }
-    if (more)
-        add(t, ".. and %u rows more\n", more);
-    add(t, "%s</pre>\n", many ? "" : "none");
+    if (many > MOST_ROWS)
+        add(&rows, ".. and %u rows more\n", many - MOST_ROWS);
+    add(t, "<h2>Memory that the run changed</h2>\n");
+    if (many)
+        add_wide(t, &rows);
+    else
+        add(t, "<p>None.</p>\n");
+    drop(&rows);
 }
 
 /* What was in memory before the first step: the program with the paper over it. */
@@ -145,9 +134,25 @@ static void add_program(struct text *t, const struct machine *before)
         set[a] = set[a + 1] = before->memory[a] || before->memory[a + 1];
     add_listing(&listing, before->memory, set, MOST_ROWS);
     add(t, "<h2>Memory before the run, words of 0 left out</h2>\n");
-    add_pre(t, "", listing.at, listing.length);
+    add_wide(t, &listing);
     drop(&listing);
     free(set);
+}
+
+/* A source as it was handed in, with places and words. */
+static void add_source(struct text *t, const struct program *p)
+{
+    static struct assembled a;
+    struct text listing = {0};
+    struct fault f = {0};
+    if (!is_source(p->name) || p->length > MOST_SOURCE || !assemble_source(p->bytes, p->length, &a, &f)) {
+        drop(&f.why);
+        return;
+    }
+    add_source_listing(&listing, p->bytes, p->length, &a, MOST_ROWS);
+    add(t, "<h2>Source</h2>\n");
+    add_wide(t, &listing);
+    drop(&listing);
 }
 
 static void add_foot(struct text *t, const struct sitting *s, const struct row *r)
@@ -157,11 +162,9 @@ static void add_foot(struct text *t, const struct sitting *s, const struct row *
         r->digest[0] ? r->digest : "unknown", s->paper_digest, v >> 16, v >> 8 & 0xFF, v & 0xFF);
 }
 
-void add_page(struct text *t, const struct sitting *s, const struct row *r, const struct machine *before,
-              const struct machine *after, const struct outcome *o)
+static void add_heading(struct text *t, const struct sitting *s, const struct row *r)
 {
     const struct paper *p = s->paper;
-    add_row(t, s, r);
     add_page_head(t, r->name);
     add(t, "<h1>");
     add_html(t, r->name, strlen(r->name));
@@ -175,14 +178,22 @@ void add_page(struct text *t, const struct sitting *s, const struct row *r, cons
         add(t, "<p>Expected:</p>\n");
         add_pre(t, "", p->expected, strlen(p->expected));
     }
+}
+
+void add_page(struct text *t, const struct sitting *s, const struct marked *m)
+{
+    const struct row *r = &m->row;
+    add_row(t, s, r);
+    add_heading(t, s, r);
     if (r->screen.length) {
         add(t, "<h2>Screen</h2>\n");
         add_pre(t, "", r->screen.at, r->screen.length);
     }
-    if (before) {
-        add_fields(t, p, after, o);
-        add_memory(t, before, after);
-        add_program(t, before);
+    if (m->ran) {
+        add_fields(t, s->paper, &m->after, &m->o);
+        add_memory(t, &m->before, &m->after);
+        add_source(t, &m->program);
+        add_program(t, &m->before);
     }
     add_foot(t, s, r);
 }

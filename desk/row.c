@@ -39,7 +39,7 @@ static void add_key(struct text *t, const struct sitting *s, const char *name)
 void add_row(struct text *t, const struct sitting *s, const struct row *r)
 {
     add_key(t, s, r->name);
-    add(t, "%s|%lu|%d|", r->digest, (unsigned long)r->steps, r->agrees);
+    add(t, "%s|%lu|%lu|%d|", r->digest, (unsigned long)r->steps, (unsigned long)r->deepest, r->agrees);
     add_coded(t, r->line.at, r->line.length);
     add_coded(t, r->says.at, r->says.length);
     add_coded(t, r->screen.at, r->screen.length);
@@ -92,7 +92,7 @@ static int take_digest(const char **at, char *digest)
 int take_row(const char *line, const struct sitting *s, size_t i, struct row *r)
 {
     struct text key = {0};
-    long steps = 0, agrees = 0;
+    long steps = 0, deepest = 0, agrees = 0;
     int same;
     memset(r, 0, sizeof *r);
     r->name = s->names[i];
@@ -100,11 +100,12 @@ int take_row(const char *line, const struct sitting *s, size_t i, struct row *r)
     same = strncmp(line, key.at, key.length) == 0;
     line += same ? key.length : 0;
     drop(&key);
-    if (!same || !take_digest(&line, r->digest) || !take_number(&line, &steps) || !take_number(&line, &agrees) ||
-        !take_field(&line, &r->line) || !take_field(&line, &r->says) || !take_field(&line, &r->screen) ||
-        strcmp(line, " -->\n") != 0)
+    if (!same || !take_digest(&line, r->digest) || !take_number(&line, &steps) || !take_number(&line, &deepest) ||
+        !take_number(&line, &agrees) || !take_field(&line, &r->line) || !take_field(&line, &r->says) ||
+        !take_field(&line, &r->screen) || strcmp(line, " -->\n") != 0)
         return 0;
     r->steps = (uint32_t)steps;
+    r->deepest = (uint32_t)deepest;
     r->agrees = (int)agrees;
     return 1;
 }

@@ -21,7 +21,7 @@ def record(kind, address, data):
 
 def number(value):
     """In any of the forms that a paper takes."""
-    return dice.choice([str(value), f"#{value:X}", f"#{value:04x}"])
+    return dice.choice([str(value), f"#{value}", f"${value:X}", f"${value:04x}"])
 
 
 def word():

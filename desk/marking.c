@@ -3,21 +3,19 @@
 
 #include "desk.h"
 
-/* Of a long screen text the first bytes are kept, and how many there were. */
-static void cut_screen(struct text *screen)
+/* Of a long screen text the row has the first bytes, and how many there were. */
+static void put_screen(struct row *r, const struct text *screen)
 {
-    unsigned long all = (unsigned long)screen->length;
-    if (all <= MOST_SCREEN)
-        return;
-    screen->length = MOST_SCREEN;
-    add(screen, " .. (%lu bytes)", all);
+    add_bytes(&r->screen, screen->at, screen->length < MOST_SCREEN ? screen->length : MOST_SCREEN);
+    if (screen->length > MOST_SCREEN)
+        add(&r->screen, " .. (%lu bytes)", (unsigned long)screen->length);
 }
 
 static void run_marked(const struct sitting *s, struct marked *m)
 {
     struct row *r = &m->row;
     struct fault f = {0};
-    m->o.screen = &r->screen;
+    m->o.screen = &m->screen;
     m->ran = open_program(s->paper, &m->program, &m->before, &f);
     if (m->ran) {
         memcpy(&m->after, &m->before, sizeof m->after);
@@ -25,7 +23,9 @@ static void run_marked(const struct sitting *s, struct marked *m)
         add_line(&r->line, m->after.record, &m->o);
         r->steps = m->o.steps;
         r->deepest = m->o.deepest;
-        cut_screen(&r->screen);
+        put_screen(r, &m->screen);
+        memcpy(&m->scratch, &m->before, sizeof m->scratch);
+        walk_run(&m->walk, s->paper, &m->scratch, m->o.steps);
     } else {
         add(&r->line, "R%u", f.refusal);
         add(&r->says, "line %lu: %s", (unsigned long)f.line, f.why.at);
@@ -39,6 +39,7 @@ int mark_program(const struct sitting *s, const char *name, int regular, struct 
     int good = 1;
     memset(r, 0, sizeof *r);
     memset(&m->o, 0, sizeof m->o);
+    memset(&m->screen, 0, sizeof m->screen);
     m->ran = 0;
     r->name = name;
     add_bytes(&r->line, "", 0);
@@ -56,5 +57,6 @@ int mark_program(const struct sitting *s, const char *name, int regular, struct 
 void drop_marked(struct marked *m)
 {
     drop_row(&m->row);
+    drop(&m->screen);
     drop_program(&m->program);
 }

@@ -4,7 +4,9 @@
 
 #include "desk.h"
 
+#define MOST_PAGE 400000  /* bytes */
 #define MOST_ROWS 512     /* of memory, of the listing and of the source */
+#define FEW_ROWS 32       /* on a page that is else too long */
 #define MOST_SOURCE 65536 /* bytes of a source that is listed */
 
 /* The number of the program among those of the sitting, and its name as far as it may stand in a file's name. */
@@ -102,12 +104,12 @@ static void add_sixteen(struct text *t, const uint8_t *bytes)
 }
 
 /* Rows of sixteen bytes in which the run changed one. */
-static void add_memory(struct text *t, const struct machine *before, const struct machine *after)
+static void add_memory(struct text *t, const struct machine *before, const struct machine *after, unsigned most)
 {
     struct text rows = {0};
     unsigned many = 0;
     for (unsigned at = 0; at < XM23_MEMORY_SIZE; at += 16) {
-        if (memcmp(before->memory + at, after->memory + at, 16) == 0 || many++ >= MOST_ROWS)
+        if (memcmp(before->memory + at, after->memory + at, 16) == 0 || many++ >= most)
             continue;
         add(&rows, "%04X  before  ", at);
         add_sixteen(&rows, before->memory + at);
@@ -115,8 +117,8 @@ static void add_memory(struct text *t, const struct machine *before, const struc
         add_sixteen(&rows, after->memory + at);
         add(&rows, "\n");
     }
-    if (many > MOST_ROWS)
-        add(&rows, ".. and %u rows more\n", many - MOST_ROWS);
+    if (many > most)
+        add(&rows, ".. and %u rows more\n", many - most);
     add(t, "<h2>Memory that the run changed</h2>\n");
     if (many)
         add_wide(t, &rows);
@@ -126,13 +128,13 @@ static void add_memory(struct text *t, const struct machine *before, const struc
 }
 
 /* What was in memory before the first step: the program with the paper over it. */
-static void add_program(struct text *t, const struct machine *before)
+static void add_program(struct text *t, const struct machine *before, unsigned most)
 {
     uint8_t *set = (uint8_t *)room_for(NULL, XM23_MEMORY_SIZE);
     struct text listing = {0};
     for (unsigned a = 0; a < XM23_MEMORY_SIZE; a += 2)
         set[a] = set[a + 1] = before->memory[a] || before->memory[a + 1];
-    add_listing(&listing, before->memory, set, MOST_ROWS);
+    add_listing(&listing, before->memory, set, most);
     add(t, "<h2>Memory before the run, words of 0 left out</h2>\n");
     add_wide(t, &listing);
     drop(&listing);
@@ -140,7 +142,7 @@ static void add_program(struct text *t, const struct machine *before)
 }
 
 /* A source as it was handed in, with places and words. */
-static void add_source(struct text *t, const struct program *p)
+static void add_source(struct text *t, const struct program *p, unsigned most)
 {
     static struct assembled a;
     struct text listing = {0};
@@ -149,7 +151,7 @@ static void add_source(struct text *t, const struct program *p)
         drop(&f.why);
         return;
     }
-    add_source_listing(&listing, p->bytes, p->length, &a, MOST_ROWS);
+    add_source_listing(&listing, p->bytes, p->length, &a, most);
     add(t, "<h2>Source</h2>\n");
     add_wide(t, &listing);
     drop(&listing);
@@ -158,7 +160,7 @@ static void add_source(struct text *t, const struct program *p)
 static void add_foot(struct text *t, const struct sitting *s, const struct row *r)
 {
     unsigned v = xm23_version();
-    add(t, "<footer>Program SHA-256 %s, paper SHA-256 %s, machine %u.%u.%u.</footer>\n</body>\n</html>\n",
+    add(t, "<footer>Program SHA-256 %s, paper SHA-256 %s, machine %u.%u.%u.</footer>\n",
         r->digest[0] ? r->digest : "unknown", s->paper_digest, v >> 16, v >> 8 & 0xFF, v & 0xFF);
 }
 
@@ -180,7 +182,19 @@ static void add_heading(struct text *t, const struct sitting *s, const struct ro
     }
 }
 
-void add_page(struct text *t, const struct sitting *s, const struct marked *m)
+static void add_state(struct text *t, const struct sitting *s, const struct marked *m, unsigned most)
+{
+    add_fields(t, s->paper, &m->after, &m->o);
+    if (m->walk.many)
+        add(t, "%s<noscript><p>Without scripts the walk is not shown; its last steps are below.</p></noscript>\n", walk_html);
+    add_walk_tables(t, &m->walk, &m->after);
+    add_memory(t, &m->before, &m->after, most);
+    add_source(t, &m->program, most);
+    add_program(t, &m->before, most);
+}
+
+/* With so many rows at most of memory, of the listing and of the source. */
+static void add_rows(struct text *t, const struct sitting *s, const struct marked *m, unsigned most)
 {
     const struct row *r = &m->row;
     add_row(t, s, r);
@@ -189,11 +203,20 @@ void add_page(struct text *t, const struct sitting *s, const struct marked *m)
         add(t, "<h2>Screen</h2>\n");
         add_pre(t, "", r->screen.at, r->screen.length);
     }
-    if (m->ran) {
-        add_fields(t, s->paper, &m->after, &m->o);
-        add_memory(t, &m->before, &m->after);
-        add_source(t, &m->program);
-        add_program(t, &m->before);
-    }
+    if (m->ran)
+        add_state(t, s, m, most);
     add_foot(t, s, r);
+    if (m->ran && m->walk.many)
+        add_walk_data(t, &m->walk, &m->after, &m->screen);
+    add(t, "</body>\n</html>\n");
+}
+
+/* A page that would be too long has fewer rows. */
+void add_page(struct text *t, const struct sitting *s, const struct marked *m)
+{
+    add_rows(t, s, m, MOST_ROWS);
+    if (t->length > MOST_PAGE) {
+        t->length = 0;
+        add_rows(t, s, m, FEW_ROWS);
+    }
 }

@@ -21,7 +21,7 @@ static void add_step(struct text *t, const struct step *s)
         snprintf(word, sizeof word, "%04X", s->word);
     add_what(&what, s);
     add_left(&left, s);
-    add(t, "%-10lu%04X  %-6s%-24s  %s", (unsigned long)step_count(s), get_word(s->before, XM23_RECORD_REGISTER(7)), word,
+    add(t, "%-10lu  %04X  %-4s  %-24s  %s", (unsigned long)step_count(s), get_word(s->before, XM23_RECORD_REGISTER(7)), word,
         what.at, left.at ? left.at : "");
     while (t->at[t->length - 1] == ' ')
         t->at[--t->length] = 0;
@@ -71,7 +71,7 @@ static int tell_steps(struct backwards *b, const char *name)
         return REFUSED;
     }
     xm23_back(b->m.memory, sizeof b->m.memory, b->m.record, sizeof b->m.record, w->journal, sizeof w->journal, &kept, &place, many);
-    add(&t, "%-10s%-6s%-6s%-24s  %s\n", "step", "PC", "word", "instruction", "what it left");
+    add(&t, "%-10s  %-4s  %-4s  %-24s  %s\n", "step", "PC", "word", "instruction", "what it left");
     for (uint32_t i = 0; i < many; i++)
         add_step(&t, &w->steps[w->many - 1 - i]);
     add_state(&t, b, &w->steps[w->many - many]);

@@ -47,11 +47,11 @@ static void add_screen(struct text *t, const struct text *screen)
 
 static void add_html_row(struct text *t, const struct sitting *s, size_t i, const struct row *r)
 {
-    add(t, "<tr data-agrees=\"%s\"><td>%lu</td><td class=\"any\"><a href=\"", r->agrees == 1 ? "yes" : "no", (unsigned long)i + 1);
+    add(t, "<tr data-agrees=\"%s\"><td>%lu</td><td class=\"any name\"><a href=\"", r->agrees == 1 ? "yes" : "no", (unsigned long)i + 1);
     add_page_path(t, s, i);
     add(t, "\">");
     add_html(t, r->name, strlen(r->name));
-    add(t, "</a></td><td>%s</td><td class=\"n any\">", verdict(r));
+    add(t, "</a></td><td class=\"nowrap\">%s</td><td class=\"n any\">", verdict(r));
     add_html(t, r->line.at, r->line.length);
     add(t, "%s", r->line.length && r->says.length ? "<br>" : "");
     add_html(t, r->says.at, r->says.length);

@@ -80,7 +80,7 @@ static void add_fields(struct text *t, const struct paper *p, const struct machi
     struct field rows[FIELDS];
     char expected[16];
     int many = line_fields(m->record, o, rows), other;
-    add(t, "<h2>Closing state</h2>\n<table>\n<thead><tr><th>Field</th><th>Value</th>%s<th>Says</th></tr></thead>\n",
+    add(t, "<h2>Closing state</h2>\n<div class=\"wide\">\n<table>\n<thead><tr><th>Field</th><th>Value</th>%s<th>Says</th></tr></thead>\n",
         p->expected ? "<th>Expected</th>" : "");
     add(t, "<tbody>\n");
     for (int i = 0; i < many; i++) {
@@ -94,7 +94,7 @@ static void add_fields(struct text *t, const struct paper *p, const struct machi
         }
         add(t, "<td>%s</td></tr>\n", rows[i].says);
     }
-    add(t, "</tbody>\n</table>\n");
+    add(t, "</tbody>\n</table>\n</div>\n");
 }
 
 static void add_sixteen(struct text *t, const uint8_t *bytes)

@@ -60,7 +60,7 @@ static void add_turns(struct text *t, const struct walk *w)
     }
     if (many > MOST_TURNS)
         add(t, "<p>The last %u of %u.</p>\n", (unsigned)MOST_TURNS, many);
-    add(t, "<table>\n<thead><tr><th>Step</th><th>What</th><th>PC before</th><th>PC after</th><th>SP after</th>"
+    add(t, "<div class=\"wide\">\n<table>\n<thead><tr><th>Step</th><th>What</th><th>PC before</th><th>PC after</th><th>SP after</th>"
            "<th>Priority after</th></tr></thead>\n<tbody>\n");
     for (uint32_t i = 0; i < w->many; i++) {
         const struct step *s = &w->steps[i];
@@ -72,7 +72,7 @@ static void add_turns(struct text *t, const struct walk *w)
             get_word(s->before, XM23_RECORD_REGISTER(7)), get_word(s->after, XM23_RECORD_REGISTER(7)),
             get_word(s->after, XM23_RECORD_REGISTER(6)), XM23_PSW_CURRENT(get_word(s->after, XM23_RECORD_PSW)));
     }
-    add(t, "</tbody>\n</table>\n");
+    add(t, "</tbody>\n</table>\n</div>\n");
 }
 
 /* What the word at an even address is of the frames that are open. */
@@ -100,16 +100,40 @@ static void add_stack(struct text *t, const struct walk *w, const struct machine
         unsigned up = ((w->frames[f].sp - sp) & 0xFFFF) / 2 + 6;
         many = up > many && up <= MOST_WORDS ? up : many;
     }
-    add(t, "<h2>Stack at the close</h2>\n<table>\n<thead><tr><th>Address</th><th>Word</th><th></th></tr></thead>\n<tbody>\n");
+    add(t, "<h2>Stack at the close</h2>\n<div class=\"wide\">\n<table>\n<thead><tr><th>Address</th><th>Word</th><th></th></tr></thead>\n<tbody>\n");
     for (unsigned i = 0; i < many; i++) {
         unsigned at = (sp + 2 * i) & 0xFFFE;
         add(t, "<tr><td class=\"n\">%04X</td><td class=\"n\">%04X</td><td>%s", at, word_at(after->memory, at), i ? "" : "SP. ");
         add_place(t, w, at);
         add(t, "</td></tr>\n");
     }
-    add(t, "</tbody>\n</table>\n");
+    add(t, "</tbody>\n</table>\n</div>\n");
     if (w->strays)
         add(t, "<p>Returns that pulled a frame from before these steps, or none: %u.</p>\n", w->strays);
+}
+
+/* The devices that are not all zeros, or have events waiting. */
+static void add_devices(struct text *t, const struct machine *m)
+{
+    static const struct {
+        unsigned bit;
+        const char *name;
+    } bits[] = {{0x10, "ENA"}, {0x08, "OF"}, {0x04, "DBA"}, {0x02, "input"}, {0x01, "IE"}};
+    unsigned many = 0;
+    add(t, "<h2>Devices at the close</h2>\n");
+    for (unsigned d = 0; d < 8; d++) {
+        unsigned status = m->memory[2 * d], data = m->memory[2 * d + 1], waiting = XM23_RECORD_WAITING(m->record, d);
+        if (!status && !data && !waiting)
+            continue;
+        if (!many++)
+            add(t, "<div class=\"wide\">\n<table>\n<thead><tr><th>Device</th><th>Status</th><th></th><th>Data</th>"
+                   "<th>Events waiting</th></tr></thead>\n<tbody>\n");
+        add(t, "<tr><td>%u</td><td class=\"n\">%02X</td><td>", d, status);
+        for (unsigned i = 0; i < 5; i++)
+            add(t, "%s%s", status & bits[i].bit ? bits[i].name : "", status & bits[i].bit ? " " : "");
+        add(t, "</td><td class=\"n\">%02X</td><td>%u</td></tr>\n", data, waiting);
+    }
+    add(t, many ? "</tbody>\n</table>\n</div>\n" : "<p>All are zero.</p>\n");
 }
 
 void add_walk_tables(struct text *t, const struct walk *w, const struct machine *after)
@@ -117,6 +141,7 @@ void add_walk_tables(struct text *t, const struct walk *w, const struct machine 
     add_last_steps(t, w);
     add_turns(t, w);
     add_stack(t, w, after);
+    add_devices(t, after);
 }
 
 /* ---- data */

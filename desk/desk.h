@@ -68,6 +68,8 @@ struct event {
     unsigned device, byte;
 };
 
+enum { SRECORD = 1, DATA = 2 };
+
 struct paper {
     const char *name;
     char *bytes;
@@ -75,7 +77,7 @@ struct paper {
     char *title, *expected;                  /* empty, NULL: none */
     uint8_t record[XM23_RECORD_SIZE];        /* the start; PC 0 where pc_line is 0 */
     uint8_t memory[XM23_MEMORY_SIZE];        /* what the paper lays over the program .. */
-    uint8_t set[XM23_MEMORY_SIZE];           /* .. where this is 1 */
+    uint8_t set[XM23_MEMORY_SIZE];           /* .. where this is not 0: DATA, or SRECORD, which may be code */
     uint8_t uses[XM23_USES_SIZE], devices;   /* for stack bytes */
     uint64_t steps, priority;
     struct event *events;
@@ -180,10 +182,9 @@ enum { FIELDS = 14 };
 int line_fields(const uint8_t *record, const struct outcome *o, struct field *rows);
 void add_legend(struct text *t, const uint8_t *record, const struct outcome *o);
 
-/* ---- instruction.c, listing.c */
+/* ---- instruction.c */
 
 void add_instruction(struct text *t, unsigned address, uint16_t word);
-void add_listing(struct text *t, const uint8_t *memory, const uint8_t *set, unsigned most);
 
 /* ---- walk.c: the last steps of a run, by the journal */
 

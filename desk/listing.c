@@ -17,21 +17,18 @@ static void add_listed(struct text *t, unsigned at, const uint8_t *memory, const
     add(t, "%04X  %02X    BYTE    $%02X\n", at, memory[at], memory[at]);
 }
 
-/* At most so many rows; a blank line between bytes that are not neighbours. */
-void add_listing(struct text *t, const uint8_t *memory, const uint8_t *set, unsigned most)
+/* A blank line between bytes that are not neighbours. */
+static void add_listing(struct text *t, const uint8_t *memory, const uint8_t *set)
 {
-    unsigned many = 0, last = XM23_MEMORY_SIZE;
-    for (unsigned at = 0; at < XM23_MEMORY_SIZE && many < most; at += 2) {
+    unsigned last = XM23_MEMORY_SIZE;
+    for (unsigned at = 0; at < XM23_MEMORY_SIZE; at += 2) {
         if (!set[at] && !set[at + 1])
             continue;
         if (last + 2 < at)
             add(t, "\n");
         add_listed(t, at, memory, set);
         last = at;
-        many++;
     }
-    if (many == most)
-        add(t, "..\n");
 }
 
 static int list(const struct program *p, const char *to)
@@ -43,7 +40,7 @@ static int list(const struct program *p, const char *to)
     if (!load_program(p, &a, &f)) {
         say_fault(p->name, &f);
     } else {
-        add_listing(&t, a.memory, a.set, XM23_MEMORY_SIZE);
+        add_listing(&t, a.memory, a.set);
         add(&t, "start %04X\n", a.pc);
         status = write_file(to, &t);
     }

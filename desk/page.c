@@ -1,5 +1,4 @@
 /* The page of one program: its line, the fields of it, the screen, what memory became, the program. */
-#include <stdlib.h>
 #include <string.h>
 
 #include "desk.h"
@@ -127,18 +126,43 @@ static void add_memory(struct text *t, const struct machine *before, const struc
     drop(&rows);
 }
 
-/* What was in memory before the first step: the program with the paper over it. */
-static void add_program(struct text *t, const struct machine *before, unsigned most)
+/* A word of memory before the run: what stands there by its address or by the paper, else the instruction. */
+static void add_word(struct text *t, const struct paper *p, unsigned at, unsigned word)
 {
-    uint8_t *set = (uint8_t *)room_for(NULL, XM23_MEMORY_SIZE);
+    add(t, "%04X  %04X  ", at, word);
+    if (at < 16)
+        add(t, "device %u", at / 2);
+    else if (at >= XM23_VECTORS)
+        add(t, "vector %u, %s", (at - XM23_VECTORS) / 4, at & 2 ? "PC" : "PSW");
+    else if (p->set[at] == DATA || p->set[at + 1] == DATA)
+        add(t, "%-8s$%04X", "WORD", word);
+    else
+        add_instruction(t, at, (uint16_t)word);
+    add(t, "\n");
+}
+
+/* What was in memory before the first step: the program with the paper over it. */
+static void add_program(struct text *t, const struct paper *p, const struct machine *before, unsigned most)
+{
     struct text listing = {0};
-    for (unsigned a = 0; a < XM23_MEMORY_SIZE; a += 2)
-        set[a] = set[a + 1] = before->memory[a] || before->memory[a + 1];
-    add_listing(&listing, before->memory, set, most);
+    unsigned many = 0, last = XM23_MEMORY_SIZE;
+    for (unsigned at = 0; at < XM23_MEMORY_SIZE; at += 2) {
+        unsigned word = get_word(before->memory, at);
+        if (!word || many++ >= most)
+            continue;
+        if (last + 2 < at)
+            add(&listing, "\n");
+        add_word(&listing, p, at, word);
+        last = at;
+    }
+    if (many > most)
+        add(&listing, ".. and %u words more\n", many - most);
     add(t, "<h2>Memory before the run, words of 0 left out</h2>\n");
-    add_wide(t, &listing);
+    if (many)
+        add_wide(t, &listing);
+    else
+        add(t, "<p>All is zero.</p>\n");
     drop(&listing);
-    free(set);
 }
 
 /* A source as it was handed in, with places and words. */
@@ -190,7 +214,7 @@ static void add_state(struct text *t, const struct sitting *s, const struct mark
     add_walk_tables(t, &m->walk, &m->after);
     add_memory(t, &m->before, &m->after, most);
     add_source(t, &m->program, most);
-    add_program(t, &m->before, most);
+    add_program(t, s->paper, &m->before, most);
 }
 
 /* With so many rows at most of memory, of the listing and of the source. */

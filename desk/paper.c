@@ -37,7 +37,7 @@ static int lay_srec(struct paper *p)
         say_at(p->name, p->srec_lines[f.line - 1], "R%u: %s", f.refusal, xm23_refusal_text(f.refusal));
     for (unsigned at = 0; good && at < XM23_MEMORY_SIZE; at++)
         if (a->set[at] && !p->set[at])
-            p->memory[at] = a->memory[at], p->set[at] = 1;
+            p->memory[at] = a->memory[at], p->set[at] = SRECORD;
     if (good && ended && !p->start_line[7]) {
         put_word(p->record, XM23_RECORD_REGISTER(7), a->pc);
         p->start_line[7] = p->srec_lines[p->many_srec - 1];

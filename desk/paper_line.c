@@ -236,7 +236,7 @@ static int start(struct rest *r)
 static void lay(struct paper *p, unsigned at, uint64_t byte)
 {
     p->memory[at & 0xFFFF] = (uint8_t)byte;
-    p->set[at & 0xFFFF] = 1;
+    p->set[at & 0xFFFF] = DATA;
 }
 
 /* ADDRESS NUMBER .., each of one byte or two: what BYTE and WORD of a source take. */

@@ -29,6 +29,7 @@ void add_bytes(struct text *t, const void *bytes, size_t length);
 void add(struct text *t, const char *format, ...);
 void add_plain(struct text *t, const char *bytes, size_t length); /* bytes that are no printable character as \xHH */
 void add_html(struct text *t, const char *bytes, size_t length);
+void add_name(struct text *t, const char *name); /* for HTML, of a long one the first bytes */
 void add_csv(struct text *t, const char *bytes, size_t length); /* one field, quoted where it must be */
 void drop(struct text *t);
 

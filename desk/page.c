@@ -25,7 +25,7 @@ void add_page_head(struct text *t, const char *title)
 {
     add(t, "<html lang=\"en\">\n<head>\n<meta charset=\"utf-8\">\n"
            "<meta name=\"viewport\" content=\"width=device-width\">\n<title>");
-    add_html(t, title, strlen(title));
+    add_name(t, title);
     add(t, "</title>\n<style>\n%s</style>\n</head>\n<body>\n", page_css);
 }
 
@@ -188,21 +188,33 @@ static void add_foot(struct text *t, const struct sitting *s, const struct row *
         r->digest[0] ? r->digest : "unknown", s->paper_digest, v >> 16, v >> 8 & 0xFF, v & 0xFF);
 }
 
+static void add_screen(struct text *t, const struct text *screen, size_t most)
+{
+    struct text shown = {0};
+    add_bytes(&shown, screen->at, screen->length < most ? screen->length : most);
+    if (shown.length < screen->length)
+        add(&shown, " ..");
+    add(t, "<h2>Screen</h2>\n");
+    add_pre(t, "", shown.at, shown.length);
+    drop(&shown);
+}
+
 static void add_heading(struct text *t, const struct sitting *s, const struct row *r)
 {
     const struct paper *p = s->paper;
     add_page_head(t, r->name);
     add(t, "<h1>");
-    add_html(t, r->name, strlen(r->name));
+    add_name(t, r->name);
     add(t, "</h1>\n<p>");
-    add_html(t, p->title ? p->title : p->name, strlen(p->title ? p->title : p->name));
+    add_name(t, p->title ? p->title : p->name);
     add(t, "</p>\n");
     add_verdict(t, r);
     if (r->line.length)
         add_pre(t, " class=\"line\"", r->line.at, r->line.length);
     if (p->expected) {
-        add(t, "<p>Expected:</p>\n");
-        add_pre(t, "", p->expected, strlen(p->expected));
+        add(t, "<p>Expected:</p>\n<pre>");
+        add_name(t, p->expected);
+        add(t, "</pre>\n");
     }
 }
 
@@ -223,10 +235,8 @@ static void add_rows(struct text *t, const struct sitting *s, const struct marke
     const struct row *r = &m->row;
     add_row(t, s, r);
     add_heading(t, s, r);
-    if (r->screen.length) {
-        add(t, "<h2>Screen</h2>\n");
-        add_pre(t, "", r->screen.at, r->screen.length);
-    }
+    if (r->screen.length)
+        add_screen(t, &r->screen, 32 * (size_t)most);
     if (m->ran)
         add_state(t, s, m, most);
     add_foot(t, s, r);

@@ -209,14 +209,12 @@ static void add_steps_data(struct text *t, const struct walk *w)
     add(t, "\"steps\":[");
     for (uint32_t i = 0; i < w->many; i++) {
         const struct step *s = &w->steps[i];
-        struct text what = {0}, left = {0};
+        struct text what = {0};
         if (s->fetched)
             add(&what, "%04X ", s->word);
         add_what(&what, s);
-        add_left(&left, s);
-        add(t, "%s[%u,%u,%u,\"%s\"]", i ? "," : "", place_of(&all, what.at), s->stored, s->frame, left.at ? left.at : "");
+        add(t, "%s[%u,%u,%u]", i ? "," : "", place_of(&all, what.at), s->stored, s->frame);
         drop(&what);
-        drop(&left);
     }
     add(t, "],\n\"what\":[%s],\n", all.list.at ? all.list.at : "");
     for (unsigned i = 0; i < 2 * MOST_WALK; i++)

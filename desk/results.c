@@ -50,7 +50,7 @@ static void add_html_row(struct text *t, const struct sitting *s, size_t i, cons
     add(t, "<tr data-agrees=\"%s\"><td>%lu</td><td class=\"any name\"><a href=\"", r->agrees == 1 ? "yes" : "no", (unsigned long)i + 1);
     add_page_path(t, s, i);
     add(t, "\">");
-    add_html(t, r->name, strlen(r->name));
+    add_name(t, r->name);
     add(t, "</a></td><td class=\"nowrap\">%s</td><td class=\"n any\">", verdict(r));
     add_html(t, r->line.at, r->line.length);
     add(t, "%s", r->line.length && r->says.length ? "<br>" : "");
@@ -68,14 +68,14 @@ static void add_index_head(struct text *t, const struct sitting *s, const struct
     add(t, "<!DOCTYPE html>\n");
     add_page_head(t, title);
     add(t, "<h1>");
-    add_html(t, title, strlen(title));
+    add_name(t, title);
     add(t, "</h1>\n<p id=\"verdict\">%lu program%s", (unsigned long)s->many, s->many == 1 ? "" : "s");
     if (p->expected)
         add(t, ": %lu as expected, %lu not", (unsigned long)all->agree, (unsigned long)all->differ);
     add(t, "; %lu without a closing state</p>\n", (unsigned long)all->without);
     if (p->expected) {
         add(t, "<p>Expected:</p>\n<pre class=\"line\">");
-        add_html(t, p->expected, strlen(p->expected));
+        add_name(t, p->expected);
         add(t, "</pre>\n");
     }
     add(t, "<div class=\"find\" id=\"find\" hidden><label>Find <input id=\"name\" type=\"search\"></label>");

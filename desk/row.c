@@ -7,7 +7,7 @@
 
 #include "desk.h"
 
-#define MOST_ROW 65536 /* bytes of a row beside its name: the screen text is bounded */
+#define MOST_ROW 65536 /* bytes of a row: its screen text is bounded */
 #define MARK "<!DOCTYPE html><!-- row of xm23 "
 
 void drop_row(struct row *r)
@@ -32,8 +32,9 @@ static void add_coded(struct text *t, const char *bytes, size_t length)
 /* What the row is of: the library, the paper and the program's name. */
 static void add_key(struct text *t, const struct sitting *s, const char *name)
 {
-    add(t, MARK "%lu|%s|", (unsigned long)xm23_version(), s->paper_digest);
-    add_coded(t, name, strlen(name));
+    char digest[SHA256_TEXT] = "";
+    sha256(name, strlen(name), digest);
+    add(t, MARK "%lu|%s|%s|", (unsigned long)xm23_version(), s->paper_digest, digest);
 }
 
 void add_row(struct text *t, const struct sitting *s, const struct row *r)
@@ -112,14 +113,13 @@ int take_row(const char *line, const struct sitting *s, size_t i, struct row *r)
 
 int row_of_page(const struct sitting *s, size_t i, struct row *r)
 {
-    size_t room = MOST_ROW + 3 * strlen(s->names[i]);
-    char *start = (char *)room_for(NULL, room), *end;
+    char *start = (char *)room_for(NULL, MOST_ROW), *end;
     struct text path = {0};
     int good;
     memset(r, 0, sizeof *r);
     add(&path, "%s/", s->folder);
     add_page_path(&path, s, i);
-    good = read_start(path.at, start, room);
+    good = read_start(path.at, start, MOST_ROW);
     end = strchr(start, '\n');
     if (good && end)
         end[1] = 0;

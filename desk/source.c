@@ -9,6 +9,8 @@
 
 enum { BATCH = 32768 }; /* values that one call is asked for: a word each */
 
+#define PAGE_WIDTH 120 /* bytes of a line on a page */
+
 enum kind { NOTHING, ORG, EQU, BSS, BYTE, WORD, END, INSTRUCTION };
 
 /* One line of an accepted source, up to END. */
@@ -280,7 +282,7 @@ static const uint8_t *bytes_below(const struct line *lines, size_t many, size_t 
 }
 
 /* A line with its place and bytes; without them where they are not known. */
-static void add_source_line(struct text *t, const struct line *line, size_t number, const uint8_t *bytes)
+static void add_source_line(struct text *t, const struct line *line, size_t number, const uint8_t *bytes, size_t width)
 {
     if (size_of(line) && !bytes)
         add(t, "%04X  ..  ", (unsigned)line->place);
@@ -291,8 +293,8 @@ static void add_source_line(struct text *t, const struct line *line, size_t numb
     else
         add(t, "          ");
     add(t, " %5lu.  ", (unsigned long)number);
-    add_bytes(t, line->text, line->length);
-    add_bytes(t, "\n", 1);
+    add_bytes(t, line->text, line->length < width ? line->length : width);
+    add(t, line->length < width ? "\n" : " ..\n");
 }
 
 void add_source_listing(struct text *t, const char *source, size_t length, const struct assembled *a, size_t most)
@@ -307,7 +309,7 @@ void add_source_listing(struct text *t, const char *source, size_t length, const
         const uint8_t *bytes = a->memory + lines[i].place;
         if (overlaid(lines, i, owner))
             bytes = most ? NULL : bytes_below(lines, many, i);
-        add_source_line(t, &lines[i], i + 1, bytes);
+        add_source_line(t, &lines[i], i + 1, bytes, most ? PAGE_WIDTH : SIZE_MAX);
     }
     if (most && many > most)
         add(t, "..\n");

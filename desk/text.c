@@ -5,6 +5,8 @@
 
 #include "desk.h"
 
+#define MOST_NAME 1000 /* bytes of a name or a title on a page */
+
 void *room_for(void *old, size_t bytes)
 {
     void *new = realloc(old, bytes ? bytes : 1);
@@ -95,6 +97,14 @@ void add_html(struct text *t, const char *bytes, size_t length)
         else
             add_plain(t, bytes + i, size);
     }
+}
+
+void add_name(struct text *t, const char *name)
+{
+    size_t length = strlen(name);
+    add_html(t, name, length < MOST_NAME ? length : MOST_NAME);
+    if (length > MOST_NAME)
+        add(t, " ..");
 }
 
 void add_csv(struct text *t, const char *bytes, size_t length)

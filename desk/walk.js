@@ -42,6 +42,22 @@
   const wrote = (i, at) => (at - place(i) & 0xFFFF) < data.steps[i][1] ||
     (at < 16 && records[64 * i + 32 + at] !== left[24 * i + at]);
 
+  // What a step left, PC aside: registers, bytes stored or pushed, device bytes that are others than before.
+  const names = ['R0', 'R1', 'R2', 'R3', 'R4', 'LR', 'SP', '', 'PSW', 'CEX'];
+  const leftBy = (i) => {
+    const parts = [];
+    names.forEach((name, k) => {
+      const value = word(record(i + 1), 2 * k);
+      if (name && value !== word(record(i), 2 * k)) parts.push(name + ' ' + hex(value, name === 'CEX' ? 2 : 4));
+    });
+    const stored = data.steps[i][1];
+    if (stored > 0) parts.push(hex(place(i), 4) + ':' + [...left.subarray(24 * i + 16, 24 * i + 16 + stored)].map((b) => ' ' + hex(b, 2)).join(''));
+    for (let k = 0; k < 16; k++)
+      if (records[64 * i + 32 + k] !== left[24 * i + k])
+        parts.push('device ' + (k >> 1) + (k & 1 ? ' data ' : ' status ') + hex(left[24 * i + k], 2));
+    return parts.join(', ');
+  };
+
   // ---- parts of the page
   const row = (cells, kind) => {
     const tr = document.createElement('tr');
@@ -142,7 +158,7 @@
     const from = Math.max(0, Math.min(now - 8, many - 15));
     const rows = [];
     for (let i = from; i < Math.min(many, from + 15); i++) {
-      const tr = row([[first + i, 'n'], [pc(i), 'n'], [what(i), 'n pre'], [data.steps[i][3], 'n']], i === now - 1 ? 'current' : '');
+      const tr = row([[first + i, 'n'], [pc(i), 'n'], [what(i), 'n pre'], [leftBy(i), 'n']], i === now - 1 ? 'current' : '');
       tr.dataset.to = i + 1;
       rows.push(tr);
     }
@@ -152,7 +168,7 @@
   const showNow = () => {
     const text = now === 0 ? 'Before step ' + first + ', the first of these.' :
       'After step ' + (first + now - 1) + ', at $' + pc(now - 1) + ': ' + plain(now - 1) + '. It left: ' +
-      (data.steps[now - 1][3] || 'nothing but PC') + '.' + (now === many ? ' The run ends here.' : '');
+      (leftBy(now - 1) || 'nothing but PC') + '.' + (now === many ? ' The run ends here.' : '');
     get('now').textContent = text;
     get('step').value = now === 0 ? '' : first + now - 1;
     get('slide').value = now;

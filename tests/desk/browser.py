@@ -112,6 +112,18 @@ def try_walk(browser, marks, room):
     same("walk: errors", browser.errors(), [])
 
 
+def try_steps(browser, program):
+    """Every step of the walk as its row tells it, beside xm23 back."""
+    lines = run("back", "-n", "1024", "sum.paper", program).splitlines()[-2:0:-1]
+    seen = {}
+    for at in range(1, len(lines) + 1, 7):
+        browser.value(f"document.getElementById('slide').value = {at}; document.getElementById('slide').oninput()")
+        for row in browser.value("[...document.querySelectorAll('#around tr')].map((r) => [...r.cells].map((c) => c.textContent))"):
+            seen[int(row[0])] = " ".join(row)
+    same(f"{program}: every step", [re.sub(" +", " ", seen[step]).strip() for step in sorted(seen)],
+         [re.sub(" +", " ", line).strip() for line in lines])
+
+
 def try_writer(browser):
     browser.press("End")
     browser.press("w")
@@ -184,6 +196,7 @@ with tempfile.TemporaryDirectory() as room:
     try:
         try_index(browser, marks, room)
         try_walk(browser, marks, room)
+        try_steps(browser, "programs/unsound.s19")
         try_writer(browser)
         fits(browser, "page")
         on_paper(browser, "page", room)
@@ -192,6 +205,8 @@ with tempfile.TemporaryDirectory() as room:
             browser.open(os.path.join(marks, "pages", name + ".html"))
             same(f"{name}: errors", browser.errors(), [])
             fits(browser, name)
+        browser.open(os.path.join(marks, "pages/000001-halting.s19.html"))
+        try_steps(browser, "programs/halting.s19")
         try_without_scripts(browser, marks)
         try_long(browser, room)
     finally:

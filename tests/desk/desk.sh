@@ -396,15 +396,55 @@ for r in list(csv.DictReader(open(sys.argv[1], newline="")))[:6]: print(r["line"
 R10:line 1
 R10:line 1'
 same 'pages are well-formed' "$(python3 -B tests/desk/pages.py "$room"/bad/index.html "$room"/bad/pages/*.html)" 'all well-formed'
-if [ "$(id -u)" -ne 0 ]; then
+# Without rights, as somebody who is not root.
+anybody=
+[ "$(id -u)" -ne 0 ] || anybody='setpriv --reuid=65534 --regid=65534 --clear-groups'
+if [ -z "$anybody" ] || $anybody "$xm23" --version > /dev/null 2>&1; then
+    chmod 755 "$room"
     chmod 0 "$room/a b.s19"
-    expect 'no rights' 1 '' '' "$xm23" mark -o "$room/rights" "$paper" "$room/a b.s19"
+    mkdir -m 777 "$room/rights"
+    mkdir -m 555 "$room/closed"
+    expect 'a program without rights is a row' 1 '' '' $anybody "$xm23" mark -o "$room/rights/marks" "$paper" "$room/a b.s19" "$sound"
+    same 'that says so' "$(sed -n 2p "$room/rights/marks/results.csv" | cut -d , -f 3)" 'Permission denied'
+    expect 'a folder without rights' 3 '' "$room/closed/marks: cannot be made: Permission denied" \
+        $anybody "$xm23" mark -o "$room/closed/marks" "$paper" "$sound"
+    expect 'a page without rights' 3 '' "$room/closed/page.html: cannot be written: Permission denied" \
+        $anybody "$xm23" report -o "$room/closed/page.html" "$paper" "$sound"
+    expect 'a paper without rights' 3 '' "$room/a b.s19: Permission denied" $anybody "$xm23" run "$room/a b.s19" "$sound"
+    chmod 755 "$room/closed"
 fi
 mkdir -p "$room/full/pages"
 ln -s /dev/full "$room/full/pages/000001-sound.s19.html"
 expect 'a full disk' 3 '' '.*cannot be written: No space left.*the marking is not whole.*' \
     "$xm23" mark -o "$room/full" "$paper" "$sound"
 same 'has no results' "$(ls "$room/full")" pages
+"$xm23" mark -o "$room/plain" "$paper" "$sound"
+for name in index.html results.csv; do
+    mkdir -p "$room/full_$name"
+    ln -s /dev/full "$room/full_$name/$name.part"
+    expect "a disk that is full at $name" 3 '' ".*$name: cannot be written: No space left.*" "$xm23" mark -o "$room/full_$name" "$paper" "$sound"
+    same 'leaves no results and no part' "$(ls "$room/full_$name" | grep -v index.html)" pages
+    expect 'and goes on' 0 '' '' "$xm23" mark -o "$room/full_$name" "$paper" "$sound"
+    same 'to the same bytes' "$(sum "$room/full_$name")" "$(sum "$room/plain")"
+done
+
+# ---- mark: pages that are as long as a page can be
+python3 - "$room" << 'END'
+import random, sys
+dice, room = random.Random(1), sys.argv[1]
+touch = ["ST.B R3,R4", "ST R0,R1+", "ADD R1,R0", "SWPB R0", "SVC #12", "LD R1,R2"]
+lines = ["ORG $1000", "MOVLZ $05,R4", "MOVLZ $3C,R3", "MOVH $30,R1", "TOP ADD #1,R0"]
+lines += [dice.choice(touch + [f"STR R0,R1,#{dice.randrange(-32, 32) * 2}", f"MOVLZ ${dice.randrange(256):02X},R2"]) for _ in range(900)]
+lines += ["BL TOP", "ORG $0F00", "ADD R0,R2", "MOV LR,PC"]
+with open(room + "/worst.asm", "w") as file:
+    file.write("".join(line + " ;" + "<" * 40 + "\n" for line in lines) + " END ;" + "<" * 9000 + "\n")
+with open(room + "/worst.paper", "w") as file:
+    file.write(f"title {'&' * 70000}\nsteps 1000000\ndevice 2 $10\nstart SP=$0F00 R1=$3000\nvector 12 $60 $0F00\nexpect {'<' * 70000}\n")
+    for at in range(0x2000, 0xFF00, 256):
+        file.write(f"bytes {at} {' '.join(str(dice.randrange(1, 256)) for _ in range(256))}\n")
+END
+expect 'the longest pages' 1 '' '' "$xm23" mark -o "$room/worst" "$room/worst.paper" "$room/worst.asm" "$long"
+same 'they are as long as they may be' "$(python3 -B tests/desk/pages.py "$room"/worst/pages/*.html)" 'all well-formed'
 
 (exec 9> "$room/bad/.lock"; exec python3 -c 'import fcntl, sys, time; fcntl.flock(9, fcntl.LOCK_EX); print("locked", flush=True); time.sleep(60)' > "$room/locked") &
 holder=$!

@@ -21,8 +21,8 @@ static void add_step(struct text *t, const struct step *s)
         snprintf(word, sizeof word, "%04X", s->word);
     add_what(&what, s);
     add_left(&left, s);
-    add(t, "%-10lu  %04X  %-4s  %-24s  %s", (unsigned long)step_count(s), get_word(s->before, XM23_RECORD_REGISTER(7)), word,
-        what.at, left.at ? left.at : "");
+    add(t, "%-10lu  %04X  %-4s  %-24s  %s", (unsigned long)step_count(s), get_word(s->before, XM23_RECORD_REGISTER(7)),
+        word, what.at, left.at ? left.at : "");
     while (t->at[t->length - 1] == ' ')
         t->at[--t->length] = 0;
     add(t, "\n");
@@ -61,16 +61,17 @@ static int tell_steps(struct backwards *b, const char *name)
 {
     struct walk *w = &b->walk;
     struct text t = {0};
-    uint32_t many = steps_back(b), kept = w->many, place = w->many % MOST_WALK;
+    uint32_t many = steps_back(b);
     int status;
     if (!many) {
-        if (b->byte >= 0)
-            say_at(name, 0, "none of the last %lu steps wrote $%04lX", (unsigned long)(w->many < b->most ? w->many : b->most), b->byte);
+        unsigned long looked = w->many < b->most ? w->many : b->most;
+        if (looked)
+            say_at(name, 0, "none of the last %lu steps wrote $%04lX", looked, b->byte);
         else
             say_at(name, 0, "no step was taken");
         return REFUSED;
     }
-    xm23_back(b->m.memory, sizeof b->m.memory, b->m.record, sizeof b->m.record, w->journal, sizeof w->journal, &kept, &place, many);
+    walk_back(w, &b->m, w->many, many);
     add(&t, "%-10s  %-4s  %-4s  %-24s  %s\n", "step", "PC", "word", "instruction", "what it left");
     for (uint32_t i = 0; i < many; i++)
         add_step(&t, &w->steps[w->many - 1 - i]);

@@ -223,6 +223,9 @@ struct walk {
 /* Walks the last steps of a run that was taken from `m`, which is left as it was before the first of them. */
 void walk_run(struct walk *w, const struct paper *p, struct machine *m, uint32_t steps);
 
+/* Goes back so many steps from where so many of the walk are done. */
+void walk_back(const struct walk *w, struct machine *m, uint32_t done, uint32_t many);
+
 uint32_t step_count(const struct step *s);
 int step_wrote(const struct step *s, unsigned at); /* whether it stored, pushed or changed the byte */
 
@@ -284,6 +287,8 @@ void drop_marked(struct marked *m);
 
 void add_page_path(struct text *t, const struct sitting *s, size_t i); /* below the folder */
 void add_page_head(struct text *t, const char *title);
+void open_table(struct text *t, const char *heads); /* names of columns, a bar between two */
+void close_table(struct text *t);
 void add_page(struct text *t, const struct sitting *s, const struct marked *m);
 int write_results(const struct sitting *s);
 

@@ -126,7 +126,7 @@ int close_output(struct output *o)
     if (o->problem && o->file >= 0 && o->beside.length)
         unlink(o->beside.at);
     if (o->problem)
-        say_at(strcmp(o->name, "-") == 0 ? "standard output" : o->name, 0, "cannot be written: %s", strerror(o->problem));
+        say_at(strcmp(o->name, "-") ? o->name : "standard output", 0, "cannot be written: %s", strerror(o->problem));
     drop(&o->beside);
     return o->problem ? UNREADABLE : DONE;
 }

@@ -44,9 +44,10 @@ const struct subcommand subcommands[] = {
      "Status 1: PROGRAM is refused, PAPER has a mistake, or another line was expected; but for a mistake in PAPER the\n"
      "page is written.\n",
      xm23_desk_report},
-    {"back", "xm23 back [-n STEPS] [-w ADDRESS] PAPER PROGRAM", "go back from the closing state, to the step that wrote a byte",
-     "Runs PROGRAM under PAPER and prints its last steps, the newest first: step, PC, word, instruction, what it left;\n"
-     "then the state before the last of those printed.\n"
+    {"back", "xm23 back [-n STEPS] [-w ADDRESS] PAPER PROGRAM",
+     "go back from the closing state, as far as the step that wrote a byte",
+     "Runs PROGRAM under PAPER and prints its last steps, the newest first: step, PC, word, instruction, what it\n"
+     "left; then the state before the last of those printed.\n"
      "\n"
      "  -n STEPS    so many steps, 1 to 1,024 (16)\n"
      "  -w ADDRESS  as far as the step that wrote the byte at ADDRESS, base sixteen\n"

@@ -29,6 +29,21 @@ void add_page_head(struct text *t, const char *title)
     add(t, "</title>\n<style>\n%s</style>\n</head>\n<body>\n", page_css);
 }
 
+void open_table(struct text *t, const char *heads)
+{
+    add(t, "<div class=\"wide\">\n<table>\n<thead><tr>");
+    for (const char *end; *heads; heads = end + (*end == '|')) {
+        end = heads + strcspn(heads, "|");
+        add(t, "<th>%.*s</th>", (int)(end - heads), heads);
+    }
+    add(t, "</tr></thead>\n<tbody>\n");
+}
+
+void close_table(struct text *t)
+{
+    add(t, "</tbody>\n</table>\n</div>\n");
+}
+
 static void add_verdict(struct text *t, const struct row *r)
 {
     add(t, "<p id=\"verdict\">");
@@ -79,13 +94,13 @@ static void add_fields(struct text *t, const struct paper *p, const struct machi
     struct field rows[FIELDS];
     char expected[16];
     int many = line_fields(m->record, o, rows), other;
-    add(t, "<h2>Closing state</h2>\n<div class=\"wide\">\n<table>\n<thead><tr><th>Field</th><th>Value</th>%s<th>Says</th></tr></thead>\n",
-        p->expected ? "<th>Expected</th>" : "");
-    add(t, "<tbody>\n");
+    add(t, "<h2>Closing state</h2>\n");
+    open_table(t, p->expected ? "Field|Value|Expected|Says" : "Field|Value|Says");
     for (int i = 0; i < many; i++) {
         field_at(p->expected, i, expected, sizeof expected);
         other = p->expected && strcmp(expected, rows[i].value) != 0;
-        add(t, "<tr%s><th>%s</th><td class=\"n\">%s</td>", other ? " class=\"other\"" : "", rows[i].name, rows[i].value);
+        add(t, "<tr%s><th>%s</th>", other ? " class=\"other\"" : "", rows[i].name);
+        add(t, "<td class=\"n\">%s</td>", rows[i].value);
         if (p->expected) {
             add(t, "<td class=\"n\">%s", other ? "not " : "");
             add_html(t, expected, strlen(expected));
@@ -93,7 +108,7 @@ static void add_fields(struct text *t, const struct paper *p, const struct machi
         }
         add(t, "<td>%s</td></tr>\n", rows[i].says);
     }
-    add(t, "</tbody>\n</table>\n</div>\n");
+    close_table(t);
 }
 
 static void add_sixteen(struct text *t, const uint8_t *bytes)
@@ -222,7 +237,8 @@ static void add_state(struct text *t, const struct sitting *s, const struct mark
 {
     add_fields(t, s->paper, &m->after, &m->o);
     if (m->walk.many)
-        add(t, "%s<noscript><p>Without scripts the walk is not shown; its last steps are below.</p></noscript>\n", walk_html);
+        add(t, "%s<noscript><p>Without scripts the walk is not shown; its last steps are below.</p></noscript>\n",
+            walk_html);
     add_walk_tables(t, &m->walk, &m->after);
     add_memory(t, &m->before, &m->after, most);
     add_source(t, &m->program, most);

@@ -34,12 +34,11 @@ static void add_last_steps(struct text *t, const struct walk *w)
 {
     uint32_t many = w->many < LAST_STEPS ? w->many : LAST_STEPS;
     add(t, "<h2>The last %lu step%s</h2>\n", (unsigned long)many, many == 1 ? "" : "s");
-    add(t, "<p>A step is named by the step count before it.</p>\n<div class=\"wide\">\n<table>\n<thead><tr><th>Step</th>"
-           "<th>PC</th><th>Word</th><th>Instruction, or what else it was</th><th>What it left, PC aside</th></tr></thead>\n"
-           "<tbody>\n");
+    add(t, "<p>A step is named by the step count before it.</p>\n");
+    open_table(t, "Step|PC|Word|Instruction, or what else it was|What it left, PC aside");
     for (uint32_t i = w->many - many; i < w->many; i++)
         add_step_row(t, &w->steps[i]);
-    add(t, "</tbody>\n</table>\n</div>\n");
+    close_table(t);
 }
 
 static int is_turn(const struct step *s)
@@ -60,8 +59,7 @@ static void add_turns(struct text *t, const struct walk *w)
     }
     if (many > MOST_TURNS)
         add(t, "<p>The last %u of %u.</p>\n", (unsigned)MOST_TURNS, many);
-    add(t, "<div class=\"wide\">\n<table>\n<thead><tr><th>Step</th><th>What</th><th>PC before</th><th>PC after</th><th>SP after</th>"
-           "<th>Priority after</th></tr></thead>\n<tbody>\n");
+    open_table(t, "Step|What|PC before|PC after|SP after|Priority after");
     for (uint32_t i = 0; i < w->many; i++) {
         const struct step *s = &w->steps[i];
         if (!is_turn(s) || passed++ + MOST_TURNS < many)
@@ -72,7 +70,7 @@ static void add_turns(struct text *t, const struct walk *w)
             get_word(s->before, XM23_RECORD_REGISTER(7)), get_word(s->after, XM23_RECORD_REGISTER(7)),
             get_word(s->after, XM23_RECORD_REGISTER(6)), XM23_PSW_CURRENT(get_word(s->after, XM23_RECORD_PSW)));
     }
-    add(t, "</tbody>\n</table>\n</div>\n");
+    close_table(t);
 }
 
 /* What the word at an even address is of the frames that are open. */
@@ -100,14 +98,16 @@ static void add_stack(struct text *t, const struct walk *w, const struct machine
         unsigned up = ((w->frames[f].sp - sp) & 0xFFFF) / 2 + 6;
         many = up > many && up <= MOST_WORDS ? up : many;
     }
-    add(t, "<h2>Stack at the close</h2>\n<div class=\"wide\">\n<table>\n<thead><tr><th>Address</th><th>Word</th><th></th></tr></thead>\n<tbody>\n");
+    add(t, "<h2>Stack at the close</h2>\n");
+    open_table(t, "Address|Word|What it is");
     for (unsigned i = 0; i < many; i++) {
         unsigned at = (sp + 2 * i) & 0xFFFE;
-        add(t, "<tr><td class=\"n\">%04X</td><td class=\"n\">%04X</td><td>%s", at, word_at(after->memory, at), i ? "" : "SP. ");
+        add(t, "<tr><td class=\"n\">%04X</td><td class=\"n\">%04X</td><td>%s", at, word_at(after->memory, at),
+            i ? "" : "SP. ");
         add_place(t, w, at);
         add(t, "</td></tr>\n");
     }
-    add(t, "</tbody>\n</table>\n</div>\n");
+    close_table(t);
     if (w->strays)
         add(t, "<p>Returns that pulled a frame from before these steps, or none: %u.</p>\n", w->strays);
 }
@@ -126,14 +126,16 @@ static void add_devices(struct text *t, const struct machine *m)
         if (!status && !data && !waiting)
             continue;
         if (!many++)
-            add(t, "<div class=\"wide\">\n<table>\n<thead><tr><th>Device</th><th>Status</th><th></th><th>Data</th>"
-                   "<th>Events waiting</th></tr></thead>\n<tbody>\n");
+            open_table(t, "Device|Status||Data|Events waiting");
         add(t, "<tr><td>%u</td><td class=\"n\">%02X</td><td>", d, status);
         for (unsigned i = 0; i < 5; i++)
             add(t, "%s%s", status & bits[i].bit ? bits[i].name : "", status & bits[i].bit ? " " : "");
         add(t, "</td><td class=\"n\">%02X</td><td>%u</td></tr>\n", data, waiting);
     }
-    add(t, many ? "</tbody>\n</table>\n</div>\n" : "<p>All are zero.</p>\n");
+    if (many)
+        close_table(t);
+    else
+        add(t, "<p>All are zero.</p>\n");
 }
 
 void add_walk_tables(struct text *t, const struct walk *w, const struct machine *after)
@@ -233,7 +235,7 @@ static void add_frames_data(struct text *t, const struct walk *w)
     add(t, "],\n");
 }
 
-/* The screen: the last bytes from before the walk, how many more there were, and each byte of the walk with its step. */
+/* The screen: its last bytes from before the walk, how many there were before these, and those of the walk by step. */
 static void add_screen_data(struct text *t, const struct walk *w, const struct text *screen)
 {
     size_t before = screen->length - w->shown, kept = before < SCREEN_BEFORE ? before : SCREEN_BEFORE;

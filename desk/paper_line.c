@@ -79,7 +79,8 @@ static int64_t digits_of(const char *at, size_t length, unsigned base, uint64_t 
 
 static int64_t value_of(const struct word *w, int64_t least, uint64_t most)
 {
-    size_t mark = w->at[0] == '$' || w->at[0] == '#', minus = mark && w->at[0] == '#' && w->length > 1 && w->at[1] == '-';
+    size_t mark = w->at[0] == '$' || w->at[0] == '#';
+    size_t minus = w->at[0] == '#' && w->length > 1 && w->at[1] == '-';
     const char *at = w->at + mark + minus;
     size_t length = w->length - mark - minus;
     int64_t value;
@@ -209,7 +210,7 @@ static int start_part(struct rest *r, const struct word *w)
     number.length = w->length - length - 1;
     value = number.length ? value_of(&number, starts[i].part < 8 ? -0x8000 : 0, most) : NOT_ONE;
     if (value == NOT_ONE)
-        return number.length && means_sixteen(&number) ? no_number(r, &number, "") : wrong(r, w, "has no number that fits");
+        return means_sixteen(&number) ? no_number(r, &number, "") : wrong(r, w, "has no number that fits");
     if (!claim(r, &r->paper->start_line[starts[i].part], starts[i].name))
         return 0;
     for (unsigned byte = 0; byte < starts[i].bytes; byte++)

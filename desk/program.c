@@ -1,4 +1,4 @@
-/* A candidate's program, S-records or a source, that the library judges and loads; a paper's machine before its first step. */
+/* A candidate's program, S-records or a source, which the library judges; a paper's machine before its first step. */
 #include <stdlib.h>
 #include <string.h>
 

@@ -47,7 +47,8 @@ static void add_screen(struct text *t, const struct text *screen)
 
 static void add_html_row(struct text *t, const struct sitting *s, size_t i, const struct row *r)
 {
-    add(t, "<tr data-agrees=\"%s\"><td>%lu</td><td class=\"any name\"><a href=\"", r->agrees == 1 ? "yes" : "no", (unsigned long)i + 1);
+    add(t, "<tr data-agrees=\"%s\"><td>%lu</td>", r->agrees == 1 ? "yes" : "no", (unsigned long)i + 1);
+    add(t, "<td class=\"any name\"><a href=\"");
     add_page_path(t, s, i);
     add(t, "\">");
     add_name(t, r->name);
@@ -81,17 +82,16 @@ static void add_index_head(struct text *t, const struct sitting *s, const struct
     add(t, "<div class=\"find\" id=\"find\" hidden><label>Find <input id=\"name\" type=\"search\"></label>");
     if (p->expected)
         add(t, "<label><input id=\"others\" type=\"checkbox\"> only those that are not as expected</label>");
-    add(t, "<span id=\"count\" role=\"status\"></span></div>\n<div class=\"wide\">\n<table>\n<thead><tr><th></th>"
-           "<th>Program</th><th>Verdict</th><th>Line, or refusal</th><th>Steps</th><th>Depth</th><th>Screen</th></tr>"
-           "</thead>\n<tbody>\n");
+    add(t, "<span id=\"count\" role=\"status\"></span></div>\n");
+    open_table(t, "|Program|Verdict|Line, or refusal|Steps|Depth|Screen");
 }
 
 static void add_index_foot(struct text *t, const struct sitting *s)
 {
     unsigned v = xm23_version();
-    add(t, "</tbody>\n</table>\n</div>\n<footer>Paper SHA-256 %s, machine %u.%u.%u.</footer>\n<script>\n%s</script>\n"
-           "</body>\n</html>\n",
-        s->paper_digest, v >> 16, v >> 8 & 0xFF, v & 0xFF, index_js);
+    close_table(t);
+    add(t, "<footer>Paper SHA-256 %s, machine %u.%u.%u.</footer>\n", s->paper_digest, v >> 16, v >> 8 & 0xFF, v & 0xFF);
+    add(t, "<script>\n%s</script>\n</body>\n</html>\n", index_js);
 }
 
 /* ---- the files: a page's row at a time, so that a sitting may be as long as it likes */

@@ -1,5 +1,5 @@
 /*
- * A source of the assembler: its bytes, where it starts, its listing. Every byte and every value is the library's reply:
+ * A source of the assembler: its bytes, where it starts, its listing. Every byte and every value is the library's:
  * here lines are cut, and xm23_assemble is asked for what must be known of them.
  */
 #include <stdlib.h>

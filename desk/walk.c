@@ -68,7 +68,7 @@ static void put_act(struct step *s, enum act act, unsigned number)
     s->number = (uint8_t)number;
 }
 
-/* A step that took no line and was no return. FLT that comes up is a fault's: an instruction sets it in no other way. */
+/* A step that took no line and was no return. FLT that comes up is a fault's: no instruction sets it otherwise. */
 static void judge_instruction(struct step *s, const uint8_t *memory)
 {
     unsigned psw = psw_of(s->before), pc = pc_of(s->before);
@@ -88,7 +88,7 @@ static void judge_instruction(struct step *s, const uint8_t *memory)
         put_act(s, EXECUTED, 0);
 }
 
-/* How many bytes lie stored from the record's address on: a frame, or what ST or STR stored outside the device bytes. */
+/* How many bytes are stored from the record's address on: a frame, or those of ST or STR outside the device bytes. */
 static unsigned stored(const struct step *s)
 {
     uint64_t i = xm23_decode(s->word);
@@ -130,16 +130,23 @@ static void keep_after(struct step *s, const uint8_t *memory)
         s->bytes[i] = memory[(at + i) & 0xFFFF];
 }
 
+/* The journal began with no record kept, at its first place. */
+void walk_back(const struct walk *w, struct machine *m, uint32_t done, uint32_t many)
+{
+    uint32_t kept = done, place = done % MOST_WALK;
+    xm23_back(m->memory, sizeof m->memory, m->record, sizeof m->record, w->journal, sizeof w->journal, &kept, &place,
+              many);
+}
+
 static void go_back(struct walk *w, const struct paper *p, struct machine *m)
 {
-    uint32_t kept = w->many, place = w->many % MOST_WALK;
     size_t due = p->many_events;
     for (uint32_t i = w->many; i-- > 0;) {
         struct step *s = &w->steps[i];
         s->before = w->journal + JOURNAL_SIZE * i;
         s->after = i + 1 == w->many ? w->close : w->journal + JOURNAL_SIZE * (i + 1);
         keep_after(s, m->memory);
-        xm23_back(m->memory, sizeof m->memory, m->record, sizeof m->record, w->journal, sizeof w->journal, &kept, &place, 1);
+        walk_back(w, m, i + 1, 1);
         while (due > 0 && p->events[due - 1].step > step_count(s))
             due--;
         judge_step(s, p, due, m->memory);

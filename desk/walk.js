@@ -51,7 +51,8 @@
       if (name && value !== word(record(i), 2 * k)) parts.push(name + ' ' + hex(value, name === 'CEX' ? 2 : 4));
     });
     const stored = data.steps[i][1];
-    if (stored > 0) parts.push(hex(place(i), 4) + ':' + [...left.subarray(24 * i + 16, 24 * i + 16 + stored)].map((b) => ' ' + hex(b, 2)).join(''));
+    const there = [...left.subarray(24 * i + 16, 24 * i + 16 + stored)];
+    if (stored > 0) parts.push(hex(place(i), 4) + ':' + there.map((b) => ' ' + hex(b, 2)).join(''));
     for (let k = 0; k < 16; k++)
       if (records[64 * i + 32 + k] !== left[24 * i + k])
         parts.push('device ' + (k >> 1) + (k & 1 ? ' data ' : ' status ') + hex(left[24 * i + k], 2));

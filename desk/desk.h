@@ -27,6 +27,7 @@ struct text {
 void *room_for(void *old, size_t bytes);
 void add_bytes(struct text *t, const void *bytes, size_t length);
 void add(struct text *t, const char *format, ...);
+void add_byte(struct text *t, const char *mark, unsigned byte); /* the mark and two digits of base sixteen */
 void add_plain(struct text *t, const char *bytes, size_t length); /* bytes that are no printable character as \xHH */
 void add_html(struct text *t, const char *bytes, size_t length);
 void add_name(struct text *t, const char *name); /* for HTML, of a long one the first bytes */

@@ -114,7 +114,7 @@ static void add_fields(struct text *t, const struct paper *p, const struct machi
 static void add_sixteen(struct text *t, const uint8_t *bytes)
 {
     for (unsigned i = 0; i < 16; i++)
-        add(t, "%s%02X", i ? " " : "", bytes[i]);
+        add_byte(t, i ? " " : "", bytes[i]);
 }
 
 /* Rows of sixteen bytes in which the run changed one. */

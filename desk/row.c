@@ -24,7 +24,7 @@ static void add_coded(struct text *t, const char *bytes, size_t length)
         if (c == ' ' || (c >= '0' && c <= '9') || (c >= 'A' && c <= 'Z') || (c >= 'a' && c <= 'z'))
             add_bytes(t, bytes + i, 1);
         else
-            add(t, "%%%02X", c);
+            add_byte(t, "%", c);
     }
     add(t, "|");
 }

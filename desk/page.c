@@ -7,6 +7,7 @@
 #define MOST_ROWS 512     /* of memory, of the listing and of the source */
 #define FEW_ROWS 32       /* on a page that is else too long */
 #define MOST_SOURCE 65536 /* bytes of a source that is listed */
+#define MOST_SHOWN 2048   /* bytes of screen text */
 
 /* The number of the program among those of the sitting, and its name as far as it may stand in a file's name. */
 void add_page_path(struct text *t, const struct sitting *s, size_t i)
@@ -203,15 +204,14 @@ static void add_foot(struct text *t, const struct sitting *s, const struct row *
         r->digest[0] ? r->digest : "unknown", s->paper_digest, v >> 16, v >> 8 & 0xFF, v & 0xFF);
 }
 
-static void add_screen(struct text *t, const struct text *screen, size_t most)
+/* The first bytes of the screen text, and how many there were where they are not all. */
+static void add_screen(struct text *t, const struct text *screen)
 {
-    struct text shown = {0};
-    add_bytes(&shown, screen->at, screen->length < most ? screen->length : most);
-    if (shown.length < screen->length)
-        add(&shown, " ..");
+    size_t length = screen->length < MOST_SHOWN ? screen->length : MOST_SHOWN;
     add(t, "<h2>Screen</h2>\n");
-    add_pre(t, "", shown.at, shown.length);
-    drop(&shown);
+    if (length < screen->length)
+        add(t, "<p>The first %lu bytes of %lu.</p>\n", (unsigned long)length, (unsigned long)screen->length);
+    add_pre(t, " class=\"screen\"", screen->at, length);
 }
 
 static void add_heading(struct text *t, const struct sitting *s, const struct row *r)
@@ -251,8 +251,8 @@ static void add_rows(struct text *t, const struct sitting *s, const struct marke
     const struct row *r = &m->row;
     add_row(t, s, r);
     add_heading(t, s, r);
-    if (r->screen.length)
-        add_screen(t, &r->screen, 32 * (size_t)most);
+    if (m->screen.length)
+        add_screen(t, &m->screen);
     if (m->ran)
         add_state(t, s, m, most);
     add_foot(t, s, r);

@@ -337,7 +337,11 @@ expect 'mark again' 1 '' '' "$xm23" mark -j 1 -o "$room/marks" sum.paper program
 same 'the same bytes, by one worker too' "$(sum "$room/marks")" "$first"
 expect 'all as expected' 0 '' '' "$xm23" mark -o "$room/one" sum.paper programs/sound.s19
 same 'the source on its page' "$(grep -c '^1000  6829     3.  START   MOVLZ' "$room"/marks/pages/*screen*)" 1
-same 'the screen on its page' "$(sed -n '/<h2>Screen/,/<.pre>/p' "$room"/marks/pages/*screen*)" $'<h2>Screen</h2>\n<pre>SUM</pre>'
+same 'the screen on its page' "$(sed -n '/<h2>Screen/,/<.pre>/p' "$room"/marks/pages/*screen*)" $'<h2>Screen</h2>\n<pre class="screen">SUM</pre>'
+if [ $# -eq 0 ]; then
+    expect 'make run' 0 'build/sitting/index.html .*build/sitting/results.csv .*' '' make -s --no-print-directory -C "$top" run
+    same 'marks the sitting' "$(cat "$top/build/sitting/results.csv")" "$(cat expected.csv)"
+fi
 marked() { printf 'programs/%s.s19\0' sound unsound | "$xm23" mark -o "$room/listed" -0 sum.paper; }
 expect 'names from standard input' 1 '' '' marked
 same 'two rows' "$(wc -l < "$room/listed/results.csv")" 3
@@ -354,8 +358,10 @@ for name in odd long; do "$xm23" asm -o "$room/$name.s19" "$room/$name.asm"; don
 printf 'steps 20002\ndevice 2 $10\n' > "$room/screen.paper"
 expect 'mark of screens' 0 '' '' "$xm23" mark -o "$room/screens" "$room/screen.paper" "$room/odd.s19" "$room/long.s19"
 same 'odd bytes in a field' "$(sed -n 2p "$room/screens/results.csv" | cut -d , -f 6-7)" '"<,""\x0A\x00\x80é&"'
-same 'on a page' "$(sed -n '/<h2>Screen/,/<.pre>/p' "$room"/screens/pages/*odd*)" $'<h2>Screen</h2>\n<pre>&#60;,&#34;\n\\x00\\x80é&#38;</pre>'
+same 'on a page' "$(sed -n '/<h2>Screen/,/<.pre>/p' "$room"/screens/pages/*odd*)" $'<h2>Screen</h2>\n<pre class="screen">&#60;,&#34;\n\\x00\\x80é&#38;</pre>'
 same 'a long one is cut' "$(sed -n 3p "$room/screens/results.csv" | cut -d , -f 6 | sed 's/A\{8192\}/8192/')" '8192 .. (10000 bytes)'
+same 'and on its page' "$(sed -n '/<h2>Screen/,/<.pre>/p' "$room"/screens/pages/*long* | sed 's/A\{2048\}/2048/' | tr '\n' ' ')" \
+    '<h2>Screen</h2> <p>The first 2048 bytes of 10000.</p> <pre class="screen">2048</pre> '
 same 'these are well-formed too' "$(python3 -B tests/desk/pages.py "$room"/screens/pages/*.html)" 'all well-formed'
 
 # ---- mark: misuse, and files that are none

@@ -6,14 +6,15 @@
  * alone, so one countdown is all that is tested. What can end the stretch leaves it: an odd PC, SETPRI, SETCC, CEX, a
  * store to the vectors, a fault, SVC. Handlers are reached by the word's ten leading bits, and flags are kept apart
  * from the PSW until somebody asks for it. A store to a device is looked at before it is done: one that the log has no
- * room for leaves the stretch, and the events of its step are taken back.
+ * room for leaves the stretch, and the events of its step are taken back. Open frames are counted where one is pushed or
+ * pulled.
  */
 #include <stddef.h>
 #include <stdint.h>
 #include <string.h>
 
 uint64_t xm23_fast_run(uint8_t *memory, size_t memory_len, uint8_t *record, size_t record_len, const uint8_t *events,
-                       size_t events_len, uint8_t *log, size_t log_len, uint64_t n);
+                       size_t events_len, uint8_t *log, size_t log_len, uint32_t *deepest, uint64_t n);
 
 enum { C = 1, Z = 2, N = 4, SLP = 8, V = 16, FLT = 256 };
 enum { IE = 1, INPUT = 2, DBA = 4, OF = 8, ENA = 16 };
@@ -31,6 +32,7 @@ struct machine {
     uint8_t *mem;
     uint8_t *log, *log_end; /* where the next record goes, and where the log ends */
     uint32_t end;           /* the step count at the end of the stretch */
+    uint32_t open, deepest; /* frames of this run, and the most of them together */
 };
 
 static unsigned two(const uint8_t *p)
@@ -162,6 +164,9 @@ static void enter(struct machine *m, unsigned v, unsigned flt)
     push(m, m->r[LR]);
     push(m, m->psw);
     push(m, m->cex);
+    m->open++;
+    if (m->open > m->deepest)
+        m->deepest = m->open;
     start_handler(m, psw, pc, m->psw >> 5 & 7, flt);
 }
 
@@ -177,6 +182,7 @@ static void leave(struct machine *m)
     m->psw = pull(m) & 0xE1F7;
     m->r[LR] = (uint16_t)pull(m);
     m->r[PC] = (uint16_t)pull(m);
+    m->open -= m->open > 0;
 }
 
 /* A fault; with FLT set the machine halts as it was before the instruction. */
@@ -699,7 +705,7 @@ static uint32_t run(struct machine *m, const uint8_t *events, size_t events_len,
 }
 
 uint64_t xm23_fast_run(uint8_t *memory, size_t memory_len, uint8_t *record, size_t record_len, const uint8_t *events,
-                       size_t events_len, uint8_t *log, size_t log_len, uint64_t n)
+                       size_t events_len, uint8_t *log, size_t log_len, uint32_t *deepest, uint64_t n)
 {
     unsigned refused = refusal(memory_len, record, record_len, events, events_len, log_len, n);
     struct machine m;
@@ -716,6 +722,7 @@ uint64_t xm23_fast_run(uint8_t *memory, size_t memory_len, uint8_t *record, size
     m.mem = memory;
     m.log = log;
     m.log_end = log + log_len;
+    m.open = m.deepest = 0;
     count = four(record + 22);
     left = run(&m, events, events_len, &count, (uint32_t)n);
     for (i = 0; i < 8; i++)
@@ -725,5 +732,6 @@ uint64_t xm23_fast_run(uint8_t *memory, size_t memory_len, uint8_t *record, size
     record[21] = (uint8_t)m.halted;
     memcpy(record + 22, &count, 4);
     memcpy(record + 26, &m.lines, 4);
+    *deepest = m.deepest;
     return (uint64_t)(m.log - log) / 8 << 40 | (n - left) << 16 | (m.full ? 2u : m.halted) << 8;
 }

@@ -2,7 +2,8 @@
  * Keeps several machines open, over libxm23.a: each is advanced by slices of steps in turn, and in the end one line is
  * printed for each, the line of print_state. What the output devices show is read from a short log after each slice; a
  * slice that the log has no room for goes on in the next turn. With SCREEN set in the environment, the bytes that a
- * machine's devices showed are printed below its line.
+ * machine's devices showed are printed below its line. The depth, the line's last field, is a slice's own: the deepest is
+ * printed, which is the run's where one slice takes all of it and less where frames stay open from slice to slice.
  *
  *   host SLICE INPUT..      SLICE is how many steps at a time, an INPUT a file as print_state reads it
  */
@@ -22,7 +23,7 @@ struct machine {
     const char *name;
     uint8_t input[MOST];
     size_t length;
-    uint32_t steps;
+    uint32_t steps, deepest;
     unsigned refusal, reason;
     uint8_t *shown; /* device and byte, two bytes each */
     size_t shown_len;
@@ -90,9 +91,12 @@ static void keep(struct machine *m, const uint8_t *log, uint32_t records)
 static uint64_t run(struct machine *m, uint64_t n)
 {
     uint8_t log[XM23_LOG_SIZE * RECORDS];
+    uint32_t deepest = 0;
     uint64_t reply = xm23_run(m->input + HEAD, XM23_MEMORY_SIZE, m->input + 4, XM23_RECORD_SIZE, m->input + LEAST,
-                              m->length - LEAST, log, sizeof log, n);
+                              m->length - LEAST, log, sizeof log, &deepest, n);
     keep(m, log, XM23_RUN_ADDED(reply));
+    if (deepest > m->deepest)
+        m->deepest = deepest;
     return reply;
 }
 
@@ -146,7 +150,7 @@ static void print_line(const struct machine *m)
     printf(" %04X %02X ", (unsigned)two(record + XM23_RECORD_PSW), record[XM23_RECORD_CEX]);
     for (i = 7; i >= 0; i--)
         printf("%X", XM23_RECORD_WAITING(record, i));
-    putchar('\n');
+    printf(" %u\n", (unsigned)m->deepest);
 }
 
 int main(int argc, char **argv)

@@ -2,14 +2,17 @@
  * xm23.h - the XM-23 examination machine as a library for C99 and C++.
  *
  * Every call takes numbers and byte buffers and gives one number. Every number, length and content is lawful: a call
- * that can refuse says so in the low byte of its reply, and a refused call leaves every buffer as it was.
+ * that can refuse says so in the low byte of its reply, and a refused call leaves every buffer and every number that
+ * goes in and out as it was.
  *
  * A buffer is a pointer and a length. The pointer is valid for that length and may be NULL where the length is 0. The
- * buffers of one call must not overlap: what a call with overlapping buffers does is not promised. Calls keep no
- * pointer and no state between calls, so any number of machines may run side by side, on any number of threads.
+ * buffers of one call must not overlap: what a call with overlapping buffers does is not promised. A number that goes
+ * in and out is a uint32_t behind a pointer: the pointer is never NULL, is that of one aligned uint32_t, and overlaps
+ * no buffer and no other such number. Calls keep no pointer and no state between calls, so any number of machines may
+ * run side by side, on any number of threads.
  *
- * "01" is the paper of house rules, "02" that of change requests, "003" the ISA paper. docs/FORMATS.md has the layout of
- * each number and record.
+ * "01" is the paper of house rules, "02" that of change requests, "003" the ISA paper. docs/FORMATS.md has the layout
+ * of each number and record.
  */
 #ifndef XM23_H
 #define XM23_H
@@ -24,7 +27,7 @@ extern "C" {
 /* ---- version: of this header, as one number; xm23_version gives that of the library */
 
 #define XM23_VERSION_MAJOR 0
-#define XM23_VERSION_MINOR 15
+#define XM23_VERSION_MINOR 16
 #define XM23_VERSION_PATCH 0
 #define XM23_VERSION (XM23_VERSION_MAJOR * 65536 + XM23_VERSION_MINOR * 256 + XM23_VERSION_PATCH)
 
@@ -389,8 +392,13 @@ uint64_t xm23_next(uint32_t operation, uint32_t word);
  * record, record_len in-out: its state record, XM23_RECORD_SIZE bytes.
  * events, events_len in: event records, in the order of their steps, at most one of a device on a step; those of one
  *                    step are applied in list order. No bytes are an empty list.
- * log, log_len       in-out: room for log records, a multiple of XM23_LOG_SIZE bytes, 0 among them. Bytes past the last
- *                    record stay.
+ * log, log_len       in-out: room for log records, a multiple of XM23_LOG_SIZE bytes, 0 among them. Bytes past the
+ *                    last record stay.
+ * deepest            out: how deep this run went, 0 to the steps done. Frames are counted from 0 at its start: an
+ *                    entry that pushes (an accepted line, SVC, a fault) opens one, a return that pulls closes one,
+ *                    and one with none open counts nothing, nor does a chained entry or a fault that halts; this is
+ *                    the most that were open together, exactly, for traps and faults too. Of runs in turn each has
+ *                    its own. Where the premises of 01's Depth hold it is at most 7 - p.
  * n                  in: how many steps.
  * result             one reply: XM23_RUN_REFUSAL in bits 7-0, XM23_RUN_REASON in 15-8, XM23_RUN_STEPS in 39-16,
  *                    XM23_RUN_ADDED in 63-40. Accepted: memory and record hold the closing state.
@@ -398,18 +406,19 @@ uint64_t xm23_next(uint32_t operation, uint32_t word);
  *                    XM23_REFUSED_STEPS for the sum, of a halted machine too; XM23_REFUSED_RECORD_BITS;
  *                    XM23_REFUSED_EVENTS; XM23_REFUSED_EVENT_FIELDS over the whole list; XM23_REFUSED_EVENT_ORDER;
  *                    XM23_REFUSED_EVENT_TWINS, of events that this run would not apply too; XM23_REFUSED_LOG,
- *                    whatever n is.
- *                    Refused: reason, steps and records added are 0, and memory, record, events and log are as they
- *                    were.
+ *                    whatever n is. Refused: reason, steps and records added are 0, and memory, record, events, log
+ *                    and the number behind deepest are as they were.
  * interrupts         where the premises of crates/resume/specs/Resume.antt hold of a call, its application does not
  *                    notice the devices' handlers: before and after each of its steps, those of its own SVC handlers
- *                    among them, and at the close, its registers, PSW, CEX state and bytes are those of the run with no
- *                    events, which takes the same traps and has a log long enough. The run is the steps done, where the
- *                    log had no room too. docs/RESUMPTION.md says it in words. The call does not check the premises.
- * defined            crates/machine/specs/Call.antt, runCallOf, for every length, content and number.
+ *                    among them, and at the close, its registers, PSW, CEX state and bytes are those of the run with
+ *                    no events, which takes the same traps and has a log long enough. The run is the steps done,
+ *                    where the log had no room too. docs/RESUMPTION.md says it in words. The call does not check the
+ *                    premises.
+ * defined            crates/machine/specs/Call.antt, runCallOf, and crates/resume/specs/Deepest.antt, deepestLeft,
+ *                    for every length, content and number.
  */
 uint64_t xm23_run(uint8_t *memory, size_t memory_len, uint8_t *record, size_t record_len, const uint8_t *events,
-                  size_t events_len, uint8_t *log, size_t log_len, uint64_t n);
+                  size_t events_len, uint8_t *log, size_t log_len, uint32_t *deepest, uint64_t n);
 
 /* The parts of a reply of xm23_run. */
 #define XM23_RUN_REFUSAL(reply) XM23_REFUSAL(reply)
@@ -497,8 +506,8 @@ uint32_t xm23_stack(const uint8_t *vectors, size_t vectors_len, uint8_t devices,
  * source, source_len in: the source, of any length and content.
  * result             one reply: XM23_REFUSAL in bits 7-0, 0 in 31-8, XM23_ASSEMBLE_LINE in 63-32. Accepted: 0. Where
  *                    the program starts is the caller's to know.
- * refusals           XM23_REFUSED_MEMORY, with line 0; then, each over the whole source and with the number of the first
- *                    line at fault, XM23_REFUSED_SOURCE_FORM, the number of lines plus 1 where END is missing;
+ * refusals           XM23_REFUSED_MEMORY, with line 0; then, each over the whole source and with the number of the
+ *                    first line at fault, XM23_REFUSED_SOURCE_FORM, the number of lines plus 1 where END is missing;
  *                    XM23_REFUSED_SOURCE_NAME; XM23_REFUSED_SOURCE_VALUE, an ORG, EQU or BSS before every other line.
  *                    Refused: memory is as it was.
  * defined            crates/asm_call/specs/Call.antt, assembleCallOf, for every length and content.

@@ -19,7 +19,8 @@ def legend(line):
     if len(fields) == 1 and line[:1] == "R":
         return [("refusal", line[1:], sentence(int(line[1:])))]
     reason, steps, *words = fields
-    psw, cex, _ = (int(word, 16) for word in words[8:])
+    psw, cex, _ = (int(word, 16) for word in words[8:11])
+    (deepest,) = words[11:]
     rows = [("reason", reason, REASONS[reason]), ("steps", steps, "done")]
     names = ["R0", "R1", "R2", "R3", "R4", "R5", "R6", "R7"]
     says = ["", "", "", "", "", "LR", "SP", "PC"]
@@ -31,6 +32,7 @@ def legend(line):
     rows.append(("CEX", words[9], block))
     waiting = [f"{int(digit, 16)} of device {d}" for d, digit in enumerate(reversed(words[10])) if digit != "0"]
     rows.append(("lines", words[10], "events waiting: " + (", ".join(waiting) or "none")))
+    rows.append(("depth", str(int(deepest)), "frames open together at most"))
     return rows
 
 

@@ -1,9 +1,9 @@
 #!/usr/bin/env python3
-"""Proves by rt and tells how far it is: a line for each crate and each edit, and what is at work where that takes long.
+"""Proves by rt and tells how far it is: a line for each crate, and what is at work where that takes long.
 
     prove.py program NAME    target/bin/NAME
     prove.py archive NAME    target/staticlib/libNAME.a
-    prove.py all             every crate from nothing, then every must-fail edit: rt ci, with its last line
+    prove.py all             every crate from nothing, then every program run: the last line is 'N passed, M failed'
 
 Nothing is printed where nothing was to be done. What rt printed is in build/log. The status is rt's.
 """
@@ -53,10 +53,10 @@ def clock(seconds):
 class Progress:
     """What rt prints, told as progress; the log has it as it is."""
 
-    def __init__(self, log, total, edits):
+    def __init__(self, log, total):
         self.began = self.spoke = time.time()
-        self.log, self.total, self.edits = log, total, edits
-        self.crates, self.tried, self.own, self.proved = set(), set(), set(), 0
+        self.log, self.total = log, total
+        self.crates, self.ran, self.own, self.proved = set(), set(), set(), 0
         self.block, self.lock = [], threading.Lock()
 
     def say(self, text):
@@ -74,31 +74,24 @@ class Progress:
             self.proved += 1
             self.say(f"proved {name} ({len(self.crates)} of {self.total}, {seconds} s){self.elapsed()}")
 
-    def edit(self, name, seconds):
-        self.tried.add(name)
-        self.say(f"refused {name} (edit {len(self.tried)} of {self.edits}, {seconds} s){self.elapsed()}")
-
     def line(self, text):
         print(text, file=self.log, flush=True)
         self.block.append(text)
         if found := re.match(r"rt: (\w+) proved \((?:(\d+) s|unchanged.*)\)$", text):
             self.crate(*found.groups())
-        elif found := re.match(r"rt: must-fail (\S+): refused, as it must be \(.*?(\d+) s\)$", text):
-            self.edit(*found.groups())
-        elif re.match(r"\d+ passed, \d+ failed$", text):
-            self.say(text)
+        elif found := re.match(r"rt: (\w+) ran\b", text):
+            self.ran.add(found.group(1))
         elif not text.startswith("rt: "):
             return
-        elif not re.match(r"rt: (\w+ ran\b|ok, |target/staticlib/)", text):
+        elif not re.match(r"rt: (\w+ was not run$|ok, |target/staticlib/)", text):
             # Something is wrong: all that rt said of it.
             self.say("\n".join(self.block))
         self.block = []
 
     def at_work(self):
-        """The crates and edits that rt has begun and has not told of."""
-        paths = glob.glob("target/log/*.out") + glob.glob("target/must-fail/*/*.out")
-        begun = {"/".join(p.split("/")[2:])[: -len(".out")] for p in paths if os.path.getmtime(p) >= self.began}
-        return sorted((begun | self.own) - self.crates - self.tried)
+        """The crates that rt has begun and has not told of."""
+        paths = [p for p in glob.glob("target/log/*.out") if os.path.getmtime(p) >= self.began]
+        return sorted(({os.path.basename(p)[: -len(".out")] for p in paths} | self.own) - self.crates)
 
     def watch(self, ended):
         while not ended.wait(1):
@@ -129,6 +122,13 @@ class Progress:
             self.crate(name, int(time.time() - began))
         return status
 
+    def all(self):
+        """Every crate from nothing; then the programs, each held to its file 'stdout', over what is proved."""
+        status = self.rt("prove") or self.rt("check")
+        done = len(self.crates) + len(self.ran)
+        self.say(f"{done} passed, {0 if status == 0 and len(self.crates) == self.total else 1} failed")
+        return status
+
 
 def usage():
     print(f"prove.py: {__doc__.split(chr(10), 2)[2].strip()}", file=sys.stderr)
@@ -150,18 +150,20 @@ def main():
         return 2
     path = f"build/log/prove_{name}.out"
     new = len(wanted) if kind == "all" else sum(not os.path.exists(f"target/stamp/{crate}") for crate in wanted)
-    edits = len(glob.glob("crates/*/must-fail/*.edit"))
-    what = f", then trying {edits} edits" if kind == "all" else ", which takes some minutes the first time"
+    what = "" if kind == "all" else ", which takes some minutes the first time"
     if new > 2:
         print(f"proving {new} crates{what}; what rt prints: {path}", flush=True)
     os.makedirs("build/log", exist_ok=True)
     with open(path, "w", encoding="utf-8") as log:
-        progress, ended = Progress(log, len(wanted), edits), threading.Event()
+        progress, ended = Progress(log, len(wanted)), threading.Event()
         threading.Thread(target=progress.watch, args=[ended], daemon=True).start()
-        if kind == "archive":
-            status = progress.archive(name)
-        else:
-            status = progress.rt(*(["check", name] if kind == "program" else ["ci"]))
+        match kind:
+            case "archive":
+                status = progress.archive(name)
+            case "program":
+                status = progress.rt("check", name)
+            case _:
+                status = progress.all()
         ended.set()
     if place and status == 0:
         # Newer than every file that it was made from, so that make asks no more; unless one was changed meanwhile.

@@ -26,7 +26,7 @@ finish() {
 }
 trap finish EXIT
 
-# 'N passed, M failed', as the last such line of a part has it: rt ci, the trace and the C tests.
+# 'N passed, M failed', as the last such line of a part has it: proofs, edits, the trace and the C tests.
 count_line() {
     sed -n 's/^\([0-9][0-9]*\) passed, \([0-9][0-9]*\) failed$/\1 \2/p' "$1" | tail -n 1
 }
@@ -109,12 +109,14 @@ random_papers() {
         python3 -B tests/desk/random_runs.py "$build/xm23" target/bin/print_state oracle/target/release/examples/report 1200
 }
 
-# The machines of the example host print what the program prints.
+# The machines of the example host print what the program prints; by slices, all but the depth, which is a slice's own.
 example_host() {
     gcc $warn -std=c99 -pedantic -o "$build/host" examples/host.c "$xm23" &&
         target/bin/print_state < examples/interrupts.in > "$build/interrupts.line" &&
-        cat "$build/interrupts.line" "$build/interrupts.line" |
-        diff - <("$build/host" 7 examples/interrupts.in examples/interrupts.in)
+        cat "$build/interrupts.line" "$build/interrupts.line" > "$build/interrupts.lines" &&
+        "$build/host" 120 examples/interrupts.in examples/interrupts.in | diff "$build/interrupts.lines" - &&
+        "$build/host" 7 examples/interrupts.in examples/interrupts.in | sed 's/ [0-9]*$//' |
+        diff <(sed 's/ [0-9]*$//' "$build/interrupts.lines") -
 }
 
 card() {
@@ -126,7 +128,8 @@ part 'trace to 01' count_line python3 -B scripts/trace.py
 part 'sentences of the refusals' count_line python3 -B scripts/refusals.py
 part 'legend of every line' count_line python3 -B scripts/legend_test.py
 part 'layout of proofs and code' count_status rt fmt --check
-part 'proofs and must-fail edits' count_line scripts/prove.py all
+part 'proofs' count_line scripts/prove.py all
+part 'must-fail edits' count_line scripts/edits.py
 part 'static library xm23' count_status rt staticlib xm23
 part 'what the tables show' count_line python3 -B scripts/tables_test.py
 part 'tables of the decoder' count_line python3 -B scripts/tables.py

@@ -18,7 +18,8 @@ use std::time::Instant;
 /// How often the fast engines are timed.
 const TURNS: usize = 15;
 
-type Call = unsafe extern "C" fn(*mut u8, usize, *mut u8, usize, *const u8, usize, *mut u8, usize, u64) -> u64;
+type Call =
+    unsafe extern "C" fn(*mut u8, usize, *mut u8, usize, *const u8, usize, *mut u8, usize, *mut u32, u64) -> u64;
 
 #[link(name = "xm23", kind = "static")]
 extern "C" {
@@ -31,6 +32,7 @@ extern "C" {
         el: usize,
         l: *mut u8,
         ll: usize,
+        d: *mut u32,
         n: u64,
     ) -> u64;
 }
@@ -46,6 +48,7 @@ extern "C" {
         el: usize,
         l: *mut u8,
         ll: usize,
+        d: *mut u32,
         n: u64,
     ) -> u64;
 }
@@ -62,13 +65,13 @@ const ENGINES: [(&str, Engine); 3] =
 impl Engine {
     /// Runs an input in place.
     fn run(self, i: &mut Input) -> u64 {
-        let Input { memory, record, events, log, n } = i;
         match self {
-            Engine::Oracle => machine::reply(machine::run(memory, *n, record, events, log)),
-            // Four buffers, each lent for its own length.
+            Engine::Oracle => i.replied(),
+            // Four buffers, each lent for its own length, and a number.
             Engine::C(call) => unsafe {
+                let Input { memory, record, events, log, deepest, n } = i;
                 let (m, r, l) = (memory.as_mut_ptr(), record.as_mut_ptr(), log.as_mut_ptr());
-                call(m, memory.len(), r, record.len(), events.as_ptr(), events.len(), l, log.len(), *n)
+                call(m, memory.len(), r, record.len(), events.as_ptr(), events.len(), l, log.len(), deepest, *n)
             },
         }
     }
@@ -160,7 +163,7 @@ H2      ST R0,-SP
 fn start(source: &str, n: u64) -> Input {
     let regs = [0x1234, 0x5678, 0x4000, 0x9ABC, 0x7777, 0, 0x0800, 0x1000];
     let record = Machine { regs, ..Machine::default() }.to_record().to_vec();
-    Input { memory: assemble(&format!("{source}\n END")).memory(), record, events: Vec::new(), log: Vec::new(), n }
+    Input { memory: assemble(&format!("{source}\n END")).memory(), record, n, ..Input::default() }
 }
 
 /// Events in threes, 4 steps apart, so that each handler interrupts the one before it.

@@ -10,8 +10,9 @@
 //!
 //! Of the output log: `log` is the length in bytes of the log that the library is lent, of long enough a one if it is not
 //! named; `reply` what the library then gives, `reason steps added` in base ten or `R9`, and `shown` the records that
-//! stand in the log, `step device byte` on each line. `line` is of a log long enough whatever `log` says, and so are
-//! `bytes` where `reply` is not there; with `reply` they are what the library leaves.
+//! stand in the log, `step device byte` on each line; `deepest` the depth that it then gives, in base ten. `line` is of a
+//! log long enough whatever `log` says, and so are `bytes` where `reply` is not there; with `reply` they are what the
+//! library leaves.
 
 use crate::assemble::judge;
 use crate::inputs::Input;
@@ -46,10 +47,15 @@ pub struct Case {
     /// What the library gives with the log that it is lent, and the records in it, where the case says so.
     pub reply: Option<Result<Ran, u8>>,
     pub shown: Option<Vec<Shown>>,
+    /// The depth of that run, where the case says so.
+    pub deepest: Option<u32>,
 }
 
-const KEYS: [&str; 13] =
-    ["title", "from", "start", "source", "events", "n", "line", "bytes", "log", "reply", "shown", "printed", "decides"];
+#[rustfmt::skip]
+const KEYS: [&str; 14] = [
+    "title", "from", "start", "source", "events", "n", "line", "bytes", "log", "reply", "shown", "deepest", "printed",
+    "decides",
+];
 /// What the bytes of a log hold that a case lends.
 const UNTOUCHED: u8 = 0x5A;
 /// What an input is made of, and what a case of the repository has besides.
@@ -133,7 +139,9 @@ fn reply(text: &str) -> Outcome<Option<Result<Ran, u8>>> {
     match (text.strip_prefix('R'), numbers(text).as_deref()) {
         _ if text.is_empty() => Ok(None),
         (Some(number), _) => Ok(Some(Err(number.parse().map_err(|_| wrong())?))),
-        (None, Some(&[reason, steps, added])) => Ok(Some(Ok(Ran { reason: fitting("reason", reason)?, steps, added }))),
+        (None, Some(&[reason, steps, added])) => {
+            Ok(Some(Ok(Ran { reason: fitting("reason", reason)?, steps, added, ..Ran::default() })))
+        }
         _ => Err(wrong()),
     }
 }
@@ -206,19 +214,24 @@ pub fn parse(name: &str, text: &str) -> Result<Case, Mistake> {
         records.extend(shown(text).map_err(|text| Mistake::new(line("shown") + place, text))?);
     }
     let reply = reply(get("reply")).map_err(at("reply")).map_err(wrong)?;
+    let deepest = match get("deepest") {
+        "" => None,
+        text => Some(text.parse().map_err(|_| wrong(("deepest", format!("'{text}' is no depth"))))?),
+    };
     let input = Input {
         memory: program.memory(),
         record: start(get("start")).map_err(at("start")).map_err(wrong)?.to_vec(),
         events: list.into_iter().flat_map(event_record).collect(),
         log: vec![UNTOUCHED; log],
         n: n.into(),
+        ..Input::default()
     };
     let byte = |(address, byte): (&str, u32)| Ok((fitting(address, hex(address)?)?, fitting(address, byte)?));
     let bytes: Outcome<_> = get("bytes").split_whitespace().map(|text| pair(text).and_then(byte)).collect();
     let bytes = bytes.map_err(at("bytes")).map_err(wrong)?;
     let (title, line) = (get("title").into(), get("line").to_string() + "\n");
     let shown = values.contains_key("shown").then_some(records);
-    Ok(Case { name: name.into(), title, source, input, line, bytes, reply, shown })
+    Ok(Case { name: name.into(), title, source, input, line, bytes, reply, shown, deepest })
 }
 
 /// The cases of 01's list, the example of its sheet, and its plausible misreadings.
@@ -251,7 +264,7 @@ pub const OF_01: [&str; 25] = [
 ];
 
 /// The cases of the change requests of 02.
-pub const OF_02: [&str; 40] = [
+pub const OF_02: [&str; 49] = [
     "02-1-count-before-the-step",
     "02-1-ena-clear",
     "02-1-ena-set-by-the-same-store",
@@ -292,6 +305,15 @@ pub const OF_02: [&str; 40] = [
     "02-7-places-of-the-counts",
     "02-7-tick-lost-as-one-is-taken",
     "02-7-trap-takes-none",
+    "02-10-chained-entry",
+    "02-10-greatest-and-not-the-last",
+    "02-10-halting-fault",
+    "02-10-hundreds-of-thousands-deep",
+    "02-10-line-trap-and-fault",
+    "02-10-no-room-no-frame",
+    "02-10-past-the-bound",
+    "02-10-return-with-none-open",
+    "02-10-since-the-start",
 ];
 
 /// Every case of the repository, by name. A mistake in one is a panic.

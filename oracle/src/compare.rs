@@ -1,5 +1,5 @@
-//! An engine beside the oracle on the same inputs: reply, record, all of memory, all of the log and the events. A
-//! difference can be kept as a folder of files, to be read and to be run again.
+//! An engine beside the oracle on the same inputs: reply, record, all of memory, all of the log, the depth and the events.
+//! A difference can be kept as a folder of files, to be read and to be run again.
 
 use crate::coverage::Coverage;
 use crate::inputs::{input, Input, Kind};
@@ -61,6 +61,9 @@ pub fn difference(given: &Input, library: &Outcome, oracle: &Outcome) -> Option<
     if let Some((at, a, b)) = first(&got.log, &right.log) {
         return Some(format!("log byte {at} is {a:02X}, oracle {b:02X}"));
     }
+    if got.deepest != right.deepest {
+        return Some(format!("depth {}, oracle {}", got.deepest, right.deepest));
+    }
     if got.events != given.events {
         return Some("the events changed".into());
     }
@@ -70,7 +73,8 @@ pub fn difference(given: &Input, library: &Outcome, oracle: &Outcome) -> Option<
     }
     let (reason, added) = (library.reply >> 8 & 0xFF, added_of(library.reply));
     let full = added == (given.log.len() / SHOWN) as u64;
-    let fits = reason <= 2 && added <= steps_of(library.reply) && (reason != 2 || full);
+    let deep = refused || u64::from(got.deepest) <= steps_of(library.reply);
+    let fits = reason <= 2 && added <= steps_of(library.reply) && (reason != 2 || full) && deep;
     (!fits).then(|| format!("reply {:016X}", library.reply))
 }
 
@@ -125,6 +129,7 @@ pub fn compare_many(engine: Engine, kind: Kind, first: u64, many: u64, tell: &(d
 
 /// The parts of an input, each a file of a saved one.
 const PARTS: [&str; 4] = ["memory.bin", "record.bin", "events.bin", "log.bin"];
+const NUMBERS: [&str; 2] = ["n.txt", "deepest.txt"];
 
 /// Where differences are saved.
 pub fn folder() -> PathBuf {
@@ -138,11 +143,13 @@ impl Difference {
         let place = folder.join(name);
         fs::create_dir_all(&place)?;
         let put = |file: &str, bytes: &[u8]| fs::write(place.join(file), bytes);
-        let Input { memory, record, events, log, n } = &self.given;
+        let Input { memory, record, events, log, deepest, n } = &self.given;
         for (file, bytes) in PARTS.into_iter().zip([memory, record, events, log]) {
             put(file, bytes)?;
         }
-        put("n.txt", format!("{n}\n").as_bytes())?;
+        for (file, number) in NUMBERS.into_iter().zip([*n, u64::from(*deepest)]) {
+            put(file, format!("{number}\n").as_bytes())?;
+        }
         if memory.len() == MEMORY && record.len() == RECORD && *n <= u32::MAX.into() {
             put("input.in", &self.given.to_bytes())?;
         }
@@ -156,19 +163,23 @@ impl Difference {
 /// The input of a folder that `save` has written.
 pub fn saved(place: &Path) -> io::Result<Input> {
     let [memory, record, events, log] = PARTS.map(|file| fs::read(place.join(file)));
-    let n = fs::read_to_string(place.join("n.txt"))?;
-    let n = n.trim().parse().map_err(|_| io::Error::other("n.txt has no number"))?;
-    Ok(Input { memory: memory?, record: record?, events: events?, log: log?, n })
+    let number = |file: &str| {
+        let text = fs::read_to_string(place.join(file))?;
+        text.trim().parse::<u64>().map_err(|_| io::Error::other(format!("{file} has no number")))
+    };
+    let [n, deepest] = NUMBERS.map(number);
+    Ok(Input { memory: memory?, record: record?, events: events?, log: log?, deepest: deepest? as u32, n: n? })
 }
 
 impl Outcome {
-    /// The reply with its parts, the record, what the log's records say, and each byte of memory that is not as it was
-    /// given.
+    /// The reply with its parts and the depth, the record, what the log's records say, and each byte of memory that is
+    /// not as it was given.
     pub fn text(&self, given: &Input) -> String {
         let (reply, left) = (self.reply, &self.left);
         let (refusal, reason, steps, added) = (reply & 0xFF, reply >> 8 & 0xFF, steps_of(reply), added_of(reply));
         let mut text =
             format!("reply {reply:016X}: refusal {refusal}, reason {reason}, steps {steps}, added {added}\n");
+        writeln!(text, "depth {}, handed in {}", left.deepest, given.deepest).unwrap();
         if left.record.len() == RECORD {
             writeln!(text, "{}", Machine::from_record(&left.record)).unwrap();
         }

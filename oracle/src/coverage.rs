@@ -94,6 +94,18 @@ pub enum Item {
     NoRoomInBlock,
     /// The log would have no room for it, but a line is accepted instead of the store.
     AcceptedInstead,
+    /// The most frames of a run that were open together, up to 7; more, which traps and faults can bring about; by what
+    /// the last of them was opened.
+    Deepest(u32),
+    AboveSeven,
+    DeepestBy(&'static str),
+    /// Fewer frames are open at the close; more are opened after a return with none open; a line is chained, and a fault
+    /// halts, while as many are open as ever; the log has no room, with a frame opened.
+    ClosedBelow,
+    DeeperAfterStray,
+    ChainedAtTheDeepest,
+    HaltedAtTheDeepest,
+    NoRoomAndDeep,
     /// Refused with 4 by a byte of the record that is to be zero, of an old record where it is 20.
     RefusedByte(usize),
     /// The counts of a start: one of this size; every one full.
@@ -117,6 +129,9 @@ pub fn owed() -> Vec<Item> {
     all.extend([Item::NoRoomAtOnce, Item::NoRoomRaised, Item::NoRoomInHandler, Item::NoRoomInBlock]);
     all.extend(both.map(|due| Item::NoRoom { due }));
     all.push(Item::AcceptedInstead);
+    all.extend((0..8).map(Item::Deepest).chain([Item::AboveSeven, Item::ClosedBelow, Item::DeeperAfterStray]));
+    all.extend([Item::ChainedAtTheDeepest, Item::HaltedAtTheDeepest, Item::NoRoomAndDeep]);
+    all.extend(["line", "trap", "fault"].map(Item::DeepestBy));
     all.extend([20, 30, 31].map(Item::RefusedByte));
     all.extend((0..=FULL).map(Item::Waiting).chain([Item::AllFull]));
     all.extend((0..4).map(|i| Item::Twins { apart: i & 1 == 1, same_data: i & 2 != 0 }));
@@ -154,6 +169,34 @@ struct Way {
     added: usize,
     last: bool,
     open: u32,
+    /// The most frames so far, and what opened the last of them; whether a return found none open, and an entry after it
+    /// went deeper than before; the most that were open where a line was chained.
+    deepest: u32,
+    by: &'static str,
+    stray: bool,
+    after_stray: bool,
+    chained: Option<u32>,
+    halted: bool,
+}
+
+impl Way {
+    /// A step more.
+    fn step(&mut self, act: Act) {
+        self.stray |= act == Act::Pull && self.open == 0;
+        self.halted |= matches!(act, Act::Halt(_));
+        if let Act::Chain(_) = act {
+            self.chained = self.chained.max(Some(self.open));
+        }
+        self.open = act.open_after(self.open);
+        if self.open > self.deepest {
+            (self.deepest, self.after_stray) = (self.open, self.stray);
+            self.by = match act {
+                Act::Accept(_) => "line",
+                Act::Trap(_) => "trap",
+                _ => "fault",
+            };
+        }
+    }
 }
 
 /// Whether the instruction at the PC of a step that a line took is a store to a device by its offset from 0, of a device
@@ -216,7 +259,7 @@ impl Coverage {
 
     /// Runs an input in place by the oracle, counting what it reaches, and gives the reply.
     pub fn run(&mut self, input: &mut Input) -> u64 {
-        let Input { memory, record, events, log, n } = input;
+        let Input { memory, record, events, log, deepest, n } = input;
         let start = (record.len() == 32).then(|| Machine::from_record(record));
         let (room, mut way) = (log.len() / SHOWN, Way::default());
         let result = run_watched(memory, *n, record, events, log, |trace, before, after, memory| {
@@ -226,8 +269,10 @@ impl Coverage {
         });
         match (result, start) {
             (Ok(ran), Some(start)) => {
+                *deepest = ran.deepest;
                 self.accepted(&start, ran, events, *n);
                 self.logged(ran, input, &way);
+                self.deep(ran, &way);
             }
             (result, _) => {
                 let number = result.expect_err("a whole record in an accepted run");
@@ -256,11 +301,20 @@ impl Coverage {
             self.mark(Item::ShownBy { byte, handler: way.open > 0 });
         }
         way.last = seen.trace.shown.is_some();
-        match seen.trace.act {
-            Act::Accept(_) | Act::Fault(_) | Act::Trap(_) => way.open += 1,
-            Act::Pull => way.open = way.open.saturating_sub(1),
-            _ => {}
-        }
+        way.step(seen.trace.act);
+    }
+
+    /// Counts how deep an accepted run went.
+    fn deep(&mut self, ran: Ran, way: &Way) {
+        let Ran { reason, deepest, .. } = ran;
+        assert_eq!(deepest, way.deepest);
+        self.mark(if deepest <= 7 { Item::Deepest(deepest) } else { Item::AboveSeven });
+        self.mark_if(deepest > 0, Item::DeepestBy(way.by));
+        self.mark_if(way.open < deepest, Item::ClosedBelow);
+        self.mark_if(way.after_stray, Item::DeeperAfterStray);
+        self.mark_if(way.chained == Some(deepest), Item::ChainedAtTheDeepest);
+        self.mark_if(way.halted && way.open == deepest, Item::HaltedAtTheDeepest);
+        self.mark_if(reason == 2 && deepest > 0, Item::NoRoomAndDeep);
     }
 
     /// Counts how an accepted run left its log.

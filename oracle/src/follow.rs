@@ -128,9 +128,8 @@ pub struct Followed {
     waiting: [VecDeque<Option<usize>>; 8],
     /// The frames that are open, the oldest first.
     pub frames: Vec<Frame>,
-    /// Frames opened in all, and how many were open together at most.
+    /// Frames opened in all; `ran` has how many were open together at most.
     pub opened: u32,
-    pub deepest: usize,
     /// Returns that pulled with no frame of the run open.
     pub stray: u32,
     /// Every entry, return and fault, or the first and the last of them.
@@ -167,14 +166,13 @@ impl Followed {
             close: start,
             given: memory.clone(),
             memory,
-            ran: Ran { reason: 0, steps: 0, added: 0 },
+            ran: Ran::default(),
             fates: events.iter().map(fate).collect(),
             events,
             shown: Vec::new(),
             waiting: start.lines.0.map(|count| (0..count).map(|_| None).collect()),
             frames: Vec::new(),
             opened: 0,
-            deepest: 0,
             stray: 0,
             turns: Ends::new(TURNS),
             last: VecDeque::new(),
@@ -251,7 +249,7 @@ impl Followed {
         let mut frame = Frame { number: self.opened, act, count, sp, words: [0; 4], chains: 0, chained: None };
         frame.words = frame.places().map(|at| word_at(&self.memory, at));
         self.frames.push(frame);
-        self.deepest = self.deepest.max(self.frames.len());
+        self.ran.deepest = self.ran.deepest.max(self.frames.len() as u32);
     }
 
     /// A chained entry keeps the newest frame open.

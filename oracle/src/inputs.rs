@@ -1,20 +1,22 @@
-//! Inputs of the run call, by kind and seed: wild, plausible, at the corners, broken, with a screen. The same kind and
-//! seed give the same input.
+//! Inputs of the run call, by kind and seed: wild, plausible, at the corners, broken, with a screen, deeply nested. The
+//! same kind and seed give the same input.
 
 use crate::isa::{encode, Instr};
-use crate::machine::{event_record, events_of, long_log, run, without_twins, SHOWN};
+use crate::machine::{event_record, events_of, long_log, reply, run, without_twins, Ran, SHOWN};
 use crate::machine::{Event, Lines, Machine, Setup, EVENT, MAX_EVENTS, MAX_STEPS, MEMORY, PC, RECORD, SP};
+use crate::nests::nest;
 use crate::programs::setup;
 use crate::random::Random;
 use crate::screens::screen;
 
-/// What the run call is handed.
-#[derive(Clone, Debug, PartialEq, Eq)]
+/// What the run call is handed. `deepest` is a number in and out: any number goes in.
+#[derive(Clone, Debug, Default, PartialEq, Eq)]
 pub struct Input {
     pub memory: Vec<u8>,
     pub record: Vec<u8>,
     pub events: Vec<u8>,
     pub log: Vec<u8>,
+    pub deepest: u32,
     pub n: u64,
 }
 
@@ -24,8 +26,8 @@ impl From<Setup> for Input {
             memory: setup.memory,
             record: setup.machine.to_record().to_vec(),
             events: setup.events.into_iter().flat_map(event_record).collect(),
-            log: Vec::new(),
             n: setup.n.into(),
+            ..Input::default()
         }
     }
 }
@@ -35,6 +37,18 @@ impl Input {
     pub fn to_bytes(&self) -> Vec<u8> {
         let n = u32::try_from(self.n).expect("four bytes").to_le_bytes();
         [&n, &self.record[..], &self.memory, &self.events].concat()
+    }
+
+    /// Runs it in place by the oracle. The depth is written where the run is accepted, and kept where it is refused.
+    pub fn run(&mut self) -> Result<Ran, u8> {
+        let ran = run(&mut self.memory, self.n, &mut self.record, &self.events, &mut self.log)?;
+        self.deepest = ran.deepest;
+        Ok(ran)
+    }
+
+    /// The same, by the reply.
+    pub fn replied(&mut self) -> u64 {
+        reply(self.run())
     }
 
     pub fn put_word(&mut self, at: u16, value: u16) {
@@ -55,9 +69,11 @@ pub enum Kind {
     Broken,
     /// A program that stores to its output devices, with a log that may be too short for what they show.
     Screen,
+    /// Traps in traps' handlers, faults and lines among them, returns, and returns too many.
+    Nest,
 }
 
-pub const KINDS: [Kind; 5] = [Kind::Wild, Kind::Plausible, Kind::Corner, Kind::Broken, Kind::Screen];
+pub const KINDS: [Kind; 6] = [Kind::Wild, Kind::Plausible, Kind::Corner, Kind::Broken, Kind::Screen, Kind::Nest];
 
 pub fn input(kind: Kind, seed: u64) -> Input {
     let mut random = Random::new(seed.wrapping_mul(0x9E37_79B9_7F4A_7C15) ^ kind as u64);
@@ -67,12 +83,14 @@ pub fn input(kind: Kind, seed: u64) -> Input {
         Kind::Corner => corner(&mut random),
         Kind::Broken => return broken(&mut random, seed),
         Kind::Screen => screen(&mut random),
+        Kind::Nest => nest(&mut random),
     };
     lend_log(&mut input, &mut random);
     input
 }
 
-/// A log of whole records and of any bytes: none, few, as many as steps or more, as many as the run needs, or one less.
+/// A log of whole records and of any bytes: none, few, as many as steps or more, as many as the run needs, or one less;
+/// and any number for the depth to be written over.
 fn lend_log(input: &mut Input, random: &mut Random) {
     let records = match random.below(8) {
         0 => 0,
@@ -80,12 +98,12 @@ fn lend_log(input: &mut Input, random: &mut Random) {
         3 => input.n.min(MAX_STEPS) + random.below(3),
         4 => random.below(input.n.min(200) + 1),
         k => {
-            let Input { memory, record, events, n, .. } = &mut input.clone();
-            let needed = run(memory, *n, record, events, &mut long_log(*n)).map_or(0, |ran| ran.added);
+            let needed = Input { log: long_log(input.n), ..input.clone() }.run().map_or(0, |ran| ran.added);
             u64::from(needed).saturating_sub(u64::from(k == 7))
         }
     };
     input.log = (0..SHOWN * records as usize).map(|_| random.byte()).collect();
+    input.deepest = random.draw() as u32;
 }
 
 /// Counts of waiting events: any, or most of them zero, or full or nearly so.
@@ -136,7 +154,7 @@ fn wild(random: &mut Random) -> Input {
         m.lines = Lines::default();
     }
     let record = m.to_record().to_vec();
-    Input { memory, record, events: events(random, m.count, n, 12), log: Vec::new(), n }
+    Input { memory, record, events: events(random, m.count, n, 12), n, ..Input::default() }
 }
 
 /// Addresses where something changes: the devices' ends, the vectors' ends, the ends of memory and of the signs.
@@ -205,7 +223,7 @@ fn corner(random: &mut Random) -> Input {
         (m.lines, m.cex) = (Lines::default(), 0);
     }
     let (record, events) = (m.to_record().to_vec(), events(random, m.count, n, 10));
-    let mut input = Input { memory: vec![0; MEMORY], record, events, log: Vec::new(), n };
+    let mut input = Input { memory: vec![0; MEMORY], record, events, n, ..Input::default() };
     furnish(&mut input, random);
     plant(&mut input, random, m.regs[PC], m.regs[SP]);
     input

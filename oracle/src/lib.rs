@@ -14,6 +14,7 @@ pub mod inputs;
 pub mod isa;
 pub mod listing;
 pub mod machine;
+pub mod nests;
 pub mod number;
 pub mod operation;
 pub mod page;

@@ -136,6 +136,18 @@ pub enum Act {
     Execute(Instr),
 }
 
+impl Act {
+    /// How many frames are open after it, of those before it: an entry that pushed is one more, a return that pulled one
+    /// less, and one with none open counts nothing. (02, §10)
+    pub fn open_after(self, open: u32) -> u32 {
+        match self {
+            Act::Accept(_) | Act::Fault(_) | Act::Trap(_) => open + 1,
+            Act::Pull => open.saturating_sub(1),
+            Act::Chain(_) | Act::Halt(_) | Act::Sleep | Act::Skip | Act::Execute(_) => open,
+        }
+    }
+}
+
 /// A step's act, with every byte that it touched outside its due events.
 #[derive(Clone, Debug, PartialEq, Eq)]
 pub struct Trace {
@@ -777,12 +789,13 @@ pub struct Setup {
 }
 
 /// How a run ended: reason 1 if halted, 2 if the log had no room for what the next step would show, else 0; the steps
-/// done, and the records added to the log.
-#[derive(Clone, Copy, Debug, PartialEq, Eq)]
+/// done, the records added to the log, and the most frames of this run that were open together.
+#[derive(Clone, Copy, Debug, Default, PartialEq, Eq)]
 pub struct Ran {
     pub reason: u8,
     pub steps: u32,
     pub added: u32,
+    pub deepest: u32,
 }
 
 /// A run of n steps. A refused one gives its number and leaves memory, record and log as they were.
@@ -809,7 +822,7 @@ pub fn run_watched(
     }
     let events = events_of(events);
     let mut m = Machine::from_record(record);
-    let mut ran = Ran { reason: 0, steps: 0, added: 0 };
+    let (mut ran, mut open) = (Ran::default(), 0);
     let mut room = log.chunks_exact_mut(SHOWN);
     while u64::from(ran.steps) < n {
         let before = m;
@@ -828,6 +841,8 @@ pub fn run_watched(
         }
         watch(&trace, &before, &m, memory);
         ran.steps += 1;
+        open = trace.act.open_after(open);
+        ran.deepest = ran.deepest.max(open);
     }
     if m.halted {
         ran.reason = 1;
@@ -877,13 +892,14 @@ pub fn cut(input: &[u8]) -> Result<Parts<'_>, u8> {
     Ok(Parts { n: u32::from_le_bytes([n[0], n[1], n[2], n[3]]), record, memory, events })
 }
 
-/// The line of a run's close, LF included; that of a refusal is its number.
+/// The line of a run's close, LF included, its last field the depth in base ten; that of a refusal is its number.
 pub fn line_of(closed: Result<(Ran, Machine), u8>) -> String {
     match closed {
         Err(number) => format!("R{number}\n"),
         Ok((ran, m)) => {
             let words: Vec<String> = m.regs.iter().chain([&m.psw]).map(|w| format!("{w:04X}")).collect();
-            format!("{} {} {} {:02X} {}\n", ran.reason, ran.steps, words.join(" "), m.cex, m.lines)
+            let Ran { reason, steps, deepest, .. } = ran;
+            format!("{reason} {steps} {} {:02X} {} {deepest}\n", words.join(" "), m.cex, m.lines)
         }
     }
 }

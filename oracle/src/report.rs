@@ -17,8 +17,8 @@ use crate::page::{page, Cell, Document, Expected, Field, Row, Section};
 pub use refused::sentence;
 
 /// The fields of the printed line.
-const FIELDS: [&str; 13] =
-    ["reason", "steps", "R0", "R1", "R2", "R3", "R4", "R5 LR", "R6 SP", "R7 PC", "PSW", "CEX", "lines"];
+const FIELDS: [&str; 14] =
+    ["reason", "steps", "R0", "R1", "R2", "R3", "R4", "R5 LR", "R6 SP", "R7 PC", "PSW", "CEX", "lines", "depth"];
 
 /// What may stand on a page besides: a title, and the line that was expected. Empty: none.
 #[derive(Clone, Debug, Default)]

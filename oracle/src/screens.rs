@@ -27,7 +27,7 @@ pub fn screen(random: &mut Random) -> Input {
     m.cex = if random.one_in(6) { random.word() & 0x7F } else { 0 };
     let record = m.to_record().to_vec();
     let events = events(random, m.count, n);
-    let mut input = Input { memory: vec![0; MEMORY], record, events, log: Vec::new(), n };
+    let mut input = Input { memory: vec![0; MEMORY], record, events, n, ..Input::default() };
     for device in 0..8 {
         input.memory[2 * device] = [0x10, 0x11, 0x10, 0x11, 0x00, 0x13, 0x15, 0x1D][random.below(8) as usize];
         input.memory[2 * device + 1] = random.byte();

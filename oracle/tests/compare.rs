@@ -6,14 +6,14 @@ use oracle::corners::Seen;
 use oracle::coverage::Coverage;
 use oracle::inputs::{input, Input, Kind, KINDS};
 use oracle::isa::Instr;
-use oracle::machine::{event_record, events_of, reply, run, without_twins, word_at, Act, Event, Machine, Trace};
+use oracle::machine::{event_record, events_of, without_twins, word_at, Act, Event, Machine, Trace};
 use oracle::machine::{steps_of, DBA, DEVICES, EVENT, MEMORY, OF, PC, RECORD, SHOWN, SP, VECTORS};
 use std::fs;
 use std::path::{Path, PathBuf};
 
 /// The oracle itself, as an engine.
 fn honest(i: &mut Input) -> u64 {
-    reply(run(&mut i.memory, i.n, &mut i.record, &i.events, &mut i.log))
+    i.replied()
 }
 
 /// The oracle, with a change where the run is accepted.
@@ -36,7 +36,7 @@ fn by_steps(i: &mut Input, change: Change) -> u64 {
     if whole & 0xFF != 0 {
         return whole;
     }
-    i.log = right.log;
+    (i.log, i.deepest) = (right.log, right.deepest);
     let (mut m, events) = (Machine::from_record(&i.record), events_of(&i.events));
     for _ in 0..steps_of(whole) {
         let before = m;
@@ -96,7 +96,7 @@ fn counting(i: &mut Input, count: fn(u8, u8, bool) -> u8) -> u64 {
         }
         i.record = after.to_record().to_vec();
     }
-    (i.n, i.log) = (n, right.log);
+    (i.n, i.log, i.deepest) = (n, right.log, right.deepest);
     whole
 }
 
@@ -192,7 +192,7 @@ const WRONG: [(&str, Kind, Engine); 28] = [
         let mut whole = Input { log: i.log[..i.log.len() / SHOWN * SHOWN].to_vec(), ..i.clone() };
         let number = honest(&mut whole);
         i.log[..whole.log.len()].copy_from_slice(&whole.log);
-        (i.memory, i.record) = (whole.memory, whole.record);
+        (i.memory, i.record, i.deepest) = (whole.memory, whole.record, whole.deepest);
         number
     }),
     ("tells of the log before it tells of twins", Kind::Broken, |i| {
@@ -265,9 +265,10 @@ fn a_difference_is_saved_with_both_outcomes() {
     assert!(text("library.txt").contains("\n#9876: 00 became 5A\n") && !text("oracle.txt").contains("#9876"));
     let reply = format!("reply {:016X}: refusal 0, reason ", wrong.oracle.reply);
     assert!(text("oracle.txt").starts_with(&reply) && text("library.txt").starts_with(&reply));
-    let lines = |name: &str| text(name).lines().take(3).map(str::to_string).collect::<Vec<_>>();
-    assert!(lines("oracle.txt")[1].starts_with("R0 ") && lines("oracle.txt")[2].starts_with("record "));
-    assert_ne!(lines("oracle.txt")[1], lines("library.txt")[1]);
+    let lines = |name: &str| text(name).lines().take(4).map(str::to_string).collect::<Vec<_>>();
+    assert!(lines("oracle.txt")[2].starts_with("R0 ") && lines("oracle.txt")[3].starts_with("record "));
+    assert_eq!(lines("oracle.txt")[1], format!("depth {}, handed in {}", wrong.oracle.left.deepest, given.deepest));
+    assert_ne!(lines("oracle.txt")[2], lines("library.txt")[2]);
     // Run again, an honest engine has no difference on the saved input.
     assert!(compare(honest, &saved(&place).expect("read"), &mut Coverage::default()).is_ok());
 }
@@ -279,7 +280,7 @@ fn an_input_of_wrong_lengths_is_saved_too() {
         ("memory", Input { memory: vec![7; MEMORY - 1], ..input(Kind::Wild, 4) }),
         ("record", Input { record: vec![7; RECORD + 1], ..input(Kind::Wild, 4) }),
         ("n", Input { n: u64::MAX, ..input(Kind::Wild, 4) }),
-        ("nothing", Input { memory: vec![], record: vec![], events: vec![], log: vec![], n: 1 << 32 }),
+        ("nothing", Input { deepest: u32::MAX, n: 1 << 32, ..Input::default() }),
     ] {
         let wrong = faked(&given, |outcome| outcome.reply = 0);
         let place = wrong.save(&empty("parts"), name).expect("saved");

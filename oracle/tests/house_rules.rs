@@ -51,7 +51,7 @@ fn the_line_of_the_sheet() {
     let mut input = 1u32.to_le_bytes().to_vec();
     input.extend(m.to_record());
     input.extend(vec![0; MEMORY]);
-    assert_eq!(sheet(&input).0, "0 1 0000 0000 0000 0000 0000 FFFF 07F8 0000 E100 00 00000000\n");
+    assert_eq!(sheet(&input).0, "0 1 0000 0000 0000 0000 0000 FFFF 07F8 0000 E100 00 00000000 1\n");
 }
 
 #[test]
@@ -115,15 +115,13 @@ fn limits_of_a_run() {
     let (m, mut memory) = start("HERE BRA HERE", 0);
     let mut record = m.to_record();
     assert_eq!(run(&mut memory, 1_000_001, &mut record, &[], &mut []), Err(2));
-    assert_eq!(run(&mut memory, 0, &mut record, &[], &mut []), Ok(Ran { reason: 0, steps: 0, added: 0 }));
+    assert_eq!(run(&mut memory, 0, &mut record, &[], &mut []), Ok(Ran::default()));
     assert_eq!(record, m.to_record());
-    assert_eq!(
-        run(&mut memory, 1_000_000, &mut record, &[], &mut []),
-        Ok(Ran { reason: 0, steps: 1_000_000, added: 0 })
-    );
+    let all = Ran { steps: 1_000_000, ..Ran::default() };
+    assert_eq!(run(&mut memory, 1_000_000, &mut record, &[], &mut []), Ok(all));
     assert_eq!(Machine::from_record(&record), Machine { count: 1_000_000, ..m });
     let events = |n: u32| (0..n).flat_map(|i| event_record(event(i, 0, 0))).collect::<Vec<u8>>();
-    assert_eq!(run(&mut memory, 1, &mut record, &events(4096), &mut []), Ok(Ran { reason: 0, steps: 1, added: 0 }));
+    assert_eq!(run(&mut memory, 1, &mut record, &events(4096), &mut []), Ok(Ran { steps: 1, ..Ran::default() }));
     assert_eq!(run(&mut memory, 1, &mut record, &events(4097), &mut []), Err(5));
 }
 
@@ -180,8 +178,8 @@ fn a_halted_machine_takes_no_step_and_no_event() {
     assert_eq!(m.step(&mut memory, &[event(0, 0, 9)]), None);
     assert_eq!((m, &memory), (was, &bytes));
     let mut record = m.to_record();
-    assert_eq!(run(&mut memory, 0, &mut record, &[], &mut []), Ok(Ran { reason: 1, steps: 0, added: 0 }));
-    assert_eq!(run(&mut memory, 5, &mut record, &[], &mut []), Ok(Ran { reason: 1, steps: 0, added: 0 }));
+    assert_eq!(run(&mut memory, 0, &mut record, &[], &mut []), Ok(Ran { reason: 1, ..Ran::default() }));
+    assert_eq!(run(&mut memory, 5, &mut record, &[], &mut []), Ok(Ran { reason: 1, ..Ran::default() }));
 }
 
 #[test]
@@ -893,7 +891,7 @@ fn the_places_in_the_records() {
     let mut input = vec![5, 0, 0, 0];
     input.extend(record);
     input.extend(vec![0; MEMORY]);
-    assert_eq!(sheet(&input).0, "1 0 0201 0403 0605 0807 0A09 0C0B 0E0D 100F E117 2B F7654321\n");
+    assert_eq!(sheet(&input).0, "1 0 0201 0403 0605 0807 0A09 0C0B 0E0D 100F E117 2B F7654321 0\n");
 }
 
 #[test]

@@ -23,6 +23,7 @@ fn program(source: &str, events: &[(u32, u8)], n: u64, records: usize) -> Input 
         events: events.iter().flat_map(record).collect(),
         log: vec![OLD; SHOWN * records],
         n,
+        ..Input::default()
     }
 }
 
@@ -30,8 +31,9 @@ fn machine(i: &Input) -> Machine {
     Machine::from_record(&i.record)
 }
 
+/// How the run ended; its depth is another test's.
 fn ran(i: &mut Input) -> Ran {
-    run(&mut i.memory, i.n, &mut i.record, &i.events, &mut i.log).expect("an accepted run")
+    Ran { deepest: 0, ..i.run().expect("an accepted run") }
 }
 
 /// The run, and what its log says.
@@ -43,12 +45,12 @@ fn shown(i: &mut Input) -> (Ran, Vec<(u32, u8, u8)>) {
 }
 
 fn ended(reason: u8, steps: u32, added: u32) -> Ran {
-    Ran { reason, steps, added }
+    Ran { reason, steps, added, deepest: 0 }
 }
 
 /// The oracle itself, as an engine.
 fn honest(i: &mut Input) -> u64 {
-    reply(run(&mut i.memory, i.n, &mut i.record, &i.events, &mut i.log))
+    i.replied()
 }
 
 /// Two stores of a byte to device 0, which has the status given, and a branch to itself.
@@ -253,7 +255,7 @@ fn keeping(i: &mut Input, how: &Keeping) -> u64 {
         return number.into();
     }
     let (events, room) = (events_of(&i.events), i.log.len() / SHOWN);
-    let (mut m, mut ran) = (Machine::from_record(&i.record), Ran { reason: 0, steps: 0, added: 0 });
+    let (mut m, mut ran, mut open) = (Machine::from_record(&i.record), Ran::default(), 0);
     while u64::from(ran.steps) < i.n {
         let before = (m, i.memory.clone());
         if !how.goes_on && room > 0 && ran.added as usize == room {
@@ -274,7 +276,10 @@ fn keeping(i: &mut Input, how: &Keeping) -> u64 {
             ran.added += 1;
         }
         ran.steps += 1;
+        open = trace.act.open_after(open);
+        ran.deepest = ran.deepest.max(open);
     }
+    i.deepest = ran.deepest;
     if m.halted {
         ran.reason = 1;
     }

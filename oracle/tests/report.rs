@@ -34,8 +34,8 @@ fn program(source: &str, events: &[(u32, u8, u8)], n: u64, change: impl FnOnce(&
         memory: assemble(&format!("{source}\n END")).memory(),
         record: m.to_record().to_vec(),
         events: events.iter().flat_map(record).collect(),
-        log: Vec::new(),
         n,
+        ..Input::default()
     }
     .to_bytes()
 }

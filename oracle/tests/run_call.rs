@@ -1,5 +1,5 @@
-//! libxm23.a's run call beside the oracle: reply, record, all 65,536 bytes and all of the log, on inputs of every kind.
-//! `make fuzz` goes on from new seeds.
+//! libxm23.a's run call beside the oracle: reply, record, all 65,536 bytes, all of the log and the depth, on inputs of every
+//! kind. `make fuzz` goes on from new seeds.
 
 mod library;
 
@@ -34,6 +34,7 @@ fn count(kind: Kind) -> u64 {
         Kind::Corner => 60_000,
         Kind::Broken => 40_000,
         Kind::Screen => 40_000,
+        Kind::Nest => 40_000,
     }
 }
 
@@ -63,7 +64,7 @@ fn counting(n: u64) -> Input {
     m.regs[PC] = 0x1000;
     let mut memory = vec![0; MEMORY];
     memory[0x1000..0x1004].copy_from_slice(&[0x88, 0x40, 0xFE, 0x3F]);
-    Input { memory, record: m.to_record().to_vec(), events: Vec::new(), log: Vec::new(), n }
+    Input { memory, record: m.to_record().to_vec(), n, ..Input::default() }
 }
 
 /// The cases of 01's list that are no program, and those about lengths and numbers.
@@ -121,7 +122,7 @@ fn bits_by_their_number() {
             let mut memory = vec![0; MEMORY];
             memory[0x1000..0x1002].copy_from_slice(&(word as u16).to_le_bytes());
             let record = m.to_record().to_vec();
-            let given = Input { memory, record, events: Vec::new(), log: Vec::new(), n: 1 };
+            let given = Input { memory, record, n: 1, ..Input::default() };
             same(&format!("word {word:04X}"), &given, &mut seen);
         }
     }
@@ -130,12 +131,15 @@ fn bits_by_their_number() {
 /// Buffers of no bytes may be NULL.
 #[test]
 fn null_where_there_is_nothing() {
-    let mut i = counting(3);
+    let (mut i, mut deepest) = (counting(3), 77);
     let (none, no) = (std::ptr::null_mut(), std::ptr::null());
-    let call = |m: *mut u8, ml, r: *mut u8, rl, n| unsafe { xm23_run(m, ml, r, rl, no, 0, none, 0, n) };
-    assert_eq!(call(none, 0, none, 0, 3), 1);
-    assert_eq!(call(i.memory.as_mut_ptr(), MEMORY, none, 0, 3), 3);
-    assert_eq!(call(i.memory.as_mut_ptr(), MEMORY, i.record.as_mut_ptr(), RECORD, 3), 3 << 16);
+    let mut call = |m: *mut u8, ml, r: *mut u8, rl, n| {
+        let reply = unsafe { xm23_run(m, ml, r, rl, no, 0, none, 0, &mut deepest, n) };
+        (reply, deepest)
+    };
+    assert_eq!(call(none, 0, none, 0, 3), (1, 77));
+    assert_eq!(call(i.memory.as_mut_ptr(), MEMORY, none, 0, 3), (3, 77));
+    assert_eq!(call(i.memory.as_mut_ptr(), MEMORY, i.record.as_mut_ptr(), RECORD, 3), (3 << 16, 0));
 }
 
 /// A run advanced by slices, with the same list each time, closes as the whole run does.
@@ -145,18 +149,21 @@ fn slices_close_as_the_whole_run() {
     let mut random = Random::new(12);
     for seed in 1..=4_000 {
         let kind = if seed % 4 == 0 { Kind::Corner } else { Kind::Plausible };
-        let given = Input { log: Vec::new(), ..input(kind, seed) };
-        let given = Input { log: long_log(given.n), ..given };
+        let mut given = input(kind, seed);
+        given.log = long_log(given.n);
         let (whole, closed) = same(&format!("{kind:?} {seed}"), &given, &mut seen);
-        let (mut slices, mut steps, mut left) = (given.clone(), 0, given.n);
+        let (mut slices, mut steps, mut left, mut deepest) = (given.clone(), 0, given.n, 0);
         while left > 0 {
             slices.n = random.below(left + 1).min(1 + random.below(40));
             let reply = library(&mut slices);
             assert_eq!(reply & 0xFF, 0);
             steps += steps_of(reply);
+            deepest = deepest.max(slices.deepest);
             left -= slices.n;
         }
-        (slices.n, slices.log) = (given.n, closed.log.clone());
+        // Each slice has a depth of its own, and none can be deeper than the whole.
+        assert!(deepest <= closed.deepest, "{kind:?} {seed}: a slice is deeper than the whole");
+        (slices.n, slices.log, slices.deepest) = (given.n, closed.log.clone(), closed.deepest);
         assert!(slices == closed && steps == steps_of(whole), "{kind:?} {seed}: slices close otherwise");
     }
 }
@@ -172,6 +179,7 @@ fn logs_joined_are_the_one_log() {
         given.log = long_log(given.n);
         let (whole, closed) = same(&format!("{kind:?} {seed}"), &given, &mut seen);
         let (mut slices, mut joined, mut steps, mut last) = (given.clone(), Vec::<u8>::new(), 0, 2);
+        let mut deepest = 0;
         while last == 2 {
             slices.log = vec![random.byte(); SHOWN * random.below(4) as usize];
             slices.n = given.n - steps;
@@ -181,9 +189,12 @@ fn logs_joined_are_the_one_log() {
             assert!(reply & 0xFF == 0 && (last != 2 || added == full), "{kind:?} {seed}: reply {reply:016X}");
             joined.extend(&slices.log[..added]);
             steps += steps_of(reply);
+            deepest = deepest.max(slices.deepest);
             short += u32::from(last == 2);
         }
-        (slices.n, slices.log) = (given.n, closed.log.clone());
+        // Each slice has a depth of its own, and none can be deeper than the whole.
+        assert!(deepest <= closed.deepest, "{kind:?} {seed}: a slice is deeper than the whole");
+        (slices.n, slices.log, slices.deepest) = (given.n, closed.log.clone(), closed.deepest);
         assert!(slices == closed && steps == steps_of(whole), "{kind:?} {seed}: slices close otherwise");
         assert_eq!(joined, closed.log[..SHOWN * added_of(whole) as usize], "{kind:?} {seed}");
         assert_eq!(last, whole >> 8 & 0xFF, "{kind:?} {seed}");
@@ -220,6 +231,9 @@ fn readable_cases() {
         }
         if let Some(expected) = case.reply {
             assert_eq!(number, reply(expected), "{}: reply {number:016X}", case.name);
+        }
+        if let Some(expected) = case.deepest {
+            assert_eq!(closed.deepest, expected, "{}: depth", case.name);
         }
         if let Some(expected) = case.shown {
             let added = SHOWN * added_of(number) as usize;

@@ -68,7 +68,7 @@ fn with(at: usize, bytes: &[u8]) -> Vec<u8> {
 fn the_example_of_01() {
     let mut input = with(0, &1u32.to_le_bytes());
     input[4 + 12..4 + 18].copy_from_slice(&[0x00, 0x08, 0x01, 0x08, 0xE0, 0x60]);
-    assert_eq!(same("example", &input), "0 1 0000 0000 0000 0000 0000 FFFF 07F8 0000 E100 00 00000000\n");
+    assert_eq!(same("example", &input), "0 1 0000 0000 0000 0000 0000 FFFF 07F8 0000 E100 00 00000000 1\n");
 }
 
 #[test]
@@ -107,7 +107,7 @@ fn each_refusal() {
     assert_eq!(same("sum", &input), "R2\n");
     input[0] = 0;
     assert!(same("sum, nearly", &input).starts_with("0 0 "));
-    assert!(same("full counts", &with(record + 26, &[0xFF; 4])).ends_with(" FFFFFFFF\n"));
+    assert!(same("full counts", &with(record + 26, &[0xFF; 4])).ends_with(" FFFFFFFF 0\n"));
     assert!(same("equal steps", &events(&[on(5, 7), on(5, 0), on(5, 6)])).starts_with("0 0 "));
     let list: Vec<Event> = (0..MAX_EVENTS).map(|i| on(i as u32 / 8, i as u8 % 8)).collect();
     assert!(same("full list", &events(&list)).starts_with("0 0 "));
@@ -188,7 +188,7 @@ LOOP        ST.B R1,R0      ; R0 points at the data of device 0
         let event = |i: u32| event_record(Event { step: apart * i, device: (i % 2) as u8, data: 0 });
         let events = (0..events).flat_map(event).collect();
         let memory = assemble(&format!("{source}\n END")).memory();
-        let input = Input { memory, record: m.to_record().to_vec(), events, log: Vec::new(), n };
+        let input = Input { memory, record: m.to_record().to_vec(), events, n, ..Input::default() };
         assert!(same("much is shown", &input.to_bytes()).starts_with(&format!("0 {n} ")), "{n} steps");
     }
 }

@@ -221,6 +221,7 @@ static uint8_t events[XM23_EVENT_SIZE * (XM23_MAX_EVENTS + 1)];
 static uint8_t memory_before[sizeof memory], record_before[sizeof record], events_before[sizeof events];
 static uint8_t screen[XM23_LOG_SIZE * 4], log_before[sizeof screen];
 static size_t memory_len, record_len, events_len, log_len;
+static uint32_t deepest;
 
 static void put_two(uint8_t *at, unsigned value)
 {
@@ -254,6 +255,7 @@ static void example(void)
     events_len = 0;
     memset(screen, 0x5A, sizeof screen);
     log_len = 0;
+    deepest = 0xABCD1234;
     put_two(record + XM23_RECORD_REGISTER(7), 0x0801);
     put_two(record + XM23_RECORD_REGISTER(6), 0x0800);
     put_two(record + XM23_RECORD_PSW, 0x60E0);
@@ -265,13 +267,15 @@ static uint64_t run(uint64_t n)
     memcpy(record_before, record, sizeof record);
     memcpy(events_before, events, sizeof events);
     memcpy(log_before, screen, sizeof screen);
-    return xm23_run(memory, memory_len, record, record_len, events, events_len, screen, log_len, n);
+    return xm23_run(memory, memory_len, record, record_len, events, events_len, screen, log_len, &deepest, n);
 }
 
-/* The run is refused with the number alone, and every buffer is as it was. */
+/* The run is refused with the number alone, and every buffer and the depth are as they were. */
 static void turned_back(const char *what, uint64_t n, unsigned refusal)
 {
+    uint32_t given = deepest;
     uint64_t reply = run(n);
+    same(what, deepest, given);
     same(what, XM23_RUN_REFUSAL(reply), refusal);
     same(what, reply, refusal);
     same(what, (uint64_t)memcmp(memory, memory_before, sizeof memory), 0);
@@ -291,6 +295,7 @@ static void ran_logging(const char *what, uint64_t n, unsigned reason, uint32_t 
     same(what, XM23_RUN_ADDED(reply), added);
     same(what, (uint64_t)memcmp(events, events_before, sizeof events), 0);
     same(what, (uint64_t)memcmp(screen + used, log_before + used, sizeof screen - used), 0);
+    same(what, deepest <= steps, 1);
 }
 
 static void ran(const char *what, uint64_t n, unsigned reason, uint32_t steps)
@@ -304,6 +309,7 @@ static void accepted_runs(void)
     unsigned d;
     example();
     ran("example", 1, XM23_REASON_DONE, 1);
+    same("depth", deepest, 1);
     same("LR", two(record + XM23_RECORD_REGISTER(5)), 0xFFFF);
     same("SP", two(record + XM23_RECORD_REGISTER(6)), 0x07F8);
     same("PC", two(record + XM23_RECORD_REGISTER(7)), 0);
@@ -365,6 +371,59 @@ static void accepted_runs(void)
     same("halted", record[XM23_RECORD_HALTED], 1);
     ran("halted", 9, XM23_REASON_HALTED, 0);
     ran("halted, no step", 0, XM23_REASON_HALTED, 0);
+}
+
+/* A trap whose handler, at #2000, puts SP back to R4, lowers its priority and traps again. */
+static void nest(void)
+{
+    example();
+    put_two(record + XM23_RECORD_REGISTER(4), 0x0800);
+    put_two(record + XM23_RECORD_REGISTER(7), 0x1000);
+    put_two(record + XM23_RECORD_PSW, 0);
+    put_two(memory + 0x1000, 0x4DAB);            /* SVC #11 */
+    put_two(memory + 0x2000, 0x4C26);            /* MOV R4,SP */
+    put_two(memory + 0x2002, 0x4D80);            /* SETPRI #0 */
+    put_two(memory + 0x2004, 0x4DAB);            /* SVC #11 */
+    put_two(memory + XM23_VECTORS + 44, 0x0020); /* vector 11: priority 1 */
+    put_two(memory + XM23_VECTORS + 46, 0x2000);
+}
+
+/* How deep a run went: of that call alone, the greatest and not the last, hundreds of thousands too. */
+static void depths(void)
+{
+    nest();
+    ran("no step", 0, XM23_REASON_DONE, 0);
+    same("no step, depth", deepest, 0);
+    ran("a trap", 1, XM23_REASON_DONE, 1);
+    same("a trap, depth", deepest, 1);
+    ran("two more", 6, XM23_REASON_DONE, 6);
+    same("of this run alone", deepest, 2);
+    nest();
+    ran("a million steps", XM23_MAX_STEPS, XM23_REASON_DONE, XM23_MAX_STEPS);
+    same("a million steps, depth", deepest, 333334);
+
+    /* The handler returns: the greatest and not the last. The next call returns with none of its own open. */
+    nest();
+    put_two(memory + 0x2000, 0x4C2F); /* MOV LR,PC */
+    put_two(memory + 0x1002, 0x3FFF); /* BRA to itself */
+    ran("a trap and its return", 3, XM23_REASON_DONE, 3);
+    same("closed again", deepest, 1);
+    put_two(record + XM23_RECORD_REGISTER(7), 0xFFFF);
+    put_two(record + XM23_RECORD_REGISTER(6), 0x07F8);
+    ran("a return with none open", 1, XM23_REASON_DONE, 1);
+    same("a return with none open, depth", deepest, 0);
+
+    /* A fault that halts opens none. */
+    example();
+    record[XM23_RECORD_PSW + 1] |= XM23_PSW_FLT >> 8;
+    ran("halts", 9, XM23_REASON_HALTED, 1);
+    same("halts, depth", deepest, 0);
+
+    /* Any number goes in, and comes back where the run is refused. */
+    example();
+    deepest = UINT32_MAX;
+    turned_back("refused, depth", XM23_MAX_STEPS + 1, XM23_REFUSED_STEPS);
+    same("as it was", deepest, UINT32_MAX);
 }
 
 /* A record of the log: its step, device and byte, and two bytes of 0. */
@@ -524,9 +583,11 @@ static void refused_runs(void)
 static void nothing_lent(void)
 {
     example();
-    same("no events", XM23_RUN_STEPS(xm23_run(memory, memory_len, record, record_len, NULL, 0, NULL, 0, 1)), 1);
-    same("no record", xm23_run(memory, memory_len, NULL, 0, NULL, 0, NULL, 0, 1), XM23_REFUSED_RECORD);
-    same("nothing", xm23_run(NULL, 0, NULL, 0, NULL, 0, NULL, 0, UINT64_MAX), XM23_REFUSED_MEMORY);
+    same("no events", XM23_RUN_STEPS(xm23_run(memory, memory_len, record, record_len, NULL, 0, NULL, 0, &deepest, 1)), 1);
+    same("its depth", deepest, 1);
+    same("no record", xm23_run(memory, memory_len, NULL, 0, NULL, 0, NULL, 0, &deepest, 1), XM23_REFUSED_RECORD);
+    same("nothing", xm23_run(NULL, 0, NULL, 0, NULL, 0, NULL, 0, &deepest, UINT64_MAX), XM23_REFUSED_MEMORY);
+    same("as it was", deepest, 1);
 }
 
 /* ---- S-records */
@@ -791,6 +852,7 @@ int main(void)
     near_misses();
     refused_runs();
     logs();
+    depths();
     nothing_lent();
     loads();
     writes();

@@ -74,6 +74,7 @@ static int guarded(const struct lent *b)
 }
 
 static struct lent memory, record, events, screen, text;
+static struct lent number; /* one that goes in and out, between guards as the buffers are */
 static uint8_t memory_before[ROOM], record_before[ROOM], events_before[ROOM], log_before[ROOM];
 static uint8_t text_before[TEXT_ROOM];
 
@@ -113,9 +114,18 @@ static void check_log(uint64_t reply)
     }
 }
 
+/* Lends a number that goes in and out, at the end of its room or at its beginning. */
+static uint32_t *lend_number(uint32_t value, int at_end)
+{
+    lend(&number, sizeof value, at_end);
+    memcpy(number.at, &value, sizeof value);
+    return (uint32_t *)(void *)number.at;
+}
+
 /* Calls, and checks that what is not lent stands, that the reply is well formed and that a refusal changes nothing. */
 static uint64_t call(uint64_t n)
 {
+    uint32_t given = (uint32_t)(draw() >> 16), *deepest = lend_number(given, (int)(calls & 1));
     uint64_t reply;
     calls++;
     memcpy(memory_before, memory.at, memory.length);
@@ -123,8 +133,9 @@ static uint64_t call(uint64_t n)
     memcpy(events_before, events.at, events.length);
     memcpy(log_before, screen.at, screen.length);
     reply = xm23_run(memory.at, memory.length, record.at, record.length, events.at, events.length, screen.at,
-                     screen.length, n);
+                     screen.length, deepest, n);
     check("guard bytes", guarded(&memory) && guarded(&record) && guarded(&events) && guarded(&screen));
+    check("guard bytes of the depth", guarded(&number));
     check("events", memcmp(events.at, events_before, events.length) == 0);
     if (XM23_RUN_REFUSAL(reply)) {
         check("refusal", (reply >= XM23_REFUSED_MEMORY && reply <= XM23_REFUSED_EVENT_ORDER) ||
@@ -132,8 +143,10 @@ static uint64_t call(uint64_t n)
         check("memory as it was", memcmp(memory.at, memory_before, memory.length) == 0);
         check("record as it was", memcmp(record.at, record_before, record.length) == 0);
         check("log as it was", memcmp(screen.at, log_before, screen.length) == 0);
+        check("depth as it was", *deepest == given);
     } else {
         check("reply", XM23_RUN_REASON(reply) <= XM23_REASON_LOG && XM23_RUN_STEPS(reply) <= n);
+        check("depth", *deepest <= XM23_RUN_STEPS(reply));
         check_log(reply);
     }
     return reply;
@@ -486,6 +499,7 @@ int main(int argc, char **argv)
     make(&events, ROOM);
     make(&screen, ROOM);
     make(&text, TEXT_ROOM);
+    make(&number, (size_t)sysconf(_SC_PAGESIZE));
     for (at_end = 0; at_end < 2; at_end++) {
         unsigned before = wrong;
         lengths(at_end, brief);

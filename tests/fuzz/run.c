@@ -1,8 +1,8 @@
 /*
  * A target of libFuzzer: xm23_run beside the C interpreter of bench/, which is compiled with the fuzzer's counters and
  * so shows it what is new. Held for every string of commands (setup.h):
- * - reply, record, all of memory, all of the log and the events are the interpreter's;
- * - a refused call leaves every byte as handed over; the parts of a reply fit each other and the record;
+ * - reply, record, all of memory, all of the log, the depth and the events are the interpreter's;
+ * - a refused call leaves every byte and the depth as handed over; the parts of a reply fit each other and the record;
  * - a run of m and then one of n - m, with what is left of the log, closes as the run of n;
  * - a run with a short log, and again with a fresh one as long as there is no room, closes as the run with a log long
  *   enough, and the logs joined are its log;
@@ -23,7 +23,7 @@
 #include "xm23.h"
 
 uint64_t xm23_fast_run(uint8_t *memory, size_t memory_len, uint8_t *record, size_t record_len, const uint8_t *events,
-                       size_t events_len, uint8_t *log, size_t log_len, uint64_t n);
+                       size_t events_len, uint8_t *log, size_t log_len, uint32_t *deepest, uint64_t n);
 size_t LLVMFuzzerMutate(uint8_t *data, size_t size, size_t room);
 int LLVMFuzzerTestOneInput(const uint8_t *data, size_t size);
 size_t LLVMFuzzerCustomMutator(uint8_t *data, size_t size, size_t room, unsigned seed);
@@ -71,8 +71,12 @@ static int holds(const struct lent *b, const uint8_t *bytes)
 
 struct outcome {
     struct lent memory, record, events, log;
+    uint32_t deepest;
     uint64_t reply;
 };
+
+/* What goes in as the depth. */
+enum { ANY_DEPTH = 0x5A5A5A5A };
 
 static struct setup setup;
 static struct outcome library, interpreter, slices;
@@ -91,18 +95,19 @@ static void lend_all(struct outcome *o)
     lend(&o->record, setup.record, setup.record_len);
     lend(&o->events, setup.events, setup.events_len);
     lend(&o->log, setup.log, setup.log_len);
+    o->deepest = ANY_DEPTH;
 }
 
 static void advance(struct outcome *o, uint64_t n)
 {
     o->reply = xm23_run(o->memory.at, o->memory.length, o->record.at, o->record.length, o->events.at,
-                        o->events.length, o->log.at, o->log.length, n);
+                        o->events.length, o->log.at, o->log.length, &o->deepest, n);
 }
 
 static int as_handed_over(const struct outcome *o)
 {
     return holds(&o->memory, setup.memory) && holds(&o->record, setup.record) && holds(&o->events, setup.events) &&
-           holds(&o->log, setup.log);
+           holds(&o->log, setup.log) && o->deepest == ANY_DEPTH;
 }
 
 /* ---- a difference */
@@ -132,6 +137,7 @@ static void differ(const char *what)
     save_part(folder, "events.bin", setup.events, setup.events_len);
     save_part(folder, "log.bin", setup.log, setup.log_len);
     save_part(folder, "n.txt", (uint8_t *)text, (size_t)snprintf(text, sizeof text, "%" PRIu64 "\n", setup.n));
+    save_part(folder, "deepest.txt", (uint8_t *)text, (size_t)snprintf(text, sizeof text, "%d\n", ANY_DEPTH));
     save_part(folder, "difference.txt", (const uint8_t *)what, strlen(what));
     fprintf(stderr, "%s: reply %016" PRIX64, what, library.reply);
     fprintf(stderr, ", the interpreter's %016" PRIX64 "\n", interpreter.reply);
@@ -170,6 +176,7 @@ static void check_reply(void)
     check("too few steps, or too many", reason ? steps <= setup.n : steps == setup.n);
     check("more records than steps, or than there is room", added <= steps && XM23_LOG_SIZE * added <= setup.log_len);
     check("there was room", reason != XM23_REASON_LOG || XM23_LOG_SIZE * added == setup.log_len);
+    check("deeper than there are steps", library.deepest <= steps);
 }
 
 /* Two slices over one log: the second is lent what the first has left of it. */
@@ -179,11 +186,13 @@ static void check_slices(void)
     size_t used;
     lend_all(&slices);
     advance(&slices, m);
+    check("a slice is deeper than the whole", slices.deepest <= library.deepest);
     steps = XM23_RUN_STEPS(slices.reply);
     used = XM23_LOG_SIZE * XM23_RUN_ADDED(slices.reply);
     slices.log.at += used;
     slices.log.length -= used;
     advance(&slices, setup.n - steps);
+    check("a slice is deeper than the whole", slices.deepest <= library.deepest);
     steps += XM23_RUN_STEPS(slices.reply);
     slices.log.at -= used;
     slices.log.length += used;
@@ -206,7 +215,7 @@ static void check_joined(void)
         return;
     lend_all(&interpreter);
     reply = xm23_fast_run(interpreter.memory.at, setup.memory_len, interpreter.record.at, setup.record_len,
-                          interpreter.events.at, setup.events_len, whole, sizeof whole, setup.n);
+                          interpreter.events.at, setup.events_len, whole, sizeof whole, &interpreter.deepest, setup.n);
     lend_all(&slices);
     do {
         lend(&slices.log, setup.log, XM23_LOG_SIZE * records);
@@ -240,11 +249,12 @@ int LLVMFuzzerTestOneInput(const uint8_t *data, size_t size)
 #endif
     interpreter.reply = xm23_fast_run(interpreter.memory.at, setup.memory_len, interpreter.record.at, setup.record_len,
                                       interpreter.events.at, setup.events_len, interpreter.log.at, setup.log_len,
-                                      setup.n);
+                                      &interpreter.deepest, setup.n);
     check("another reply", library.reply == interpreter.reply);
     check("another record", holds(&library.record, interpreter.record.at));
     check("another memory", holds(&library.memory, interpreter.memory.at));
     check("another log", holds(&library.log, interpreter.log.at));
+    check("another depth", library.deepest == interpreter.deepest);
     check("bytes around a buffer are changed",
           guarded(&library.memory) && guarded(&library.record) && guarded(&library.events) && guarded(&library.log));
     check_reply();

@@ -53,14 +53,14 @@ same 'is not built' "$(ls "$room" | grep -c libother.so)" 0
 block README.md '```c' | sed 's/"xm23.h"/<xm23.h>/' > "$room/readme.c"
 sed -n '/^\.SH EXAMPLE/,$p' man/xm23.3 | block /dev/stdin .nf | sed 's/\\e/\\/g' > "$room/manual.c"
 block README.md '```python' > "$room/readme.py"
-said='accepted, steps 1, R0 1'
+said='accepted, steps 1, depth 0, R0 1'
 expect "README's example in C" 0 "$said" '' built gcc -std=c99 -pedantic "$room/readme.c"
 expect "README's example in C++" 0 "$said" '' built g++ -std=c++11 -x c++ "$room/readme.c" -x none
 expect "the manual's example in C" 0 'accepted, reason 0, 1000 steps' '' built gcc -std=c99 -pedantic "$room/manual.c"
 expect "the manual's example in C++" 0 'accepted, reason 0, 1000 steps' '' \
     built g++ -std=c++11 -x c++ "$room/manual.c" -x none
-expect "README's example in Python" 0 'refusal 0 steps 1 R0 1' '' python3 -B examples/run.py "$prefix/lib/libxm23.so"
-expect 'by its name' 0 'refusal 0 steps 1 R0 1' '' env LD_LIBRARY_PATH="$prefix/lib" python3 -B examples/run.py
+expect "README's example in Python" 0 'refusal 0 steps 1 depth 0 R0 1' '' python3 -B examples/run.py "$prefix/lib/libxm23.so"
+expect 'by its name' 0 'refusal 0 steps 1 depth 0 R0 1' '' env LD_LIBRARY_PATH="$prefix/lib" python3 -B examples/run.py
 same 'is that of README' "$(cat "$room/readme.py")" "$(cat examples/run.py)"
 same 'xm23' "$("$prefix/bin/xm23" dis examples/copy_words.s19)" "$(cat examples/copy_words.lst)"
 same 'print_state' "$("$prefix/bin/print_state" < /dev/null)" R3

@@ -6,7 +6,7 @@ cd "$(dirname "$0")/../.."
 
 program=$PWD/target/bin/print_state
 input=$PWD/examples/interrupts.in
-line='0 120 00E7 0015 0000 0000 0000 BEEF 0800 1000 0000 00 00000000'
+line='0 120 00E7 0015 0000 0000 0000 BEEF 0800 1000 0000 00 00000000 2'
 unread='print_state: standard input cannot be read'
 unwritten='print_state: the line cannot be written, or not whole'
 

@@ -40,16 +40,17 @@ wrong 4 "'7 0' is no event: .*" 'n: 5\nsource: END\nevents:\n    7 0\n'
 wrong 3 "'many' is no length of a log" 'n: 5\nsource: END\nlog: many\n'
 wrong 3 "'2 1' is no reply: .*" 'n: 5\nsource: END\nreply: 2 1\n'
 wrong 4 "'7 0' is no record of the log: .*" 'n: 5\nsource: END\nshown:\n    7 0\n'
+wrong 3 "'deep' is no depth" 'n: 5\nsource: END\ndeepest: deep\n'
 printf 'n: 5\nsource:\n            ORG $1000\n    HERE    BRA HERE\n            END\n' > "$room/case.txt"
 expect 'the least case' 0 "$room/case.in" '' scripts/input.sh "$room/case.txt" "$room/case.in"
-same 'runs' "$(target/bin/print_state < "$room/case.in")" '0 5 0000 0000 0000 0000 0000 0000 0800 1000 0000 00 00000000'
+same 'runs' "$(target/bin/print_state < "$room/case.in")" '0 5 0000 0000 0000 0000 0000 0000 0800 1000 0000 00 00000000 0'
 
 # The legend of an accepted line has a row for each field; of a refusal, its sentence.
 legend() {
     echo "$1" | python3 -B scripts/legend.py
 }
 line=$(target/bin/print_state < examples/interrupts.in)
-expect 'a line' 0 "$line.*reason .*R7 +1000 +PC.*PSW .*CEX .*lines .*none" '' legend "$line"
+expect 'a line' 0 "$line.*reason .*R7 +1000 +PC.*PSW .*CEX .*lines .*none.*depth +2 .*" '' legend "$line"
 same 'a row for each field' "$(legend "$line" | tail -n +3 | wc -l)" "$(echo "$line" | wc -w)"
 expect 'a halted machine' 0 '.*reason +1 +halted.*' '' legend "1 ${line#* }"
 for n in $(sed -n 's/^#define XM23_REFUSED_[A-Z_]* \([0-9]*\)$/\1/p' include/xm23.h); do

@@ -14,3 +14,4 @@ pub mod Logged
 pub mod Uneventful
 pub mod Refusal
 pub mod Call
+pub mod Depth

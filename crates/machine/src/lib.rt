@@ -56,6 +56,12 @@ pub enum Reason {
     NoRoom,
 }
 
+// The frames open now, of those that a run has opened, and the most that were open together.
+pub struct Depth {
+    pub opened: u32,
+    pub deepest: u32,
+}
+
 // Whether a run's buffers and step count are accepted, or the first rule that they break.
 pub enum Verdict {
     Accepted,

@@ -7,6 +7,7 @@ use mathlib.Core.Path.{_≡_, refl, sym, ap, _∙_}
 use native.Mathlib.Omega.{arith}
 use mir.Val.{boolByte}
 use lib.ListN.{length}
+use Rattle.machine.specs.declared.Depth.{Depth}
 use Rattle.machine.specs.declared.Reason.{Reason}
 use Rattle.machine.specs.declared.Reason.the-variants.{Done, Halted}
 use Rattle.machine.specs.declared.Verdict.{Verdict}
@@ -18,13 +19,15 @@ use Rattle.machine.specs.Refusal.{verdictOf, callVerdict, refusalNumber}
 use Rattle.machine.specs.Run.{Run, ran, runOf, reasonOf, reasonNumber}
 use Rattle.machine.specs.Logged.{Logged, runLogged, reasonLogged}
 use Rattle.machine.specs.Call.{replyNumber, roomOf, logAfter}
+use Rattle.machine.specs.Depth.{depth, depthFrom, deepestFrom}
 use Rattle.machine_laws.specs.Passed.{Passed}
 use Rattle.machine_laws.proofs.Cases.{bool-cases, is-eq, not-eq}
 use Rattle.machine_laws.proofs.Records.{four-back, passed, is-accepted}
 use Rattle.machine_laws.proofs.Runs.{step-halted, run-zero, run-next, run-halted}
 use Rattle.run_laws.proofs.Room.{logged-le, records-le}
 use Rattle.run.proofs.Calls.{call-passed}
-use Rattle.open_machine.specs.Advance.{Advance, leftAlone, advancedBy, advanceFor, advanceOf, Taken, stepFor, stepAdvance}
+use Rattle.open_machine.specs.Advance.{Advance, leftAlone, advancedBy, advanceFor, advanceOf, advanceDeepest}
+use Rattle.open_machine.specs.Advance.{Taken, stepFor, stepAdvance}
 
 -- ---- the step count
 
@@ -64,6 +67,26 @@ module _
   advance-refused h =
       let x = runLogged (eventsOf events) s (roomOf log) n in
       ap (λ j. reached j s log) f ∙ sym (refused v s log x (λ q. h (f ∙ q))) ∙ ap (λ u. advanceFor u s log x) on-record
+
+  -- the number lent for the figure
+  number-is : k ≡ refusalNumber (callVerdict (s .mem) (recordOf s) events log n)
+  number-is = f ∙ ap refusalNumber on-record
+
+  figure : ℕ
+  figure = deepestFrom (eventsOf events) s (runLogged (eventsOf events) s (roomOf log) n .steps)
+
+  pub figure-kept : k ≢ 0 → (number : ℕ) → number ≡ advanceDeepest s events log n number
+  unfolding advanceDeepest figure
+  figure-kept h number =
+      sym (ap (λ b. cond b figure number)
+      (not-eq (λ (q : refusalNumber (callVerdict (s .mem) (recordOf s) events log n) ≡ 0). h (number-is ∙ q))))
+
+  pub figure-ran : k ≡ 0 → (d : Depth) (number : ℕ)
+      → d ≡ depthFrom (eventsOf events) s (depth 0 0) (runLogged (eventsOf events) s (roomOf log) n .steps)
+      → d .deepest ≡ advanceDeepest s events log n number
+  unfolding advanceDeepest figure
+  figure-ran h d number q =
+      ap (λ (x : Depth). x .deepest) q ∙ sym (ap (λ b. cond b figure number) (is-eq (sym number-is ∙ h)))
 
   module _ (h : k ≡ 0) where
     abbrev gone : Logged

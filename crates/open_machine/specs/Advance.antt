@@ -12,6 +12,7 @@ use Rattle.machine.specs.Refusal.{verdictOf, callVerdict, refusalNumber, accept
 use Rattle.machine.specs.Run.{Run, runOf, reasonOf, reasonNumber}
 use Rattle.machine.specs.Logged.{Logged, runLogged}
 use Rattle.machine.specs.Call.{replyNumber, runReply, roomOf, logAfter}
+use Rattle.machine.specs.Depth.{deepestFrom}
 
 -- what one call replies, and the state and the log that it leaves. [01 State and memory; 02 §1]
 pub record Advance : Type 0 where
@@ -37,6 +38,14 @@ advanceFor v s log x = cond (accepted? v) (advancedBy log x) (leftAlone v s log)
 unfoldable pub advanceOf : State → (events log : List ℕ) → (n : ℕ) → Advance
 advanceOf s events log n =
     advanceFor (callVerdict (s .mem) (recordOf s) events log n) s log (runLogged (eventsOf events) s (roomOf log) n)
+
+-- what it leaves in the number lent for it: the most frames that were open together in its own steps, or the number as
+-- handed over where it is turned back. [02 §10; 01 Who can be turned back]
+unfoldable pub advanceDeepest : State → (events log : List ℕ) → (n number : ℕ) → ℕ
+advanceDeepest s events log n number =
+    cond (accepted? (callVerdict (s .mem) (recordOf s) events log n))
+    (deepestFrom (eventsOf events) s (runLogged (eventsOf events) s (roomOf log) n .steps))
+    number
 
 -- One step of the by-value machine, with no log lent to it: the reply says nothing of records. [01 State and memory]
 pub record Taken : Type 0 where

@@ -2,7 +2,8 @@
 // the log lent to it: by value, and in place.
 ghost use mathlib.Core.Path.{_≡_};
 ghost use Rattle.machine.specs.State.{stateOf};
-ghost use Rattle.open_machine.specs.Advance.{advanceOf, stepAdvance};
+ghost use Rattle.open_machine.specs.Advance.{advanceOf, advanceDeepest, stepAdvance};
+use machine::Depth;
 use machine::Machine;
 
 // The machine that an advance leaves, and its reply: bits 7-0 the refusal (0: none), 15-8 the
@@ -12,13 +13,15 @@ pub struct Advanced {
     pub reply: u64,
 }
 
-// A machine advanced by n steps, fewer if it halts or the log is full. It is turned back as the run
-// call is on the machine's record; machine, memory and log are then as handed over.
+// A machine advanced by n steps, fewer if it halts or the log is full; `deepest` becomes the most
+// frames that were open together in them. It is turned back as the run call is on the machine's
+// record; machine, memory, log and `deepest` are then as handed over.
 pub fn advance_by_value(
     m: Machine,
     memory: &mut [u8],
     events: &[u8],
     log: &mut [u8],
+    deepest: &mut u32,
     n: u64,
 ) -> Advanced
     ensures { λ r. ⌜ (r .reply ≡ advanceOf (stateOf m (now (memory .entry)))
@@ -26,7 +29,9 @@ pub fn advance_by_value(
         × (stateOf (r .machine) (now (memory .exit)) ≡ advanceOf (stateOf m (now (memory .entry)))
         (now (events .entry)) (now (log .entry)) n .state)
         × (now (log .exit) ≡ advanceOf (stateOf m (now (memory .entry)))
-        (now (events .entry)) (now (log .entry)) n .log) ⌝ }
+        (now (events .entry)) (now (log .entry)) n .log)
+        × (now (deepest .exit) ≡ advanceDeepest (stateOf m (now (memory .entry)))
+        (now (events .entry)) (now (log .entry)) n (now (deepest .entry))) ⌝ }
 {
     let mut record: [u8; 32] = [0; 32];
     state_record::write_record(&mut record, m);
@@ -38,7 +43,12 @@ pub fn advance_by_value(
             reply: refused,
         };
     }
-    let r = run::run(m, memory, events, 0, log, n as u32);
+    let none = Depth {
+        opened: 0,
+        deepest: 0,
+    };
+    let r = run::run(m, memory, events, 0, log, none, n as u32);
+    *deepest = r.depth.deepest;
     let machine = r.machine;
     let reply = run::reply_of(r);
     Advanced { machine, reply }
@@ -71,17 +81,26 @@ pub fn step_by_value(m: Machine, memory: &mut [u8], events: &[u8]) -> Advanced
 }
 
 // The open machine, advanced in place by n steps, fewer if it halts or the log is full. Turned
-// back, machine, memory and log are as handed over.
-pub fn advance(m: &mut Machine, memory: &mut [u8], events: &[u8], log: &mut [u8], n: u64) -> u64
+// back, machine, memory, log and `deepest` are as handed over.
+pub fn advance(
+    m: &mut Machine,
+    memory: &mut [u8],
+    events: &[u8],
+    log: &mut [u8],
+    deepest: &mut u32,
+    n: u64,
+) -> u64
     ensures { λ r. ⌜ (r ≡ advanceOf (stateOf (now (m .entry)) (now (memory .entry)))
         (now (events .entry)) (now (log .entry)) n .reply)
         × (stateOf (now (m .exit)) (now (memory .exit))
         ≡ advanceOf (stateOf (now (m .entry)) (now (memory .entry))) (now (events .entry))
         (now (log .entry)) n .state)
         × (now (log .exit) ≡ advanceOf (stateOf (now (m .entry)) (now (memory .entry)))
-        (now (events .entry)) (now (log .entry)) n .log) ⌝ }
+        (now (events .entry)) (now (log .entry)) n .log)
+        × (now (deepest .exit) ≡ advanceDeepest (stateOf (now (m .entry)) (now (memory .entry)))
+        (now (events .entry)) (now (log .entry)) n (now (deepest .entry))) ⌝ }
 {
-    let r = advance_by_value(*m, memory, events, log, n);
+    let r = advance_by_value(*m, memory, events, log, deepest, n);
     *m = r.machine;
     r.reply
 }

@@ -15,3 +15,4 @@ pub mod Depth
 pub mod Rows
 pub mod Example
 pub mod Resumption
+pub mod Deepest

@@ -6,3 +6,4 @@ pub mod Depth
 pub mod Example
 pub mod TrapExample
 pub mod Resumption
+pub mod Deepest

@@ -6,6 +6,7 @@ use mathlib.Core.Logic.{_≢_}
 use mathlib.Core.Path.{_≡_, refl, sym, ap, _∙_}
 use native.Mathlib.Omega.{arith}
 use lib.ListN.{length}
+use Rattle.machine.specs.declared.Depth.{Depth}
 use Rattle.machine.specs.declared.Machine.{Machine}
 use Rattle.machine.specs.declared.Reason.{Reason}
 use Rattle.machine.specs.declared.Verdict.{Verdict}
@@ -17,12 +18,14 @@ use Rattle.machine.specs.Refusal.{eventFits, eventsFitBelow, inOrder, inOrderBe
 use Rattle.machine.specs.Run.{reasonNumber}
 use Rattle.machine.specs.Logged.{Logged, runLogged, reasonLogged}
 use Rattle.machine.specs.Call.{Closing, replyNumber, roomOf, logAfter, turnedBack, closing, closingOf, runOn, runCallOf}
+use Rattle.machine.specs.Depth.{depth, depthFrom, deepestFrom, callDeepest}
 use Rattle.machine_laws.specs.Passed.{Passed}
 use Rattle.machine_laws.proofs.Cases.{and-both, is-lt, is-eq, is-le, not-eq}
 use Rattle.machine_laws.proofs.Records.{passed, is-accepted}
 use Rattle.run_laws.proofs.Room.{logged-le, records-le}
 use Rattle.run_laws.proofs.Verdicts.{call-start}
 use Rattle.run_laws.proofs.Calls.{accepted-call}
+use Rattle.run_laws.proofs.Depth.{accepted-deepest, refused-deepest}
 use Rattle.devices.specs.Cursor.{Ordered}
 
 -- ---- what an accepted run asks of its events
@@ -81,6 +84,12 @@ module _
       ∙ sym (refused v memory r log x (λ q. h (f ∙ q)))
       ∙ ap (λ w. closingOf w memory r log x) e
 
+  -- the number lent for the figure
+  pub figure-kept : k ≢ 0 → (number : ℕ) → number ≡ callDeepest memory r events log n number
+  figure-kept h number =
+      sym (refused-deepest memory r events log n number (λ (q : refusalNumber (callVerdict memory r events log n) ≡ 0).
+      h (f ∙ ap refusalNumber e ∙ q)))
+
   -- the run from the machine that the record holds
   module _ (h : k ≡ 0) (m : Machine) (read : (mem : List ℕ) → stateOf m mem ≡ stateIn r mem) where
     abbrev ran : Logged
@@ -98,6 +107,13 @@ module _
 
     pub few-records : length (ran .records) ≤ 1000000
     few-records = let l = records-le (eventsOf events) (stateOf m memory) (roomOf log) n in let p = few-steps in omega arith
+
+    pub figure-ran : (d : Depth) (number : ℕ) → d ≡ depthFrom (eventsOf events) (stateOf m memory) (depth 0 0) (ran .steps)
+        → d .deepest ≡ callDeepest memory r events log n number
+    figure-ran d number q =
+        ap (λ (x : Depth). x .deepest) q
+        ∙ (λ i. deepestFrom (eventsOf events) (read memory i) (run-is i .steps))
+        ∙ sym (accepted-deepest memory r events log n number (accepted h))
 
     pub call-ran :
         (l : Machine) (memory′ r′ log′ : List ℕ) (a : Reason) (steps added reply : ℕ) →

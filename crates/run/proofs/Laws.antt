@@ -11,6 +11,7 @@ use lib.ListN.{length, take, length-append}
 use lib.Seq.{sets, length-sets}
 use mathlib.Mathlib.Data.Bool.Basic.{or-eq-false-eq-eq-false-and-eq-false}
 use borrow.Author.Tests.{lt-ltb, eqb-false}
+use Rattle.machine.specs.declared.Depth.{Depth}
 use Rattle.machine.specs.declared.Rest.{Rest}
 use Rattle.machine.specs.State.{Core, State}
 use Rattle.machine.specs.Rest.{coreWith, stateWith}
@@ -21,12 +22,14 @@ use Rattle.machine.specs.Run.{ran, runOf}
 use Rattle.machine.specs.Log.{Shown, loggedOf, logBytes}
 use Rattle.machine.specs.Logged.{Logged, logged, runLogged}
 use Rattle.machine.specs.Refusal.{eventsFitBelow}
-use Rattle.machine.specs.Uneventful.{Uneventful}
+use Rattle.machine.specs.Uneventful.{nextAct, Uneventful}
+use Rattle.machine.specs.Depth.{depthAfter, depthFrom}
 use Rattle.machine_laws.specs.Bounds.{Each}
 use Rattle.machine_laws.proofs.Cases.{bool-cases, eq-of, is-eq, is-le, not-le, le-of, gt-of, lt-of, ge-of}
-use Rattle.run_laws.proofs.Room.{logged-one, records-fit}
+use Rattle.run_laws.proofs.Room.{logged-one, logged-run, records-fit}
 use Rattle.run_laws.proofs.LogBytes.{log-stored}
 use Rattle.run_laws.proofs.Turns.{turn-start, turn-taken, turn-short, turn-stretch, turn-full, turn-halted, OfDevice, given-back}
+use Rattle.run_laws.proofs.Depth.{depth-next, depth-stretch, open-le}
 use Rattle.output_log.specs.declared.Showing.{Showing}
 use Rattle.output_log.specs.Showing.{listed}
 use Rattle.devices.specs.Cursor.{Behind, Ordered, stateFrom}
@@ -98,6 +101,13 @@ module _ (ev : List Event) (s₀ : State) (k : ℕ) (lent : List ℕ) where
     reached-stretch v j e f =
         subst (λ x. Reached x lent v (done + j) added log false) (turn-stretch ev s₀ k held held-is refl v j e f)
         (record { state = refl; steps = refl; added = h .added; log = h .log; short = refl })
+
+    -- its state is that of the run with no log; a stretch leaves the depth of the run
+    state-is : s ≡ runOf ev s₀ done .state
+    state-is = h .state ∙ ap (λ r. r .state) (logged-run ev s₀ k done) ∙ ap (λ i. runOf ev s₀ i .state) (sym (h .steps))
+
+    pub depth-on : (p d : Depth) → d ≡ depthFrom ev s₀ p done → (j : ℕ) → Uneventful ev s j → d ≡ depthFrom ev s₀ p (done + j)
+    depth-on p d e j f = e ∙ sym (depth-stretch ev s₀ p done j s state-is f)
 
     -- all steps done, or halted before that
     pub reached-full : (n : ℕ) → done ≤ n → n ≤ done → Reached (at n) lent s done added log false
@@ -197,6 +207,16 @@ module _
       reached-step ev s₀ k lent (stateWith regs t mem) done added log h live begun begun-is (listed (t .count) x) told lacks
       (test (t .count)) u (e ∙ ap (λ (v : Plan). closed (perform (v .act) (v .core) l m) (t .count) m) plan-is) b added′ ea log′ el
 
+  -- the depth that its act leaves
+  act-is : q .act ≡ nextAct ev (stateWith regs t mem)
+  act-is = ap (λ (v : Plan). v .act) plan-is ∙ ap (λ v. planOf v .act) begun-is
+
+  pub step-depth : (p d d′ : Depth) → d ≡ depthFrom ev s₀ p done → d′ ≡ depthAfter (q .act) d → d′ ≡ depthFrom ev s₀ p (done + 1)
+  step-depth p d d′ e f =
+      f
+      ∙ (λ i. depthAfter (act-is i) (e i))
+      ∙ sym (depth-next ev s₀ p done (stateWith regs t mem) (state-is ev s₀ k lent (stateWith regs t mem) done added log h))
+
   -- given up
   pub step-short : (n : ℕ) → done < n → lacks ≡ true
       → Reached (runLogged ev s₀ k n) lent (stateWith regs t mem) done added log true
@@ -211,6 +231,14 @@ module _
 
   pub step-memory : m ≡ deliver ev (stateWith regs t mem) .mem
   step-memory = ap (λ (v : State). v .mem) begun-is
+
+-- frames opened before the run, and one at most for each of its steps
+pub opened-fits : (ev : List Event) (s : State) (p d : Depth) (k n : ℕ) → d ≡ depthFrom ev s p k → k < n → p .opened + n ≤ 4294967295
+    → d .opened < 4294967295
+opened-fits ev s p d k n e h l =
+    let o = open-le ev s p k in
+    let q : d .opened ≡ depthFrom ev s p k .opened = ap (λ (x : Depth). x .opened) e in
+    omega arith
 
 -- a turn goes on
 pub goes-on : (h : Bool) (k n : ℕ) → (h || eqb k n) ≡ false → (h ≡ false) × (k ≡ n → ⊥)

@@ -12,9 +12,11 @@ ghost use Rattle.machine.specs.Refusal.{eventsFitBelow};
 ghost use Rattle.machine.specs.Run.{reasonNumber};
 ghost use Rattle.machine.specs.Logged.{runLogged, reasonLogged};
 ghost use Rattle.machine.specs.Call.{replyNumber, roomOf, logAfter, runCallOf};
+ghost use Rattle.machine.specs.Depth.{depthFrom, callDeepest};
 ghost use Rattle.devices.specs.Cursor.{Behind, Ordered, stateFrom};
 ghost use Rattle.machine.specs.Rest.{stateWith};
 ghost use Rattle.run.specs.Due.{dueOf, Awaits};
+use machine::Depth;
 use machine::Lines;
 use machine::Machine;
 use machine::Reason;
@@ -79,14 +81,15 @@ fn reason_of(halted: bool, short: bool) -> Reason
     Reason::Done
 }
 
-// The machine that a run leaves, why it ended, the steps done, the log records added, and the first
-// event record that is not behind.
+// The machine that a run leaves, why it ended, the steps done, the log records added, the first
+// event record that is not behind, and how deep the run is and went.
 pub struct Ran {
     pub machine: Machine,
     pub reason: Reason,
     pub steps: u32,
     pub added: usize,
     pub next: usize,
+    pub depth: Depth,
 }
 
 // A machine taken apart: all but its registers.
@@ -122,10 +125,19 @@ fn with_lines(t: Rest, lines: Lines) -> Rest
 }
 
 // What a run leaves: the machine put together again, and why it ended.
-fn ended(regs: [u16; 8], t: Rest, short: bool, done: u32, added: usize, next: usize) -> Ran
+fn ended(
+    regs: [u16; 8],
+    t: Rest,
+    short: bool,
+    done: u32,
+    added: usize,
+    next: usize,
+    depth: Depth,
+) -> Ran
     ensures machine { λ r. ⌜ ((mem : List ℕ) → stateOf (r .machine) mem ≡ stateWith regs t mem) ⌝ }
     ensures reason { λ r. ⌜ r .reason ≡ cond short NoRoom (cond (t .halted) Halted Done) ⌝ }
-    ensures numbers { λ r. ⌜ (r .steps ≡ done) × (r .added ≡ added) × (r .next ≡ next) ⌝ }
+    ensures numbers { λ r. ⌜ (r .steps ≡ done) × (r .added ≡ added) × (r .next ≡ next)
+        × (r .depth ≡ depth) ⌝ }
 {
     let machine = Machine {
         regs,
@@ -142,6 +154,7 @@ fn ended(regs: [u16; 8], t: Rest, short: bool, done: u32, added: usize, next: us
         steps: done,
         added,
         next,
+        depth,
     }
 }
 
@@ -149,10 +162,18 @@ fn ended(regs: [u16; 8], t: Rest, short: bool, done: u32, added: usize, next: us
 // The machine is taken apart where the loop begins and put together where it ends. Each turn is a
 // stretch, which may be empty and shows nothing, and then one step. A step that is not taken gives
 // back the registers that its plan changed and the device bytes that its events changed.
-pub fn run(m: Machine, memory: &mut [u8], events: &[u8], from: usize, log: &mut [u8], n: u32) -> Ran
+pub fn run(
+    m: Machine,
+    memory: &mut [u8],
+    events: &[u8],
+    from: usize,
+    log: &mut [u8],
+    begun: Depth,
+    n: u32,
+) -> Ran
     requires { ⌜ (length (now memory) ≡ 65536) × (m .count + n ≤ 4294967295) × Ordered (now events)
         × (eventsFitBelow (now events) (eventCount (now events)) ≡ true)
-        × Behind (now events) from (m .count) ⌝ }
+        × Behind (now events) from (m .count) × (begun .opened + n ≤ 4294967295) ⌝ }
     ensures state { λ r. ⌜ stateOf (r .machine) (now (memory .exit))
         ≡ runLogged (eventsOf (now (events .entry))) (stateOf m (now (memory .entry)))
         (roomOf (now (log .entry))) n .state ⌝ }
@@ -169,6 +190,9 @@ pub fn run(m: Machine, memory: &mut [u8], events: &[u8], from: usize, log: &mut 
         (runLogged (eventsOf (now (events .entry))) (stateOf m (now (memory .entry)))
         (roomOf (now (log .entry))) n) ⌝ }
     ensures next { λ r. ⌜ Behind (now (events .entry)) (r .next) (r .machine .count) ⌝ }
+    ensures depth { λ r. ⌜ r .depth ≡ depthFrom (eventsOf (now (events .entry)))
+        (stateOf m (now (memory .entry))) begun (runLogged (eventsOf (now (events .entry)))
+        (stateOf m (now (memory .entry))) (roomOf (now (log .entry))) n .steps) ⌝ }
 {
     let room = log.len() / 8;
     let mut regs = m.regs;
@@ -178,6 +202,7 @@ pub fn run(m: Machine, memory: &mut [u8], events: &[u8], from: usize, log: &mut 
     let mut due = due_at(events, from);
     let mut done: u32 = 0;
     let mut added: usize = 0;
+    let mut depth = begun;
     let mut short = false;
     while done < n {
         let before = t.count;
@@ -200,12 +225,13 @@ pub fn run(m: Machine, memory: &mut [u8], events: &[u8], from: usize, log: &mut 
             break;
         }
         added = output_log::add(log, added, t.count, shown);
+        depth = frame_depth::moved(act, depth);
         t = step::perform(&mut regs, memory, d.lines, t.count, p);
         next = d.next;
         due = d.due;
         done += 1;
     }
-    ended(regs, t, short, done, added, next)
+    ended(regs, t, short, done, added, next, depth)
 }
 
 // The number of a reason.
@@ -229,9 +255,16 @@ pub fn reply_of(r: Ran) -> u64
 }
 
 // The run call: refused, it replies the refusal's number and leaves every buffer as it was; else it
-// replies reason, steps and log records, and leaves the memory, the state record and the log that
-// the run leaves.
-pub fn run_call(memory: &mut [u8], state: &mut [u8], events: &[u8], log: &mut [u8], n: u64) -> u64
+// replies reason, steps and log records, and leaves the memory, the state record, the log and the
+// figure of its depth that the run leaves.
+pub fn run_call(
+    memory: &mut [u8],
+    state: &mut [u8],
+    events: &[u8],
+    log: &mut [u8],
+    deepest: &mut u32,
+    n: u64,
+) -> u64
     ensures reply { λ r. ⌜ r ≡ runCallOf (now (memory .entry)) (now (state .entry))
         (now (events .entry)) (now (log .entry)) n .reply ⌝ }
     ensures memory { λ r. ⌜ now (memory .exit) ≡ runCallOf (now (memory .entry))
@@ -240,13 +273,20 @@ pub fn run_call(memory: &mut [u8], state: &mut [u8], events: &[u8], log: &mut [u
         (now (state .entry)) (now (events .entry)) (now (log .entry)) n .state ⌝ }
     ensures log { λ r. ⌜ now (log .exit) ≡ runCallOf (now (memory .entry))
         (now (state .entry)) (now (events .entry)) (now (log .entry)) n .log ⌝ }
+    ensures deepest { λ r. ⌜ now (deepest .exit) ≡ callDeepest (now (memory .entry))
+        (now (state .entry)) (now (events .entry)) (now (log .entry)) n (now (deepest .entry)) ⌝ }
 {
     let refused = refusal::refusal_number(refusal::call_verdict(memory, state, events, log, n));
     if refused != 0 {
         return refused;
     }
     let m = state_record::read_record(state);
-    let r = run(m, memory, events, 0, log, n as u32);
+    let none = Depth {
+        opened: 0,
+        deepest: 0,
+    };
+    let r = run(m, memory, events, 0, log, none, n as u32);
     state_record::write_record(state, r.machine);
+    *deepest = r.depth.deepest;
     reply_of(r)
 }

@@ -3,3 +3,4 @@ pub mod LogBytes
 pub mod Turns
 pub mod Verdicts
 pub mod Calls
+pub mod Depth

@@ -8,6 +8,7 @@ use native.Mathlib.Omega.{arith}
 use lib.Dec.{ltb}
 use lib.ListN.{length, take, drop, length-take, length-drop}
 use lib.Seq.{take-all}
+use Rattle.machine.specs.declared.Depth.{Depth}
 use Rattle.machine.specs.declared.Machine.{Machine}
 use Rattle.machine.specs.declared.Verdict.{Verdict}
 use Rattle.machine.specs.declared.Verdict.the-variants.{Accepted, MemoryLength, RecordLength}
@@ -16,11 +17,14 @@ use Rattle.machine.specs.Record.{stateIn}
 use Rattle.machine.specs.Events.{eventCount, eventsOf}
 use Rattle.machine.specs.Run.{Run, ran, runOf}
 use Rattle.machine.specs.Refusal.{eventsFitBelow, inOrderBelow, verdictOf, refusalNumber, accepted?}
+use Rattle.machine.specs.Depth.{deepestFrom}
 use Rattle.machine_laws.specs.Passed.{Passed}
 use Rattle.machine_laws.proofs.Cases.{not-eq, not-lt, ge-of}
 use Rattle.machine_laws.proofs.Records.{passed, not-met, is-accepted}
 use Rattle.run.proofs.Calls.{events-fit, events-ordered, count-fits}
-use Rattle.sheet.specs.Sheet.{stepsIn, recordIn, memoryIn, eventsIn, inputVerdict, runIn}
+use Rattle.resume.specs.Deepest.{deepestOf}
+use Rattle.resume.proofs.Deepest.{depth-carried}
+use Rattle.sheet.specs.Sheet.{stepsIn, recordIn, memoryIn, eventsIn, inputVerdict, runIn, deepestIn}
 use Rattle.sheet.specs.Sheet.{lineOf, refusedLine, answered, sheetOf, memoryAfter}
 
 -- the last part, cut by the length
@@ -41,18 +45,26 @@ verdict-of-parts b h en er em ee ev =
     rw (not-lt h36, not-lt h, ev, en, er, em, ee, rest b 65572)
 
 -- a run from an input's parts gives the line of the run that the input asks for, and leaves its memory
-pub run-of-parts : (b : List ℕ) (m x : Machine) {mem after r e t : List ℕ} {n k : ℕ}
+pub run-of-parts : (b : List ℕ) (m x : Machine) {mem after r e t : List ℕ} {n k d : ℕ}
     → mem ≡ memoryIn b
     → n ≡ stepsIn b
     → r ≡ recordIn b
     → ((a : List ℕ) → stateOf m a ≡ stateIn r a)
     → e ≡ take (length b - 65572) (drop 65572 b)
     → ran (stateOf x after) k ≡ runOf (eventsOf e) (stateOf m mem) n
-    → ((a : List ℕ) → t ≡ lineOf (ran (stateOf x a) k))
-    → (t ≡ lineOf (runIn b)) × (after ≡ runIn b .state .mem)
-run-of-parts b m x {mem} {after} {k = k} em en er es ee ex et =
+    → d ≡ deepestFrom (eventsOf e) (stateOf m mem) k
+    → ((a : List ℕ) → t ≡ lineOf (ran (stateOf x a) k) d)
+    → (t ≡ lineOf (runIn b) (deepestIn b)) × (after ≡ runIn b .state .mem)
+run-of-parts b m x {mem} {after} {k = k} {d = d} em en er es ee ex ed et =
     let whole : ran (stateOf x after) k ≡ runIn b = ex ∙ rw (es mem, em, en, er, ee, rest b 65572) in
-    (et after ∙ ap lineOf whole, ap (λ (r : Run). r .state .mem) whole)
+    let carried : d ≡ deepestFrom (eventsOf (eventsIn b)) (stateIn (recordIn b) (memoryIn b)) k =
+    ed ∙ rw (es mem, em, er, ee, rest b 65572) in
+    let steps : k ≡ runIn b .steps = ap (λ (r : Run). r .steps) whole in
+    let figure : d ≡ deepestIn b =
+    carried
+    ∙ ap (λ (p : Depth). p .deepest) (depth-carried (eventsOf (eventsIn b)) (stateIn (recordIn b) (memoryIn b)) k)
+    ∙ ap (deepestOf (eventsOf (eventsIn b)) (stateIn (recordIn b) (memoryIn b))) steps in
+    (et after ∙ (λ i. lineOf (whole i) (figure i)), ap (λ (r : Run). r .state .mem) whole)
 
 -- ---- what an accepted input has settled
 
@@ -93,17 +105,17 @@ run-ready b m rb en er es ee =
 pub accepted-of : (b : List ℕ) {v : Verdict} {k : ℕ} → v ≡ inputVerdict b → k ≡ refusalNumber v → k ≡ 0 → inputVerdict b ≡ Accepted
 accepted-of b {v} ev ek h = sym ev ∙ is-accepted v (sym ek ∙ h)
 
-pub sheet-accepted : (b : List ℕ) → inputVerdict b ≡ Accepted → sheetOf b ≡ lineOf (runIn b)
+pub sheet-accepted : (b : List ℕ) → inputVerdict b ≡ Accepted → sheetOf b ≡ lineOf (runIn b) (deepestIn b)
 unfolding sheetOf
-sheet-accepted b e = ap (λ (v : Verdict). answered v (runIn b)) e
+sheet-accepted b e = ap (λ (v : Verdict). answered v (runIn b) (deepestIn b)) e
 
 pub sheet-refused : (b : List ℕ) {v : Verdict} {k : ℕ} → v ≡ inputVerdict b → k ≡ refusalNumber v → k ≢ 0 → refusedLine k ≡ sheetOf b
 unfolding sheetOf
 sheet-refused b {v} {k} ev ek h =
     let x = runIn b in
     ap refusedLine ek
-    ∙ sym (ap (λ t. cond t (lineOf x) (refusedLine (refusalNumber v))) (not-eq (λ (q : refusalNumber v ≡ 0). h (ek ∙ q))))
-    ∙ ap (λ (w : Verdict). answered w x) ev
+    ∙ sym (ap (λ t. cond t (lineOf x (deepestIn b)) (refusedLine (refusalNumber v))) (not-eq (λ (q : refusalNumber v ≡ 0). h (ek ∙ q))))
+    ∙ ap (λ (w : Verdict). answered w x (deepestIn b)) ev
 
 abbrev left : Verdict → (b memory : List ℕ) → List ℕ
 left v b memory = cond (accepted? v) (runIn b .state .mem) memory

@@ -14,7 +14,7 @@ use Rattle.machine.specs.Record.{fourAt}
 use Rattle.machine.specs.Run.{Run}
 use Rattle.machine.specs.Refusal.{recordFits, eventsFit, verdictOf}
 use Rattle.machine_laws.proofs.Cases.{bool-cases, not-lt, not-le, lt-of, ge-of}
-use Rattle.sheet.specs.Sheet.{stepsIn, recordIn, memoryIn, eventsIn, inputVerdict, runIn, answered, sheetOf}
+use Rattle.sheet.specs.Sheet.{stepsIn, recordIn, memoryIn, eventsIn, inputVerdict, runIn, deepestIn, answered, sheetOf}
 
 -- a part that lies within the first k elements
 part-take : (n m k : ℕ) (b : List ℕ) → m + n ≤ k → take n (drop m (take k b)) ≡ take n (drop m b)
@@ -45,20 +45,21 @@ verdict-long memory r events n h =
     rw unfit
 
 -- the line of a refusal does not depend on the run
-first-fixed : (a b c d e : Bool) (x y : Run) → answered (firstMet a b c d e) x ≡ answered (firstMet a b c d e) y
-first-fixed true b c d e x y = refl
-first-fixed false true c d e x y = refl
-first-fixed false false true d e x y = refl
-first-fixed false false false true e x y = refl
-first-fixed false false false false true x y = refl
-first-fixed false false false false false x y = refl
+first-fixed : (a b c d e : Bool) (x y : Run) (f g : ℕ) → answered (firstMet a b c d e) x f ≡ answered (firstMet a b c d e) y g
+first-fixed true b c d e x y f g = refl
+first-fixed false true c d e x y f g = refl
+first-fixed false false true d e x y f g = refl
+first-fixed false false false true e x y f g = refl
+first-fixed false false false false true x y f g = refl
+first-fixed false false false false false x y f g = refl
 
-long-fixed : (memory r : List ℕ) (n : ℕ) (x y : Run) → answered (longVerdict memory r n) x ≡ answered (longVerdict memory r n) y
+long-fixed : (memory r : List ℕ) (n : ℕ) (x y : Run) (f g : ℕ)
+    → answered (longVerdict memory r n) x f ≡ answered (longVerdict memory r n) y g
 unfolding longVerdict
-long-fixed memory r n x y =
+long-fixed memory r n x y f g =
     first-fixed
     (not (eqb (length memory) 65536)) (ltb 1000000 n) (not (eqb (length r) 32)) (ltb 4294967295 (fourAt r 22 + n)) (not (recordFits r))
-    x y
+    x y f g
 
 input-long : (b : List ℕ) → 98341 ≤ length b → inputVerdict b ≡ longVerdict (memoryIn b) (recordIn b) (stepsIn b)
 unfolding inputVerdict
@@ -84,7 +85,7 @@ cut-off k b h =
     let short : inputVerdict (take k b) ≡ longVerdict (memoryIn b) (recordIn b) (stepsIn b) =
     input-long (take k b) (omega arith) ∙ long-take k b h in
     let long : inputVerdict b ≡ longVerdict (memoryIn b) (recordIn b) (stepsIn b) = input-long b (omega arith) in
-    ap (λ (v : Verdict). answered v (runIn (take k b))) short
-    ∙ long-fixed (memoryIn b) (recordIn b) (stepsIn b) (runIn (take k b)) (runIn b)
-    ∙ sym (ap (λ (v : Verdict). answered v (runIn b)) long))
+    ap (λ (v : Verdict). answered v (runIn (take k b)) (deepestIn (take k b))) short
+    ∙ long-fixed (memoryIn b) (recordIn b) (stepsIn b) (runIn (take k b)) (runIn b) (deepestIn (take k b)) (deepestIn b)
+    ∙ sym (ap (λ (v : Verdict). answered v (runIn b) (deepestIn b)) long))
     (λ q. ap sheetOf (take-all k b (ge-of q)))

@@ -4,16 +4,19 @@ use native.Mathlib.Omega.{arith}
 use mathlib.Core.Bool.{Bool, true, false}
 use mathlib.Core.List.{List}
 use mathlib.Core.Path.{_≡_, refl, sym, ap, _∙_}
+use Rattle.machine.specs.declared.Depth.{Depth}
 use Rattle.machine.specs.declared.Reason.{Reason}
 use Rattle.machine.specs.State.{State}
 use Rattle.machine.specs.Events.{Event}
 use Rattle.machine.specs.Run.{ran, runOf}
 use Rattle.machine.specs.Logged.{Logged, runLogged, reasonLogged}
+use Rattle.machine.specs.Depth.{depth, depthFrom}
 use Rattle.machine_laws.proofs.Cases.{bool-cases}
 use Rattle.machine_laws.proofs.Runs.{run-zero}
 use Rattle.machine_laws.proofs.Steps.{run-count}
 use Rattle.run_laws.proofs.Room.{logged-le}
 use Rattle.run_laws.proofs.Turns.{slice-turn, slice-last, slice-moves}
+use Rattle.run_laws.proofs.Depth.{depth-start, depth-slice, open-le}
 use Rattle.sheet.specs.Slices.{outOfRoom}
 
 -- the reason tells whether a run stopped for room
@@ -26,6 +29,16 @@ out-short x =
 module _ (ev : List Event) (s : State) where
   pub slices-start : ran s 0 ≡ runOf ev s 0
   slices-start = sym (run-zero ev s)
+
+  -- none is open at the start, and no more than one for each step
+  pub depth-begins : depth 0 0 ≡ depthFrom ev s (depth 0 0) 0
+  depth-begins = sym (depth-start ev s (depth 0 0))
+
+  pub depth-few : (d : Depth) (j n : ℕ) → d ≡ depthFrom ev s (depth 0 0) j → j ≤ n → d .opened + (n - j) ≤ n
+  depth-few d j n e h =
+      let o = open-le ev s (depth 0 0) j in
+      let q : d .opened ≡ depthFrom ev s (depth 0 0) j .opened = ap (λ (x : Depth). x .opened) e in
+      omega arith
 
   -- the state t that j steps have reached
   module _ (t : State) (j : ℕ) (e : ran t j ≡ runOf ev s j) where
@@ -53,6 +66,11 @@ module _ (ev : List Event) (s : State) where
       pub slice-on : ran u (j + i) ≡ runOf ev s (j + i)
       slice-on =
           (λ x. ran (eu x) (j + ei x)) ∙ slice-turn ev s t j k (n - j) y e refl ∙ ap (λ m. runOf ev s (j + m)) (sym ei)
+
+      pub slice-depth : (d d′ : Depth) → d ≡ depthFrom ev s (depth 0 0) j → d′ ≡ depthFrom ev t d (y .steps)
+          → d′ ≡ depthFrom ev s (depth 0 0) (j + i)
+      slice-depth d d′ f g =
+          g ∙ ap (depthFrom ev t d) (sym ei) ∙ depth-slice ev s (depth 0 0) j i t d e f
 
       pub slice-some : 1 ≤ k → outOfRoom a ≡ true → 1 ≤ i
       slice-some h b = let l = slice-moves ev t k (n - j) h (sym short-is ∙ b) in omega (arith, ei)

@@ -21,17 +21,17 @@ use Rattle.sheet.specs.Parts.{wordsText, machineText}
 
 -- ---- parts of a line, each after the one before it; p stands before them
 
-six : (p a b c d e f : List ℕ) {x y z w u v : List ℕ}
-    → x ≡ p ++ a → y ≡ x ++ b → z ≡ y ++ c → w ≡ z ++ d → u ≡ w ++ e → v ≡ u ++ f → v ≡ p ++ (a ++ b ++ c ++ d ++ e ++ f)
-six p a b c d e f ea eb ec ed ee ef = rw (ef, ee, ed, ec, eb, ea) (simp append-assoc)
+five : (p a b c d e : List ℕ) {x y z w u : List ℕ}
+    → x ≡ p ++ a → y ≡ x ++ b → z ≡ y ++ c → w ≡ z ++ d → u ≡ w ++ e → u ≡ p ++ (a ++ b ++ c ++ d ++ e)
+five p a b c d e ea eb ec ed ee = rw (ee, ed, ec, eb, ea) (simp append-assoc)
 
 flat : (a b c d e f g h i : List ℕ) → a ++ b ++ c ++ d ++ (e ++ f ++ g ++ h) ++ i ≡ a ++ b ++ c ++ d ++ e ++ f ++ g ++ h ++ i
 flat a b c d e f g h i = simp append-assoc
 
-line : (r s n a b c d e f g h i j k l : List ℕ)
-    → r ++ s ++ n ++ (a ++ b ++ c ++ d ++ e ++ f ++ g ++ h ++ i ++ j ++ k ++ l)
-    ≡ r ++ (s ++ n) ++ a ++ b ++ c ++ d ++ e ++ f ++ g ++ h ++ i ++ j ++ k ++ l
-line r s n a b c d e f g h i j k l = simp append-assoc
+line : (r n a b c d e f g h i j k l m : List ℕ)
+    → (((r ++ n) ++ (a ++ b ++ c ++ d ++ e ++ f ++ g ++ h ++ i ++ j ++ k)) ++ l) ++ m
+    ≡ r ++ n ++ a ++ b ++ c ++ d ++ e ++ f ++ g ++ h ++ i ++ j ++ k ++ l ++ m
+line r n a b c d e f g h i j k l m = simp append-assoc
 
 -- register i of a machine, as it is printed
 abbrev field : Machine → ℕ → List ℕ
@@ -45,23 +45,22 @@ pub words-text : (p : List ℕ) (a b c d : ℕ) {x y z w : List ℕ}
     → w ≡ p ++ wordsText a b c d
 words-text p a b c d ea eb ec ed = rw (ed, ec, eb, ea) (simp append-assoc)
 
-pub machine-text : (p : List ℕ) (m : Machine) {x y z w u v : List ℕ}
+pub machine-text : (p : List ℕ) (m : Machine) {x y z w u : List ℕ}
     → x ≡ p ++ wordsText (getD (m .regs) 0 0) (getD (m .regs) 1 0) (getD (m .regs) 2 0) (getD (m .regs) 3 0)
     → y ≡ x ++ wordsText (getD (m .regs) 4 0) (getD (m .regs) 5 0) (getD (m .regs) 6 0) (getD (m .regs) 7 0)
     → z ≡ y ++ spaced (hexOf 4 (m .psw))
     → w ≡ z ++ spaced (hexOf 2 (m .cex))
     → u ≡ w ++ spaced (hexOf 8 (m .lines))
-    → v ≡ u ++ (10 ∷ [])
-    → v ≡ p ++ machineText m
+    → u ≡ p ++ machineText m
 unfolding machineText
-machine-text p m ea eb ec ed ee ef =
+machine-text p m ea eb ec ed ee =
     let first : List ℕ = field m 0 ++ field m 1 ++ field m 2 ++ field m 3 in
     let second : List ℕ = field m 4 ++ field m 5 ++ field m 6 ++ field m 7 in
     let psw : List ℕ = spaced (hexOf 4 (m .psw)) in
     let cex : List ℕ = spaced (hexOf 2 (m .cex)) in
     let lines : List ℕ = spaced (hexOf 8 (m .lines)) in
-    six p first second psw cex lines (10 ∷ []) ea eb ec ed ee ef
-    ∙ ap (λ (t : List ℕ). p ++ (t ++ cex ++ lines ++ (10 ∷ [])))
+    five p first second psw cex lines ea eb ec ed ee
+    ∙ ap (λ (t : List ℕ). p ++ (t ++ cex ++ lines))
     (flat (field m 0) (field m 1) (field m 2) (field m 3) (field m 4) (field m 5) (field m 6) (field m 7) psw)
 
 reason-text : (b : Bool) → (48 + boolByte b) ∷ [] ≡ decimalOf 6 (reasonNumber (cond b Halted Done))
@@ -73,18 +72,20 @@ pub reason-fits : (b : Bool) → Fits w8 (48 + boolByte b)
 reason-fits true = fits-lit tt
 reason-fits false = fits-lit tt
 
-pub line-text : (m : Machine) (steps : ℕ) {x y z w : List ℕ}
+pub line-text : (m : Machine) (steps deepest : ℕ) {x y z w u : List ℕ}
     → x ≡ (48 + boolByte (m .halted)) ∷ []
-    → y ≡ x ++ (32 ∷ [])
-    → z ≡ y ++ decimalOf 6 steps
-    → w ≡ z ++ machineText m
-    → (mem : List ℕ) → w ≡ lineOf (ran (stateOf m mem) steps)
+    → y ≡ x ++ spaced (decimalOf 6 steps)
+    → z ≡ y ++ machineText m
+    → w ≡ z ++ spaced (decimalOf 6 deepest)
+    → u ≡ w ++ (10 ∷ [])
+    → (mem : List ℕ) → u ≡ lineOf (ran (stateOf m mem) steps) deepest
 unfolding lineOf machineText
-line-text m steps ea eb ec ed mem =
-    rw (ed, ec, eb, ea ∙ reason-text (m .halted))
-    (line (decimalOf 6 (reasonNumber (cond (m .halted) Halted Done))) (32 ∷ []) (decimalOf 6 steps)
+line-text m steps deepest ea eb ec ed ee mem =
+    rw (ee, ed, ec, eb, ea ∙ reason-text (m .halted))
+    (line (decimalOf 6 (reasonNumber (cond (m .halted) Halted Done))) (spaced (decimalOf 6 steps))
     (field m 0) (field m 1) (field m 2) (field m 3) (field m 4) (field m 5) (field m 6) (field m 7)
-    (spaced (hexOf 4 (m .psw))) (spaced (hexOf 2 (m .cex))) (spaced (hexOf 8 (m .lines))) (10 ∷ []))
+    (spaced (hexOf 4 (m .psw))) (spaced (hexOf 2 (m .cex))) (spaced (hexOf 8 (m .lines)))
+    (spaced (decimalOf 6 deepest)) (10 ∷ []))
 
 pub refusal-text : (n : ℕ) {x y z : List ℕ}
     → x ≡ 82 ∷ []

@@ -11,7 +11,8 @@ use Rattle.sheet.specs.Sheet.{spaced}
 abbrev pub wordsText : (a b c d : ℕ) → List ℕ
 wordsText a b c d = spaced (hexOf 4 a) ++ spaced (hexOf 4 b) ++ spaced (hexOf 4 c) ++ spaced (hexOf 4 d)
 
--- the line after the steps: R0 to R7, PSW, CEX, the lines' counts and LF. [01 Sheet for the markers; 02 §7]
+-- the line between the steps and the deepest count: R0 to R7, PSW, CEX, the lines' counts.
+-- [01 Sheet for the markers; 02 §7]
 unfoldable pub machineText : Machine → List ℕ
 machineText m =
     spaced (hexOf 4 (getD (m .regs) 0 0))
@@ -25,4 +26,3 @@ machineText m =
     ++ spaced (hexOf 4 (m .psw))
     ++ spaced (hexOf 2 (m .cex))
     ++ spaced (hexOf 8 (m .lines))
-    ++ (10 ∷ [])

@@ -4,10 +4,11 @@ ghost use mathlib.Core.Path.{_≡_};
 ghost use mathlib.Core.List.{_++_};
 ghost use Prim.Native.Nat.{_+_, _≤_, _<_};
 ghost use lib.ListN.{length, take, drop};
-ghost use Rattle.text.specs.Text.{hexOf};
+ghost use Rattle.text.specs.Text.{hexOf, decimalOf};
 ghost use Rattle.sheet.specs.Sheet.{spaced};
 ghost use Rattle.sheet.specs.Parts.{wordsText};
 use text::put;
+use text::put_decimal;
 use text::put_hex;
 
 // A field of k digits in base sixteen after a space.
@@ -19,6 +20,17 @@ pub fn put_field(out: &mut [u8], at: usize, k: usize, n: u32) -> usize
 {
     let next = put(out, at, b' ');
     put_hex(out, next, k, n)
+}
+
+// A number in base ten after a space.
+pub fn put_number(out: &mut [u8], at: usize, n: u32) -> usize
+    requires { ⌜ at + 8 ≤ length (now out) ⌝ }
+    ensures { λ r.
+        ⌜ (take r (now (out .exit)) ≡ take at (now (out .entry)) ++ spaced (decimalOf 6 n))
+        × (r ≤ at + 8) × (at < r) × (drop r (now (out .exit)) ≡ drop r (now (out .entry))) ⌝ }
+{
+    let next = put(out, at, b' ');
+    put_decimal(out, next, 6, n)
 }
 
 // Four words, each after a space.

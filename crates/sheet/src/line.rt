@@ -8,39 +8,41 @@ ghost use Rattle.machine.specs.Run.{ran};
 ghost use Rattle.sheet.specs.Sheet.{lineOf, refusedLine};
 ghost use Rattle.sheet.specs.Parts.{machineText};
 use crate::fields::put_field;
+use crate::fields::put_number;
 use crate::fields::put_words;
 use machine::Machine;
 use text::put;
 use text::put_decimal;
 
-// From R0 to the end of the line.
+// From R0 to the lines' counts.
 fn put_machine(out: &mut [u8], at: usize, m: Machine) -> usize
-    requires { ⌜ at + 58 ≤ length (now out) ⌝ }
+    requires { ⌜ at + 57 ≤ length (now out) ⌝ }
     ensures { λ r.
         ⌜ (take r (now (out .exit)) ≡ take at (now (out .entry)) ++ machineText m)
-        × (r ≡ at + 58) × (drop r (now (out .exit)) ≡ drop r (now (out .entry))) ⌝ }
+        × (r ≡ at + 57) × (drop r (now (out .exit)) ≡ drop r (now (out .entry))) ⌝ }
 {
     let regs = m.regs;
     let r4 = put_words(out, at, regs[0], regs[1], regs[2], regs[3]);
     let psw = put_words(out, r4, regs[4], regs[5], regs[6], regs[7]);
     let cex = put_field(out, psw, 4, m.psw as u32);
     let lines = put_field(out, cex, 2, m.cex as u32);
-    let end = put_field(out, lines, 8, m.lines);
-    put(out, end, b'\n')
+    put_field(out, lines, 8, m.lines)
 }
 
-// The line of a run that reached machine m in so many steps.
-pub fn put_line(out: &mut [u8], m: Machine, steps: u32) -> usize
+// The line of a run that reached machine m in so many steps, with so many frames open at the most.
+pub fn put_line(out: &mut [u8], m: Machine, steps: u32, deepest: u32) -> usize
     requires { ⌜ length (now out) ≡ 80 ⌝ }
     ensures line { λ r.
-        ⌜ ((mem : List ℕ) → take r (now (out .exit)) ≡ lineOf (ran (stateOf m mem) steps)) ⌝ }
+        ⌜ ((mem : List ℕ)
+        → take r (now (out .exit)) ≡ lineOf (ran (stateOf m mem) steps) deepest) ⌝ }
     ensures kept { λ r. ⌜ drop r (now (out .exit)) ≡ drop r (now (out .entry)) ⌝ }
     ensures fits { λ r. ⌜ r ≤ 80 ⌝ }
 {
-    let space = put(out, 0, 48 + m.halted as u8);
-    let first = put(out, space, b' ');
-    let second = put_decimal(out, first, 6, steps);
-    put_machine(out, second, m)
+    let first = put(out, 0, 48 + m.halted as u8);
+    let second = put_number(out, first, steps);
+    let last = put_machine(out, second, m);
+    let end = put_number(out, last, deepest);
+    put(out, end, b'\n')
 }
 
 // The line of a refusal with this number.

@@ -13,9 +13,11 @@ pub use Rattle.isa_ranges.specs.Ranges.{firstOf, lastOf, rangeReply}
 -- xm23_count replies countReply operation and xm23_next nextReply operation word: countOf is the number of words that
 -- mean the operation, nextOf the first legal one at or above the word, or none. [02 §11]
 pub use Rattle.isa_card.specs.Words.{countOf, countReply, nextOf, nextReply}
--- xm23_run replies and leaves what runCallOf gives for its buffers and n; Resumption is demand 3 of that call, across
--- the application's own traps. [01 Who can be turned back; 01 Resumption; 02 §13]
+-- xm23_run replies and leaves what runCallOf gives for its buffers and n, and deepestLeft in the number lent: deepestOf
+-- is the greatest number of open frames. Resumption is demand 3 of that call, across the application's own traps.
+-- [01 Who can be turned back; 02 §10; 01 Resumption; 02 §13]
 pub use Rattle.machine.specs.Call.{Closing, runCallOf}
+pub use Rattle.resume.specs.Deepest.{deepestOf, deepestLeft}
 pub use Rattle.resume.specs.Resumption.{Resumption}
 -- xm23_load_srec and xm23_write_srec reply and leave what loadCallOf and writeCallOf give; Restores is what 02 promises
 -- of the text written. [02 §2]
@@ -32,4 +34,4 @@ pub use Rattle.asm_call.specs.Call.{Assembled, assembleCallOf}
 
 -- xm23_version replies versionNumber: major, minor and patch, which are those of the header.
 abbrev pub versionNumber : ℕ
-versionNumber = 0 * 65536 + 15 * 256 + 0
+versionNumber = 0 * 65536 + 16 * 256 + 0

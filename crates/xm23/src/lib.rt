@@ -4,7 +4,7 @@
 ghost use mathlib.Core.Path.{_≡_};
 ghost use Rattle.xm23.specs.Api.{versionNumber, decodeOf, numberOf, encodeNumber};
 ghost use Rattle.xm23.specs.Api.{rangeReply, countReply, nextReply};
-ghost use Rattle.xm23.specs.Api.{runCallOf, Resumption};
+ghost use Rattle.xm23.specs.Api.{runCallOf, deepestLeft, Resumption};
 ghost use Rattle.xm23.specs.Api.{loadCallOf, writeCallOf, Restores, needReply};
 ghost use Rattle.xm23.specs.Api.{assembleCallOf};
 use isa::Encoded;
@@ -24,7 +24,7 @@ use isa_ranges::operation_of;
 pub extern "C" fn xm23_version() -> u32
     ensures reply { λ r. ⌜ r ≡ versionNumber ⌝ }
 {
-    0x000F00
+    0x001000
 }
 
 // The number of the instruction that a word means; that of the illegal one is 0.
@@ -83,13 +83,15 @@ pub extern "C" fn xm23_next(operation: u32, word: u32) -> u64
 
 // A run of n steps of the machine that the state record holds, with the event list and a log of
 // what its output devices show: refusal in bits 7-0, reason in bits 15-8, steps done in bits 39-16,
-// log records added in bits 63-40. Refused, memory, record and log stay as they were.
+// log records added in bits 63-40; `deepest` becomes the most frames that were open together.
+// Refused, memory, record, log and `deepest` stay as they were.
 #[no_mangle]
 pub extern "C" fn xm23_run(
     memory: &mut [u8],
     state: &mut [u8],
     events: &[u8],
     log: &mut [u8],
+    deepest: &mut u32,
     n: u64,
 ) -> u64
     ensures reply { λ r. ⌜ r ≡ runCallOf (now (memory .entry)) (now (state .entry))
@@ -100,10 +102,12 @@ pub extern "C" fn xm23_run(
         (now (state .entry)) (now (events .entry)) (now (log .entry)) n .state ⌝ }
     ensures log { λ r. ⌜ now (log .exit) ≡ runCallOf (now (memory .entry))
         (now (state .entry)) (now (events .entry)) (now (log .entry)) n .log ⌝ }
+    ensures deepest { λ r. ⌜ now (deepest .exit) ≡ deepestLeft (now (memory .entry))
+        (now (state .entry)) (now (events .entry)) (now (log .entry)) n (now (deepest .entry)) ⌝ }
     ensures resumption { λ r. ⌜ Resumption (now (memory .entry)) (now (state .entry))
         (now (events .entry)) (now (log .entry)) n (now (memory .exit)) (now (state .exit)) ⌝ }
 {
-    run::run_call(memory, state, events, log, n)
+    run::run_call(memory, state, events, log, deepest, n)
 }
 
 // The text of S-records loaded into memory: refusal in bits 7-0, PC in bits 31-16, the line at

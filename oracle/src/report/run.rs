@@ -72,7 +72,7 @@ fn frame_remark(run: &Followed) -> String {
         1 => "; one return pulled with none open".to_string(),
         k => format!("; {k} returns pulled with none open"),
     };
-    format!("{} open at the close, at most {} open together{stray}", run.frames.len(), run.deepest)
+    format!("{} open at the close, at most {} open together{stray}", run.frames.len(), run.ran.deepest)
 }
 
 // ---- events

@@ -13,6 +13,7 @@ extern "C" {
         events_len: usize,
         log: *mut u8,
         log_len: usize,
+        deepest: *mut u32,
         n: u64,
     ) -> u64;
 }
@@ -20,7 +21,7 @@ extern "C" {
 /// Runs an input in place by the proved library.
 pub fn library(i: &mut Input) -> u64 {
     let (memory, record, events, log) = (&mut i.memory, &mut i.record, &i.events, &mut i.log);
-    // Each buffer is lent for its own length, and none overlaps another.
+    // Each buffer is lent for its own length, and none overlaps another or the number.
     unsafe {
         xm23_run(
             memory.as_mut_ptr(),
@@ -31,6 +32,7 @@ pub fn library(i: &mut Input) -> u64 {
             events.len(),
             log.as_mut_ptr(),
             log.len(),
+            &mut i.deepest,
             i.n,
         )
     }

@@ -13,13 +13,18 @@ use Rattle.machine.proofs.Machine.Laws as T′
 use Rattle.run.proofs.Laws.{behind-none}
 use Rattle.run.proofs.Calls.{events-fit, events-ordered, call-passed}
 use Rattle.open_machine.proofs.Laws.{count-fits, advance-refused, advance-ran, few-steps, few-records}
+use Rattle.open_machine.proofs.Laws.{figure-kept, figure-ran}
 use Rattle.open_machine.proofs.advance_by_value.Statement.{statement}
 use Rattle.open_machine.proofs.advance_by_value.Tie as tie
 
 returns : tie.Need-returns
 returns c =
-    let e = advance-refused _ _ _ _ _ _ _ (c .before .before .before .before .before .before .before .write-record .ensures _) (c .before .before .call-verdict .ensures) (c .before .refusal-number .ensures .0) (c .if1 .taken) in
-    (ap (λ x. x .reply) e, ap (λ x. x .state) e, ap (λ x. x .log) e)
+    let w = c .before .before .before .before .before .before .before .write-record .ensures _ in
+    let v = c .before .before .call-verdict .ensures in
+    let k = c .before .refusal-number .ensures .0 in
+    let e = advance-refused _ _ _ _ _ _ _ w v k (c .if1 .taken) in
+    let f = figure-kept _ _ _ _ _ _ _ w v k (c .if1 .taken) _ in
+    (ap (λ x. x .reply) e, ap (λ x. x .state) e, ap (λ x. x .log) e, f)
 
 cast-run : tie.Need-cast-run
 cast-run c =
@@ -37,6 +42,7 @@ run-requires c κs =
       events-ordered _ _ _ _ p,
       events-fit _ _ _ _ p,
       behind-none _ _,
+      (let few = p .few-steps in omega arith),
     )
 
 reply-of-requires : tie.Need-reply-of-requires
@@ -51,13 +57,21 @@ reply-of-requires c κs =
 
 returns-2 : tie.Need-returns-2
 returns-2 c =
-    let r = c .before .before .before .before .before .before .run .ensures in
-    let a = c .before .before .before .before .before .before .before .before .before .before .before .before .before .before .before .before .before .before .before .before .before .args in
+    let a-run = c .before .before .before .before .before .before in
+    let r = a-run .run .ensures in
+    let i = a-run .before .before .before .if1 .left in
+    let k = a-run .before .before .before .before .refusal-number .ensures .0 in
+    let a-verdict = a-run .before .before .before .before .before in
+    let v = a-verdict .call-verdict .ensures in
+    let a-write = a-verdict .before .before .before .before .before in
+    let a = a-write .before .before .before .before .before .args in
     let s = stateOf (a .m) (now (a .memory)) in
+    let w = a-write .write-record .ensures (now (a .memory)) in
     let e =
-    advance-ran s _ _ _ _ _ _ (c .before .before .before .before .before .before .before .before .before .before .before .before .before .before .before .before .write-record .ensures _) (c .before .before .before .before .before .before .before .before .before .before .before .call-verdict .ensures) (c .before .before .before .before .before .before .before .before .before .before .refusal-number .ensures .0) (c .before .before .before .before .before .before .before .before .before .if1 .left)
+    advance-ran s _ _ _ _ _ _ w v k i
     _ _ _ _ _ _ (r .0) (r .1 .0) (r .1 .1 .0) (r .1 .1 .1 .0) (r .1 .1 .1 .1 .0) (c .reply-of .ensures) in
-    (ap (λ x. x .reply) e, ap (λ x. x .state) e, ap (λ x. x .log) e)
+    let f = figure-ran s _ _ _ _ _ _ w v k i _ _ (r .1 .1 .1 .1 .1 .1) in
+    (ap (λ x. x .reply) e, ap (λ x. x .state) e, ap (λ x. x .log) e, f)
 
 pub advance-by-value-spec : {M : Type 1} → statement M
 advance-by-value-spec =

@@ -5,13 +5,17 @@ use native.Mathlib.Omega.{arith}
 use borrow.Author.Needs.{needs}
 use Rattle.run.proofs.Laws.{behind-none}
 use Rattle.run.proofs.Calls.{events-fit, events-ordered, count-fits, call-passed, call-refused, call-ran, few-steps, few-records}
+use Rattle.run.proofs.Calls.{figure-kept, figure-ran}
 use Rattle.run.proofs.run_call.Statement.{statement}
 use Rattle.run.proofs.run_call.Tie as tie
 
 returns : tie.Need-returns
 returns c =
-    let e = call-refused _ _ _ _ _ _ _ (c .before .before .call-verdict .ensures) (c .before .refusal-number .ensures .0) (c .if1 .taken) in
-    (ap (λ x. x .reply) e, (ap (λ x. x .memory) e, (ap (λ x. x .state) e, ap (λ x. x .log) e)))
+    let v = c .before .before .call-verdict .ensures in
+    let k = c .before .refusal-number .ensures .0 in
+    let e = call-refused _ _ _ _ _ _ _ v k (c .if1 .taken) in
+    let f = figure-kept _ _ _ _ _ _ _ v k (c .if1 .taken) _ in
+    (ap (λ x. x .reply) e, (ap (λ x. x .memory) e, (ap (λ x. x .state) e, (ap (λ x. x .log) e, f))))
 
 read-record-requires : tie.Need-read-record-requires
 read-record-requires c κs =
@@ -27,7 +31,14 @@ cast-run c =
 run-requires : tie.Need-run-requires
 run-requires c κs =
     let p = call-passed _ _ _ _ _ _ _ (c .before .before .before .before .before .before .call-verdict .ensures) (c .before .before .before .before .before .refusal-number .ensures .0) (c .before .before .before .before .if1 .left) in
-    (p .memory-size, count-fits _ _ _ _ p _ (c .before .before .read-record .ensures), events-ordered _ _ _ _ p, events-fit _ _ _ _ p, behind-none _ _)
+    let few = p .few-steps in (
+      p .memory-size,
+      count-fits _ _ _ _ p _ (c .before .before .read-record .ensures),
+      events-ordered _ _ _ _ p,
+      events-fit _ _ _ _ p,
+      behind-none _ _,
+      omega arith,
+    )
 
 write-record-requires : tie.Need-write-record-requires
 write-record-requires c κs =
@@ -47,12 +58,18 @@ reply-of-requires c κs =
 
 returns-2 : tie.Need-returns-2
 returns-2 c =
-    let r = c .before .before .before .before .before .before .before .before .before .run .ensures in
-    let m = c .before .before .before .before .before .before .before .before .before .before .before .before .read-record in
+    let a-run = c .before .before .before .before .before .before .before .before .before in
+    let r = a-run .run .ensures in
+    let a-read = a-run .before .before .before in
+    let m = a-read .read-record in
+    let i = a-read .before .before .if1 .left in
+    let k = a-read .before .before .before .refusal-number .ensures .0 in
+    let v = a-read .before .before .before .before .call-verdict .ensures in
     let e =
-    call-ran _ _ _ _ _ _ _ (c .before .before .before .before .before .before .before .before .before .before .before .before .before .before .before .before .call-verdict .ensures) (c .before .before .before .before .before .before .before .before .before .before .before .before .before .before .before .refusal-number .ensures .0) (c .before .before .before .before .before .before .before .before .before .before .before .before .before .before .if1 .left) (m .result) (m .ensures)
+    call-ran _ _ _ _ _ _ _ v k i (m .result) (m .ensures)
     _ _ _ _ _ _ _ _ (r .0) (r .1 .0) (r .1 .1 .0) (r .1 .1 .1 .0) (r .1 .1 .1 .1 .0) (c .before .before .before .write-record .ensures) (c .reply-of .ensures) in
-    (ap (λ x. x .reply) e, (ap (λ x. x .memory) e, (ap (λ x. x .state) e, ap (λ x. x .log) e)))
+    let f = figure-ran _ _ _ _ _ _ _ v k i (m .result) (m .ensures) _ _ (r .1 .1 .1 .1 .1 .1) in
+    (ap (λ x. x .reply) e, (ap (λ x. x .memory) e, (ap (λ x. x .state) e, (ap (λ x. x .log) e, f))))
 
 pub run-call-spec : {M : Type 1} → statement M
 run-call-spec =

@@ -84,7 +84,8 @@ returns c =
     (at-part2 .part2 .ensures)
     (at-read-record .read-record .ensures)
     (at-part3 .part3 .ensures)
-    (at-run .run-whole .ensures)
+    (at-run .run-whole .ensures .0)
+    (at-run .run-whole .ensures .1)
     (at-put-line .put-line .ensures .0) in
     (done .0, (done .1, at-put-line .put-line .ensures .1))
 

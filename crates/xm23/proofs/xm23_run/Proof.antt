@@ -1,18 +1,23 @@
--- The reply and the three buffers are `run_call`'s; demand 3 of the call follows from the equations of memory and record.
+-- The reply and the three buffers are `run_call`'s; the figure that it carries is the greatest number of open frames; demand 3 of
+-- the call follows from the equations of memory and record.
 use borrow.Author.Needs.{needs}
 use denote.Ref.{now}
+use mathlib.Core.Path.{_∙_}
+use Rattle.resume.proofs.Deepest.{call-carried}
 use Rattle.resume.proofs.Resumption.{call-resumes}
 use Rattle.xm23.proofs.xm23_run.Statement.{statement}
 use Rattle.xm23.proofs.xm23_run.Tie as tie
 
 returns : tie.Need-returns
 returns c =
-    let e = c .before .before .before .before .before .before .run-call .ensures in
-    let a = c .before .before .before .before .before .before .before .before .before .before .before .before .before .before .args in
+    let called = c .before .before .before .before .before .before in
+    let e = called .run-call .ensures in
+    let a = called .before .before .before .before .before .before .before .before .before .args in
     let memory = e .1 .0 in
     let state = e .1 .1 .0 in
     let resumes = call-resumes (now (a .memory)) (now (a .state)) (now (a .events)) (now (a .log)) (a .n) _ _ memory state in
-    (e .0, (memory, (state, (e .1 .1 .1, resumes))))
+    let figure = e .1 .1 .1 .1 ∙ call-carried (now (a .memory)) (now (a .state)) (now (a .events)) (now (a .log)) (a .n) (now (a .deepest)) in
+    (e .0, (memory, (state, (e .1 .1 .1 .0, (figure, resumes)))))
 
 pub xm23-run-spec : {M : Type 1} → statement M
 xm23-run-spec =

@@ -14,40 +14,49 @@ add-put c = reason-fits (c .before .before .before .args .m .halted)
 put-requires : tie.Need-put-requires
 put-requires c κs = search needs
 
-put-requires-2 : tie.Need-put-requires-2
-put-requires-2 c κs = search needs
-
-put-decimal-requires : tie.Need-put-decimal-requires
-put-decimal-requires c κs = search needs
+put-number-requires : tie.Need-put-number-requires
+put-number-requires c κs = search needs
 
 put-machine-requires : tie.Need-put-machine-requires
 put-machine-requires c κs = search needs
+
+put-number-requires-2 : tie.Need-put-number-requires-2
+put-number-requires-2 c κs = search needs
+
+put-requires-2 : tie.Need-put-requires-2
+put-requires-2 c κs = search needs
 
 same-length : tie.Need-same-length
 same-length c = search needs
 
 returns : tie.Need-returns
 returns c =
-    let at-put-machine = c .before .before in
-    let at-put-decimal = at-put-machine .before .before .before .before in
-    let at-put2 = at-put-decimal .before .before .before .before in
-    let at-put = at-put2 .before .before .before .before in
+    let at-put2 = c .before .before in
+    let at-put-number2 = at-put2 .before .before .before .before in
+    let at-put-machine = at-put-number2 .before .before .before .before in
+    let at-put-number = at-put-machine .before .before .before .before in
+    let at-put = at-put-number .before .before .before .before in
     let entry = at-put .before .before .before .before in
+    let out = entry .args .out .now in
     let line =
-    line-text (entry .args .m) (entry .args .steps)
+    line-text (entry .args .m) (entry .args .steps) (entry .args .deepest)
     (at-put .put .ensures .0)
-    (at-put2 .put2 .ensures .0)
-    (at-put-decimal .put-decimal .ensures .0)
-    (at-put-machine .put-machine .ensures .0) in
-    let second = at-put2 .put2 .result in
+    (at-put-number .put-number .ensures .0)
+    (at-put-machine .put-machine .ensures .0)
+    (at-put-number2 .put-number2 .ensures .0)
+    (at-put2 .put2 .ensures .0) in
+    let second = at-put-number .put-number .result in
+    let end = at-put-number2 .put-number2 .result in
     let two =
-    kept-twice (at-put .put .result) second
-    (entry .args .out .now) (at-put .put .last .0) (at-put2 .put2 .last .0) (omega arith)
-    (at-put .put .ensures .2) (at-put2 .put2 .ensures .2) in
+    kept-twice (at-put .put .result) second out (at-put .put .last .0) (at-put-number .put-number .last .0) (omega arith)
+    (at-put .put .ensures .2) (at-put-number .put-number .ensures .3) in
+    let four =
+    kept-thrice second (at-put-machine .put-machine .result) end
+    out (at-put-number .put-number .last .0) (at-put-machine .put-machine .last .0) (at-put-number2 .put-number2 .last .0)
+    (omega arith) (omega arith) two (at-put-machine .put-machine .ensures .2) (at-put-number2 .put-number2 .ensures .3) in
     let kept =
-    kept-thrice second (at-put-decimal .put-decimal .result) (at-put-machine .put-machine .result)
-    (entry .args .out .now) (at-put2 .put2 .last .0) (at-put-decimal .put-decimal .last .0) (at-put-machine .put-machine .last .0)
-    (omega arith) (omega arith) two (at-put-decimal .put-decimal .ensures .3) (at-put-machine .put-machine .ensures .2) in
+    kept-twice end (at-put2 .put2 .result) out (at-put-number2 .put-number2 .last .0) (at-put2 .put2 .last .0) (omega arith)
+    four (at-put2 .put2 .ensures .2) in
     (line, (kept, omega arith))
 
 pub put-line-spec : {M : Type 1} → statement M
@@ -57,8 +66,9 @@ put-line-spec =
     cast-put
     add-put
     put-requires
-    put-requires-2
-    put-decimal-requires
+    put-number-requires
     put-machine-requires
+    put-number-requires-2
+    put-requires-2
     same-length
     returns)

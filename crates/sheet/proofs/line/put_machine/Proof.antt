@@ -51,36 +51,12 @@ put-field-requires-2 c κs = search needs
 put-field-requires-3 : tie.Need-put-field-requires-3
 put-field-requires-3 c κs = search needs
 
-put-requires : tie.Need-put-requires
-put-requires c κs =
-    let at-put-field3 = c .before .before .before in
-    let at-put-field2 = at-put-field3 .before .before .before .before in
-    let at-put-field = at-put-field2 .before .before .before .before .before in
-    let at-put-words2 = at-put-field .before .before .before .before .before in
-    let at-put-words = at-put-words2 .before .before .before .before in
-    let entry = at-put-words .before .before .before .before in
-    omega (
-      arith,
-      entry .pre,
-      at-put-words .put-words .kept,
-      at-put-words2 .put-words2 .kept,
-      at-put-field .put-field .kept,
-      at-put-field2 .put-field2 .kept,
-      at-put-field3 .put-field3 .kept,
-      at-put-words .put-words .ensures .1,
-      at-put-words2 .put-words2 .ensures .1,
-      at-put-field .put-field .ensures .1,
-      at-put-field2 .put-field2 .ensures .1,
-      at-put-field3 .put-field3 .ensures .1,
-    )
-
 same-length : tie.Need-same-length
 same-length c = search needs
 
 returns : tie.Need-returns
 returns c =
-    let at-put = c .before .before in
-    let at-put-field3 = at-put .before .before .before .before in
+    let at-put-field3 = c .before .before in
     let at-put-field2 = at-put-field3 .before .before .before .before in
     let at-put-field = at-put-field2 .before .before .before .before .before in
     let at-put-words2 = at-put-field .before .before .before .before .before in
@@ -92,8 +68,7 @@ returns c =
     (at-put-words2 .put-words2 .ensures .0)
     (at-put-field .put-field .ensures .0)
     (at-put-field2 .put-field2 .ensures .0)
-    (at-put-field3 .put-field3 .ensures .0)
-    (at-put .put .ensures .0) in
+    (at-put-field3 .put-field3 .ensures .0) in
     let r2 = at-put-words2 .put-words2 .result in
     let r4 = at-put-field2 .put-field2 .result in
     let out2 = at-put-words2 .put-words2 .last .0 in
@@ -106,10 +81,8 @@ returns c =
     (omega (arith, at-put-field .put-field .ensures .1)) (omega (arith, at-put-field2 .put-field2 .ensures .1))
     two (at-put-field .put-field .ensures .2) (at-put-field2 .put-field2 .ensures .2) in
     let kept =
-    kept-thrice r4 (at-put-field3 .put-field3 .result) (at-put .put .result)
-    (entry .args .out .now) out4 (at-put-field3 .put-field3 .last .0) (at-put .put .last .0)
-    (omega (arith, at-put-field3 .put-field3 .ensures .1)) (omega (arith, at-put .put .ensures .1))
-    four (at-put-field3 .put-field3 .ensures .2) (at-put .put .ensures .2) in (
+    kept-twice r4 (at-put-field3 .put-field3 .result) (entry .args .out .now) out4 (at-put-field3 .put-field3 .last .0)
+    (omega (arith, at-put-field3 .put-field3 .ensures .1)) four (at-put-field3 .put-field3 .ensures .2) in (
       line,
       omega (
         arith,
@@ -118,7 +91,6 @@ returns c =
         at-put-field .put-field .ensures .1,
         at-put-field2 .put-field2 .ensures .1,
         at-put-field3 .put-field3 .ensures .1,
-        at-put .put .ensures .1,
       ),
       kept,
     )
@@ -142,6 +114,5 @@ put-machine-spec =
     cast-put-field-2
     put-field-requires-2
     put-field-requires-3
-    put-requires
     same-length
     returns)

@@ -164,8 +164,8 @@ int say_fault(const char *name, const struct fault *f);
 int is_source(const char *name);
 int assemble_source(const char *source, size_t length, struct assembled *a, struct fault *f);
 
-/* Of an accepted source: what a number, name or expression comes to, or the refusal; a listing of its lines, or of so many
- * at most, which then leaves out bytes on which a later line stands. */
+/* Of an accepted source: what a number, name or expression comes to, or the refusal; a listing of its lines, or of so
+ * many at most, which then leaves out bytes on which a later line stands. */
 unsigned source_value(const char *source, size_t length, const char *value, uint16_t *word);
 void add_source_listing(struct text *t, const char *source, size_t length, const struct assembled *a, size_t most);
 
@@ -190,21 +190,18 @@ void add_instruction(struct text *t, unsigned address, uint16_t word);
 
 /* ---- walk.c: the last steps of a run, by the journal */
 
-#define MOST_WALK 1024    /* steps */
-#define JOURNAL_SIZE 64   /* bytes of a journal's record: the state record, then */
-#define JOURNAL_DEVICES 32 /* the sixteen device bytes, */
-#define JOURNAL_AT 48     /* an address, */
-#define JOURNAL_BYTES 50  /* and the eight bytes there */
+#define MOST_WALK (XM23_MAX_JOURNAL / XM23_JOURNAL_SIZE) /* steps: 1,024 */
 
 /* What a step was. The number beside it: the device of a line, the vector of SVC, the fault. */
 enum act { EXECUTED, SKIPPED, ASLEEP, ACCEPTED, CHAINED, PULLED, TRAPPED, FAULTED, HALTED };
 
 struct step {
-    const uint8_t *before, *after;          /* state records */
-    uint8_t devices[16], bytes[8];          /* what it left in the device bytes, and at the record's address */
-    uint8_t act, number, fetched;           /* fetched: whether `word` is one that it decoded */
-    uint8_t stored;                         /* bytes stored or pushed from the record's address on */
-    uint16_t word, frame;                   /* frame: the newest open after it, of those of the walk; 0 none */
+    const uint8_t *before, *after; /* the journal's record; the state record after it */
+    uint8_t devices[16], bytes[8]; /* what it left in the device bytes, and at the record's address */
+    uint8_t act, number, fetched;  /* fetched: whether `word` is one that it decoded */
+    uint8_t stored;                /* bytes stored or pushed from the record's address on */
+    uint8_t shown;                 /* the data byte that an output device showed, by its address; 0 none */
+    uint16_t word, frame;          /* frame: the newest open after it, of those of the walk; 0 none */
 };
 
 /* A frame that one of the steps opened. */
@@ -214,10 +211,10 @@ struct frame {
 };
 
 struct walk {
-    uint8_t journal[JOURNAL_SIZE * MOST_WALK], log[XM23_LOG_SIZE * MOST_WALK], close[XM23_RECORD_SIZE];
+    uint8_t journal[XM23_JOURNAL_SIZE * MOST_WALK], log[XM23_LOG_SIZE * MOST_WALK], close[XM23_RECORD_SIZE];
     struct step steps[MOST_WALK];
     struct frame frames[MOST_WALK + 1];
-    uint32_t many, shown;  /* steps; log records of them */
+    uint32_t many, shown;         /* steps; log records of them */
     unsigned many_frames, strays; /* strays: returns that pulled with none of these frames open */
 };
 
@@ -228,7 +225,8 @@ void walk_run(struct walk *w, const struct paper *p, struct machine *m, uint32_t
 void walk_back(const struct walk *w, struct machine *m, uint32_t done, uint32_t many);
 
 uint32_t step_count(const struct step *s);
-int step_wrote(const struct step *s, unsigned at); /* whether it stored, pushed or changed the byte */
+int step_wrote(const struct step *s, unsigned at);        /* whether it stored or pushed the byte, or as below */
+int device_written(const struct step *s, unsigned at);    /* whether the device byte is another, or was shown */
 
 /* ---- step.c: a step in words */
 

@@ -244,8 +244,8 @@ static void add_screen_data(struct text *t, const struct walk *w, const struct t
     add(t, "\",\"log\":[");
     for (uint32_t i = 0; i < w->shown; i++) {
         const uint8_t *record = w->log + XM23_LOG_SIZE * i;
-        add(t, "%s[%lu,%u]", i ? "," : "",
-            (unsigned long)(get_long(record, XM23_LOG_STEP) - step_count(&w->steps[0])), record[XM23_LOG_BYTE]);
+        unsigned long step = get_long(record, XM23_LOG_STEP) - step_count(&w->steps[0]);
+        add(t, "%s[%lu,%u,%u]", i ? "," : "", step, record[XM23_LOG_DEVICE], record[XM23_LOG_BYTE]);
     }
     add(t, "]");
 }
@@ -253,7 +253,7 @@ static void add_screen_data(struct text *t, const struct walk *w, const struct t
 void add_walk_data(struct text *t, const struct walk *w, const struct machine *after, const struct text *screen)
 {
     add(t, "<script type=\"application/json\" id=\"data\">{\n\"journal\":\"");
-    add_base64(t, w->journal, JOURNAL_SIZE * (size_t)w->many);
+    add_base64(t, w->journal, XM23_JOURNAL_SIZE * (size_t)w->many);
     add(t, "\",\n\"close\":\"");
     add_base64(t, w->close, sizeof w->close);
     add(t, "\",\n");

@@ -58,16 +58,16 @@ static void add_stored(struct text *t, size_t from, const struct step *s)
     if (!s->stored)
         return;
     separate(t, from);
-    add(t, "%04X:", get_word(s->before, JOURNAL_AT));
+    add(t, "%04X:", get_word(s->before, XM23_JOURNAL_ADDRESS));
     for (unsigned i = 0; i < s->stored; i++)
         add(t, " %02X", s->bytes[i]);
 }
 
-/* Device bytes that are others than before, by the step or by an event. */
+/* Device bytes that are others than before, by the step or by an event, and one that was shown. */
 static void add_devices(struct text *t, size_t from, const struct step *s)
 {
     for (unsigned i = 0; i < 16; i++) {
-        if (s->before[JOURNAL_DEVICES + i] == s->devices[i])
+        if (!device_written(s, i))
             continue;
         separate(t, from);
         add(t, "device %u %s %02X", i / 2, i % 2 ? "data" : "status", s->devices[i]);

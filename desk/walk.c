@@ -97,7 +97,7 @@ static unsigned stored(const struct step *s)
         return 8;
     if (s->act != EXECUTED || (format != XM23_FORMAT_ST && format != XM23_FORMAT_STR))
         return 0;
-    return get_word(s->before, JOURNAL_AT) == 0 ? 0 : byte ? 1 : 2;
+    return get_word(s->before, XM23_JOURNAL_ADDRESS) == 0 ? 0 : byte ? 1 : 2;
 }
 
 /* `memory` is as it was before the step; `due` the events of its step and of those before it. */
@@ -113,10 +113,15 @@ static void judge_step(struct step *s, const struct paper *p, size_t due, const 
     s->stored = (uint8_t)stored(s);
 }
 
+int device_written(const struct step *s, unsigned at)
+{
+    return s->before[XM23_JOURNAL_DEVICES + at] != s->devices[at] || (at && s->shown == at);
+}
+
 int step_wrote(const struct step *s, unsigned at)
 {
-    unsigned from = (at - get_word(s->before, JOURNAL_AT)) & 0xFFFF;
-    return from < s->stored || (at < 16 && s->before[JOURNAL_DEVICES + at] != s->devices[at]);
+    unsigned from = (at - get_word(s->before, XM23_JOURNAL_ADDRESS)) & 0xFFFF;
+    return from < s->stored || (at < 16 && device_written(s, at));
 }
 
 /* ---- back, and the frames */
@@ -124,7 +129,7 @@ int step_wrote(const struct step *s, unsigned at)
 /* What a step left where its record says, taken before it is undone. */
 static void keep_after(struct step *s, const uint8_t *memory)
 {
-    unsigned at = get_word(s->before, JOURNAL_AT);
+    unsigned at = get_word(s->before, XM23_JOURNAL_ADDRESS);
     memcpy(s->devices, memory, sizeof s->devices);
     for (unsigned i = 0; i < 8; i++)
         s->bytes[i] = memory[(at + i) & 0xFFFF];
@@ -143,13 +148,25 @@ static void go_back(struct walk *w, const struct paper *p, struct machine *m)
     size_t due = p->many_events;
     for (uint32_t i = w->many; i-- > 0;) {
         struct step *s = &w->steps[i];
-        s->before = w->journal + JOURNAL_SIZE * i;
-        s->after = i + 1 == w->many ? w->close : w->journal + JOURNAL_SIZE * (i + 1);
+        s->before = w->journal + XM23_JOURNAL_SIZE * i;
+        s->after = i + 1 == w->many ? w->close : w->journal + XM23_JOURNAL_SIZE * (i + 1);
         keep_after(s, m->memory);
         walk_back(w, m, i + 1, 1);
         while (due > 0 && p->events[due - 1].step > step_count(s))
             due--;
         judge_step(s, p, due, m->memory);
+    }
+}
+
+/* Which steps showed a byte: the log tells a store of an equal one too. */
+static void find_shown(struct walk *w)
+{
+    for (uint32_t i = 0; i < w->many; i++)
+        w->steps[i].shown = 0;
+    for (uint32_t i = 0; i < w->shown; i++) {
+        const uint8_t *record = w->log + XM23_LOG_SIZE * i;
+        uint32_t step = get_long(record, XM23_LOG_STEP) - step_count(&w->steps[0]);
+        w->steps[step].shown = (uint8_t)(2 * record[XM23_LOG_DEVICE] + 1);
     }
 }
 
@@ -189,5 +206,6 @@ void walk_run(struct walk *w, const struct paper *p, struct machine *m, uint32_t
     w->shown = XM23_RUN_ADDED(reply);
     memcpy(w->close, m->record, sizeof w->close);
     go_back(w, p, m);
+    find_shown(w);
     find_frames(w);
 }

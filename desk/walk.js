@@ -39,10 +39,11 @@
     undo(i);
   }
   now = 0;
-  const wrote = (i, at) => (at - place(i) & 0xFFFF) < data.steps[i][1] ||
-    (at < 16 && records[64 * i + 32 + at] !== left[24 * i + at]);
+  const shown = new Map(data.log.map(([step, device]) => [step, 2 * device + 1]));
+  const deviceWritten = (i, at) => records[64 * i + 32 + at] !== left[24 * i + at] || shown.get(i) === at;
+  const wrote = (i, at) => (at - place(i) & 0xFFFF) < data.steps[i][1] || (at < 16 && deviceWritten(i, at));
 
-  // What a step left, PC aside: registers, bytes stored or pushed, device bytes that are others than before.
+  // What a step left, PC aside: registers, bytes stored or pushed, device bytes that are others than before, or were shown.
   const names = ['R0', 'R1', 'R2', 'R3', 'R4', 'LR', 'SP', '', 'PSW', 'CEX'];
   const leftBy = (i) => {
     const parts = [];
@@ -54,7 +55,7 @@
     const there = [...left.subarray(24 * i + 16, 24 * i + 16 + stored)];
     if (stored > 0) parts.push(hex(place(i), 4) + ':' + there.map((b) => ' ' + hex(b, 2)).join(''));
     for (let k = 0; k < 16; k++)
-      if (records[64 * i + 32 + k] !== left[24 * i + k])
+      if (deviceWritten(i, k))
         parts.push('device ' + (k >> 1) + (k & 1 ? ' data ' : ' status ') + hex(left[24 * i + k], 2));
     return parts.join(', ');
   };
@@ -118,7 +119,7 @@
 
   const showScreen = () => {
     let text = data.shown > 0 ? '(' + data.shown + ' bytes before)\n' : '';
-    const all = [...bytes(data.screen), ...data.log.filter(([step]) => step < now).map(([, byte]) => byte)];
+    const all = [...bytes(data.screen), ...data.log.filter(([step]) => step < now).map(([, , byte]) => byte)];
     for (const byte of all) text += byte === 10 || (byte > 31 && byte < 127) ? String.fromCharCode(byte) : '\\x' + hex(byte, 2);
     get('screen').textContent = text;
   };

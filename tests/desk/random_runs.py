@@ -234,6 +234,7 @@ class Walk:
             data = base64.b64decode(text)
             self.memory[at:at + len(data)] = data
         self.writers, self.uncovered, self.deepest = {}, 0, 0
+        self.shown = {step: {2 * device + 1} for step, device, byte in self.data["log"]}
         for i in range(len(self.steps) - 1, -1, -1):
             self.undo(i)
         for step in self.steps:
@@ -248,7 +249,7 @@ class Walk:
         self.memory[0:16] = record[32:48]
         for k in range(8):
             self.memory[(at + k) % 65536] = record[50 + k]
-        stored = {(at + k) % 65536 for k in range(self.steps[i][1])}
+        stored = {(at + k) % 65536 for k in range(self.steps[i][1])} | self.shown.get(i, set())
         changed = {a for a in [*range(16), *((at + k) % 65536 for k in range(8))] if before[a] != self.memory[a]}
         self.uncovered += len({a for a in changed if a >= 16} - stored)
         for a in stored | changed:

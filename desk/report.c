@@ -3,6 +3,16 @@
 
 #include "desk.h"
 
+/* What is not as it should be, of a page that is written. */
+static int tell_verdict(const struct paper *p, const struct marked *m)
+{
+    if (!m->ran)
+        say_at(m->row.name, 0, "%s: %s", m->row.line.at, m->row.says.at);
+    else if (m->row.agrees == 0)
+        say_at(p->name, p->expected_line, "another line was expected: %s", p->expected);
+    return m->ran && m->row.agrees != 0 ? DONE : REFUSED;
+}
+
 static int report(struct sitting *s, const char *name, const char *to)
 {
     static struct marked m;
@@ -16,8 +26,8 @@ static int report(struct sitting *s, const char *name, const char *to)
             say_at(name, 0, "%s", m.row.says.at);
         }
     }
-    if (status == DONE && (!m.ran || m.row.agrees == 0))
-        status = REFUSED;
+    if (status == DONE)
+        status = tell_verdict(s->paper, &m);
     drop_marked(&m);
     drop(&page);
     return status;

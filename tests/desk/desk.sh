@@ -236,10 +236,10 @@ cd examples/sitting || exit 1
 "$xm23" mark -o "$room/two" sum.paper programs/sound.s19 programs/unsound.s19
 expect 'report' 0 '' '' "$xm23" report -o "$room/report.html" sum.paper programs/sound.s19
 same 'the page of mark' "$(cat "$room/report.html")" "$(cat "$room"/two/pages/*-sound*)"
-expect 'report of another line' 1 '' '' "$xm23" report -o "$room/report.html" sum.paper programs/unsound.s19
-same 'to standard output' "$("$xm23" report sum.paper programs/unsound.s19)" "$(cat "$room/report.html")"
+expect 'report of another line' 1 '' "sum.paper:21: another line was expected: $line" "$xm23" report -o "$room/report.html" sum.paper programs/unsound.s19
+same 'to standard output' "$("$xm23" report sum.paper programs/unsound.s19 2> /dev/null)" "$(cat "$room/report.html")"
 same 'with its steps' "$(grep -c '^<tr><td class="n">[0-9]*</td><td class="n">1016</td><td class="n">3FFF</td>' "$room/report.html")" 32
-expect 'report of a refused program' 1 '' '' "$xm23" report -o "$room/report.html" sum.paper programs/refused.s19
+expect 'report of a refused program' 1 '' "programs/refused.s19: R11: line 2: a line's checksum differs" "$xm23" report -o "$room/report.html" sum.paper programs/refused.s19
 same 'says so' "$(grep -c '>Refused: not the expected line<' "$room/report.html")" 1
 same 'and has no walk' "$(grep -c 'id="walk"' "$room/report.html")" 0
 rm "$room/report.html"

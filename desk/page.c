@@ -192,8 +192,9 @@ static void add_source(struct text *t, const struct program *p, unsigned most)
         return;
     }
     add_source_listing(&listing, p->bytes, p->length, &a, most);
-    add(t, "<h2>Source</h2>\n");
+    add(t, "<h2>Source</h2>\n<div id=\"source\">\n");
     add_wide(t, &listing);
+    add(t, "</div>\n");
     drop(&listing);
 }
 

@@ -156,11 +156,21 @@
   const what = (i) => data.what[data.steps[i][0]];
   const plain = (i) => what(i).replace(/^[0-9A-F]{4} /, '').replace(/ +/g, ' ');
   const pc = (i) => hex(word(record(i), 14), 4);
+
+  // Lines of a source by address and word, from its listing on the page.
+  const listed = new Map();
+  for (const line of (document.querySelector('#source pre') || { textContent: '' }).textContent.split('\n')) {
+    const parts = /^([0-9A-F]{4})  ([0-9A-F]{4}) +(\d+\.  .*)$/.exec(line);
+    if (parts) listed.set(parts[1] + parts[2], parts[3]);
+  }
+  const source = (i) => listed.get(pc(i) + what(i).slice(0, 4)) || '';
   const showAround = () => {
     const from = Math.max(0, Math.min(now - 8, many - 15));
     const rows = [];
     for (let i = from; i < Math.min(many, from + 15); i++) {
-      const tr = row([[first + i, 'n'], [pc(i), 'n'], [what(i), 'n pre'], [leftBy(i), 'n']], i === now - 1 ? 'current' : '');
+      const cells = [[first + i, 'n'], [pc(i), 'n'], [what(i), 'n pre'], [leftBy(i), 'n']];
+      if (listed.size > 0) cells.push([source(i), 'n pre']);
+      const tr = row(cells, i === now - 1 ? 'current' : '');
       tr.dataset.to = i + 1;
       rows.push(tr);
     }

@@ -159,6 +159,8 @@ def try_screen(browser, marks):
         if browser.text("screen") != seen[-1]:
             seen.append(browser.text("screen"))
     same("screen: so far", seen, ["", "S", "SU", "SUM"])
+    same("screen: lines of the source", browser.value("[...document.querySelectorAll('#around tr')].slice(0, 3).map((r) => r.cells[4].textContent)"),
+         ["3.  START   MOVLZ $05,R1        ; the screen's data byte", "4.          MOVLZ $53,R0        ; S", "5.          ST.B R0,R1"])
     same("screen: errors", browser.errors(), [])
 
 

@@ -188,52 +188,6 @@ void add_legend(struct text *t, const uint8_t *record, const struct outcome *o);
 
 void add_instruction(struct text *t, unsigned address, uint16_t word);
 
-/* ---- walk.c: the last steps of a run, by the journal */
-
-#define MOST_WALK (XM23_MAX_JOURNAL / XM23_JOURNAL_SIZE) /* steps: 1,024 */
-
-/* What a step was. The number beside it: the device of a line, the vector of SVC, the fault. */
-enum act { EXECUTED, SKIPPED, ASLEEP, ACCEPTED, CHAINED, PULLED, TRAPPED, FAULTED, HALTED };
-
-struct step {
-    const uint8_t *before, *after; /* the journal's record; the state record after it */
-    uint8_t devices[16], bytes[8]; /* what it left in the device bytes, and at the record's address */
-    uint8_t act, number, fetched;  /* fetched: whether `word` is one that it decoded */
-    uint8_t stored;                /* bytes stored or pushed from the record's address on */
-    uint8_t shown;                 /* the data byte that an output device showed, by its address; 0 none */
-    uint16_t word, frame;          /* frame: the newest open after it, of those of the walk; 0 none */
-};
-
-/* A frame that one of the steps opened. */
-struct frame {
-    uint16_t older, sp, step;
-    uint8_t act, number;
-};
-
-struct walk {
-    uint8_t journal[XM23_JOURNAL_SIZE * MOST_WALK], log[XM23_LOG_SIZE * MOST_WALK], close[XM23_RECORD_SIZE];
-    struct step steps[MOST_WALK];
-    struct frame frames[MOST_WALK + 1];
-    uint32_t many, shown;         /* steps; log records of them */
-    unsigned many_frames, strays; /* strays: returns that pulled with none of these frames open */
-};
-
-/* Walks the last steps of a run that was taken from `m`, which is left as it was before the first of them. */
-void walk_run(struct walk *w, const struct paper *p, struct machine *m, uint32_t steps);
-
-/* Goes back so many steps from where so many of the walk are done. */
-void walk_back(const struct walk *w, struct machine *m, uint32_t done, uint32_t many);
-
-uint32_t step_count(const struct step *s);
-int step_wrote(const struct step *s, unsigned at);        /* whether it stored or pushed the byte, or as below */
-int device_written(const struct step *s, unsigned at);    /* whether the device byte is another, or was shown */
-
-/* ---- step.c: a step in words */
-
-void add_act(struct text *t, unsigned act, unsigned number);
-void add_what(struct text *t, const struct step *s); /* the instruction, or what else it was */
-void add_left(struct text *t, const struct step *s); /* registers and bytes that it left, PC aside */
-
 /* ---- sha256.c: by libcrypto */
 
 #define SHA256_TEXT 65
@@ -273,10 +227,9 @@ int row_of_page(const struct sitting *s, size_t i, struct row *r);              
 struct marked {
     struct row row;
     struct program program;
-    struct machine before, after, scratch;
+    struct machine before, after;
     struct outcome o;
     struct text screen; /* all of it, of which the row has the first bytes */
-    struct walk walk;
     int ran;
 };
 
@@ -291,13 +244,9 @@ void close_table(struct text *t);
 void add_page(struct text *t, const struct sitting *s, const struct marked *m);
 int write_results(const struct sitting *s);
 
-/* The walk on a page: tables that are there without scripts, and the data with the script that walks through it. */
-void add_walk_tables(struct text *t, const struct walk *w, const struct machine *after);
-void add_walk_data(struct text *t, const struct walk *w, const struct machine *after, const struct text *screen);
-
 /* ---- what pages carry: the files of these names, page.css and so on */
 
-extern const char page_css[], index_js[], walk_html[], walk_js[];
+extern const char page_css[], index_js[];
 
 /* ---- the subcommands, each in the file of its name */
 
@@ -306,8 +255,6 @@ int xm23_desk_mark(int argc, char **argv);
 int xm23_desk_dis(int argc, char **argv);
 int xm23_desk_card(int argc, char **argv);
 int xm23_desk_stack(int argc, char **argv);
-int xm23_desk_report(int argc, char **argv);
-int xm23_desk_back(int argc, char **argv);
 int xm23_desk_asm(int argc, char **argv);
 
 /* ---- help.c */

@@ -33,27 +33,6 @@ const struct subcommand subcommands[] = {
      "Status 0: every program ran, and closed as expected where a line is. 1: some did not. 3: the marking is not\n"
      "whole, or PAPER cannot be read.\n",
      xm23_desk_mark},
-    {"report", "xm23 report [-o PAGE] PAPER PROGRAM", "write the page of one run, with its last steps to walk through",
-     "Runs PROGRAM under PAPER and writes a page of HTML: the line, the closing state beside the expected one, the\n"
-     "screen, the stack, memory, and the last 1,024 steps to walk forwards and backwards in a browser: registers,\n"
-     "instruction, what it wrote, stack with its frames, screen so far, who wrote a byte. Without scripts, and in\n"
-     "print, it has the closing state and the last 32 steps. It is whole by itself.\n"
-     "\n"
-     "  -o PAGE   write there instead of to standard output\n"
-     "\n"
-     "Status 1: PROGRAM is refused, PAPER has a mistake, or another line was expected; but for a mistake in PAPER the\n"
-     "page is written.\n",
-     xm23_desk_report},
-    {"back", "xm23 back [-n STEPS] [-w ADDRESS] PAPER PROGRAM",
-     "go back from the closing state, as far as the step that wrote a byte",
-     "Runs PROGRAM under PAPER and prints its last steps, the newest first: step, PC, word, instruction, what it\n"
-     "left; then the state before the last of those printed.\n"
-     "\n"
-     "  -n STEPS    so many steps, 1 to 1,024 (16)\n"
-     "  -w ADDRESS  as far as the step that wrote the byte at ADDRESS, base sixteen\n"
-     "\n"
-     "Status 1: PROGRAM is refused, PAPER has a mistake, or none of these steps wrote the byte.\n",
-     xm23_desk_back},
     {"asm", "xm23 asm [-l] [-o FILE] [-s START] SOURCE", "assemble a source to S-records, or to a listing",
      "Assembles SOURCE (docs/FORMATS.md has the language) and writes the bytes that it states as S-records. A source\n"
      "at fault is told as 'SOURCE:LINE: R17: ..', and nothing is written.\n"

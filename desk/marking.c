@@ -24,8 +24,6 @@ static void run_marked(const struct sitting *s, struct marked *m)
         r->steps = m->o.steps;
         r->deepest = m->o.deepest;
         put_screen(r, &m->screen);
-        memcpy(&m->scratch, &m->before, sizeof m->scratch);
-        walk_run(&m->walk, s->paper, &m->scratch, m->o.steps);
     } else {
         add(&r->line, "R%u", f.refusal);
         add(&r->says, "line %lu: %s", (unsigned long)f.line, f.why.at);

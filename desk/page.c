@@ -237,10 +237,6 @@ static void add_heading(struct text *t, const struct sitting *s, const struct ro
 static void add_state(struct text *t, const struct sitting *s, const struct marked *m, unsigned most)
 {
     add_fields(t, s->paper, &m->after, &m->o);
-    if (m->walk.many)
-        add(t, "%s<noscript><p>Without scripts the walk is not shown; its last steps are below.</p></noscript>\n",
-            walk_html);
-    add_walk_tables(t, &m->walk, &m->after);
     add_memory(t, &m->before, &m->after, most);
     add_source(t, &m->program, most);
     add_program(t, s->paper, &m->before, most);
@@ -257,8 +253,6 @@ static void add_rows(struct text *t, const struct sitting *s, const struct marke
     if (m->ran)
         add_state(t, s, m, most);
     add_foot(t, s, r);
-    if (m->ran && m->walk.many)
-        add_walk_data(t, &m->walk, &m->after, &m->screen);
     add(t, "</body>\n</html>\n");
 }
 

@@ -1,6 +1,6 @@
 #!/usr/bin/env bash
 # desk.sh PROGRAM [FLAG..]: compiles desk/ over target/staticlib/libxm23.a, with more flags where they are given; SHA-256
-# is libcrypto's. What pages carry, desk/*.css, desk/*.html and desk/*.js, becomes build/assets.c.
+# is libcrypto's. What pages carry, desk/*.css and desk/*.js, becomes build/assets.c.
 set -eu -o pipefail
 program=$1
 shift
@@ -12,7 +12,7 @@ fi
 mkdir -p "$(dirname "$program")"
 
 # Each file as an array of its name, a 0 behind it.
-for file in desk/*.css desk/*.html desk/*.js; do
+for file in desk/*.css desk/*.js; do
     echo "extern const char $(basename "$file" | tr . _)[];"
     echo "const char $(basename "$file" | tr . _)[] = {"
     od -An -v -tx1 "$file" | sed 's/ \(..\)/0x\1,/g'

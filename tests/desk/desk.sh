@@ -14,9 +14,9 @@ usage() { echo "usage: xm23 $1 .*"; }
 # ---- the program itself
 expect 'no word' 2 '' 'usage: xm23 .*' "$xm23"
 expect 'no subcommand' 2 '' "xm23: 'fly' is no subcommand.*" "$xm23" fly
-expect '--help' 0 'usage: .*run .*mark .*report .*back .*asm .*dis .*stack .*card .*Status.*' '' "$xm23" --help
+expect '--help' 0 'usage: .*run .*mark .*asm .*dis .*stack .*card .*Status.*' '' "$xm23" --help
 expect '--version' 0 'xm23 [0-9]+\.[0-9]+\.[0-9]+' '' "$xm23" --version
-for word in run mark report back asm dis stack card; do
+for word in run mark asm dis stack card; do
     expect "$word --help" 0 "usage: xm23 $word .*" '' "$xm23" "$word" --help
     expect "$word -x" 2 '' "$(usage "$word")" "$xm23" "$word" -x
     same "$word is in the manual" "$(grep -qx "\.B $word" man/xm23.1 && echo yes)" yes
@@ -28,8 +28,8 @@ expect 'help to a full disk' 3 '' 'standard output: cannot be written: No space 
 complete_words() { # WORD..
     bash -c '. desk/completion.bash; COMP_WORDS=("$@"); COMP_CWORD=$(($# - 1)); _xm23; echo "${COMPREPLY[*]}"' - "$@" 2> /dev/null
 }
-same 'subcommands' "$(complete_words xm23 '')" 'run mark report back asm dis stack card --help --version'
-same 'every subcommand is completed' "$("$xm23" --help | sed -n 's/^  \([a-z]*\) .*/\1/p' | tr '\n' ' ')" 'run mark report back asm dis stack card '
+same 'subcommands' "$(complete_words xm23 '')" 'run mark asm dis stack card --help --version'
+same 'every subcommand is completed' "$("$xm23" --help | sed -n 's/^  \([a-z]*\) .*/\1/p' | tr '\n' ' ')" 'run mark asm dis stack card '
 same 'options' "$(complete_words xm23 mark -)" '-j -o -0 --help'
 same 'files' "$(complete_words xm23 run examples/sitting/sum)" 'examples/sitting/sum.paper'
 same 'folders' "$(complete_words xm23 mark -o examples/sit)" 'examples/sitting'
@@ -231,62 +231,6 @@ expect 'asm to a full disk' 3 '' '/dev/full: cannot be written: .*' "$xm23" asm 
 head -c 100000 /dev/urandom > "$room/noise.asm"
 expect 'asm of random bytes' 1 '' "$room/noise.asm:[0-9]+: R17: .*" "$xm23" asm "$room/noise.asm"
 
-# ---- report and back
-cd examples/sitting || exit 1
-"$xm23" mark -o "$room/two" sum.paper programs/sound.s19 programs/unsound.s19
-expect 'report' 0 '' '' "$xm23" report -o "$room/report.html" sum.paper programs/sound.s19
-same 'the page of mark' "$(cat "$room/report.html")" "$(cat "$room"/two/pages/*-sound*)"
-expect 'report of another line' 1 '' "sum.paper:21: another line was expected: $line" "$xm23" report -o "$room/report.html" sum.paper programs/unsound.s19
-same 'to standard output' "$("$xm23" report sum.paper programs/unsound.s19 2> /dev/null)" "$(cat "$room/report.html")"
-same 'with its steps' "$(grep -c '^<tr><td class="n">[0-9]*</td><td class="n">1016</td><td class="n">3FFF</td>' "$room/report.html")" 32
-expect 'report of a refused program' 1 '' "programs/refused.s19: R11: line 2: a line's checksum differs" "$xm23" report -o "$room/report.html" sum.paper programs/refused.s19
-same 'says so' "$(grep -c '>Refused: not the expected line<' "$room/report.html")" 1
-same 'and has no walk' "$(grep -c 'id="walk"' "$room/report.html")" 0
-rm "$room/report.html"
-expect 'report of no program' 3 '' 'no/such: No such .*' "$xm23" report -o "$room/report.html" sum.paper no/such
-expect 'report of a folder' 3 '' '/: is a folder' "$xm23" report -o "$room/report.html" sum.paper /
-expect 'report of no paper' 3 '' 'no/such: No such .*' "$xm23" report -o "$room/report.html" no/such programs/sound.s19
-same 'then there is no page' "$(ls "$room" | grep report)" ''
-expect 'report to a full disk' 3 '' '/dev/full: cannot be written: .*' "$xm23" report -o /dev/full sum.paper programs/sound.s19
-expect 'report into no folder' 3 '' 'no/such/x: cannot be written: .*' "$xm23" report -o no/such/x sum.paper programs/sound.s19
-expect 'report of one word' 2 '' "$(usage report)" "$xm23" report sum.paper
-expect 'report of three words' 2 '' "$(usage report)" "$xm23" report sum.paper a b
-reported() { # WHAT PAPER LINE
-    printf '%b' "$2" > "$room/p.paper"
-    same "$1" "$("$xm23" report "$room/p.paper" programs/sound.s19 | sed -n 's/.*<pre class="line">\(.*\)<\/pre>.*/\1/p')" "$3"
-}
-reported 'a run of no step' 'steps 0' '0 0 0000 0000 0000 0000 0000 0000 0000 1000 0000 00 00000000 0'
-reported 'a halted machine' 'steps 9\nstart HALTED=1' '1 0 0000 0000 0000 0000 0000 0000 0000 1000 0000 00 00000000 0'
-same 'has no walk' "$("$xm23" report "$room/p.paper" programs/sound.s19 | grep -c 'id="walk"')" 0
-back='step        PC    word  instruction               what it left'
-expect 'back' 0 "$back"$'\n''119 .*BRA     \$1016.*'$'\n''104 .*before step 104: R0 001F R1 0120 .* SP 0800 PC 1016 PSW 0003 CEX 00 lines 00000000' '' \
-    "$xm23" back sum.paper programs/sound.s19
-same 'sixteen steps' "$("$xm23" back sum.paper programs/sound.s19 | wc -l)" 18
-expect 'back -n' 0 "$back"$'\n''119 .*'$'\n''118 .*'$'\n''before step 118: .*' '' "$xm23" back -n 2 sum.paper programs/sound.s19
-same 'to the start' "$("$xm23" back -n 1024 sum.paper programs/sound.s19 | tail -1)" \
-    'before step 0: R0 0000 R1 0000 R2 0000 R3 0000 R4 0000 LR FFFF SP 0800 PC 1000 PSW 0000 CEX 00 lines 00000000'
-same 'back -w' "$("$xm23" back -w 120 sum.paper programs/sound.s19 | tail -2 | head -1)" \
-    '50          1014  5C01  ST      R0,R1             0120: 1F 00'
-same 'back -w, of a frame' "$("$xm23" back -w '$07FE' sum.paper programs/sound.s19 | tail -2 | head -1)" \
-    '65          1016        line of device 1 accepted  SP 07F8, PSW 0060, 07F8: 00 00 03 00 FF FF 16 10, device 1 status 1D'
-same 'back -w, of a device' "$("$xm23" back -w 5 sum.paper programs/screen.asm | tail -2 | head -1)" \
-    '6           100C  5C41  ST.B    R0,R1             device 2 data 4D'
-expect 'back to nobody' 1 '' '.*sound.s19: none of the last 120 steps wrote \$4321' "$xm23" back -w 4321 sum.paper programs/sound.s19
-expect 'back to nobody so near' 1 '' '.*sound.s19: none of the last 5 steps wrote \$0120' "$xm23" back -n 5 -w 120 sum.paper programs/sound.s19
-expect 'back of a refused program' 1 '' '.*refused.s19:2: R11: .*' "$xm23" back sum.paper programs/refused.s19
-expect 'back of a halt' 0 "$back"$'\n''4 .*illegal; halt: fault 8, illegal word, with FLT set'$'\n''3 .*illegal; fault 8, illegal word .*' '' \
-    "$xm23" back -n 2 sum.paper programs/halting.s19
-printf 'steps 0' > "$room/p.paper"
-expect 'back from nowhere' 1 '' '.*: no step was taken' "$xm23" back "$room/p.paper" programs/sound.s19
-for word in '-n 0' '-n 1025' '-n x' '-n -1' '-n' '-w' '-w 10000' '-w x' '-w -1' '-w $' '-w $$1'; do
-    # shellcheck disable=SC2086
-    expect "back $word" 2 '' "$(usage back)" "$xm23" back $word sum.paper programs/sound.s19
-done
-expect 'back of one word' 2 '' "$(usage back)" "$xm23" back sum.paper
-expect 'back of no program' 3 '' 'no/such: No such .*' "$xm23" back sum.paper no/such
-expect 'back to a full disk' 3 '' 'standard output: cannot be written: .*' full "$xm23" back sum.paper programs/sound.s19
-cd "$top" || exit 1
-
 # ---- dis, card, stack
 same 'dis' "$("$xm23" dis examples/copy_words.s19)" "$(cat examples/copy_words.lst)"
 printf 'S1040101AA4F\nS9030000FC\n' > "$room/byte.s19"
@@ -414,8 +358,6 @@ if [ -z "$anybody" ] || $anybody "$xm23" --version > /dev/null 2>&1; then
     same 'that says so' "$(sed -n 2p "$room/rights/marks/results.csv" | cut -d , -f 3)" 'Permission denied'
     expect 'a folder without rights' 3 '' "$room/closed/marks: cannot be made: Permission denied" \
         $anybody "$xm23" mark -o "$room/closed/marks" "$paper" "$sound"
-    expect 'a page without rights' 3 '' "$room/closed/page.html: cannot be written: Permission denied" \
-        $anybody "$xm23" report -o "$room/closed/page.html" "$paper" "$sound"
     expect 'a paper without rights' 3 '' "$room/a b.s19: Permission denied" $anybody "$xm23" run "$room/a b.s19" "$sound"
     chmod 755 "$room/closed"
 fi

@@ -24,12 +24,6 @@ clean 'twins' 1 run "$room/twins.paper" "$programs/sound.s19"
 clean 'asm' 0 asm -o "$room/asm.s19" "$programs/screen.asm"
 clean 'asm -l' 0 asm -l examples/copy_words.asm
 clean 'asm of noise' 1 asm "$room/noise"
-clean 'report' 1 report -o "$room/report.html" "$paper" "$programs/screen.asm"
-clean 'report of a refused program' 1 report -o "$room/report.html" "$paper" "$programs/refused.s19"
-clean 'report of no program' 3 report -o "$room/report.html" "$paper" no/such
-clean 'back' 0 back "$paper" "$programs/halting.s19"
-clean 'back to a writer' 0 back -w 120 "$paper" "$programs/sound.s19"
-clean 'back to nobody' 1 back -w 4321 "$paper" "$programs/sound.s19"
 clean 'run of a source' 1 run "$paper" "$programs/screen.asm"
 clean 'dis' 0 dis -o "$room/list" examples/copy_words.s19
 clean 'stack' 0 stack "$paper"

@@ -191,6 +191,12 @@ ACTS = [(r"skipped by CEX: not decoded", r"skipped by CEX"), (r"asleep: nothing"
         (r"entry: SVC to vector", r"SVC by vector"), (r"entry: fault", r"fault")]
 
 
+# Kinds of steps that must be met among those that are compared.
+KINDS = ["skipped", "asleep", "accepted", "chained", "pulled", "SVC by", "fault 8", "fault 9", "fault 10", "halt: fault 8", "halt: fault 9",
+         "halt: fault 10", "; fault 9", "ST ", "ST.B", "STR ", "STR.B", "LD ", "LDR "]
+met = set()
+
+
 def in_desk_words(text):
     for old, new in ACTS:
         text = re.sub(old, new, text)
@@ -271,7 +277,9 @@ def look_at(this, name, files):
     mine = told.stdout.decode()
     with open(page) as file:
         theirs = file.read()
-    same(f"{name}: last steps", list(desk_steps(mine)), list(oracle_steps(theirs)))
+    steps = list(desk_steps(mine))
+    same(f"{name}: last steps", steps, list(oracle_steps(theirs)))
+    met.update(kind for kind in KINDS for step in steps if kind in step[3])
     walk = Walk(mine)
     many = len(walk.steps)
     counts = [int.from_bytes(walk.journal[64 * i + 22:64 * i + 26], "little") for i in range(many)]
@@ -335,5 +343,6 @@ with tempfile.TemporaryDirectory() as room:
         line = run([print_state], input=this.input()).stdout.decode().strip()
         same(f"source {i}", run([xm23, "run", paper, source]).stdout.decode().strip(), line)
         look_at(this, f"source {i}", (paper, source, given, line_file, page))
+same("kinds of steps that were not met", sorted(set(KINDS) - met), [])
 print(f"{passed} passed, {failed} failed")
 sys.exit(failed != 0)

@@ -2,8 +2,8 @@
  * Keeps several machines open, over libxm23.a: each is advanced by slices of steps in turn, and in the end one line is
  * printed for each, the line of print_state. What the output devices show is read from a short log after each slice; a
  * slice that the log has no room for goes on in the next turn. With SCREEN set in the environment, the bytes that a
- * machine's devices showed are printed below its line. The depth, the line's last field, is a slice's own: the deepest is
- * printed, which is the run's where one slice takes all of it and less where frames stay open from slice to slice.
+ * machine's devices showed are printed below its line. The depth, the line's last field, is a slice's own: the deepest
+ * is printed, which is the run's where one slice takes all of it and less where frames stay open from slice to slice.
  *
  *   host SLICE INPUT..      SLICE is how many steps at a time, an INPUT a file as print_state reads it
  */

@@ -27,7 +27,7 @@ extern "C" {
 /* ---- version: of this header, as one number; xm23_version gives that of the library */
 
 #define XM23_VERSION_MAJOR 0
-#define XM23_VERSION_MINOR 16
+#define XM23_VERSION_MINOR 17
 #define XM23_VERSION_PATCH 0
 #define XM23_VERSION (XM23_VERSION_MAJOR * 65536 + XM23_VERSION_MINOR * 256 + XM23_VERSION_PATCH)
 
@@ -37,6 +37,8 @@ extern "C" {
 #define XM23_RECORD_SIZE 32    /* bytes of a state record */
 #define XM23_EVENT_SIZE 8      /* bytes of an event record */
 #define XM23_LOG_SIZE 8        /* bytes of a log record */
+#define XM23_JOURNAL_SIZE 64   /* bytes of a journal record */
+#define XM23_MAX_JOURNAL 65536 /* bytes of a journal: 1,024 records */
 #define XM23_MAX_EVENTS 4096   /* event records of one run */
 #define XM23_MAX_STEPS 1000000 /* steps of one run */
 #define XM23_VECTORS_SIZE 64   /* bytes of the sixteen vectors, at XM23_VECTORS of memory */
@@ -86,6 +88,14 @@ extern "C" {
 #define XM23_LOG_BYTE 5   /* one byte: what the device showed */
 #define XM23_LOG_ZERO 6   /* two bytes, both 0 */
 
+/* ---- a journal record: 64 bytes, little-endian; where each part begins. All are of before the step and its events. */
+
+#define XM23_JOURNAL_RECORD 0   /* 32 bytes: the state record */
+#define XM23_JOURNAL_DEVICES 32 /* 16 bytes: the device bytes, #0000 to #000F */
+#define XM23_JOURNAL_ADDRESS 48 /* two bytes: where the step pushed or stored, or 0 */
+#define XM23_JOURNAL_BYTES 50   /* eight bytes: those at the address and after it, addresses wrapping */
+#define XM23_JOURNAL_ZERO 58    /* six bytes, all 0 */
+
 /* ---- refusals: the papers' numbers; xm23_refusal_text has the sentence of each */
 
 #define XM23_ACCEPTED 0
@@ -102,6 +112,8 @@ extern "C" {
 #define XM23_REFUSED_SREC_CHECKSUM 11
 #define XM23_REFUSED_SREC_ROOM 12
 #define XM23_REFUSED_EVENT_TWINS 13
+#define XM23_REFUSED_JOURNAL 14
+#define XM23_REFUSED_BACK 15
 #define XM23_REFUSED_STACK 16
 #define XM23_REFUSED_SOURCE_FORM 17
 #define XM23_REFUSED_SOURCE_NAME 18
@@ -125,6 +137,8 @@ static inline const char *xm23_refusal_text(unsigned refusal)
     case XM23_REFUSED_SREC_CHECKSUM: return "a line's checksum differs";
     case XM23_REFUSED_SREC_ROOM: return "data or span passes #FFFF, or the text does not fit its buffer";
     case XM23_REFUSED_EVENT_TWINS: return "two events share step and device";
+    case XM23_REFUSED_JOURNAL: return "the journal's length is zero, above 65,536 or no multiple of 64, or its number kept or next place is too large";
+    case XM23_REFUSED_BACK: return "k exceeds the steps kept";
     case XM23_REFUSED_STACK: return "a use is above 1,024, the priority above 7, or the vectors are not 64 bytes or the uses not 16";
     case XM23_REFUSED_SOURCE_FORM: return "a line fits no statement, brackets go deeper than 16, or END is missing";
     case XM23_REFUSED_SOURCE_NAME: return "a name is unknown, already given or the 1,025th";
@@ -431,6 +445,61 @@ uint64_t xm23_run(uint8_t *memory, size_t memory_len, uint8_t *record, size_t re
 #define XM23_REASON_DONE 0
 #define XM23_REASON_HALTED 1
 #define XM23_REASON_LOG 2
+
+/*
+ * Runs a machine as xm23_run does, and keeps a record of each step, so that xm23_back can undo it. The run is the same
+ * run: same reply, and the same memory, record, log and depth. It is slower; xm23_run is the call where nobody will go
+ * back.
+ *
+ * The journal is a ring of records, XM23_JOURNAL_SIZE bytes each, with no header. A record is written at the next
+ * place for each step done, a halting one and one asleep too, a step that the log had no room for not; the place after
+ * the last is the first, and the oldest record is overwritten where all are kept. To begin, hand over kept 0 and any
+ * place; from then on hand over journal, kept and place as the last call left them, with the memory and record that it
+ * left.
+ *
+ * A record's address is that of the last word that the step pushed (an accepted line, SVC, a fault), bit 0 dropped; or
+ * of the first byte that it stored outside the device bytes; or 0. What a step does to memory besides is in the device
+ * bytes.
+ *
+ * memory to deepest    as for xm23_run.
+ * journal, journal_len in-out: the records, 64 to XM23_MAX_JOURNAL bytes, a multiple of 64. Bytes of places that no
+ *                      step reaches stay.
+ * kept                 in-out: how many steps are kept, at most the records that there is room for.
+ * place                in-out: where the next record goes, below the records that there is room for.
+ * n                    in: how many steps.
+ * result               one reply, of the parts of xm23_run.
+ * refusals             in the order tested: those of xm23_run, then XM23_REFUSED_JOURNAL, whatever n is. Refused: as
+ *                      for xm23_run, and journal, kept and place are as they were.
+ * interrupts           as for xm23_run.
+ * defined              crates/journal/specs/Call.antt, runJournalOf, for every length, content and number;
+ *                      Record.antt, journalRecord; Ring.antt, journalAfter.
+ */
+uint64_t xm23_run_journal(uint8_t *memory, size_t memory_len, uint8_t *record, size_t record_len, const uint8_t *events,
+                          size_t events_len, uint8_t *log, size_t log_len, uint32_t *deepest, uint8_t *journal,
+                          size_t journal_len, uint32_t *kept, uint32_t *place, uint64_t n);
+
+/*
+ * Goes back k steps: copies k records of a journal out, the newest first, each into the record and into memory (the
+ * device bytes, then the eight bytes at its address), and lowers kept and place by k, the place wrapping. The
+ * journal's bytes stay. What is copied is not looked at: a record of any bytes comes out as it is.
+ *
+ * Where kept began at 0, and memory, record, journal, its length and its two numbers were changed by these two calls
+ * alone, over any runs and goings-back: memory and record are as they were k steps earlier, of steps taken and not
+ * taken back; and a run of k steps with the same events due and a log long enough gives the same memory and record
+ * again.
+ *
+ * memory, memory_len   in-out: the machine's memory, XM23_MEMORY_SIZE bytes.
+ * record, record_len   in-out: its state record, XM23_RECORD_SIZE bytes.
+ * journal, journal_len in: the records, as xm23_run_journal left them.
+ * kept, place          in-out: its two numbers.
+ * k                    in: how many steps; 0 changes nothing.
+ * result               one reply: XM23_REFUSAL in bits 7-0, 0 above.
+ * refusals             in the order tested: XM23_REFUSED_MEMORY; XM23_REFUSED_RECORD; XM23_REFUSED_JOURNAL;
+ *                      XM23_REFUSED_BACK. Refused: memory, record, kept and place are as they were.
+ * defined              crates/journal/specs/Call.antt, backCallOf, for every length, content and number.
+ */
+uint32_t xm23_back(uint8_t *memory, size_t memory_len, uint8_t *record, size_t record_len, const uint8_t *journal,
+                   size_t journal_len, uint32_t *kept, uint32_t *place, uint64_t k);
 
 /*
  * Loads a text of Motorola S-records: S0 is passed over, S1 is stored at its address, S9 is the last line and gives the

@@ -16,7 +16,7 @@ clang=${CLANG:-clang}
 out=build/fuzz
 oracle='--release --offline --locked --manifest-path oracle/Cargo.toml --target-dir oracle/target'
 warn='-std=gnu11 -g -O2 -Wall -Wextra -Werror -Iinclude'
-mkdir -p "$out/seeds" "$out/corpus" "$out/corpus_words" "$out/corpus_srec" "$out/corpus_stack" "$out/corpus_sources" \
+mkdir -p "$out/seeds" "$out/corpus" "$out/corpus_journal" "$out/corpus_words" "$out/corpus_srec" "$out/corpus_stack" "$out/corpus_sources" \
     "$out/sources"
 
 # The compiler and its runtime may not be here: the rest of 'make fuzz' does without.
@@ -31,14 +31,14 @@ if ! "$clang" -fsanitize=fuzzer -o "$out/empty" "$out/empty.c" 2> "$out/empty.lo
     exit 0
 fi
 
-# target NAME FLAG..: the run target. Only what is to guide the search has counters.
+# target NAME SOURCE FLAG..: a target over the C interpreter. Only what is to guide the search has counters.
 target() {
-    local name=$1
-    shift
+    local name=$1 source=$2
+    shift 2
     for file in tests/fuzz/setup.c bench/xm23_fast.c; do
         "$clang" $warn -fsanitize=fuzzer-no-link -c -o "$out/$(basename "$file" .c).o" "$file"
     done
-    "$clang" $warn "$@" -c -o "$out/$name.o" tests/fuzz/run.c
+    "$clang" $warn "$@" -c -o "$out/$name.o" "tests/fuzz/$source.c"
     "$clang" -fsanitize=fuzzer -o "$out/$name" "$out/$name.o" "$out/setup.o" "$out/xm23_fast.o" \
         target/staticlib/libxm23.a
 }
@@ -68,7 +68,7 @@ search() {
         "${options[@]}" "${@:3}" 2>&1 | tee "$log" | grep --line-buffered -E 'Seed|counters|INITED|pulse|DONE' ||
         status=$?
     if [ "$status" -ne 0 ]; then
-        grep -E '^[a-z ]+: reply|^(en|de)coding|^saved in|ERROR|Test unit written' "$log" || true
+        grep -E '^[a-z ]+: reply|^.*: a difference$|^(en|de)coding|^saved in|ERROR|Test unit written' "$log" || true
         echo "== $name: a difference; see $log"
     fi
     [ "$status" -eq 0 ]
@@ -79,7 +79,7 @@ check_itself() {
     local found=$out/wrong_found status=0
     rm -rf "$found"
     mkdir -p "$found/corpus"
-    target wrong -DWRONG
+    target wrong run -DWRONG
     XM23_FOUND=$found timeout 120 "$out/wrong" -max_total_time=100 -artifact_prefix="$found/" "${options[@]}" \
         "$found/corpus" "$out/seeds" > "$out/wrong.log" 2>&1 || status=$?
     if [ "$status" -eq 0 ] || ! ls "$found"/run-*/memory.bin > /dev/null; then
@@ -92,8 +92,10 @@ check_itself() {
 options=(-max_len=600)
 seeds
 check_itself
-target run
+target run run
 search run "$seconds" "$out/corpus" "$out/seeds"
+target journal journal
+search journal $((seconds / 6 + 1)) "$out/corpus_journal" "$out/seeds"
 options=(-max_len=8)
 "$clang" $warn -fsanitize=fuzzer -o "$out/words" tests/fuzz/words.c target/staticlib/libxm23.a
 search words $((seconds / 6 + 1)) "$out/corpus_words"

@@ -3,14 +3,20 @@
 //! on random inputs first.
 //!
 //! Last, instructions of the host per step, where valgrind is here; `run counts` prints these alone, and `run WORKLOAD
-//! rattle` (or c, oracle) runs one workload once, for such a count.
+//! rattle` (or c, oracle, journal, back) runs one workload once, for such a count. A run with a journal of 1,024 records,
+//! and going back by all of them, stand beside the plain run.
 
 mod callgrind;
+#[path = "../tests/library/journal.rs"]
+mod library_journal;
 mod rows;
 
 use callgrind::instructions;
+use library_journal::LIBRARY;
 use oracle::assemble::assemble;
 use oracle::inputs::{input, Input, KINDS};
+use oracle::journal::{Held, Journal, MAX_JOURNAL};
+use oracle::journal_compare::ORACLE;
 use oracle::machine::{self, event_record, Event, Machine};
 use oracle::random::Random;
 use std::time::Instant;
@@ -265,6 +271,41 @@ fn lists() -> Vec<Workload> {
     vec![list("no list", 0), list("list", 4_096)]
 }
 
+// ---- with a journal
+
+/// An input with an empty journal of 1,024 records.
+fn held(input: &Input) -> Held {
+    Held { input: input.clone(), journal: Journal { bytes: vec![0; MAX_JOURNAL], kept: 0, place: 0 } }
+}
+
+/// What a run with a journal may cost a step, in host instructions.
+const MOST: f64 = 280.0;
+
+/// The mixed loop with a journal and without one, and going back by all that is kept, by callgrind; compared first.
+fn print_journal() {
+    let input = mixed(0, 1_000_000);
+    let (mut ours, mut theirs) = (held(&input), held(&input));
+    assert!((LIBRARY.run)(&mut ours) == (ORACLE.run)(&mut theirs) && ours == theirs, "a journal that differs");
+    assert!((LIBRARY.back)(&mut ours, 1_024) == (ORACLE.back)(&mut theirs, 1_024) && ours == theirs, "back differs");
+    let count = |function: &str, engine: &str| instructions(function, &["mixed loop", engine]).unwrap_or(f64::NAN);
+    let [plain, kept] = [("xm23_run", "rattle"), ("xm23_run_journal", "journal")].map(|(f, e)| count(f, e) / 1e6);
+    println!("mixed loop with a journal: {kept:.1} host instructions a step (at most {MOST}), {plain:.1} without one");
+    println!("going back: {:.1} host instructions a step", count("xm23_back", "back") / 1_024.0);
+    assert!(!(kept > MOST), "a step with a journal costs more than {MOST} host instructions");
+}
+
+/// Runs a workload once with a journal, and goes back by all that is kept where it is asked for.
+fn once_kept(inputs: &[Input], back: bool) -> (f64, u64) {
+    let mut work: Vec<Held> = inputs.iter().map(held).collect();
+    let clock = Instant::now();
+    let steps = work.iter_mut().map(|held| machine::steps_of((LIBRARY.run)(held))).sum();
+    let time = clock.elapsed().as_secs_f64();
+    if back {
+        work.iter_mut().for_each(|held| assert!((LIBRARY.back)(held, held.journal.kept.into()) == 0));
+    }
+    (time, steps)
+}
+
 /// Host instructions a step, by callgrind, and what a record of an event list costs.
 fn print_counts() {
     let of = |name: &str| instructions("xm23_run", &[name, "rattle"]);
@@ -279,6 +320,7 @@ fn print_counts() {
         println!("{:28} {ours:9.1} {c:9.1}", workload.name);
     }
     println!("a record of a list of 4,096, n 0: {:.1} host instructions", (list - none) / 4_096.0);
+    print_journal();
 }
 
 /// Runs a workload once, and gives the seconds, the steps and what the runs left.
@@ -337,6 +379,9 @@ fn main() {
         // One after the other: a workload that is not asked for is not made.
         let groups: [fn() -> Vec<Workload>; 4] = [loops, counted, lists, workloads];
         let workload = groups.iter().flat_map(|group| group()).find(|w| w.name == name).expect("a workload");
+        if ["journal", "back"].contains(&engine.as_str()) {
+            return println!("{} steps", once_kept(&workload.inputs, engine == "back").1);
+        }
         let engine = ENGINES.iter().find(|e| e.0 == engine).expect("an engine").1;
         println!("{} steps", once(engine, &workload.inputs).1);
         return;
@@ -357,5 +402,7 @@ fn main() {
     println!("a million steps with 4,096 events take {events:.2} times those with none");
     let screen = ratio([screen(true, 1_000_000), screen(false, 1_000_000)]);
     println!("a character every 10th step, logged, takes {screen:.2} times the same with ENA clear");
+    let kept = (0..TURNS).map(|_| once_kept(&[mixed(0, 1_000_000)], false).0).fold(f64::INFINITY, f64::min);
+    println!("mixed loop with a journal: {:.1} million steps a second", 1.0 / kept);
     print_counts();
 }

@@ -1,13 +1,15 @@
 //! Compares the library with the oracle on more inputs than the gate does. `fuzz INPUTS [SEED]` runs so many of each
-//! kind, a quarter as many of each kind of S-record file and of source, and as many calls for stack bytes, from a seed of
-//! the clock if none is given, and saves the first difference under build/fuzz. `fuzz replay FOLDER` runs a saved input
-//! again, or a saved call for S-records or source. The exit status is 1 where there is a difference, and 2, with one
+//! kind, a tenth as many sessions with a journal, a quarter as many of each kind of S-record file and of source, and as
+//! many calls for stack bytes, from a seed of the clock if none is given, and saves the first difference under build/fuzz.
+//! `fuzz replay FOLDER` runs a saved input again, or a saved call on a journal, for S-records or source. The exit status is 1 where there is a difference, and 2, with one
 //! line, where the command cannot be carried out.
 
 #[path = "../tests/library/mod.rs"]
 mod library;
 #[path = "../tests/library/assemble.rs"]
 mod library_assemble;
+#[path = "../tests/library/journal.rs"]
+mod library_journal;
 #[path = "../tests/library/srec.rs"]
 mod library_srec;
 #[path = "../tests/library/stack.rs"]
@@ -19,6 +21,7 @@ use oracle::assemble_inputs;
 use oracle::compare::{compare, compare_many, folder, saved, Found};
 use oracle::coverage::Coverage;
 use oracle::inputs::KINDS;
+use oracle::journal_compare;
 use oracle::random::Random;
 use oracle::srec_compare::{self, Reached};
 use oracle::srec_inputs;
@@ -79,7 +82,23 @@ fn fuzz(inputs: u64, seed: u64) -> bool {
         }
         println!("{kind:?}: {inputs} of {inputs}, no difference, {:.1} s", start.elapsed().as_secs_f64());
     }
-    srec(inputs / 4, seed) && sources(inputs / 4, seed) && stack(inputs, seed)
+    journal(inputs / 10, seed) && srec(inputs / 4, seed) && sources(inputs / 4, seed) && stack(inputs, seed)
+}
+
+/// Compares sessions of runs and goings-back.
+fn journal(sessions: u64, seed: u64) -> bool {
+    let (start, mut reached) = (Instant::now(), journal_compare::Reached::default());
+    let found = journal_compare::compare_many(library_journal::LIBRARY, seed, sessions, &mut reached);
+    let Err((at, difference)) = found else {
+        println!("journal: {sessions} sessions, no difference, {:.1} s", start.elapsed().as_secs_f64());
+        return true;
+    };
+    println!("journal {at}: {}", difference.what);
+    match difference.save(&folder(), &format!("journal-{at}")) {
+        Ok(place) => println!("saved in {} (again: make replay FOUND={0})", place.display()),
+        Err(e) => println!("not saved: {e}"),
+    }
+    false
 }
 
 /// Compares sources of every kind, those of the repository mutated among them.
@@ -154,6 +173,9 @@ fn replay(place: &Path) -> Outcome {
     if srec_compare::is_saved(place) {
         return replay_srec(place);
     }
+    if journal_compare::is_saved(place) {
+        return replay_journal(place);
+    }
     let input = saved(place).map_err(|e| format!("{}: {e}", place.display()))?;
     match compare(library, &input, &mut Coverage::default()) {
         Ok(outcome) => {
@@ -169,6 +191,18 @@ fn replay(place: &Path) -> Outcome {
 }
 
 /// Assembles a saved source again, and tells where the two differ.
+fn replay_journal(place: &Path) -> Outcome {
+    let call = journal_compare::replay(library_journal::LIBRARY, place);
+    match call.map_err(|e| format!("{}: {e}", place.display()))? {
+        Ok(reply) => println!("no difference; both reply {reply:016X}"),
+        Err(difference) => {
+            println!("{}", difference.what);
+            return Ok(false);
+        }
+    }
+    Ok(true)
+}
+
 fn replay_source(place: &Path) -> Outcome {
     let input = assemble_compare::saved(place).map_err(|e| format!("{}: {e}", place.display()))?;
     match assemble_compare::compare(library_assemble::assemble, &input, &mut assemble_compare::Reached::default()) {

@@ -13,9 +13,15 @@
 //! stand in the log, `step device byte` on each line; `deepest` the depth that it then gives, in base ten. `line` is of a
 //! log long enough whatever `log` says, and so are `bytes` where `reply` is not there; with `reply` they are what the
 //! library leaves.
+//!
+//! Of the journal: `journal` is how many records the library is lent, and the next place, 0 if not named, with which the run
+//! is done once more; `kept` the number kept and the next place afterwards; `records` a line for each record that is looked
+//! at: its place, the step count in it, its address and its eight bytes, the last nine in base sixteen. `back` is by how
+//! many steps it is then gone back, and `then` what is there afterwards: `R1=0001 PC=1000 COUNT=2 0100=34`, hexadecimal.
 
 use crate::assemble::judge;
 use crate::inputs::Input;
+use crate::journal::{Held, Journal, KEPT};
 use crate::machine::{event_record, long_log, Event, Lines, Machine, Ran, Shown, LR, PC, RECORD, SP};
 use crate::report::sentence;
 use std::collections::HashMap;
@@ -49,12 +55,27 @@ pub struct Case {
     pub shown: Option<Vec<Shown>>,
     /// The depth of that run, where the case says so.
     pub deepest: Option<u32>,
+    pub journal: Option<Kept>,
+}
+
+/// A record of a journal: its place, the step count in it, the address and the eight bytes.
+pub type Row = (usize, u32, u16, [u8; 8]);
+
+/// What a case says of a journal.
+pub struct Kept {
+    pub held: Held,
+    /// The number kept and the next place after the run.
+    pub left: (u32, u32),
+    pub rows: Vec<Row>,
+    pub back: u64,
+    /// After going back: parts of the state record by their places, and bytes of memory.
+    pub state: Vec<(String, u32)>,
 }
 
 #[rustfmt::skip]
-const KEYS: [&str; 14] = [
-    "title", "from", "start", "source", "events", "n", "line", "bytes", "log", "reply", "shown", "deepest", "printed",
-    "decides",
+const KEYS: [&str; 19] = [
+    "title", "from", "start", "source", "events", "n", "line", "bytes", "log", "reply", "shown", "deepest", "journal",
+    "kept", "records", "back", "then", "printed", "decides",
 ];
 /// What the bytes of a log hold that a case lends.
 const UNTOUCHED: u8 = 0x5A;
@@ -159,6 +180,47 @@ fn shown(line: &str) -> Outcome<Option<Shown>> {
     }
 }
 
+/// The numbers of a text in base ten.
+fn numbers<const K: usize>(text: &str, what: &str) -> Outcome<[u64; K]> {
+    let all: Option<Vec<u64>> = text.split_whitespace().map(|part| part.parse().ok()).collect();
+    all.and_then(|all| all.try_into().ok()).ok_or_else(|| format!("'{text}' is no {what}"))
+}
+
+/// A record of the journal: place and step count in base ten, address and eight bytes in base sixteen.
+fn row(line: &str) -> Outcome<Option<Row>> {
+    let wrong = || format!("'{}' is no record of the journal: place step address and eight bytes", line.trim());
+    let parts: Vec<&str> = line.split_whitespace().collect();
+    let [place, step, address, ref bytes @ ..] = parts[..] else {
+        return if parts.is_empty() { Ok(None) } else { Err(wrong()) };
+    };
+    let bytes =
+        bytes.iter().map(|byte| hex(byte).and_then(|byte| fitting("byte", byte))).collect::<Outcome<Vec<u8>>>()?;
+    let (place, step) = (place.parse().map_err(|_| wrong())?, step.parse().map_err(|_| wrong())?);
+    Ok(Some((place, step, fitting("address", hex(address)?)?, bytes.try_into().map_err(|_| wrong())?)))
+}
+
+/// What a case says of a journal, of an input that the run is handed.
+fn journal(get: &dyn Fn(&str) -> String, input: &Input) -> Result<Option<Kept>, (&'static str, String)> {
+    let at = |key: &'static str| move |text: String| (key, text);
+    let (text, mut rows) = (get("journal"), Vec::new());
+    if text.is_empty() {
+        return Ok(None);
+    }
+    let whole = if text.contains(' ') { text } else { text + " 0" };
+    let [records, place] = numbers(&whole, "journal: records, and a place").map_err(at("journal"))?;
+    let bytes = vec![UNTOUCHED; KEPT * records as usize];
+    let held = Held { input: input.clone(), journal: Journal { bytes, kept: 0, place: place as u32 } };
+    let [kept, next] = numbers(&get("kept"), "number kept with the next place").map_err(at("kept"))?;
+    for line in get("records").lines() {
+        rows.extend(row(line).map_err(at("records"))?);
+    }
+    let back = if get("back").is_empty() { "0".to_string() } else { get("back") };
+    let [back] = numbers(&back, "number of steps back").map_err(at("back"))?;
+    let part = |text: &str| pair(text).map(|(name, value)| (name.to_string(), value));
+    let state = get("then").split_whitespace().map(part).collect::<Outcome<_>>().map_err(at("then"))?;
+    Ok(Some(Kept { held, left: (kept as u32, next as u32), rows, back, state }))
+}
+
 /// The keys of a file with their values, the lines of a value joined by line feeds.
 fn keys(text: &str) -> Result<Values, Mistake> {
     let mut all: Vec<(String, Value)> = Vec::new();
@@ -231,7 +293,8 @@ pub fn parse(name: &str, text: &str) -> Result<Case, Mistake> {
     let bytes = bytes.map_err(at("bytes")).map_err(wrong)?;
     let (title, line) = (get("title").into(), get("line").to_string() + "\n");
     let shown = values.contains_key("shown").then_some(records);
-    Ok(Case { name: name.into(), title, source, input, line, bytes, reply, shown, deepest })
+    let journal = journal(&|key| get(key).to_string(), &input).map_err(wrong)?;
+    Ok(Case { name: name.into(), title, source, input, line, bytes, reply, shown, deepest, journal })
 }
 
 /// The cases of 01's list, the example of its sheet, and its plausible misreadings.
@@ -264,7 +327,7 @@ pub const OF_01: [&str; 25] = [
 ];
 
 /// The cases of the change requests of 02.
-pub const OF_02: [&str; 49] = [
+pub const OF_02: [&str; 58] = [
     "02-1-count-before-the-step",
     "02-1-ena-clear",
     "02-1-ena-set-by-the-same-store",
@@ -305,6 +368,15 @@ pub const OF_02: [&str; 49] = [
     "02-7-places-of-the-counts",
     "02-7-tick-lost-as-one-is-taken",
     "02-7-trap-takes-none",
+    "02-8-address-of-an-entry",
+    "02-8-addresses-wrap",
+    "02-8-back-by-some",
+    "02-8-back-from-a-halt",
+    "02-8-before-the-due-events",
+    "02-8-oldest-overwritten",
+    "02-8-record-of-a-store",
+    "02-8-step-not-taken",
+    "02-8-store-to-a-device",
     "02-10-chained-entry",
     "02-10-greatest-and-not-the-last",
     "02-10-halting-fault",

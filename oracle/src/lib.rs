@@ -12,6 +12,8 @@ pub mod coverage;
 pub mod follow;
 pub mod inputs;
 pub mod isa;
+pub mod journal;
+pub mod journal_compare;
 pub mod listing;
 pub mod machine;
 pub mod nests;

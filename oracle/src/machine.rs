@@ -159,9 +159,11 @@ pub struct Trace {
     pub word: Option<u16>,
     /// Bytes loaded by an LD or LDR.
     pub loaded: Vec<u16>,
-    /// Bytes written by a store or a push, of the same value too.
+    /// Bytes written by a store or a push, of the same value too, and what each held before.
     pub written: Vec<u16>,
-    /// The device bytes before the act, the due events applied.
+    pub was: Vec<u8>,
+    /// The device bytes before the due events, and before the act, the due events applied.
+    pub undelivered: [u8; DEVICES as usize],
     pub devices: [u8; DEVICES as usize],
     /// What it showed. (02, §1)
     pub shown: Option<Shown>,
@@ -277,6 +279,7 @@ struct Step<'a> {
     word: Option<u16>,
     loaded: Vec<u16>,
     written: Vec<u16>,
+    was: Vec<u8>,
     /// The device and the byte that a store showed. (02, §1)
     shown: Option<(u8, u8)>,
     /// A write to R7 or a branch taken.
@@ -292,19 +295,20 @@ impl Machine {
         }
         let count = self.count;
         let first = events.partition_point(|e| e.step < count);
+        let undelivered = std::array::from_fn(|i| memory[i]);
         let mut due = Vec::new();
         for event in events[first..].iter().take_while(|e| e.step == count) {
             due.push((event.device, memory[2 * usize::from(event.device)]));
             self.apply(memory, *event);
         }
         let devices = std::array::from_fn(|i| memory[i]);
-        let (loaded, written) = (Vec::new(), Vec::new());
-        let mut step = Step { m: self, memory, word: None, loaded, written, shown: None, moved_pc: false };
+        let (loaded, written, was) = (Vec::new(), Vec::new(), Vec::new());
+        let mut step = Step { m: self, memory, word: None, loaded, written, was, shown: None, moved_pc: false };
         let (act, fetched) = step.act();
-        let (word, loaded, written) = (step.word, step.loaded, step.written);
+        let (word, loaded, written, was) = (step.word, step.loaded, step.written, step.was);
         let shown = step.shown.map(|(device, byte)| Shown { step: count, device, byte });
         self.count += 1;
-        Some(Trace { act, due, fetched, word, loaded, written, devices, shown })
+        Some(Trace { act, due, fetched, word, loaded, written, was, undelivered, devices, shown })
     }
 
     /// An event on a device.
@@ -458,6 +462,7 @@ impl Step<'_> {
     }
 
     fn write_plain(&mut self, address: u16, value: u8) {
+        self.was.push(self.memory[usize::from(address)]);
         self.memory[usize::from(address)] = value;
         self.written.push(address);
     }

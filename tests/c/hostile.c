@@ -74,9 +74,10 @@ static int guarded(const struct lent *b)
 }
 
 static struct lent memory, record, events, screen, text;
-static struct lent number; /* one that goes in and out, between guards as the buffers are */
+static struct lent number, kept, place; /* those that go in and out, between guards as the buffers are */
+static struct lent journal;
 static uint8_t memory_before[ROOM], record_before[ROOM], events_before[ROOM], log_before[ROOM];
-static uint8_t text_before[TEXT_ROOM];
+static uint8_t text_before[TEXT_ROOM], journal_before[ROOM];
 
 static uint64_t next_random = 1;
 
@@ -115,17 +116,17 @@ static void check_log(uint64_t reply)
 }
 
 /* Lends a number that goes in and out, at the end of its room or at its beginning. */
-static uint32_t *lend_number(uint32_t value, int at_end)
+static uint32_t *lend_number(struct lent *b, uint32_t value, int at_end)
 {
-    lend(&number, sizeof value, at_end);
-    memcpy(number.at, &value, sizeof value);
-    return (uint32_t *)(void *)number.at;
+    lend(b, sizeof value, at_end);
+    memcpy(b->at, &value, sizeof value);
+    return (uint32_t *)(void *)b->at;
 }
 
 /* Calls, and checks that what is not lent stands, that the reply is well formed and that a refusal changes nothing. */
 static uint64_t call(uint64_t n)
 {
-    uint32_t given = (uint32_t)(draw() >> 16), *deepest = lend_number(given, (int)(calls & 1));
+    uint32_t given = (uint32_t)(draw() >> 16), *deepest = lend_number(&number, given, (int)(calls & 1));
     uint64_t reply;
     calls++;
     memcpy(memory_before, memory.at, memory.length);
@@ -290,6 +291,161 @@ static void junk(int at_end, int rounds)
         if (pick >> 42 & 3)
             lend(&events, 0, at_end);
         call(pick >> 50);
+    }
+}
+
+/* ---- journals */
+
+static int fits(uint32_t many, uint32_t next)
+{
+    size_t records = journal.length / XM23_JOURNAL_SIZE;
+    return journal.length && journal.length <= XM23_MAX_JOURNAL && journal.length % XM23_JOURNAL_SIZE == 0 &&
+           many <= records && next < records;
+}
+
+static void keep_before(void)
+{
+    calls++;
+    memcpy(memory_before, memory.at, memory.length);
+    memcpy(record_before, record.at, record.length);
+    memcpy(log_before, screen.at, screen.length);
+    memcpy(journal_before, journal.at, journal.length);
+}
+
+static void check_guards(void)
+{
+    check("guard bytes", guarded(&memory) && guarded(&record) && guarded(&events) && guarded(&screen));
+    check("guard bytes of a journal", guarded(&journal) && guarded(&number) && guarded(&kept) && guarded(&place));
+}
+
+/* A run with a journal: refused, nothing changes; accepted, the numbers are those of the steps done and no place that
+ * was not reached changes. */
+static uint64_t run_kept(uint32_t many, uint32_t next, uint64_t n, int at_end)
+{
+    uint32_t *deepest = lend_number(&number, 77, at_end), *k = lend_number(&kept, many, at_end);
+    uint32_t *p = lend_number(&place, next, at_end), records = (uint32_t)(journal.length / XM23_JOURNAL_SIZE), i;
+    uint64_t reply;
+    keep_before();
+    reply = xm23_run_journal(memory.at, memory.length, record.at, record.length, events.at, events.length, screen.at,
+                             screen.length, deepest, journal.at, journal.length, k, p, n);
+    check_guards();
+    if (XM23_RUN_REFUSAL(reply)) {
+        check("as it was", !memcmp(memory.at, memory_before, memory.length) &&
+                               !memcmp(record.at, record_before, record.length) &&
+                               !memcmp(screen.at, log_before, screen.length) &&
+                               !memcmp(journal.at, journal_before, journal.length));
+        check("numbers as they were", *deepest == 77 && *k == many && *p == next);
+    } else {
+        uint32_t steps = XM23_RUN_STEPS(reply);
+        check("a journal that does not fit", fits(many, next));
+        check("number kept", *k == (many + steps < records ? many + steps : records));
+        check("next place", *p == (next + steps) % records);
+        for (i = 0; i < records; i++)
+            check("places not reached", (i + records - next) % records < steps ||
+                                            !memcmp(journal.at + XM23_JOURNAL_SIZE * i,
+                                                    journal_before + XM23_JOURNAL_SIZE * i, XM23_JOURNAL_SIZE));
+    }
+    return reply;
+}
+
+static uint32_t go_back(uint32_t many, uint32_t next, uint64_t steps, int at_end)
+{
+    uint32_t *k = lend_number(&kept, many, at_end), *p = lend_number(&place, next, at_end), reply;
+    keep_before();
+    reply = xm23_back(memory.at, memory.length, record.at, record.length, journal.at, journal.length, k, p, steps);
+    check_guards();
+    check("journal's bytes", !memcmp(journal.at, journal_before, journal.length));
+    if (reply) {
+        check("as it was", !memcmp(memory.at, memory_before, memory.length) &&
+                               !memcmp(record.at, record_before, record.length) && *k == many && *p == next);
+    } else {
+        uint32_t records = (uint32_t)(journal.length / XM23_JOURNAL_SIZE);
+        check("lowered", *k == many - steps && *p == (next + records - steps % records) % records);
+    }
+    return reply;
+}
+
+static unsigned back_expected(uint32_t many, uint32_t next, uint64_t steps)
+{
+    if (memory.length != XM23_MEMORY_SIZE)
+        return XM23_REFUSED_MEMORY;
+    if (record.length != XM23_RECORD_SIZE)
+        return XM23_REFUSED_RECORD;
+    if (!fits(many, next))
+        return XM23_REFUSED_JOURNAL;
+    return steps > many ? XM23_REFUSED_BACK : XM23_ACCEPTED;
+}
+
+/* Every combination of lengths and numbers around the right ones; the journal holds bytes of no pattern, which go back
+ * out unchecked. */
+static void journals(int at_end, int brief)
+{
+    static const size_t lengths[] = {0, 1, 63, 64, 65, 127, 128, 640, 65472, 65535, 65536, 65537, 65600, 131072};
+    static const size_t memories[] = {65536, 0, 65535, 65537}, records[] = {32, 0, 31, 33};
+    size_t l, i, m, turn = 0;
+    for (l = 0; l < sizeof lengths / sizeof *lengths; l++) {
+        const uint32_t many = (uint32_t)(lengths[l] / XM23_JOURNAL_SIZE);
+        const uint32_t numbers[] = {0, 1, many / 2, many - 1, many, many + 1, UINT32_MAX};
+        for (i = 0; i < 49; i++)
+            for (m = 0; m < 4; m++) {
+                const uint32_t k = numbers[i / 7], p = numbers[i % 7];
+                const uint64_t steps[] = {0, 1, k / 2, k, (uint64_t)k + 1, UINT64_MAX, (uint64_t)1 << 32};
+                const uint64_t back = steps[turn % 7];
+                unsigned refusal;
+                turn++;
+                if (brief && turn % 23)
+                    continue;
+                lend(&memory, memories[m], at_end);
+                lend(&record, records[turn % 4 ? 0 : m], at_end);
+                lend(&events, 0, at_end);
+                lend(&screen, 8 * (turn % 3), at_end);
+                lend(&journal, lengths[l], at_end);
+                memset(memory.at, 0, memory.length);
+                memset(record.at, 0, record.length);
+                scatter(&journal);
+                check("refusal of going back", go_back(k, p, back, at_end) == back_expected(k, p, back));
+                memset(record.at, 0, record.length);
+                refusal = expected(memory.length, record.length, 0, screen.length, turn % 100);
+                if (!refusal && !fits(k, p))
+                    refusal = XM23_REFUSED_JOURNAL;
+                check("refusal by lengths", XM23_RUN_REFUSAL(run_kept(k, p, turn % 100, at_end)) == refusal);
+            }
+    }
+}
+
+/* Random machines over journals of few records: each run is gone back by all that is kept, and the bytes are as they
+ * were. */
+static void goings_back(int at_end, int rounds)
+{
+    static uint8_t memory_then[XM23_MEMORY_SIZE], record_then[XM23_RECORD_SIZE];
+    int i;
+    for (i = 0; i < rounds; i++) {
+        uint64_t pick = draw(), reply;
+        uint32_t many = 1 + (uint32_t)(pick % 40), next = (uint32_t)(pick >> 8) % many, steps;
+        uint64_t n = (pick >> 16) % (many + 1);
+        lend(&memory, XM23_MEMORY_SIZE, at_end);
+        lend(&record, XM23_RECORD_SIZE, at_end);
+        lend(&events, 0, at_end);
+        lend(&screen, 8 * (pick >> 24 & 3), at_end);
+        lend(&journal, XM23_JOURNAL_SIZE * many, at_end);
+        scatter(&memory);
+        scatter(&record);
+        scatter(&journal);
+        record.at[XM23_RECORD_PSW + 1] &= 0xE1;
+        record.at[XM23_RECORD_CEX] &= 0x7F;
+        record.at[XM23_RECORD_CEX + 1] = 0;
+        record.at[XM23_RECORD_HALTED] = 0;
+        record.at[XM23_RECORD_ZERO] = 0;
+        record.at[XM23_RECORD_COUNT + 3] = 0;
+        memset(record.at + XM23_RECORD_ZEROS, 0, 2);
+        memcpy(memory_then, memory.at, XM23_MEMORY_SIZE);
+        memcpy(record_then, record.at, XM23_RECORD_SIZE);
+        reply = run_kept(0, next, n, at_end);
+        check("accepted", XM23_RUN_REFUSAL(reply) == XM23_ACCEPTED);
+        steps = XM23_RUN_STEPS(reply);
+        check("back", go_back(steps, (next + steps) % many, steps, at_end) == XM23_ACCEPTED);
+        check("memory as it was", !memcmp(memory.at, memory_then, XM23_MEMORY_SIZE));
+        check("record as it was", !memcmp(record.at, record_then, XM23_RECORD_SIZE));
     }
 }
 
@@ -500,6 +656,9 @@ int main(int argc, char **argv)
     make(&screen, ROOM);
     make(&text, TEXT_ROOM);
     make(&number, (size_t)sysconf(_SC_PAGESIZE));
+    make(&kept, (size_t)sysconf(_SC_PAGESIZE));
+    make(&place, (size_t)sysconf(_SC_PAGESIZE));
+    make(&journal, ROOM);
     for (at_end = 0; at_end < 2; at_end++) {
         unsigned before = wrong;
         lengths(at_end, brief);
@@ -509,6 +668,12 @@ int main(int argc, char **argv)
         wrong == before ? passed++ : failed++;
         before = wrong;
         screens(at_end, brief);
+        wrong == before ? passed++ : failed++;
+        before = wrong;
+        journals(at_end, brief);
+        wrong == before ? passed++ : failed++;
+        before = wrong;
+        goings_back(at_end, brief ? 40 : 4000);
         wrong == before ? passed++ : failed++;
         before = wrong;
         spans(at_end, brief);

@@ -15,10 +15,9 @@
 #include <stdio.h>
 #include <stdlib.h>
 #include <string.h>
-#include <sys/mman.h>
 #include <sys/stat.h>
-#include <unistd.h>
 
+#include "lent.h"
 #include "setup.h"
 #include "xm23.h"
 
@@ -27,45 +26,6 @@ uint64_t xm23_fast_run(uint8_t *memory, size_t memory_len, uint8_t *record, size
 size_t LLVMFuzzerMutate(uint8_t *data, size_t size, size_t room);
 int LLVMFuzzerTestOneInput(const uint8_t *data, size_t size);
 size_t LLVMFuzzerCustomMutator(uint8_t *data, size_t size, size_t room, unsigned seed);
-
-enum { GUARD = 0xA5, GUARDS = 64 };
-
-/* ---- buffers that end at a page which must not be touched, with guard bytes before them */
-
-struct lent {
-    uint8_t *end, *at;
-    size_t length;
-};
-
-static void make(struct lent *b, size_t longest)
-{
-    size_t page = (size_t)sysconf(_SC_PAGESIZE), room = (longest + GUARDS + page - 1) / page * page;
-    uint8_t *all = mmap(NULL, room + page, PROT_READ | PROT_WRITE, MAP_PRIVATE | MAP_ANONYMOUS, -1, 0);
-    if (all == MAP_FAILED || mprotect(all + room, page, PROT_NONE) != 0)
-        abort();
-    b->end = all + room;
-}
-
-static void lend(struct lent *b, const uint8_t *bytes, size_t length)
-{
-    b->at = b->end - length;
-    b->length = length;
-    memset(b->at - GUARDS, GUARD, GUARDS);
-    memcpy(b->at, bytes, length);
-}
-
-static int guarded(const struct lent *b)
-{
-    for (const uint8_t *p = b->at - GUARDS; p < b->at; p++)
-        if (*p != GUARD)
-            return 0;
-    return 1;
-}
-
-static int holds(const struct lent *b, const uint8_t *bytes)
-{
-    return memcmp(b->at, bytes, b->length) == 0;
-}
 
 /* ---- a call and what it leaves */
 

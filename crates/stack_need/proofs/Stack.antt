@@ -23,7 +23,7 @@ use Rattle.machine_laws.proofs.Plans.{plan-halted}
 use Rattle.machine_laws.proofs.Records.{passed, start-tidy, events-fit}
 use Rattle.machine_laws.proofs.Runs.{step-halted, step-live, run-step}
 use Rattle.machine_laws.proofs.Steps.{deliver-tidy, deliver-core, deliver-halted, run-tidy, plan-fits}
-use Rattle.machine_laws.proofs.Writes.{deliver-bytes, perform-writes}
+use Rattle.machine_laws.proofs.Writes.{fits-devices, deliver-bytes, perform-writes}
 use Rattle.resume.specs.Frames.{Frame, Calm, svc?, none?, framesAfter, after, due, act, frames}
 use Rattle.resume.specs.Depth.{lowest, levelsAfter, newest, Rising, levels}
 use Rattle.resume.proofs.Frame.{three, Saved, saves}
@@ -164,7 +164,7 @@ module _ (memory r events vectors : List ℕ) (devices : ℕ) (uses : List ℕ) 
   due-byte : (k i : ℕ) → k ≤ n → i < 64 → byteAt (due ev s k .mem) (0xFFC0 + i) ≡ byteAt vectors i
   due-byte k i h l =
       let size = after-tidy k .size in
-      deliver-bytes (after ev s k .count) ev (after ev s k) (0xFFC0 + i) fit (omega arith) (rw size (omega arith))
+      deliver-bytes (after ev s k .count) ev (after ev s k) (0xFFC0 + i) (fits-devices ev fit) (omega arith) (rw size (omega arith))
       ∙ P .unaltered k i h l
 
   level-is : (k d : ℕ) → k ≤ n → d < 8 → priority (due ev s k .mem) d ≡ levelOf vectors d

@@ -159,6 +159,7 @@ fi
 part 'desk beside the program on random papers' count_line random_papers
 part 'installing' count_line tests/shell/install.sh
 part 'the report' count_line tests/shell/report.sh
+part 'the open machine' count_line tests/shell/advance.sh
 part 'the assembler' count_line tests/shell/assemble.sh
 part 'mistakes and the legend' count_line tests/shell/tools.sh
 part 'S-records beside srec_cat and objcopy' count_line scripts/peers.sh

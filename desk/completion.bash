@@ -14,7 +14,7 @@ _xm23() {
         dis | card) options='-o --help' ;;
         stack) options='--help' ;;
     esac
-    if [ "$before" = -j ] || [ "$before" = -s ]; then
+    if [[ $before == -[js] ]]; then
         return
     elif [ "$before" = -o ] && [ "${COMP_WORDS[1]}" = mark ]; then
         mapfile -t COMPREPLY < <(compgen -d -- "$word")

@@ -156,10 +156,15 @@ else
     echo '== left out: desk under valgrind, which is not here'
     parts=$((parts - 1))
 fi
-part 'desk beside the program on random papers' count_line random_papers
+part 'desk beside the program on random runs' count_line random_papers
+if [ -n "$(command -v chromium chromium-browser google-chrome google-chrome-stable)" ]; then
+    part 'desk in a browser' count_line python3 -B tests/desk/browser.py "$build/xm23"
+else
+    echo '== left out: desk in a browser, of which none is here (Debian: chromium)'
+    parts=$((parts - 1))
+fi
 part 'installing' count_line tests/shell/install.sh
 part 'the report' count_line tests/shell/report.sh
 part 'the open machine' count_line tests/shell/advance.sh
-part 'the assembler' count_line tests/shell/assemble.sh
 part 'mistakes and the legend' count_line tests/shell/tools.sh
 part 'S-records beside srec_cat and objcopy' count_line scripts/peers.sh

@@ -1,7 +1,8 @@
 #!/usr/bin/env python3
-"""xm23 run and xm23 mark beside print_state on random runs: random_runs.py XM23 PRINT_STATE RUNS [SEED]. A run is a random
-start, program, devices, vectors, memory and events; of a sixth of them one rule is broken, which a paper tells by the
-refusal's number. The last line is 'N passed, M failed'."""
+"""xm23 beside print_state on random runs: random_runs.py XM23 PRINT_STATE RUNS [SEED]. A run is a random start, program,
+devices, vectors, memory and events. Of the first the program is random bytes, and of a sixth of them one rule is broken,
+which a paper tells by the refusal's number; of as many again by four it is a source with handlers, SVC, CEX blocks, faults,
+sleep and stores. The last line is 'N passed, M failed'."""
 import csv
 import os
 import random
@@ -21,7 +22,7 @@ def record(kind, address, data):
 
 def number(value):
     """In any of the forms that a paper takes."""
-    return dice.choice([str(value), f"#{value:X}", f"#{value:04x}"])
+    return dice.choice([str(value), f"#{value}", f"${value:X}", f"${value:04x}"])
 
 
 def word():
@@ -108,6 +109,51 @@ class Run:
         return "\n".join(lines + [f"{number(s)}  {d} {number(b)}" for s, d, b in self.events]) + "\n"
 
 
+PLAIN = ["ADD #1,R0", "SUB #1,R1", "ADD R0,R2", "SWPB R3", "CMP R0,R1", "MOVL $5A,R3", "SXT R1", "RRC R2", "XOR R0,R3"]
+TOUCH = ["ST R0,R4", "ST.B R1,R4+", "LD R4,R2", "LD.B R4-,R3", "ST R2,-SP", "LD SP+,R1", "STR R0,R4,#2", "STR.B R3,R4,#-3",
+         "LDR R4,#4,R0", "MOVLZ $05,R4", "MOVLZ $02,R4", "MOVLZ $03,R4", "MOVH $01,R4", "MOVLZ $00,R4", "MOVLS #-2,R4"]
+TURNS = ["SVC #12", "SVC #13", "SETPRI #0", "WORD $4E00", "CEX EQ,#2,#1", "CEX NE,#1,#2", "SETCC S", "CEX TR,#1,#0", "SVC #14",
+         "ST R0,R0", "LD R4,PC", "BIS #1,PC", "MOV LR,PC"]
+
+
+def some(many, turns):
+    return [dice.choice(dice.choice([PLAIN, TOUCH] + [TURNS] * turns)) for _ in range(many)]
+
+
+class Source(Run):
+    """A run of a source: a loop and handlers of random lines, so that there is something to enter and to return from."""
+
+    def lay_program(self):
+        self.pc = self.registers[7] = 0x1000
+        self.registers[6] = dice.choice([0x0800, 0x0800, 0x0801, 0x0004, 0x0010, 0xFFC8, word()])
+        self.psw, self.cex, self.halted = dice.choice([0, 0, 0x20]), 0, 0
+        self.n = dice.choice([1, 40, 200, 900, 1024, 1025, 3000])
+        self.named_pc = False
+        self.lines = dice.choice([0, 0, 0, 0x10023])
+        lines = ["ORG $1000", "LOOP ADD #1,R0"] + some(dice.randrange(3, 12), 1) + ["BRA LOOP"]
+        for at in (0x2000, 0x2100, 0x2200, 0x2300):
+            lines += [f"ORG ${at:04X}"] + some(dice.randrange(0, 5), 0) + some(dice.randrange(0, 3), 1) + ["MOV LR,PC"]
+        self.source = "\n".join(lines + ["END\n"])
+        self.program = [self.source]
+        for line in run([xm23, "asm", "/dev/stdin"], input=self.source.encode()).stdout.decode().split():
+            if line[:2] == "S1":
+                self.lay(int(line[4:8], 16), bytes.fromhex(line[8:-2]))
+
+    def lay_paper(self):
+        for device in range(8):
+            status = dice.choice([0x11, 0x10, 0x13, 0x11, 0])
+            self.words.append(f"device {device} {number(status)}")
+            self.lay(2 * device, bytes([status, 0]))
+        for vector in range(16):
+            psw = dice.randrange(8) << 5
+            pc = dice.choice([0x2000, 0x2100, 0x2200, 0x2300])
+            self.words.append(f"vector {vector} {number(psw)} {number(pc)}")
+            self.lay(0xFFC0 + 4 * vector, psw.to_bytes(2, "little") + pc.to_bytes(2, "little"))
+
+    def break_rule(self):
+        pass
+
+
 def run(command, **more):
     return subprocess.run(command, stdout=subprocess.PIPE, stderr=subprocess.PIPE, **more)
 
@@ -142,5 +188,14 @@ with tempfile.TemporaryDirectory() as room:
             run([xm23, "mark", "-o", marks, paper, program])
             with open(os.path.join(marks, "results.csv"), newline="") as file:
                 same(f"run {i}, marked", [row["line"] for row in csv.DictReader(file)], [line])
+    source = os.path.join(room, "p.asm")
+    for i in range(runs // 4):
+        this = Source()
+        with open(paper, "w") as file:
+            file.write(this.paper())
+        with open(source, "w") as file:
+            file.write(this.source)
+        line = run([print_state], input=this.input()).stdout.decode().strip()
+        same(f"source {i}", run([xm23, "run", paper, source]).stdout.decode().strip(), line)
 print(f"{passed} passed, {failed} failed")
 sys.exit(failed != 0)

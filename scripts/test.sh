@@ -168,5 +168,6 @@ fi
 part 'installing' count_line tests/shell/install.sh
 part 'the report' count_line tests/shell/report.sh
 part 'going back' count_line tests/shell/back.sh
+part 'the open machine' count_line tests/shell/advance.sh
 part 'mistakes and the legend' count_line tests/shell/tools.sh
 part 'S-records beside srec_cat and objcopy' count_line scripts/peers.sh

@@ -52,7 +52,7 @@ static void add_html_row(struct text *t, const struct sitting *s, size_t i, cons
     add_page_path(t, s, i);
     add(t, "\">");
     add_name(t, r->name);
-    add(t, "</a></td><td class=\"nowrap\">%s</td><td class=\"n any\">", verdict(r));
+    add(t, "</a></td><td class=\"nowrap\">%s</td><td class=\"n any sheet\">", verdict(r));
     add_html(t, r->line.at, r->line.length);
     add(t, "%s", r->line.length && r->says.length ? "<br>" : "");
     add_html(t, r->says.at, r->says.length);

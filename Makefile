@@ -1,6 +1,6 @@
 # XM-23 examination machine. 'make help' lists what there is.
 
-.PHONY: help run lib desk sitting install uninstall input list card report test fuzz fuzz_words replay bench clean
+.PHONY: help run line lib desk install uninstall input list card report test fuzz fuzz_words replay bench clean
 
 CFLAGS = -std=c99 -pedantic -O2 -Wall -Wextra -Werror -Iinclude
 ORACLE = --offline --locked --manifest-path oracle/Cargo.toml --target-dir oracle/target
@@ -28,7 +28,13 @@ SHARED = build/libxm23.so.$(VERSION)
 help:
 	@cat docs/COMMANDS.txt
 
-run: target/bin/print_state
+# Of the example sitting one program is as expected and four are not: status 1 is what it ends with.
+run: build/xm23
+	@cd examples/sitting && ../../build/xm23 mark -o ../../build/sitting sum.paper programs/* || [ $$? -eq 1 ]
+	@echo 'build/sitting/index.html     the table, for a browser: a page for each program'
+	@echo 'build/sitting/results.csv    the same, for a spreadsheet'
+
+line: target/bin/print_state
 	@target/bin/print_state < $(EXAMPLE).in | python3 -B scripts/legend.py
 
 lib: $(ARCHIVE)
@@ -36,11 +42,6 @@ lib: $(ARCHIVE)
 
 desk: build/xm23
 	@echo '$<'
-
-# The example sitting, of which one program is as expected and four are not: status 1 is what it ends with.
-sitting: build/xm23
-	@cd examples/sitting && ../../build/xm23 mark -o ../../build/sitting sum.paper programs/*.s19 || [ $$? -eq 1 ]
-	@echo build/sitting/index.html
 
 install: target/bin/print_state $(ARCHIVE) $(SHARED) build/xm23
 	@scripts/install.sh install $(call quoted,$(PREFIX)) $(call quoted,$(DESTDIR))
@@ -79,7 +80,7 @@ replay: $(if $(FOUND),$(ARCHIVE))
 	@[ -n $(call quoted,$(FOUND)) ] || { echo 'make replay: FOUND=build/fuzz/.. is missing: a saved difference' >&2; exit 2; }
 	@scripts/oracle.sh fuzz replay $(call quoted,$(FOUND))
 
-bench: $(ARCHIVE) target/staticlib/libprobe.a build/libxm23_fast.a build/srec build/assemble
+bench: $(ARCHIVE) target/staticlib/libprobe.a build/libxm23_fast.a build/srec build/xm23
 	@cargo bench $(ORACLE) --bench decode
 	@cargo bench $(ORACLE) --bench operations
 	@cargo bench $(ORACLE) --bench run
@@ -95,7 +96,7 @@ $(EXAMPLE).in: $(EXAMPLE).txt | $(ARCHIVE)
 	@scripts/input.sh $< $@
 
 # The program of setters and markers. SHA-256 is libcrypto's.
-build/xm23: $(wildcard desk/*.c desk/*.h) include/xm23.h $(ARCHIVE)
+build/xm23: $(wildcard desk/*) include/xm23.h $(ARCHIVE)
 	@scripts/desk.sh $@
 
 build/%: examples/%.c include/xm23.h $(ARCHIVE)

@@ -108,8 +108,9 @@ static void prepare(uint16_t word, uint16_t r0, uint16_t r1, uint16_t psw)
 
 static void step(void)
 {
-    struct outcome o = {0, 0, 0, 0, NULL};
-    run_machine(&machine, NULL, 0, 1, &o);
+    static const struct paper none;
+    struct outcome o = {0};
+    run_machine(&machine, &none, 1, &o);
     if (o.refusal != XM23_ACCEPTED) {
         say("card: %s", xm23_refusal_text(o.refusal));
         exit(REFUSED);

@@ -4,17 +4,18 @@ _xm23() {
     COMPREPLY=()
     compopt -o filenames 2> /dev/null
     if [ "$COMP_CWORD" -eq 1 ]; then
-        mapfile -t COMPREPLY < <(compgen -W 'run mark asm dis stack card --help --version' -- "$word")
+        mapfile -t COMPREPLY < <(compgen -W 'run mark report back asm dis stack card --help --version' -- "$word")
         return
     fi
     case ${COMP_WORDS[1]} in
         run) options='-l --help' ;;
         mark) options='-j -o -0 --help' ;;
+        back) options='-n -w --help' ;;
         asm) options='-l -o -s --help' ;;
-        dis | card) options='-o --help' ;;
+        report | dis | card) options='-o --help' ;;
         stack) options='--help' ;;
     esac
-    if [ "$before" = -j ] || [ "$before" = -s ]; then
+    if [[ $before == -[jsnw] ]]; then
         return
     elif [ "$before" = -o ] && [ "${COMP_WORDS[1]}" = mark ]; then
         mapfile -t COMPREPLY < <(compgen -d -- "$word")

@@ -27,8 +27,10 @@ struct text {
 void *room_for(void *old, size_t bytes);
 void add_bytes(struct text *t, const void *bytes, size_t length);
 void add(struct text *t, const char *format, ...);
+void add_byte(struct text *t, const char *mark, unsigned byte); /* the mark and two digits of base sixteen */
 void add_plain(struct text *t, const char *bytes, size_t length); /* bytes that are no printable character as \xHH */
 void add_html(struct text *t, const char *bytes, size_t length);
+void add_name(struct text *t, const char *name); /* for HTML, of a long one the first bytes */
 void add_csv(struct text *t, const char *bytes, size_t length); /* one field, quoted where it must be */
 void drop(struct text *t);
 
@@ -49,12 +51,26 @@ int read_start(const char *name, char *bytes, size_t room);
 /* Puts a file in its place whole, or leaves what was there; the reason is told. `-` is standard output. */
 int write_file(const char *name, const struct text *t);
 
+/* The same part by part: close_output tells the first reason, and puts the file in its place where there is none. */
+struct output {
+    const char *name;
+    struct text beside;
+    int file, problem;
+};
+
+void open_output(struct output *o, const char *name);
+void put_output(struct output *o, const struct text *t);
+int close_output(struct output *o);
+int drop_output(struct output *o); /* leaves what was there; UNREADABLE */
+
 /* ---- paper.c, paper_line.c: what a setter writes */
 
 struct event {
     uint32_t line, step;
     unsigned device, byte;
 };
+
+enum { SRECORD = 1, DATA = 2 };
 
 struct paper {
     const char *name;
@@ -63,7 +79,7 @@ struct paper {
     char *title, *expected;                  /* empty, NULL: none */
     uint8_t record[XM23_RECORD_SIZE];        /* the start; PC 0 where pc_line is 0 */
     uint8_t memory[XM23_MEMORY_SIZE];        /* what the paper lays over the program .. */
-    uint8_t set[XM23_MEMORY_SIZE];           /* .. where this is 1 */
+    uint8_t set[XM23_MEMORY_SIZE];           /* .. where this is not 0: DATA, or SRECORD, which may be code */
     uint8_t uses[XM23_USES_SIZE], devices;   /* for stack bytes */
     uint64_t steps, priority;
     struct event *events;
@@ -100,10 +116,12 @@ struct outcome {
     struct text *screen;
 };
 
-void run_machine(struct machine *m, const uint8_t *events, size_t events_len, uint64_t n, struct outcome *o);
+void run_machine(struct machine *m, const struct paper *p, uint64_t n, struct outcome *o);
 
 unsigned get_word(const uint8_t *bytes, unsigned at);
+uint32_t get_long(const uint8_t *bytes, unsigned at);
 void put_word(uint8_t *bytes, unsigned at, unsigned value);
+unsigned word_at(const uint8_t *memory, unsigned at); /* as the machine reads it: bit 0 dropped */
 
 /* ---- program.c: a program under a paper */
 
@@ -114,11 +132,42 @@ struct fault {
     struct text why;
 };
 
-/* The machine before its first step: zero, the program, the paper over it. 0 where the program is refused. */
-int open_program(const struct paper *p, const char *text, size_t length, struct machine *m, struct fault *f);
+/* What a candidate handed in: S-records, or a source where its name ends in .asm. */
+struct program {
+    const char *name;
+    char *bytes;
+    size_t length;
+};
 
-/* A program's bytes by its S-records: 1 in `set` for each byte that they name. 0 where they are refused. */
-int load_program(const char *text, size_t length, uint8_t *memory, uint8_t *set, uint16_t *pc, struct fault *f);
+/* Reads a program; `regular` as for read_file. 0 with the reason in `why`. */
+int read_program(const char *name, int regular, struct program *p, struct text *why);
+int take_program(const char *name, struct program *p); /* DONE, or UNREADABLE, which has been told */
+void drop_program(struct program *p);
+
+/* The machine before its first step: zero, the program, the paper over it. 0 where the program is refused. */
+int open_program(const struct paper *p, const struct program *program, struct machine *m, struct fault *f);
+
+/* A program's bytes, and those that it names: 1 in `set`. 0 where it is refused. */
+struct assembled {
+    uint8_t memory[XM23_MEMORY_SIZE], set[XM23_MEMORY_SIZE];
+    uint16_t pc;
+};
+
+int load_srec(const char *text, size_t length, struct assembled *a, struct fault *f);
+int load_program(const struct program *p, struct assembled *a, struct fault *f);
+
+/* Tells a refusal of a program. REFUSED. */
+int say_fault(const char *name, const struct fault *f);
+
+/* ---- source.c: what the assembler takes */
+
+int is_source(const char *name);
+int assemble_source(const char *source, size_t length, struct assembled *a, struct fault *f);
+
+/* Of an accepted source: what a number, name or expression comes to, or the refusal; a listing of its lines, or of so
+ * many at most, which then leaves out bytes on which a later line stands. */
+unsigned source_value(const char *source, size_t length, const char *value, uint16_t *word);
+void add_source_listing(struct text *t, const char *source, size_t length, const struct assembled *a, size_t most);
 
 /* ---- line.c: the line of the sheet */
 
@@ -135,10 +184,55 @@ enum { FIELDS = 14 };
 int line_fields(const uint8_t *record, const struct outcome *o, struct field *rows);
 void add_legend(struct text *t, const uint8_t *record, const struct outcome *o);
 
-/* ---- instruction.c, listing.c */
+/* ---- instruction.c */
 
 void add_instruction(struct text *t, unsigned address, uint16_t word);
-void add_listing(struct text *t, const uint8_t *memory, const uint8_t *set, unsigned most);
+
+/* ---- walk.c: the last steps of a run, by the journal */
+
+#define MOST_WALK (XM23_MAX_JOURNAL / XM23_JOURNAL_SIZE) /* steps: 1,024 */
+
+/* What a step was. The number beside it: the device of a line, the vector of SVC, the fault. */
+enum act { EXECUTED, SKIPPED, ASLEEP, ACCEPTED, CHAINED, PULLED, TRAPPED, FAULTED, HALTED };
+
+struct step {
+    const uint8_t *before, *after; /* the journal's record; the state record after it */
+    uint8_t devices[16], bytes[8]; /* what it left in the device bytes, and at the record's address */
+    uint8_t act, number, fetched;  /* fetched: whether `word` is one that it decoded */
+    uint8_t stored;                /* bytes stored or pushed from the record's address on */
+    uint8_t shown;                 /* the data byte that an output device showed, by its address; 0 none */
+    uint16_t word, frame;          /* frame: the newest open after it, of those of the walk; 0 none */
+};
+
+/* A frame that one of the steps opened. */
+struct frame {
+    uint16_t older, sp, step;
+    uint8_t act, number;
+};
+
+struct walk {
+    uint8_t journal[XM23_JOURNAL_SIZE * MOST_WALK], log[XM23_LOG_SIZE * MOST_WALK], close[XM23_RECORD_SIZE];
+    struct step steps[MOST_WALK];
+    struct frame frames[MOST_WALK + 1];
+    uint32_t many, shown;         /* steps; log records of them */
+    unsigned many_frames, strays; /* strays: returns that pulled with none of these frames open */
+};
+
+/* Walks the last steps of a run that was taken from `m`, which is left as it was before the first of them. */
+void walk_run(struct walk *w, const struct paper *p, struct machine *m, uint32_t steps);
+
+/* Goes back so many steps from where so many of the walk are done. */
+void walk_back(const struct walk *w, struct machine *m, uint32_t done, uint32_t many);
+
+uint32_t step_count(const struct step *s);
+int step_wrote(const struct step *s, unsigned at);        /* whether it stored or pushed the byte, or as below */
+int device_written(const struct step *s, unsigned at);    /* whether the device byte is another, or was shown */
+
+/* ---- step.c: a step in words */
+
+void add_act(struct text *t, unsigned act, unsigned number);
+void add_what(struct text *t, const struct step *s); /* the instruction, or what else it was */
+void add_left(struct text *t, const struct step *s); /* registers and bytes that it left, PC aside */
 
 /* ---- sha256.c: by libcrypto */
 
@@ -156,7 +250,7 @@ struct row {
     const char *name;
     struct text line, says, screen; /* line: empty where it could not be read; says: why it has no closing state */
     char digest[SHA256_TEXT];       /* of the program; empty where it could not be read */
-    uint32_t steps;
+    uint32_t steps, deepest;
     int agrees; /* 1 yes, 0 no, -1 no line was expected */
 };
 
@@ -174,11 +268,36 @@ void drop_row(struct row *r);
 void add_row(struct text *t, const struct sitting *s, const struct row *r);           /* in one line, for a page */
 int take_row(const char *line, const struct sitting *s, size_t i, struct row *r);     /* 0: it is of another */
 int row_of_page(const struct sitting *s, size_t i, struct row *r);                    /* 0: there is no such page */
-void add_page_path(struct text *t, const struct sitting *s, size_t i);                /* below the folder */
+
+/* One program of a sitting, run. `before` and `after` are there where it ran. */
+struct marked {
+    struct row row;
+    struct program program;
+    struct machine before, after, scratch;
+    struct outcome o;
+    struct text screen; /* all of it, of which the row has the first bytes */
+    struct walk walk;
+    int ran;
+};
+
+/* Runs a program, or tells in its row why it has no closing state. 0 where that could not be done. */
+int mark_program(const struct sitting *s, const char *name, int regular, struct marked *m);
+void drop_marked(struct marked *m);
+
+void add_page_path(struct text *t, const struct sitting *s, size_t i); /* below the folder */
 void add_page_head(struct text *t, const char *title);
-void add_page(struct text *t, const struct sitting *s, const struct row *r, const struct machine *before,
-              const struct machine *after, const struct outcome *o);
+void open_table(struct text *t, const char *heads); /* names of columns, a bar between two */
+void close_table(struct text *t);
+void add_page(struct text *t, const struct sitting *s, const struct marked *m);
 int write_results(const struct sitting *s);
+
+/* The walk on a page: tables that are there without scripts, and the data with the script that walks through it. */
+void add_walk_tables(struct text *t, const struct walk *w, const struct machine *after);
+void add_walk_data(struct text *t, const struct walk *w, const struct machine *after, const struct text *screen);
+
+/* ---- what pages carry: the files of these names, page.css and so on */
+
+extern const char page_css[], index_js[], walk_html[], walk_js[];
 
 /* ---- the subcommands, each in the file of its name */
 
@@ -187,6 +306,8 @@ int xm23_desk_mark(int argc, char **argv);
 int xm23_desk_dis(int argc, char **argv);
 int xm23_desk_card(int argc, char **argv);
 int xm23_desk_stack(int argc, char **argv);
+int xm23_desk_report(int argc, char **argv);
+int xm23_desk_back(int argc, char **argv);
 int xm23_desk_asm(int argc, char **argv);
 
 /* ---- help.c */

@@ -74,6 +74,8 @@ int read_start(const char *name, char *bytes, size_t room)
     return many > 0;
 }
 
+/* ---- writing */
+
 static int write_all(int file, const struct text *t)
 {
     size_t done = 0;
@@ -93,33 +95,56 @@ static int no_regular(const char *name)
     return stat(name, &is) == 0 && !S_ISREG(is.st_mode) && !S_ISDIR(is.st_mode);
 }
 
-static int write_there(const char *name, const struct text *t)
+void open_output(struct output *o, const char *name)
 {
-    int file = strcmp(name, "-") == 0 ? STDOUT_FILENO : open(name, O_WRONLY | O_CLOEXEC);
-    if (file >= 0 && write_all(file, t) && (file == STDOUT_FILENO || close(file) == 0))
-        return DONE;
-    say_at(strcmp(name, "-") == 0 ? "standard output" : name, 0, "cannot be written: %s", strerror(errno));
+    memset(o, 0, sizeof *o);
+    o->name = name;
+    if (strcmp(name, "-") == 0) {
+        o->file = STDOUT_FILENO;
+    } else if (no_regular(name)) {
+        o->file = open(name, O_WRONLY | O_CLOEXEC);
+    } else {
+        add(&o->beside, "%s.part", name);
+        o->file = open(o->beside.at, O_WRONLY | O_CREAT | O_TRUNC | O_CLOEXEC, 0666);
+    }
+    o->problem = o->file < 0 ? errno : 0;
+}
+
+void put_output(struct output *o, const struct text *t)
+{
+    if (!o->problem && !write_all(o->file, t))
+        o->problem = errno;
+}
+
+/* Nothing is put in place of what was there unless all of it could be written. */
+int close_output(struct output *o)
+{
+    if (o->file >= 0 && o->file != STDOUT_FILENO && close(o->file) != 0 && !o->problem)
+        o->problem = errno;
+    if (!o->problem && o->beside.length && rename(o->beside.at, o->name) != 0)
+        o->problem = errno;
+    if (o->problem && o->file >= 0 && o->beside.length)
+        unlink(o->beside.at);
+    if (o->problem)
+        say_at(strcmp(o->name, "-") ? o->name : "standard output", 0, "cannot be written: %s", strerror(o->problem));
+    drop(&o->beside);
+    return o->problem ? UNREADABLE : DONE;
+}
+
+int drop_output(struct output *o)
+{
+    if (o->file >= 0 && o->beside.length) {
+        close(o->file);
+        unlink(o->beside.at);
+    }
+    drop(&o->beside);
     return UNREADABLE;
 }
 
 int write_file(const char *name, const struct text *t)
 {
-    struct text beside = {0};
-    int file, good, problem;
-    if (strcmp(name, "-") == 0 || no_regular(name))
-        return write_there(name, t);
-    add(&beside, "%s.part", name);
-    file = open(beside.at, O_WRONLY | O_CREAT | O_TRUNC | O_CLOEXEC, 0666);
-    good = file >= 0 && write_all(file, t);
-    problem = errno;
-    if (file >= 0 && close(file) != 0 && good)
-        good = 0, problem = errno;
-    if (good && rename(beside.at, name) != 0)
-        good = 0, problem = errno;
-    if (!good && file >= 0)
-        unlink(beside.at);
-    drop(&beside);
-    if (!good)
-        say_at(name, 0, "cannot be written: %s", strerror(problem));
-    return good ? DONE : UNREADABLE;
+    struct output o;
+    open_output(&o, name);
+    put_output(&o, t);
+    return close_output(&o);
 }

@@ -5,9 +5,11 @@
 
 const struct subcommand subcommands[] = {
     {"run", "xm23 run [-l] PAPER PROGRAM", "run a program under a paper and print the line of the sheet",
-     "Runs PROGRAM, S-records, under PAPER and prints the line of the sheet: reason, steps, R0 to R7, PSW, CEX\n"
-     "and lines, or R and the number of a refusal. On a terminal, or with -l, a legend follows, and what the output\n"
-     "devices showed.\n"
+     "Runs PROGRAM under PAPER and prints the line of the sheet: reason, steps, R0 to R7, PSW, CEX, lines and depth,\n"
+     "or R and the number of a refusal. On a terminal, or with -l, a legend follows, and what the output devices\n"
+     "showed.\n"
+     "\n"
+     "A PAPER is a text (man 5 xm23). A PROGRAM is S-records, or a source where its name ends in .asm.\n"
      "\n"
      "  -l    legend and screen text too, wherever the line goes\n"
      "\n"
@@ -16,11 +18,12 @@ const struct subcommand subcommands[] = {
     {"mark", "xm23 mark [-j N] [-o DIR] PAPER PROGRAM.. | xm23 mark [-j N] [-o DIR] -0 PAPER",
      "run every program of a sitting and write results and pages",
      "Runs each PROGRAM under PAPER, and writes into DIR\n"
-     "  results.csv      a row for each: name, line or refusal, what is wrong, steps, screen text, agreement with\n"
-     "                   the expected line, SHA-256 of program and paper\n"
+     "  results.csv      a row for each: name, line or refusal, what is wrong, steps, depth, screen text, agreement\n"
+     "                   with the expected line, SHA-256 of program and paper\n"
      "  index.html       the same as a table, with a link to each page\n"
      "  pages/           a page for each program\n"
-     "A program that cannot be read or loaded is a row. A marking that was interrupted goes on where it stopped\n"
+     "Programs are S-records, or sources where their names end in .asm; one that cannot be read or loaded is a row.\n"
+     "A marking that was interrupted goes on where it stopped\n"
      "when the same command is given again; a finished one is done anew. The same files give the same bytes.\n"
      "\n"
      "  -j N     so many at a time, 1 to 64 (the number of processors)\n"
@@ -30,24 +33,46 @@ const struct subcommand subcommands[] = {
      "Status 0: every program ran, and closed as expected where a line is. 1: some did not. 3: the marking is not\n"
      "whole, or PAPER cannot be read.\n",
      xm23_desk_mark},
-    {"asm", "xm23 asm [-l] [-o FILE] [-s START] SOURCE", "assemble a source to S-records",
+    {"report", "xm23 report [-o PAGE] PAPER PROGRAM", "write the page of one run, with its last steps to walk through",
+     "Runs PROGRAM under PAPER and writes a page of HTML: the line, the closing state beside the expected one, the\n"
+     "screen, the stack, memory, and the last 1,024 steps to walk forwards and backwards in a browser: registers,\n"
+     "instruction, what it wrote, stack with its frames, screen so far, who wrote a byte. Without scripts, and in\n"
+     "print, it has the closing state and the last 32 steps. It is whole by itself.\n"
+     "\n"
+     "  -o PAGE   write there instead of to standard output\n"
+     "\n"
+     "Status 1: PROGRAM is refused, PAPER has a mistake, or another line was expected; but for a mistake in PAPER the\n"
+     "page is written.\n",
+     xm23_desk_report},
+    {"back", "xm23 back [-n STEPS] [-w ADDRESS] PAPER PROGRAM",
+     "go back from the closing state, as far as the step that wrote a byte",
+     "Runs PROGRAM under PAPER and prints its last steps, the newest first: step, PC, word, instruction, what it\n"
+     "left; then the state before the last of those printed.\n"
+     "\n"
+     "  -n STEPS    so many steps, 1 to 1,024 (16)\n"
+     "  -w ADDRESS  as far as the step that wrote the byte at ADDRESS, base sixteen\n"
+     "\n"
+     "Status 1: PROGRAM is refused, PAPER has a mistake, or none of these steps wrote the byte.\n",
+     xm23_desk_back},
+    {"asm", "xm23 asm [-l] [-o FILE] [-s START] SOURCE", "assemble a source to S-records, or to a listing",
      "Assembles SOURCE (docs/FORMATS.md has the language) and writes the bytes that it states as S-records. A source\n"
      "at fault is told as 'SOURCE:LINE: R17: ..', and nothing is written.\n"
      "\n"
-     "  -l        a listing instead, as dis prints it\n"
+     "  -l        a listing instead: address, word, line number and line, as far as END, and where it starts\n"
      "  -o FILE   write there instead of to standard output\n"
-     "  -s START  where the program starts, the PC of S9, base sixteen (the lowest address that holds a byte of it)\n",
+     "  -s START  where the program starts, the PC of S9: a name, number or expression of the source (the place of\n"
+     "            its first instruction)\n",
      xm23_desk_asm},
-    {"dis", "xm23 dis [-o FILE] PROGRAM", "list S-records, instruction by instruction",
-     "Prints a row for each word that the S-records of PROGRAM name: address, word, instruction as a\n"
-     "source has it; a lone byte as BYTE. The last line has the PC of S9.\n"
+    {"dis", "xm23 dis [-o FILE] PROGRAM", "list a program, instruction by instruction",
+     "Prints a row for each word that PROGRAM, S-records or a source, names: address, word, instruction as a source\n"
+     "has it; a lone byte as BYTE. The last line has the PC.\n"
      "\n"
      "  -o FILE  write there instead\n",
      xm23_desk_dis},
     {"stack", "xm23 stack PAPER [PROGRAM]", "tell the stack bytes that a paper's handlers can need",
      "Prints the stack bytes that the handlers of the devices with a line 'use DEVICE BYTES' can need together,\n"
-     "above the priority of the line 'priority P' (0). The vectors are PAPER's, and those of PROGRAM, S-records,\n"
-     "where PAPER has none.\n",
+     "above the priority of the line 'priority P' (0). The vectors are PAPER's, and those of PROGRAM where PAPER has\n"
+     "none.\n",
      xm23_desk_stack},
     {"card", "xm23 card [-o FILE]", "write the reference card, for a screen and for A4",
      "Writes the reference card as one page of HTML: bits, words, flags and an example of each operation.\n"

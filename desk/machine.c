@@ -1,11 +1,14 @@
 /* The one place that runs a machine, with a log as long as the run can need. */
-#include <stdlib.h>
-
 #include "desk.h"
 
 unsigned get_word(const uint8_t *bytes, unsigned at)
 {
     return bytes[at] | (unsigned)bytes[at + 1] << 8;
+}
+
+uint32_t get_long(const uint8_t *bytes, unsigned at)
+{
+    return get_word(bytes, at) | (uint32_t)get_word(bytes, at + 2) << 16;
 }
 
 void put_word(uint8_t *bytes, unsigned at, unsigned value)
@@ -14,22 +17,32 @@ void put_word(uint8_t *bytes, unsigned at, unsigned value)
     bytes[at + 1] = (uint8_t)(value >> 8);
 }
 
-/* A step shows one byte at most. */
-static uint64_t run_logged(struct machine *m, const uint8_t *events, size_t events_len, uint64_t n, struct outcome *o)
+unsigned word_at(const uint8_t *memory, unsigned at)
 {
-    size_t length = n <= XM23_MAX_STEPS ? XM23_LOG_SIZE * (size_t)n : 0;
-    uint8_t *log = (uint8_t *)room_for(NULL, length);
-    uint64_t reply = xm23_run(m->memory, sizeof m->memory, m->record, sizeof m->record, events, events_len, log, length,
-                              &o->deepest, n);
-    for (uint32_t i = 0; o->screen && i < XM23_RUN_ADDED(reply); i++)
-        add_bytes(o->screen, log + XM23_LOG_SIZE * i + XM23_LOG_BYTE, 1);
-    free(log);
-    return reply;
+    return get_word(memory, at & 0xFFFE);
 }
 
-void run_machine(struct machine *m, const uint8_t *events, size_t events_len, uint64_t n, struct outcome *o)
+/* Room for the log of a run, kept from one to the next. A step shows one byte at most. */
+static uint8_t *log_of(uint64_t n, size_t *length)
 {
-    uint64_t reply = run_logged(m, events, events_len, n, o);
+    static uint8_t *log;
+    static size_t room;
+    *length = n <= XM23_MAX_STEPS ? XM23_LOG_SIZE * (size_t)n : 0;
+    if (*length > room) {
+        log = (uint8_t *)room_for(log, *length);
+        room = *length;
+    }
+    return log;
+}
+
+void run_machine(struct machine *m, const struct paper *p, uint64_t n, struct outcome *o)
+{
+    size_t length;
+    uint8_t *log = log_of(n, &length);
+    uint64_t reply = xm23_run(m->memory, sizeof m->memory, m->record, sizeof m->record, p->event_bytes,
+                              XM23_EVENT_SIZE * p->many_events, log, length, &o->deepest, n);
+    for (uint32_t i = 0; o->screen && i < XM23_RUN_ADDED(reply); i++)
+        add_bytes(o->screen, log + XM23_LOG_SIZE * i + XM23_LOG_BYTE, 1);
     o->refusal = XM23_RUN_REFUSAL(reply);
     o->reason = XM23_RUN_REASON(reply);
     o->steps = XM23_RUN_STEPS(reply);

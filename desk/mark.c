@@ -12,66 +12,21 @@
 
 /* ---- one program */
 
-static int write_page(const struct sitting *s, size_t i, const struct row *r, const struct machine *before,
-                      const struct machine *after, const struct outcome *o)
-{
-    struct text path = {0}, page = {0};
-    int status;
-    add(&path, "%s/", s->folder);
-    add_page_path(&path, s, i);
-    add_page(&page, s, r, before, after, o);
-    status = write_file(path.at, &page);
-    drop(&path);
-    drop(&page);
-    return status;
-}
-
-/* Runs a program that could be read, or tells in the row why it has no closing state. 1 where it ran. */
-static int run_row(const struct sitting *s, const char *bytes, size_t length, struct row *r, struct machine *before,
-                   struct machine *after, struct outcome *o)
-{
-    const struct paper *p = s->paper;
-    struct fault f = {0};
-    if (!open_program(p, bytes, length, before, &f)) {
-        add(&r->line, "R%u", f.refusal);
-        add(&r->says, "line %lu: %s", (unsigned long)f.line, f.why.at);
-        drop(&f.why);
-        return 0;
-    }
-    memcpy(after, before, sizeof *after);
-    run_machine(after, p->event_bytes, XM23_EVENT_SIZE * p->many_events, p->steps, o);
-    add_line(&r->line, after->record, o);
-    r->steps = o->steps;
-    if (o->screen->length > MOST_SCREEN) {
-        unsigned long all = (unsigned long)o->screen->length;
-        o->screen->length = MOST_SCREEN;
-        add(o->screen, " .. (%lu bytes)", all);
-    }
-    return 1;
-}
-
 /* The page of a program is written anew, whatever its file is. */
 static int mark_one(const struct sitting *s, size_t i)
 {
-    static struct machine before, after;
-    struct row r = {0};
-    struct outcome o = {0, 0, 0, 0, &r.screen};
-    size_t length = 0;
-    char *bytes;
-    int ran = 0, status = UNREADABLE;
-    r.name = s->names[i];
-    add_bytes(&r.line, "", 0);
-    add_bytes(&r.says, "", 0);
-    add_bytes(&r.screen, "", 0);
-    bytes = read_file(r.name, 1, &length, &r.says);
-    if (!bytes || sha256(bytes, length, r.digest)) {
-        if (bytes)
-            ran = run_row(s, bytes, length, &r, &before, &after, &o);
-        r.agrees = !s->paper->expected ? -1 : strcmp(r.line.at, s->paper->expected) == 0;
-        status = write_page(s, i, &r, ran ? &before : NULL, &after, &o);
+    static struct marked m;
+    struct text path = {0}, page = {0};
+    int status = UNREADABLE;
+    if (mark_program(s, s->names[i], 1, &m)) {
+        add(&path, "%s/", s->folder);
+        add_page_path(&path, s, i);
+        add_page(&page, s, &m);
+        status = write_file(path.at, &page);
     }
-    free(bytes);
-    drop_row(&r);
+    drop_marked(&m);
+    drop(&path);
+    drop(&page);
     return status;
 }
 

@@ -1,10 +1,13 @@
 /* The page of one program: its line, the fields of it, the screen, what memory became, the program. */
-#include <stdlib.h>
 #include <string.h>
 
 #include "desk.h"
 
-#define MOST_ROWS 1024 /* of memory, and of the listing */
+#define MOST_PAGE 400000  /* bytes */
+#define MOST_ROWS 512     /* of memory, of the listing and of the source */
+#define FEW_ROWS 32       /* on a page that is else too long */
+#define MOST_SOURCE 65536 /* bytes of a source that is listed */
+#define MOST_SHOWN 2048   /* bytes of screen text */
 
 /* The number of the program among those of the sitting, and its name as far as it may stand in a file's name. */
 void add_page_path(struct text *t, const struct sitting *s, size_t i)
@@ -19,32 +22,27 @@ void add_page_path(struct text *t, const struct sitting *s, size_t i)
     add(t, ".html");
 }
 
-/* Black on white with grey rules: nothing is said by colour alone. */
 void add_page_head(struct text *t, const char *title)
 {
-    add(t, "<html lang=\"en\">\n<head>\n<meta charset=\"utf-8\">\n<title>");
-    add_html(t, title, strlen(title));
-    add(t, "</title>\n<style>\n"
-           "@page { size: A4; margin: 14mm; }\n"
-           "body { font: 16px/1.4 sans-serif; color: #000; background: #fff; }\n"
-           "body { max-width: 62em; margin: 1.5em auto; padding: 0 1em; }\n"
-           "h1 { font-size: 1.5em; margin: 0 0 .3em; overflow-wrap: anywhere; }\n"
-           "h2 { font-size: 1.1em; margin: 1.2em 0 .3em; border-bottom: 2px solid #000; break-after: avoid; }\n"
-           "p { margin: .3em 0; }\n"
-           "#verdict { font-size: 1.2em; font-weight: bold; }\n"
-           "pre, .n { font-family: 'DejaVu Sans Mono', Consolas, Menlo, monospace; font-size: .88em; }\n"
-           "pre { margin: .4em 0; padding: .4em .6em; border: 1px solid #6b6b6b; }\n"
-           "pre { white-space: pre-wrap; overflow-wrap: anywhere; }\n"
-           "pre.line { border: 2px solid #000; font-weight: bold; }\n"
-           "table { border-collapse: collapse; margin: .4em 0; }\n"
-           "th, td { border: 1px solid #6b6b6b; padding: .1em .45em; text-align: left; }\n"
-           "th, td { vertical-align: baseline; overflow-wrap: anywhere; }\n"
-           "thead th { background: #ececec; }\n"
-           "tr { break-inside: avoid; }\n"
-           "tr.other td { font-weight: bold; text-decoration: underline; }\n"
-           "footer { margin-top: 1.5em; border-top: 1px solid #6b6b6b; font-size: .8em; overflow-wrap: anywhere; }\n"
-           "@media print { body { font-size: 9.5pt; max-width: none; margin: 0; padding: 0; } }\n"
-           "</style>\n</head>\n<body>\n");
+    add(t, "<html lang=\"en\">\n<head>\n<meta charset=\"utf-8\">\n"
+           "<meta name=\"viewport\" content=\"width=device-width\">\n<title>");
+    add_name(t, title);
+    add(t, "</title>\n<style>\n%s</style>\n</head>\n<body>\n", page_css);
+}
+
+void open_table(struct text *t, const char *heads)
+{
+    add(t, "<div class=\"wide\">\n<table>\n<thead><tr>");
+    for (const char *end; *heads; heads = end + (*end == '|')) {
+        end = heads + strcspn(heads, "|");
+        add(t, "<th>%.*s</th>", (int)(end - heads), heads);
+    }
+    add(t, "</tr></thead>\n<tbody>\n");
+}
+
+void close_table(struct text *t)
+{
+    add(t, "</tbody>\n</table>\n</div>\n");
 }
 
 static void add_verdict(struct text *t, const struct row *r)
@@ -71,8 +69,16 @@ static void add_pre(struct text *t, const char *class, const char *bytes, size_t
     add(t, "</pre>\n");
 }
 
+/* Rows that are not broken on a screen, which moves them sideways instead. */
+static void add_wide(struct text *t, const struct text *rows)
+{
+    add(t, "<div class=\"wide\">");
+    add_pre(t, "", rows->at, rows->length);
+    add(t, "</div>\n");
+}
+
 /* The word of a line at a place among its fields, or none. */
-static void word_at(const char *line, int place, char *word, size_t room)
+static void field_at(const char *line, int place, char *word, size_t room)
 {
     word[0] = 0;
     for (int i = 0; line && i < place; i++) {
@@ -89,100 +95,179 @@ static void add_fields(struct text *t, const struct paper *p, const struct machi
     struct field rows[FIELDS];
     char expected[16];
     int many = line_fields(m->record, o, rows), other;
-    add(t, "<h2>Closing state</h2>\n<table>\n<thead><tr><th>Field</th><th>Value</th><th></th>%s</tr></thead>\n",
-        p->expected ? "<th>Expected</th>" : "");
-    add(t, "<tbody>\n");
+    add(t, "<h2>Closing state</h2>\n");
+    open_table(t, p->expected ? "Field|Value|Expected|Says" : "Field|Value|Says");
     for (int i = 0; i < many; i++) {
-        word_at(p->expected, i, expected, sizeof expected);
+        field_at(p->expected, i, expected, sizeof expected);
         other = p->expected && strcmp(expected, rows[i].value) != 0;
-        add(t, "<tr%s><th>%s</th><td class=\"n\">%s</td><td>%s</td>", other ? " class=\"other\"" : "", rows[i].name,
-            rows[i].value, rows[i].says);
+        add(t, "<tr%s><th>%s</th>", other ? " class=\"other\"" : "", rows[i].name);
+        add(t, "<td class=\"n\">%s</td>", rows[i].value);
         if (p->expected) {
             add(t, "<td class=\"n\">%s", other ? "not " : "");
             add_html(t, expected, strlen(expected));
             add(t, "</td>");
         }
-        add(t, "</tr>\n");
+        add(t, "<td>%s</td></tr>\n", rows[i].says);
     }
-    add(t, "</tbody>\n</table>\n");
+    close_table(t);
 }
 
 static void add_sixteen(struct text *t, const uint8_t *bytes)
 {
     for (unsigned i = 0; i < 16; i++)
-        add(t, "%s%02X", i ? " " : "", bytes[i]);
+        add_byte(t, i ? " " : "", bytes[i]);
 }
 
 /* Rows of sixteen bytes in which the run changed one. */
-static void add_memory(struct text *t, const struct machine *before, const struct machine *after)
+static void add_memory(struct text *t, const struct machine *before, const struct machine *after, unsigned most)
 {
-    unsigned many = 0, more = 0;
-    add(t, "<h2>Memory that the run changed</h2>\n<pre>");
+    struct text rows = {0};
+    unsigned many = 0;
     for (unsigned at = 0; at < XM23_MEMORY_SIZE; at += 16) {
-        if (memcmp(before->memory + at, after->memory + at, 16) == 0)
+        if (memcmp(before->memory + at, after->memory + at, 16) == 0 || many++ >= most)
             continue;
-        if (many++ >= MOST_ROWS) {
-            more++;
-            continue;
-        }
-        add(t, "%04X  before  ", at);
-        add_sixteen(t, before->memory + at);
-        add(t, "\n      after   ");
-        add_sixteen(t, after->memory + at);
-        add(t, "\n");
+        add(&rows, "%04X  before  ", at);
+        add_sixteen(&rows, before->memory + at);
+        add(&rows, "\n      after   ");
+        add_sixteen(&rows, after->memory + at);
+        add(&rows, "\n");
     }
-    if (more)
-        add(t, ".. and %u rows more\n", more);
-    add(t, "%s</pre>\n", many ? "" : "none");
+    if (many > most)
+        add(&rows, ".. and %u rows more\n", many - most);
+    add(t, "<h2>Memory that the run changed</h2>\n");
+    if (many)
+        add_wide(t, &rows);
+    else
+        add(t, "<p>None.</p>\n");
+    drop(&rows);
+}
+
+/* A word of memory before the run: what stands there by its address or by the paper, else the instruction. */
+static void add_word(struct text *t, const struct paper *p, unsigned at, unsigned word)
+{
+    add(t, "%04X  %04X  ", at, word);
+    if (at < 16)
+        add(t, "device %u", at / 2);
+    else if (at >= XM23_VECTORS)
+        add(t, "vector %u, %s", (at - XM23_VECTORS) / 4, at & 2 ? "PC" : "PSW");
+    else if (p->set[at] == DATA || p->set[at + 1] == DATA)
+        add(t, "%-8s$%04X", "WORD", word);
+    else
+        add_instruction(t, at, (uint16_t)word);
+    add(t, "\n");
 }
 
 /* What was in memory before the first step: the program with the paper over it. */
-static void add_program(struct text *t, const struct machine *before)
+static void add_program(struct text *t, const struct paper *p, const struct machine *before, unsigned most)
 {
-    uint8_t *set = (uint8_t *)room_for(NULL, XM23_MEMORY_SIZE);
     struct text listing = {0};
-    for (unsigned a = 0; a < XM23_MEMORY_SIZE; a += 2)
-        set[a] = set[a + 1] = before->memory[a] || before->memory[a + 1];
-    add_listing(&listing, before->memory, set, MOST_ROWS);
+    unsigned many = 0, last = XM23_MEMORY_SIZE;
+    for (unsigned at = 0; at < XM23_MEMORY_SIZE; at += 2) {
+        unsigned word = get_word(before->memory, at);
+        if (!word || many++ >= most)
+            continue;
+        if (last + 2 < at)
+            add(&listing, "\n");
+        add_word(&listing, p, at, word);
+        last = at;
+    }
+    if (many > most)
+        add(&listing, ".. and %u words more\n", many - most);
     add(t, "<h2>Memory before the run, words of 0 left out</h2>\n");
-    add_pre(t, "", listing.at, listing.length);
+    if (many)
+        add_wide(t, &listing);
+    else
+        add(t, "<p>All is zero.</p>\n");
     drop(&listing);
-    free(set);
+}
+
+/* A source as it was handed in, with places and words. */
+static void add_source(struct text *t, const struct program *p, unsigned most)
+{
+    static struct assembled a;
+    struct text listing = {0};
+    struct fault f = {0};
+    if (!is_source(p->name) || p->length > MOST_SOURCE || !assemble_source(p->bytes, p->length, &a, &f)) {
+        drop(&f.why);
+        return;
+    }
+    add_source_listing(&listing, p->bytes, p->length, &a, most);
+    add(t, "<h2>Source</h2>\n<div id=\"source\">\n");
+    add_wide(t, &listing);
+    add(t, "</div>\n");
+    drop(&listing);
 }
 
 static void add_foot(struct text *t, const struct sitting *s, const struct row *r)
 {
     unsigned v = xm23_version();
-    add(t, "<footer>Program SHA-256 %s, paper SHA-256 %s, machine %u.%u.%u.</footer>\n</body>\n</html>\n",
+    add(t, "<footer>Program SHA-256 %s, paper SHA-256 %s, machine %u.%u.%u.</footer>\n",
         r->digest[0] ? r->digest : "unknown", s->paper_digest, v >> 16, v >> 8 & 0xFF, v & 0xFF);
 }
 
-void add_page(struct text *t, const struct sitting *s, const struct row *r, const struct machine *before,
-              const struct machine *after, const struct outcome *o)
+/* The first bytes of the screen text, and how many there were where they are not all. */
+static void add_screen(struct text *t, const struct text *screen)
+{
+    size_t length = screen->length < MOST_SHOWN ? screen->length : MOST_SHOWN;
+    add(t, "<h2>Screen</h2>\n");
+    if (length < screen->length)
+        add(t, "<p>The first %lu bytes of %lu.</p>\n", (unsigned long)length, (unsigned long)screen->length);
+    add_pre(t, " class=\"screen\"", screen->at, length);
+}
+
+static void add_heading(struct text *t, const struct sitting *s, const struct row *r)
 {
     const struct paper *p = s->paper;
-    add_row(t, s, r);
     add_page_head(t, r->name);
     add(t, "<h1>");
-    add_html(t, r->name, strlen(r->name));
+    add_name(t, r->name);
     add(t, "</h1>\n<p>");
-    add_html(t, p->title ? p->title : p->name, strlen(p->title ? p->title : p->name));
+    add_name(t, p->title ? p->title : p->name);
     add(t, "</p>\n");
     add_verdict(t, r);
     if (r->line.length)
         add_pre(t, " class=\"line\"", r->line.at, r->line.length);
     if (p->expected) {
-        add(t, "<p>Expected:</p>\n");
-        add_pre(t, "", p->expected, strlen(p->expected));
+        add(t, "<p>Expected:</p>\n<pre>");
+        add_name(t, p->expected);
+        add(t, "</pre>\n");
     }
-    if (r->screen.length) {
-        add(t, "<h2>Screen</h2>\n");
-        add_pre(t, "", r->screen.at, r->screen.length);
-    }
-    if (before) {
-        add_fields(t, p, after, o);
-        add_memory(t, before, after);
-        add_program(t, before);
-    }
+}
+
+static void add_state(struct text *t, const struct sitting *s, const struct marked *m, unsigned most)
+{
+    add_fields(t, s->paper, &m->after, &m->o);
+    if (m->walk.many)
+        add(t, "%s<noscript><p>Without scripts the walk is not shown; its last steps are below.</p></noscript>\n",
+            walk_html);
+    add_walk_tables(t, &m->walk, &m->after);
+    add_memory(t, &m->before, &m->after, most);
+    add_source(t, &m->program, most);
+    add_program(t, s->paper, &m->before, most);
+}
+
+/* With so many rows at most of memory, of the listing and of the source. */
+static void add_rows(struct text *t, const struct sitting *s, const struct marked *m, unsigned most)
+{
+    const struct row *r = &m->row;
+    add_row(t, s, r);
+    add_heading(t, s, r);
+    if (m->screen.length)
+        add_screen(t, &m->screen);
+    if (m->ran)
+        add_state(t, s, m, most);
     add_foot(t, s, r);
+    if (m->ran && m->walk.many)
+        add_walk_data(t, &m->walk, &m->after, &m->screen);
+    add(t, "</body>\n</html>\n");
+}
+
+/* A page that would be too long has fewer rows. */
+void add_page(struct text *t, const struct sitting *s, const struct marked *m)
+{
+    add_rows(t, s, m, MOST_ROWS);
+    if (t->length > MOST_PAGE) {
+        t->length = 0;
+        add_rows(t, s, m, FEW_ROWS);
+    }
 }

@@ -23,28 +23,26 @@ static int take_lines(struct paper *p)
 /* The paper's S-records, under what its other lines lay. Without an S9 they get one that says nothing. */
 static int lay_srec(struct paper *p)
 {
-    uint8_t *memory = (uint8_t *)room_for(NULL, XM23_MEMORY_SIZE), *set = (uint8_t *)room_for(NULL, XM23_MEMORY_SIZE);
+    struct assembled *a = (struct assembled *)room_for(NULL, sizeof *a);
     struct fault f = {0};
     const char *last;
-    uint16_t pc;
     int ended, good;
     for (last = p->srec.at + p->srec.length - 1; last > p->srec.at && last[-1] != '\n';)
         last--;
     ended = last[1] == '9';
     if (!ended)
         add(&p->srec, "S9030000FC\n");
-    good = load_program(p->srec.at, p->srec.length, memory, set, &pc, &f);
+    good = load_srec(p->srec.at, p->srec.length, a, &f);
     if (!good)
-        say_at(p->name, p->srec_lines[f.line - 1], "R%u: %s", f.refusal, f.why.at);
-    for (unsigned a = 0; good && a < XM23_MEMORY_SIZE; a++)
-        if (set[a] && !p->set[a])
-            p->memory[a] = memory[a], p->set[a] = 1;
+        say_at(p->name, p->srec_lines[f.line - 1], "R%u: %s", f.refusal, xm23_refusal_text(f.refusal));
+    for (unsigned at = 0; good && at < XM23_MEMORY_SIZE; at++)
+        if (a->set[at] && !p->set[at])
+            p->memory[at] = a->memory[at], p->set[at] = SRECORD;
     if (good && ended && !p->start_line[7]) {
-        put_word(p->record, XM23_RECORD_REGISTER(7), pc);
+        put_word(p->record, XM23_RECORD_REGISTER(7), a->pc);
         p->start_line[7] = p->srec_lines[p->many_srec - 1];
     }
-    free(memory);
-    free(set);
+    free(a);
     drop(&f.why);
     return good;
 }
@@ -99,29 +97,32 @@ static uint32_t line_at_fault(const struct paper *p, unsigned refusal, uint32_t 
  * What the library says of a run of the paper, without a step: of the number of steps by a record that is refused after
  * it, of record and events by a run of 0 steps.
  */
-static int judge(const struct paper *p)
+static unsigned refusal_of(const struct paper *p)
 {
     struct machine *m = (struct machine *)room_for(NULL, sizeof *m);
-    struct outcome o = {0, 0, 0, 0, NULL};
-    uint32_t line, first = 0;
+    struct outcome o = {0};
     memset(m->memory, 0, sizeof m->memory);
     memcpy(m->record, p->record, sizeof m->record);
     m->record[XM23_RECORD_ZERO] = 1;
-    run_machine(m, NULL, 0, p->steps, &o);
+    run_machine(m, p, p->steps, &o);
     if (o.refusal == XM23_REFUSED_RECORD_BITS) {
         m->record[XM23_RECORD_ZERO] = 0;
-        run_machine(m, p->event_bytes, XM23_EVENT_SIZE * p->many_events, 0, &o);
+        run_machine(m, p, 0, &o);
     }
     free(m);
-    if (o.refusal == XM23_ACCEPTED)
-        return 1;
-    line = line_at_fault(p, o.refusal, &first);
+    return o.refusal;
+}
+
+static int judge(const struct paper *p)
+{
+    unsigned refusal = refusal_of(p);
+    uint32_t first = 0, line = line_at_fault(p, refusal, &first);
     if (first)
-        say_at(p->name, line, "R%u: %s: lines %lu and %lu", o.refusal, xm23_refusal_text(o.refusal),
-               (unsigned long)first, (unsigned long)line);
-    else
-        say_at(p->name, line, "R%u: %s", o.refusal, xm23_refusal_text(o.refusal));
-    return 0;
+        say_at(p->name, line, "R%u: %s: lines %lu and %lu", refusal, xm23_refusal_text(refusal), (unsigned long)first,
+               (unsigned long)line);
+    else if (refusal)
+        say_at(p->name, line, "R%u: %s", refusal, xm23_refusal_text(refusal));
+    return refusal == XM23_ACCEPTED;
 }
 
 int read_paper(const char *name, struct paper *p)

@@ -56,38 +56,75 @@ static int digit(char c, unsigned base)
     return value < (int)base ? value : -1;
 }
 
-/* A number: # and base sixteen, base ten, or a character in quotes. -1 where it is none, or above `most`. */
-static int64_t value_of(const struct word *w, uint64_t most)
+/* The digits of a number in a base; -1 where one is none of the base, or the number is above `most`. */
+static int64_t digits_of(const char *at, size_t length, unsigned base, uint64_t most)
 {
-    unsigned base = w->at[0] == '#' ? 16 : 10;
-    size_t i = base == 16;
     uint64_t value = 0;
-    if (w->length == 3 && w->at[0] == '\'' && w->at[2] == '\'')
-        return (unsigned char)w->at[1] <= most ? (unsigned char)w->at[1] : -1;
-    if (i == w->length)
+    if (!length)
         return -1;
-    for (; i < w->length; i++) {
-        int d = digit(w->at[i], base);
+    for (size_t i = 0; i < length; i++) {
+        int d = digit(at[i], base);
         if (d < 0 || (value = value * base + (unsigned)d) > most)
             return -1;
     }
     return (int64_t)value;
 }
 
-/* The next word as a number of at most `most`; `what` names it in a message. */
-static int next_number(struct rest *r, uint64_t most, const char *what, uint64_t *number)
+/*
+ * A number as a source has it, $ base sixteen and # base ten; base ten without a mark too, or a character in quotes.
+ * NOT_ONE where it is none, or not from `least` to `most`. The papers of the machine write # for base sixteen: behind a
+ * # neither a digit of base sixteen nor a leading zero is taken, so that #0800 is a mistake and not 800.
+ */
+#define NOT_ONE INT64_MIN
+
+static int64_t value_of(const struct word *w, int64_t least, uint64_t most)
+{
+    size_t mark = w->at[0] == '$' || w->at[0] == '#';
+    size_t minus = w->at[0] == '#' && w->length > 1 && w->at[1] == '-';
+    const char *at = w->at + mark + minus;
+    size_t length = w->length - mark - minus;
+    int64_t value;
+    if (w->length == 3 && w->at[0] == '\'' && w->at[2] == '\'')
+        return (unsigned char)w->at[1] <= most ? (unsigned char)w->at[1] : NOT_ONE;
+    if (w->at[0] == '#' && length > 1 && at[0] == '0')
+        return NOT_ONE;
+    value = digits_of(at, length, w->at[0] == '$' ? 16 : 10, minus ? (uint64_t)-least : most);
+    return value < 0 ? NOT_ONE : minus ? -value : value;
+}
+
+/* Whether a word that is no number behind # would be one behind $: base sixteen was meant. */
+static int means_sixteen(const struct word *w)
+{
+    return w->length > 1 && w->at[0] == '#' && digits_of(w->at + 1, w->length - 1, 16, UINT32_MAX) >= 0 &&
+           (w->at[1] == '0' || digits_of(w->at + 1, w->length - 1, 10, UINT32_MAX) < 0);
+}
+
+/* Tells of a word that is no such number, and what it should be where that is plain. */
+static int no_number(const struct rest *r, const struct word *w, const char *what)
+{
+    return wrong(r, w, means_sixteen(w) ? "is no number: # is base ten, $ base sixteen" : what);
+}
+
+/* The next word as a number from `least` to `most`; `what` names it in a message. */
+static int next_value(struct rest *r, int64_t least, uint64_t most, const char *what, int64_t *number)
 {
     struct word w;
     char says[96];
-    int64_t value;
     if (!next_word(r, &w)) {
         say_at(r->paper->name, r->line, "%s is missing", what);
         return 0;
     }
-    value = value_of(&w, most);
-    snprintf(says, sizeof says, "is no %s, 0 to %llu", what, (unsigned long long)most);
+    *number = value_of(&w, least, most);
+    snprintf(says, sizeof says, "is no %s, %lld to %llu", what, (long long)least, (unsigned long long)most);
+    return *number != NOT_ONE || no_number(r, &w, says);
+}
+
+static int next_number(struct rest *r, uint64_t most, const char *what, uint64_t *number)
+{
+    int64_t value = 0;
+    int good = next_value(r, 0, most, what, &value);
     *number = (uint64_t)value;
-    return value >= 0 || wrong(r, &w, says);
+    return good;
 }
 
 static int no_more(struct rest *r)
@@ -162,20 +199,22 @@ static int start_part(struct rest *r, const struct word *w)
     const char *equals = (const char *)memchr(w->at, '=', w->length);
     size_t length = equals ? (size_t)(equals - w->at) : 0, i = 0, many = sizeof starts / sizeof *starts;
     struct word number;
+    uint64_t most;
     int64_t value;
     while (i < many && (strlen(starts[i].name) != length || memcmp(starts[i].name, w->at, length) != 0))
         i++;
     if (i == many)
         return wrong(r, w, "is no part of the start: R0= to R7=, LR=, SP=, PC=, PSW=, CEX=, HALTED=, COUNT=, LINES=");
+    most = ((uint64_t)1 << 8 * starts[i].bytes) - 1;
     number.at = equals + 1;
     number.length = w->length - length - 1;
-    value = number.length ? value_of(&number, ((uint64_t)1 << 8 * starts[i].bytes) - 1) : -1;
-    if (value < 0)
-        return wrong(r, w, "has no number that fits");
+    value = number.length ? value_of(&number, starts[i].part < 8 ? -0x8000 : 0, most) : NOT_ONE;
+    if (value == NOT_ONE)
+        return means_sixteen(&number) ? no_number(r, &number, "") : wrong(r, w, "has no number that fits");
     if (!claim(r, &r->paper->start_line[starts[i].part], starts[i].name))
         return 0;
     for (unsigned byte = 0; byte < starts[i].bytes; byte++)
-        r->paper->record[starts[i].at + byte] = (uint8_t)(value >> 8 * byte);
+        r->paper->record[starts[i].at + byte] = (uint8_t)((uint64_t)value >> 8 * byte);
     return 1;
 }
 
@@ -198,26 +237,27 @@ static int start(struct rest *r)
 static void lay(struct paper *p, unsigned at, uint64_t byte)
 {
     p->memory[at & 0xFFFF] = (uint8_t)byte;
-    p->set[at & 0xFFFF] = 1;
+    p->set[at & 0xFFFF] = DATA;
 }
 
-/* ADDRESS NUMBER .., each of one byte or two. */
+/* ADDRESS NUMBER .., each of one byte or two: what BYTE and WORD of a source take. */
 static int lay_numbers(struct rest *r, unsigned width)
 {
-    uint64_t at, value;
+    int64_t least = width == 1 ? -0x80 : -0x8000, most = width == 1 ? 0xFF : 0xFFFF, value;
+    uint64_t at;
     struct rest before;
     struct word w;
     if (!next_number(r, 0xFFFF, "address", &at))
         return 0;
     do {
-        if (!next_number(r, width == 1 ? 0xFF : 0xFFFF, width == 1 ? "byte" : "word", &value))
+        if (!next_value(r, least, (uint64_t)most, width == 1 ? "byte" : "word", &value))
             return 0;
         if (at + width > XM23_MEMORY_SIZE) {
-            say_at(r->paper->name, r->line, "passes #FFFF");
+            say_at(r->paper->name, r->line, "passes $FFFF");
             return 0;
         }
         for (unsigned i = 0; i < width; i++)
-            lay(r->paper, (unsigned)at++, value >> 8 * i);
+            lay(r->paper, (unsigned)at++, (uint64_t)value >> 8 * i);
         before = *r;
     } while (next_word(&before, &w));
     return 1;
@@ -321,7 +361,7 @@ int paper_line(struct paper *p, uint32_t line, const char *at, const char *end)
         return srec(p, line, at, end);
     if (!next_word(&r, &w))
         return 1;
-    if (digit(w.at[0], 10) >= 0 || w.at[0] == '#')
+    if (digit(w.at[0], 10) >= 0 || w.at[0] == '#' || w.at[0] == '$')
         return event(&whole);
     for (size_t i = 0; i < sizeof statements / sizeof *statements; i++)
         if (strlen(statements[i].name) == w.length && memcmp(statements[i].name, w.at, w.length) == 0)

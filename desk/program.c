@@ -1,46 +1,81 @@
-/* A candidate's program: S-records that the library judges and loads; and a paper's machine before its first step. */
+/* A candidate's program, S-records or a source, which the library judges; a paper's machine before its first step. */
 #include <stdlib.h>
 #include <string.h>
 
 #include "desk.h"
 
+int read_program(const char *name, int regular, struct program *p, struct text *why)
+{
+    p->name = name;
+    p->bytes = read_file(name, regular, &p->length, why);
+    return p->bytes != NULL;
+}
+
+int take_program(const char *name, struct program *p)
+{
+    struct text why = {0};
+    int status = read_program(name, 0, p, &why) ? DONE : UNREADABLE;
+    if (status != DONE)
+        say_at(name, 0, "%s", why.at);
+    drop(&why);
+    return status;
+}
+
+void drop_program(struct program *p)
+{
+    free(p->bytes);
+    memset(p, 0, sizeof *p);
+}
+
+/* A refused text; of a first line that is no S-record, how a source is told from S-records. */
+static int refused(uint64_t reply, struct fault *f)
+{
+    f->refusal = XM23_REFUSAL(reply);
+    f->line = XM23_LOAD_LINE(reply);
+    add(&f->why, "%s%s", xm23_refusal_text(f->refusal),
+        f->refusal == XM23_REFUSED_SREC_FORM && f->line == 1 ? " (a source's name ends in .asm)" : "");
+    return 0;
+}
+
 /* Loaded over zeros and over ones: a byte that is the same in both is one that the S-records name. */
-int load_program(const char *text, size_t length, uint8_t *memory, uint8_t *set, uint16_t *pc, struct fault *f)
+int load_srec(const char *text, size_t length, struct assembled *a, struct fault *f)
 {
     const uint8_t *bytes = (const uint8_t *)text;
     uint64_t reply;
-    memset(memory, 0, XM23_MEMORY_SIZE);
-    memset(set, 0xFF, XM23_MEMORY_SIZE);
-    reply = xm23_load_srec(memory, XM23_MEMORY_SIZE, bytes, length, 0);
-    if (XM23_REFUSAL(reply)) {
-        f->refusal = XM23_REFUSAL(reply);
-        f->line = XM23_LOAD_LINE(reply);
-        add(&f->why, "%s", xm23_refusal_text(f->refusal));
-        return 0;
-    }
-    xm23_load_srec(set, XM23_MEMORY_SIZE, bytes, length, 0);
-    for (unsigned a = 0; a < XM23_MEMORY_SIZE; a++)
-        set[a] = set[a] == memory[a];
-    *pc = XM23_LOAD_PC(reply);
+    memset(a->memory, 0, sizeof a->memory);
+    memset(a->set, 0xFF, sizeof a->set);
+    reply = xm23_load_srec(a->memory, sizeof a->memory, bytes, length, 0);
+    if (XM23_REFUSAL(reply))
+        return refused(reply, f);
+    xm23_load_srec(a->set, sizeof a->set, bytes, length, 0);
+    for (unsigned at = 0; at < XM23_MEMORY_SIZE; at++)
+        a->set[at] = a->set[at] == a->memory[at];
+    a->pc = XM23_LOAD_PC(reply);
     return 1;
 }
 
-int open_program(const struct paper *p, const char *text, size_t length, struct machine *m, struct fault *f)
+int load_program(const struct program *p, struct assembled *a, struct fault *f)
 {
-    uint64_t reply;
-    memset(m->memory, 0, sizeof m->memory);
-    memcpy(m->record, p->record, sizeof m->record);
-    reply = xm23_load_srec(m->memory, sizeof m->memory, (const uint8_t *)text, length, 0);
-    if (XM23_REFUSAL(reply)) {
-        f->refusal = XM23_REFUSAL(reply);
-        f->line = XM23_LOAD_LINE(reply);
-        add(&f->why, "%s", xm23_refusal_text(f->refusal));
+    return is_source(p->name) ? assemble_source(p->bytes, p->length, a, f) : load_srec(p->bytes, p->length, a, f);
+}
+
+int open_program(const struct paper *p, const struct program *program, struct machine *m, struct fault *f)
+{
+    static struct assembled a;
+    if (!load_program(program, &a, f))
         return 0;
-    }
+    memcpy(m->memory, a.memory, sizeof m->memory);
+    memcpy(m->record, p->record, sizeof m->record);
     if (!p->start_line[7])
-        put_word(m->record, XM23_RECORD_REGISTER(7), XM23_LOAD_PC(reply));
-    for (unsigned a = 0; a < XM23_MEMORY_SIZE; a++)
-        if (p->set[a])
-            m->memory[a] = p->memory[a];
+        put_word(m->record, XM23_RECORD_REGISTER(7), a.pc);
+    for (unsigned at = 0; at < XM23_MEMORY_SIZE; at++)
+        if (p->set[at])
+            m->memory[at] = p->memory[at];
     return 1;
+}
+
+int say_fault(const char *name, const struct fault *f)
+{
+    say_at(name, f->line, "R%u: %s", f->refusal, f->why.at);
+    return REFUSED;
 }

@@ -7,7 +7,7 @@
 
 #include "desk.h"
 
-#define MOST_ROW 65536 /* bytes of a row beside its name: the screen text is bounded */
+#define MOST_ROW 65536 /* bytes of a row: its screen text is bounded */
 #define MARK "<!DOCTYPE html><!-- row of xm23 "
 
 void drop_row(struct row *r)
@@ -24,7 +24,7 @@ static void add_coded(struct text *t, const char *bytes, size_t length)
         if (c == ' ' || (c >= '0' && c <= '9') || (c >= 'A' && c <= 'Z') || (c >= 'a' && c <= 'z'))
             add_bytes(t, bytes + i, 1);
         else
-            add(t, "%%%02X", c);
+            add_byte(t, "%", c);
     }
     add(t, "|");
 }
@@ -32,14 +32,15 @@ static void add_coded(struct text *t, const char *bytes, size_t length)
 /* What the row is of: the library, the paper and the program's name. */
 static void add_key(struct text *t, const struct sitting *s, const char *name)
 {
-    add(t, MARK "%lu|%s|", (unsigned long)xm23_version(), s->paper_digest);
-    add_coded(t, name, strlen(name));
+    char digest[SHA256_TEXT] = "";
+    sha256(name, strlen(name), digest);
+    add(t, MARK "%lu|%s|%s|", (unsigned long)xm23_version(), s->paper_digest, digest);
 }
 
 void add_row(struct text *t, const struct sitting *s, const struct row *r)
 {
     add_key(t, s, r->name);
-    add(t, "%s|%lu|%d|", r->digest, (unsigned long)r->steps, r->agrees);
+    add(t, "%s|%lu|%lu|%d|", r->digest, (unsigned long)r->steps, (unsigned long)r->deepest, r->agrees);
     add_coded(t, r->line.at, r->line.length);
     add_coded(t, r->says.at, r->says.length);
     add_coded(t, r->screen.at, r->screen.length);
@@ -92,7 +93,7 @@ static int take_digest(const char **at, char *digest)
 int take_row(const char *line, const struct sitting *s, size_t i, struct row *r)
 {
     struct text key = {0};
-    long steps = 0, agrees = 0;
+    long steps = 0, deepest = 0, agrees = 0;
     int same;
     memset(r, 0, sizeof *r);
     r->name = s->names[i];
@@ -100,25 +101,25 @@ int take_row(const char *line, const struct sitting *s, size_t i, struct row *r)
     same = strncmp(line, key.at, key.length) == 0;
     line += same ? key.length : 0;
     drop(&key);
-    if (!same || !take_digest(&line, r->digest) || !take_number(&line, &steps) || !take_number(&line, &agrees) ||
-        !take_field(&line, &r->line) || !take_field(&line, &r->says) || !take_field(&line, &r->screen) ||
-        strcmp(line, " -->\n") != 0)
+    if (!same || !take_digest(&line, r->digest) || !take_number(&line, &steps) || !take_number(&line, &deepest) ||
+        !take_number(&line, &agrees) || !take_field(&line, &r->line) || !take_field(&line, &r->says) ||
+        !take_field(&line, &r->screen) || strcmp(line, " -->\n") != 0)
         return 0;
     r->steps = (uint32_t)steps;
+    r->deepest = (uint32_t)deepest;
     r->agrees = (int)agrees;
     return 1;
 }
 
 int row_of_page(const struct sitting *s, size_t i, struct row *r)
 {
-    size_t room = MOST_ROW + 3 * strlen(s->names[i]);
-    char *start = (char *)room_for(NULL, room), *end;
+    char *start = (char *)room_for(NULL, MOST_ROW), *end;
     struct text path = {0};
     int good;
     memset(r, 0, sizeof *r);
     add(&path, "%s/", s->folder);
     add_page_path(&path, s, i);
-    good = read_start(path.at, start, room);
+    good = read_start(path.at, start, MOST_ROW);
     end = strchr(start, '\n');
     if (good && end)
         end[1] = 0;

@@ -1,5 +1,4 @@
 /* xm23 run: one program under a paper. */
-#include <stdlib.h>
 #include <string.h>
 #include <unistd.h>
 
@@ -39,17 +38,18 @@ static int agrees(const struct paper *p, const struct machine *m, const struct o
     return same;
 }
 
-static int run_program(const struct paper *p, const char *name, const char *bytes, size_t length, int legend)
+static int run_program(const struct paper *p, const struct program *program, int legend)
 {
     static struct machine m;
     struct text screen = {0};
-    struct outcome o = {0, 0, 0, 0, &screen};
+    struct outcome o = {0};
     struct fault f = {0};
     int status;
-    if (open_program(p, bytes, length, &m, &f)) {
-        run_machine(&m, p->event_bytes, XM23_EVENT_SIZE * p->many_events, p->steps, &o);
+    o.screen = &screen;
+    if (open_program(p, program, &m, &f)) {
+        run_machine(&m, p, p->steps, &o);
     } else {
-        say_at(name, f.line, "R%u: %s", f.refusal, f.why.at);
+        say_fault(program->name, &f);
         o.refusal = f.refusal;
     }
     status = tell_line(&m, &o, legend);
@@ -62,16 +62,11 @@ static int run_program(const struct paper *p, const char *name, const char *byte
 
 static int run_file(const struct paper *p, const char *name, int legend)
 {
-    struct text why = {0};
-    size_t length = 0;
-    char *bytes = read_file(name, 0, &length, &why);
-    int status = UNREADABLE;
-    if (bytes)
-        status = run_program(p, name, bytes, length, legend);
-    else
-        say_at(name, 0, "%s", why.at);
-    free(bytes);
-    drop(&why);
+    struct program program = {0};
+    int status = take_program(name, &program);
+    if (status == DONE)
+        status = run_program(p, &program, legend);
+    drop_program(&program);
     return status;
 }
 

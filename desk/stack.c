@@ -1,6 +1,4 @@
 /* xm23 stack: the stack bytes that the handlers of a paper can need together. */
-#include <stdlib.h>
-#include <string.h>
 #include <unistd.h>
 
 #include "desk.h"
@@ -45,38 +43,36 @@ static int tell_bytes(const struct paper *p, const struct machine *m)
 }
 
 /* The vectors are the paper's, and the program's where the paper has none. */
-static int with_program(const struct paper *p, const char *name, struct machine *m)
+static int with_program(const struct paper *p, const struct program *program)
 {
-    static const char nothing[] = "S9030000FC\n";
-    struct text why = {0};
+    static struct machine m;
     struct fault f = {0};
-    size_t length = sizeof nothing - 1;
-    char *bytes = name ? read_file(name, 0, &length, &why) : NULL;
-    int status = UNREADABLE;
-    if (name && !bytes) {
-        say_at(name, 0, "%s", why.at);
-    } else if (!open_program(p, name ? bytes : nothing, length, m, &f)) {
-        say_at(name, f.line, "R%u: %s", f.refusal, f.why.at);
-        status = REFUSED;
-    } else {
-        status = tell_bytes(p, m);
-    }
-    free(bytes);
-    drop(&why);
+    int status = open_program(p, program, &m, &f) ? tell_bytes(p, &m) : say_fault(program->name, &f);
     drop(&f.why);
+    return status;
+}
+
+static int with_file(const struct paper *p, const char *name)
+{
+    struct program program = {0};
+    int status = take_program(name, &program);
+    if (status == DONE)
+        status = with_program(p, &program);
+    drop_program(&program);
     return status;
 }
 
 int xm23_desk_stack(int argc, char **argv)
 {
-    static struct machine m;
+    static char nothing[] = "S9030000FC\n";
+    const struct program none = {"", nothing, sizeof nothing - 1};
     static struct paper p;
     int status;
     if (getopt(argc, argv, "+:") != -1 || argc - optind < 1 || argc - optind > 2)
         return misused("stack");
     status = read_paper(argv[optind], &p);
     if (status == DONE) {
-        status = with_program(&p, argv[optind + 1], &m);
+        status = argv[optind + 1] ? with_file(&p, argv[optind + 1]) : with_program(&p, &none);
         drop_paper(&p);
     }
     return status;

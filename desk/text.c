@@ -5,6 +5,8 @@
 
 #include "desk.h"
 
+#define MOST_NAME 1000 /* bytes of a name or a title on a page */
+
 void *room_for(void *old, size_t bytes)
 {
     void *new = realloc(old, bytes ? bytes : 1);
@@ -33,18 +35,20 @@ void add_bytes(struct text *t, const void *bytes, size_t length)
     t->at[t->length] = 0;
 }
 
+/* Into the room that there is, and once more where it was not enough. */
 static void add_list(struct text *t, const char *format, va_list list)
 {
     va_list again;
     int length;
     va_copy(again, list);
-    length = vsnprintf(NULL, 0, format, again);
+    widen(t, 128);
+    length = vsnprintf(t->at + t->length, t->room - t->length, format, list);
+    if (length >= 0 && (size_t)length >= t->room - t->length) {
+        widen(t, (size_t)length);
+        vsnprintf(t->at + t->length, t->room - t->length, format, again);
+    }
     va_end(again);
-    if (length < 0)
-        return;
-    widen(t, (size_t)length);
-    vsnprintf(t->at + t->length, (size_t)length + 1, format, list);
-    t->length += (size_t)length;
+    t->length += length > 0 ? (size_t)length : 0;
 }
 
 void add(struct text *t, const char *format, ...)
@@ -71,6 +75,14 @@ static size_t character(const char *bytes, size_t length)
     return size;
 }
 
+void add_byte(struct text *t, const char *mark, unsigned byte)
+{
+    static const char digits[] = "0123456789ABCDEF";
+    char both[2] = {digits[byte >> 4 & 15], digits[byte & 15]};
+    add_bytes(t, mark, strlen(mark));
+    add_bytes(t, both, 2);
+}
+
 void add_plain(struct text *t, const char *bytes, size_t length)
 {
     for (size_t i = 0, size; i < length; i += size ? size : 1) {
@@ -78,7 +90,7 @@ void add_plain(struct text *t, const char *bytes, size_t length)
         if (size)
             add_bytes(t, bytes + i, size);
         else
-            add(t, "\\x%02X", (unsigned char)bytes[i]);
+            add_byte(t, "\\x", (unsigned char)bytes[i]);
     }
 }
 
@@ -91,10 +103,18 @@ void add_html(struct text *t, const char *bytes, size_t length)
         if (bytes[i] == '<' || bytes[i] == '>' || bytes[i] == '&' || bytes[i] == '"')
             add(t, "&#%u;", (unsigned char)bytes[i]);
         else if (bytes[i] == '\n')
-            add(t, "\n");
+            add_bytes(t, "\n", 1);
         else
             add_plain(t, bytes + i, size);
     }
+}
+
+void add_name(struct text *t, const char *name)
+{
+    size_t length = strlen(name);
+    add_html(t, name, length < MOST_NAME ? length : MOST_NAME);
+    if (length > MOST_NAME)
+        add(t, " ..");
 }
 
 void add_csv(struct text *t, const char *bytes, size_t length)

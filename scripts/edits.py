@@ -88,8 +88,9 @@ class Worker(threading.Thread):
         os.makedirs(f"{self.place}/target")
         shutil.copy("crates.txt", self.place)
         shutil.copytree("crates", f"{self.place}/crates")
-        for part in ("rlib", "stamp", "log"):
-            shutil.copytree(f"target/{part}", f"{self.place}/target/{part}", copy_function=os.link)
+        # What rt writes anew at each check is a worker's own; the libraries, which it only reads, are shared.
+        for part, copy in (("rlib", os.link), ("stamp", shutil.copy2), ("log", shutil.copy2)):
+            shutil.copytree(f"target/{part}", f"{self.place}/target/{part}", copy_function=copy)
         while True:
             try:
                 crate, edits = self.crates.get_nowait()

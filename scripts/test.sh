@@ -103,8 +103,10 @@ listing() {
     "$build/xm23" dis examples/copy_words.s19 | diff examples/copy_words.lst -
 }
 
+# The oracle's pages are asked for by its program, which is compiled first.
 random_papers() {
-    python3 -B tests/desk/random_runs.py "$build/xm23" target/bin/print_state 1200
+    scripts/oracle.sh report > /dev/null 2>&1 || [ $? -eq 2 ] &&
+        python3 -B tests/desk/random_runs.py "$build/xm23" target/bin/print_state oracle/target/release/examples/report 1200
 }
 
 # The machines of the example host print what the program prints; by slices, all but the depth, which is a slice's own.
@@ -156,10 +158,16 @@ else
     echo '== left out: desk under valgrind, which is not here'
     parts=$((parts - 1))
 fi
-part 'desk beside the program on random papers' count_line random_papers
+part 'desk beside the program and the oracle on random runs' count_line random_papers
+if [ -n "$(command -v chromium chromium-browser google-chrome google-chrome-stable)" ]; then
+    part 'desk in a browser' count_line python3 -B tests/desk/browser.py "$build/xm23"
+else
+    echo '== left out: desk in a browser, of which none is here (Debian: chromium)'
+    parts=$((parts - 1))
+fi
 part 'installing' count_line tests/shell/install.sh
 part 'the report' count_line tests/shell/report.sh
-part 'the assembler' count_line tests/shell/assemble.sh
 part 'going back' count_line tests/shell/back.sh
+part 'the open machine' count_line tests/shell/advance.sh
 part 'mistakes and the legend' count_line tests/shell/tools.sh
 part 'S-records beside srec_cat and objcopy' count_line scripts/peers.sh

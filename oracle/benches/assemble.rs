@@ -1,5 +1,5 @@
 //! Time of assembling 65,536 bytes of source in 3,000 lines with 1,024 names: the proved library beside the oracle, in
-//! this process, and examples/assemble.c as a program. Every outcome is compared before it is timed. Last, instructions
+//! this process, and xm23 asm as a program. Every outcome is compared before it is timed. Last, instructions
 //! of the host per byte of source, where valgrind is here. The run fails where the library takes 10 ms or more.
 //!
 //! `assemble once` makes one call, for `valgrind --tool=callgrind --toggle-collect=xm23_assemble`.
@@ -85,16 +85,16 @@ fn time(call: Assembler) -> (f64, Vec<u8>) {
     (best, memory)
 }
 
-/// The example as a program, from a file to a file; None where it is not built.
+/// The desk program, from a file to a file; None where it is not built.
 fn as_program() -> Option<f64> {
     let build = Path::new(env!("CARGO_MANIFEST_DIR")).join("../build");
-    let (tool, place) = (build.join("assemble"), build.join("bench"));
+    let (tool, place) = (build.join("xm23"), build.join("bench"));
     fs::create_dir_all(&place).ok()?;
-    let source = place.join("source.txt");
+    let source = place.join("source.asm");
     fs::write(&source, program()).ok()?;
     let run = || {
         let out = fs::File::create(place.join("source.s19")).ok()?;
-        let command = Command::new(&tool).stdin(fs::File::open(&source).ok()?).stdout(Stdio::from(out)).status();
+        let command = Command::new(&tool).arg("asm").arg(&source).stdout(Stdio::from(out)).status();
         command.ok().filter(|status| status.success())
     };
     run()?;
@@ -125,8 +125,8 @@ fn main() {
     println!("{:34} {:>10} {:>10} {:>8}", "assemble, ms", "Rattle", "oracle", "ratio");
     println!("{:34} {ours:10.3} {oracle:10.3} {:8.2}", "65,536 bytes in 3,000 lines", ours / oracle);
     match as_program() {
-        Some(time) => println!("{:34} {time:10.3}", "as a program, examples/assemble.c"),
-        None => println!("{:34} {:>10}", "as a program, examples/assemble.c", "not here"),
+        Some(time) => println!("{:34} {time:10.3}", "as a program, xm23 asm"),
+        None => println!("{:34} {:>10}", "as a program, xm23 asm", "not here"),
     }
     match instructions() {
         Some(count) => println!("host instructions per byte of source: {:.1}", count / MEMORY as f64),

@@ -14,9 +14,9 @@ usage() { echo "usage: xm23 $1 .*"; }
 # ---- the program itself
 expect 'no word' 2 '' 'usage: xm23 .*' "$xm23"
 expect 'no subcommand' 2 '' "xm23: 'fly' is no subcommand.*" "$xm23" fly
-expect '--help' 0 'usage: .*run .*mark .*asm .*dis .*stack .*card .*Status.*' '' "$xm23" --help
+expect '--help' 0 'usage: .*run .*mark .*report .*back .*asm .*dis .*stack .*card .*Status.*' '' "$xm23" --help
 expect '--version' 0 'xm23 [0-9]+\.[0-9]+\.[0-9]+' '' "$xm23" --version
-for word in run mark asm dis stack card; do
+for word in run mark report back asm dis stack card; do
     expect "$word --help" 0 "usage: xm23 $word .*" '' "$xm23" "$word" --help
     expect "$word -x" 2 '' "$(usage "$word")" "$xm23" "$word" -x
     same "$word is in the manual" "$(grep -qx "\.B $word" man/xm23.1 && echo yes)" yes
@@ -28,8 +28,8 @@ expect 'help to a full disk' 3 '' 'standard output: cannot be written: No space 
 complete_words() { # WORD..
     bash -c '. desk/completion.bash; COMP_WORDS=("$@"); COMP_CWORD=$(($# - 1)); _xm23; echo "${COMPREPLY[*]}"' - "$@" 2> /dev/null
 }
-same 'subcommands' "$(complete_words xm23 '')" 'run mark asm dis stack card --help --version'
-same 'every subcommand is completed' "$("$xm23" --help | sed -n 's/^  \([a-z]*\) .*/\1/p' | tr '\n' ' ')" 'run mark asm dis stack card '
+same 'subcommands' "$(complete_words xm23 '')" 'run mark report back asm dis stack card --help --version'
+same 'every subcommand is completed' "$("$xm23" --help | sed -n 's/^  \([a-z]*\) .*/\1/p' | tr '\n' ' ')" 'run mark report back asm dis stack card '
 same 'options' "$(complete_words xm23 mark -)" '-j -o -0 --help'
 same 'files' "$(complete_words xm23 run examples/sitting/sum)" 'examples/sitting/sum.paper'
 same 'folders' "$(complete_words xm23 mark -o examples/sit)" 'examples/sitting'
@@ -41,8 +41,8 @@ expect 'run -l' 0 "$line.*reason +0 +all steps are done.*PSW +0003 +priority 0, 
 same 'the legend is that of legend.py' "$("$xm23" run -l "$paper" "$sound")" "$(echo "$line" | python3 -B scripts/legend.py)"
 same 'a legend on a terminal' "$(python3 -B tests/desk/terminal.py "$xm23" run "$paper" "$sound" | tr -d '\r')" \
     "$(echo "$line" | python3 -B scripts/legend.py)"
-same 'the screen' "$("$xm23" run -l "$paper" "${sound%/*}/screen.s19" 2> /dev/null | tail -1)" '  screen  SUM'
-expect 'no screen without -l' 1 '0 120 004D 0005 .*0 1' '.*another line.*' "$xm23" run "$paper" "${sound%/*}/screen.s19"
+same 'the screen' "$("$xm23" run -l "$paper" "${sound%/*}/screen.asm" 2> /dev/null | tail -1)" '  screen  SUM'
+expect 'no screen without -l' 1 '0 120 004D 0005 .*0 1' '.*another line.*' "$xm23" run "$paper" "${sound%/*}/screen.asm"
 expect 'another line' 1 '0 120 0019 .*' "$paper:21: another line was expected: $line" \
     "$xm23" run "$paper" "${sound%/*}/unsound.s19"
 expect 'a refused program' 1 'R11' ".*refused.s19:2: R11: a line's checksum differs.*" "$xm23" run "$paper" "${sound%/*}/refused.s19"
@@ -79,6 +79,20 @@ wrong '1:' 'number of steps is missing' 'steps\n'
 wrong '1:' "'many' is no number of steps, 0 to 4294967295" 'steps many\n'
 wrong '1:' "'4294967296' is no number of steps, .*" 'steps 4294967296\n'
 wrong '1:' "'#' is no number of steps, .*" 'steps #\n'
+wrong '1:' "'\\\$' is no number of steps, .*" 'steps $\n'
+wrong '1:' "'#-5' is no number of steps, .*" 'steps #-5\n'
+wrong '1:' "'#1F' is no number: # is base ten, \\\$ base sixteen" 'steps #1F\n'
+wrong '1:' "'#0800' is no number: # is base ten, \\\$ base sixteen" 'start SP=#0800\n'
+wrong '1:' "'#0100' is no number: # is base ten, .*" 'words #0100 1\n'
+wrong '1:' "'#FFFF' is no number: # is base ten, .*" 'start LR=#FFFF\n'
+wrong '1:' "'#11' is no device, 0 to 7" 'device #11 1\n'
+wrong '1:' "'#011' is no number: # is base ten, .*" 'device 1 #011\n'
+wrong '2:' "'#0A' is no number: # is base ten, .*" 'steps 5\n#0A 1 0\n'
+wrong '1:' "'\\\$1G' is no number of steps, .*" 'steps $1G\n'
+wrong '1:' "'\\\$-1' is no word, -32768 to 65535" 'words 0 $-1\n'
+wrong '1:' "'#-32769' is no word, -32768 to 65535" 'words 0 #-32769\n'
+wrong '1:' "'#-129' is no byte, -128 to 255" 'bytes 0 #-129\n'
+wrong '1:' "'PSW=#-1' has no number that fits" 'start PSW=#-1\n'
 wrong '1:' "'6' is one word too many" 'steps 5 6\n'
 wrong '2:' 'steps is on line 1 already' 'steps 5\nsteps 6\n'
 wrong '2:' 'the title is on line 1 already' 'title a\ntitle b\n'
@@ -94,8 +108,8 @@ wrong '1:' "'R1=65536' has no number that fits" 'start R1=65536\n'
 wrong '1:' "'HALTED=256' has no number that fits" 'start HALTED=256\n'
 wrong '2:' 'SP is on line 1 already' 'start R6=1\nstart SP=1\n'
 wrong '1:' 'SP is on line 1 already' 'start SP=1 SP=2\n'
-wrong '2:' 'R4: .*' 'steps 5\nstart PSW=#1E00\n'
-wrong '2:' 'R4: .*' 'steps 5\nstart CEX=#0080\n'
+wrong '2:' 'R4: .*' 'steps 5\nstart PSW=$1E00\n'
+wrong '2:' 'R4: .*' 'steps 5\nstart CEX=$0080\n'
 wrong '2:' 'R4: .*' 'steps 5\nstart HALTED=2\n'
 wrong '1:' "'8' is no device, 0 to 7" 'device 8 1\n'
 wrong '1:' 'status byte is missing' 'device 1\n'
@@ -104,11 +118,11 @@ wrong '2:' 'this device is on line 1 already' 'device 1 1\ndevice 1 2\n'
 wrong '1:' "'16' is no vector, 0 to 15" 'vector 16 1 1\n'
 wrong '1:' 'PC is missing' 'vector 1 1\n'
 wrong '2:' 'this vector is on line 1 already' 'vector 1 1 1\nvector 1 1 1\n'
-wrong '1:' 'byte is missing' 'bytes #1000\n'
-wrong '1:' "'256' is no byte, 0 to 255" 'bytes #1000 256\n'
-wrong '1:' "'#10000' is no address, 0 to 65535" 'words #10000 1\n'
-wrong '1:' 'passes #FFFF' 'words #FFFE 1 2\n'
-wrong '1:' "'-1' is no word, 0 to 65535" 'words 0 -1\n'
+wrong '1:' 'byte is missing' 'bytes $1000\n'
+wrong '1:' "'256' is no byte, -128 to 255" 'bytes $1000 256\n'
+wrong '1:' "'\\\$10000' is no address, 0 to 65535" 'words $10000 1\n'
+wrong '1:' 'passes \$FFFF' 'words $FFFE 1 2\n'
+wrong '1:' "'-1' is no word, -32768 to 65535" 'words 0 -1\n'
 wrong '2:' 'the use of this device is on line 1 already' 'use 1 1\nuse 1 1\n'
 wrong '2:' "R10: .*" 'steps 1\nS1\n'
 wrong '2:' "R11: .*" 'steps 1\nS9030000FB\n'
@@ -126,22 +140,57 @@ right 'the least paper' '0 0 0000 0000 0000 0000 0000 0000 0000 1000 0000 00 000
 right 'CR LF, blanks, comments' '0 0 0005 0000 0000 0000 0000 0000 0000 1000 0000 00 00000000 0' \
     '; a paper\r\n\r\n\tsteps 0 ; none\r\nstart\tR0=5 ;\r\n'
 right 'every part of the start' '1 0 0001 0002 0003 0004 0005 0006 0007 0008 E1FF 7F 12345678 0' \
-    'steps 3\nstart R0=1 R1=2 R2=3 R3=4 R4=5 LR=6 SP=7 PC=8 PSW=#E1FF CEX=#7F HALTED=1 COUNT=9 LINES=#12345678\n'
+    'steps 3\nstart R0=1 R1=2 R2=3 R3=4 R4=5 LR=6 SP=7 PC=8 PSW=$E1FF CEX=$7F HALTED=1 COUNT=#9 LINES=$12345678\n'
 right 'a later line wins' '0 1 0001 0000 0000 0000 0000 0000 0000 1002 0000 00 00000000 0' \
-    "steps 1\nwords #1000 #4080\nwords #1000 #4088\n"
+    'steps #1\nwords $1000 $4080\nwords $1000 $4088\n'
+right 'numbers below 0' '0 0 FFFF 8000 0000 0000 0000 0000 0000 1000 0000 00 00000000 0' \
+    'steps 0\nstart R0=#-1 R1=#-32768\nwords $20 #-1\nbytes $30 #-128\n'
 right 'bytes, and a letter' '0 1 0000 0000 0000 0000 0000 0000 0000 1002 0000 00 00000000 0' \
-    "steps 1\nbytes #1000 #00 'L'\n"
+    "steps 1\nbytes \$1000 \$00 'L'\n"
 printf 'steps 0\nS9032000DC\n' > "$room/p.paper"
 expect 'the PC of its S9' 0 '0 0 .* 2000 0000 00 00000000 0' '' "$xm23" run "$room/p.paper" "$sound"
 
+# ---- sources as programs
+source=${sound%/*/*}/sources/sound.asm
+expect 'run of a source' 0 "$line" '' "$xm23" run "$paper" "$source"
+cp "$source" "$room/CAPITAL.ASM"
+expect 'run of a source in capitals' 0 "$line" '' "$xm23" run "$paper" "$room/CAPITAL.ASM"
+cp "$source" "$room/source.txt"
+expect 'a source that has not its name' 1 'R10' ".*source.txt:1: R10: .* \(a source's name ends in .asm\).*" "$xm23" run "$paper" "$room/source.txt"
+cp "$sound" "$room/records.asm"
+expect 'S-records that have its name' 1 'R17' '.*records.asm:4: R17: .*' "$xm23" run "$paper" "$room/records.asm"
+printf ' ORG $1000\n ADD R0,R1\n BRA X\nEND\n' > "$room/name.asm"
+expect 'a source at fault' 1 'R18' '.*name.asm:3: R18: a name is unknown.*' "$xm23" run "$paper" "$room/name.asm"
+same 'dis of a source' "$("$xm23" dis "$source")" "$("$xm23" dis "$sound")"
+printf 'steps 1\nuse 0 0\n' > "$room/s.paper"
+printf ' ORG $FFC0\n WORD $00A0\n WORD $2000\nEND\n' > "$room/vectors.asm"
+expect 'vectors of a source' 0 '.*0       5         0.*8 bytes' '' "$xm23" stack "$room/s.paper" "$room/vectors.asm"
+# A start: the place of the first instruction, wherever data, names and later lines are.
+started() { # PC SOURCE
+    printf '%b' "$2" > "$room/a.asm"
+    same "starts at $1" "$("$xm23" dis "$room/a.asm" | tail -1) $("$xm23" asm "$room/a.asm" | tail -1 | cut -c 5-8)" "start $1 $1"
+}
+started 0000 'END'
+started 0000 ' BYTE #1\nEND'
+started 2000 ' ORG $3000\n WORD (LATER+#1)\nA EQU $2000\n ORG A\nLATER ADD R0,R1\n ORG $1000\n BL LATER\nEND'
+started 0006 'X WORD Y\n BSS #2\nY WORD X\n BL Y\nEND'
+started FFFE ' ORG $FFFE\n ADD R0,R1\nEND'
+started 1000 ' ORG $1000\n ADD R0,R1\n ORG $1000\n WORD #0\nEND'
+started 0002 'ORGAN BSS #2\n SVC #1\nEND'
+
 # ---- asm
-for name in halting screen sound unsound; do
-    same "asm $name" "$("$xm23" asm "${sound%/*}/$name.asm")" "$(cat "${sound%/*}/$name.s19")"
-    same "asm -l $name" "$("$xm23" asm -l "${sound%/*}/$name.asm")" "$("$xm23" dis "${sound%/*}/$name.s19")"
+for name in halting sound unsound; do
+    same "asm $name" "$("$xm23" asm "${sound%/*/*}/sources/$name.asm")" "$(cat "${sound%/*}/$name.s19")"
 done
 same 'asm of copy_words' "$("$xm23" asm examples/copy_words.asm)" "$(cat examples/copy_words.s19)"
-same 'its listing' "$("$xm23" asm -l examples/copy_words.asm)" "$(cat examples/copy_words.lst)"
-expect 'asm -o' 0 '' '' "$xm23" asm -o "$room/asm.s19" "${sound%.s19}.asm"
+"$xm23" asm -l examples/copy_words.asm > "$room/copy.lst"
+same 'listing beside the decoder' "$(sed -n 's/^\([0-9A-F]\{4\}  [0-9A-F]\{4\}\) .*/\1/p' "$room/copy.lst")" \
+    "$(sed -n 's/^\([0-9A-F]\{4\}  [0-9A-F]\{4\}\) .*/\1/p' examples/copy_words.lst)"
+same 'a line of it' "$(sed -n 11p "$room/copy.lst")" '100A  5891    11.  LOOP    LD R2+,R1'
+same 'a line without bytes' "$(sed -n 2p "$room/copy.lst")" '               2.          ORG $0100'
+same 'every line' "$(sed '$d' "$room/copy.lst" | cut -c20-)" "$(cat examples/copy_words.asm)"
+same 'where it starts' "$(tail -1 "$room/copy.lst")" 'start 1000'
+expect 'asm -o' 0 '' '' "$xm23" asm -o "$room/asm.s19" "$source"
 same 'wrote the program' "$(cat "$room/asm.s19")" "$(cat "$sound")"
 expect 'run of what it wrote' 0 "$line" '' "$xm23" run "$paper" "$room/asm.s19"
 assembled() { # STATUS OUTPUT MISTAKE SOURCE WORD..
@@ -151,27 +200,92 @@ assembled() { # STATUS OUTPUT MISTAKE SOURCE WORD..
     expect "asm: $output$mistake" "$status" "$output" "$mistake" "$xm23" asm "$@" "$room/a.asm"
 }
 assembled 0 'S9030000FC' '' 'END'
-assembled 0 'S9031236B4' '' 'END' -s 1236
-assembled 0 $'S1050000AB024D\nS10500100140A9\nS9030000FC' '' ' WORD $1234\n ORG #0\n BYTE $AB\n BYTE #2\n ORG $10\n ADD R0,R1\nEND\n'
-assembled 0 $'S104FFFFEE0F\nS903FFFFFE' '' ' ORG $FFFF\n BYTE $EE\nEND\n'
-assembled 0 $'0001  EE    BYTE    \\$EE\nstart 0001' '' ' ORG #1\r\n BYTE $EE\r\nEND\r\n' -l
+assembled 0 'S9031236B4' '' 'END' -s '$1236'
+assembled 0 'S9031236B4' '' 'A EQU $1234\nEND' -s '(A+#2)'
+assembled 1 '' 'xm23: -s B: R18: a name is unknown.*' 'A EQU $1234\nEND' -s B
+assembled 1 '' 'xm23: -s : R17: .*' 'END' -s ''
+assembled 1 '' 'xm23: -s 1236: R17: .*' 'END' -s 1236
+assembled 1 '' 'xm23: -s #1\\x0AEND: R17: .*' 'END' -s $'#1\nEND'
+assembled 1 '' 'xm23: -s #70000: R19: .*' 'END' -s '#70000'
+assembled 0 $'S1050000AB024D\nS10500100140A9\nS9030010EC' '' ' WORD $1234\n ORG #0\n BYTE $AB\n BYTE #2\n BSS #4\n ORG $10\n ADD R0,R1\nEND\n'
+assembled 0 $'S104FFFFEE0F\nS9030000FC' '' ' ORG $FFFF\n BYTE $EE\nEND\n'
+assembled 0 $'               1\\.   ORG #1\n0001  EE       2\\.   BYTE \\$EE\n               3\\.  END\nstart 0000' '' ' ORG #1\r\n BYTE $EE\r\nEND\r\n' -l
+assembled 0 $'0000  1234     1\\.   WORD \\$1234\n               2\\.   ORG #1\n0001  AB       3\\.   BYTE \\$AB\n               4\\.  END\nstart 0000' '' \
+    ' WORD $1234\r\n ORG #1\n BYTE $AB\nEND\nnot read' -l
+assembled 0 $'.*0000  70  .*' '' ' ORG #70000\nA BSS #0\n ORG #0\n BYTE (A-$11100)\nEND' -l
+{ for i in $(seq 32768); do echo 'WORD #7'; done; echo END; } > "$room/all.asm"
+expect 'all of memory' 0 'S113[^Z]*S113FFF0[0-9A-F]*'$'\n''S9030000FC' '' "$xm23" asm "$room/all.asm"
 assembled 1 '' "$room/a.asm:2: R17: a line fits no statement.*" ' BYTE #1\n HALT R0\nEND'
 assembled 1 '' "$room/a.asm:3: R17: .*END is missing" ' BYTE #1\nA\n'
 assembled 1 '' "$room/a.asm:1: R17: .*" ''
 assembled 1 '' "$room/a.asm:1: R18: a name is unknown.*" ' BRA X\nEND' -l
 assembled 1 '' "$room/a.asm:2: R19: a value leaves 32 bits.*" 'A\n BYTE #256\nEND' -o "$room/none.s19"
 same 'writes nothing then' "$(test -e "$room/none.s19" && echo there)" ''
-for start in '' x 10000 -1 '10 '; do
-    expect "asm -s '$start'" 2 '' "$(usage asm)" "$xm23" asm -s "$start" "$room/a.asm"
-done
+expect 'asm -s without a word' 2 '' "$(usage asm)" "$xm23" asm -s
 expect 'asm of nothing' 2 '' "$(usage asm)" "$xm23" asm
 expect 'asm of two' 2 '' "$(usage asm)" "$xm23" asm a b
 expect 'asm of no file' 3 '' 'no/such: No such .*' "$xm23" asm no/such
 expect 'asm of a folder' 3 '' '/: is a folder' "$xm23" asm /
 expect 'asm of an endless file' 3 '' '/dev/zero: is longer than 16777216 bytes' "$xm23" asm /dev/zero
-expect 'asm to a full disk' 3 '' '/dev/full: cannot be written: .*' "$xm23" asm -o /dev/full "${sound%.s19}.asm"
+expect 'asm to a full disk' 3 '' '/dev/full: cannot be written: .*' "$xm23" asm -o /dev/full "$source"
 head -c 100000 /dev/urandom > "$room/noise.asm"
 expect 'asm of random bytes' 1 '' "$room/noise.asm:[0-9]+: R17: .*" "$xm23" asm "$room/noise.asm"
+
+# ---- report and back
+cd examples/sitting || exit 1
+"$xm23" mark -o "$room/two" sum.paper programs/sound.s19 programs/unsound.s19
+expect 'report' 0 '' '' "$xm23" report -o "$room/report.html" sum.paper programs/sound.s19
+same 'the page of mark' "$(cat "$room/report.html")" "$(cat "$room"/two/pages/*-sound*)"
+expect 'report of another line' 1 '' "sum.paper:21: another line was expected: $line" "$xm23" report -o "$room/report.html" sum.paper programs/unsound.s19
+same 'to standard output' "$("$xm23" report sum.paper programs/unsound.s19 2> /dev/null)" "$(cat "$room/report.html")"
+same 'with its steps' "$(grep -c '^<tr><td class="n">[0-9]*</td><td class="n">1016</td><td class="n">3FFF</td>' "$room/report.html")" 32
+expect 'report of a refused program' 1 '' "programs/refused.s19: R11: line 2: a line's checksum differs" "$xm23" report -o "$room/report.html" sum.paper programs/refused.s19
+same 'says so' "$(grep -c '>Refused: not the expected line<' "$room/report.html")" 1
+same 'and has no walk' "$(grep -c 'id="walk"' "$room/report.html")" 0
+rm "$room/report.html"
+expect 'report of no program' 3 '' 'no/such: No such .*' "$xm23" report -o "$room/report.html" sum.paper no/such
+expect 'report of a folder' 3 '' '/: is a folder' "$xm23" report -o "$room/report.html" sum.paper /
+expect 'report of no paper' 3 '' 'no/such: No such .*' "$xm23" report -o "$room/report.html" no/such programs/sound.s19
+same 'then there is no page' "$(ls "$room" | grep report)" ''
+expect 'report to a full disk' 3 '' '/dev/full: cannot be written: .*' "$xm23" report -o /dev/full sum.paper programs/sound.s19
+expect 'report into no folder' 3 '' 'no/such/x: cannot be written: .*' "$xm23" report -o no/such/x sum.paper programs/sound.s19
+expect 'report of one word' 2 '' "$(usage report)" "$xm23" report sum.paper
+expect 'report of three words' 2 '' "$(usage report)" "$xm23" report sum.paper a b
+reported() { # WHAT PAPER LINE
+    printf '%b' "$2" > "$room/p.paper"
+    same "$1" "$("$xm23" report "$room/p.paper" programs/sound.s19 | sed -n 's/.*<pre class="line">\(.*\)<\/pre>.*/\1/p')" "$3"
+}
+reported 'a run of no step' 'steps 0' '0 0 0000 0000 0000 0000 0000 0000 0000 1000 0000 00 00000000 0'
+reported 'a halted machine' 'steps 9\nstart HALTED=1' '1 0 0000 0000 0000 0000 0000 0000 0000 1000 0000 00 00000000 0'
+same 'has no walk' "$("$xm23" report "$room/p.paper" programs/sound.s19 | grep -c 'id="walk"')" 0
+back='step        PC    word  instruction               what it left'
+expect 'back' 0 "$back"$'\n''119 .*BRA     \$1016.*'$'\n''104 .*before step 104: R0 001F R1 0120 .* SP 0800 PC 1016 PSW 0003 CEX 00 lines 00000000' '' \
+    "$xm23" back sum.paper programs/sound.s19
+same 'sixteen steps' "$("$xm23" back sum.paper programs/sound.s19 | wc -l)" 18
+expect 'back -n' 0 "$back"$'\n''119 .*'$'\n''118 .*'$'\n''before step 118: .*' '' "$xm23" back -n 2 sum.paper programs/sound.s19
+same 'to the start' "$("$xm23" back -n 1024 sum.paper programs/sound.s19 | tail -1)" \
+    'before step 0: R0 0000 R1 0000 R2 0000 R3 0000 R4 0000 LR FFFF SP 0800 PC 1000 PSW 0000 CEX 00 lines 00000000'
+same 'back -w' "$("$xm23" back -w 120 sum.paper programs/sound.s19 | tail -2 | head -1)" \
+    '50          1014  5C01  ST      R0,R1             0120: 1F 00'
+same 'back -w, of a frame' "$("$xm23" back -w '$07FE' sum.paper programs/sound.s19 | tail -2 | head -1)" \
+    '65          1016        line of device 1 accepted  SP 07F8, PSW 0060, 07F8: 00 00 03 00 FF FF 16 10, device 1 status 1D'
+same 'back -w, of a device' "$("$xm23" back -w 5 sum.paper programs/screen.asm | tail -2 | head -1)" \
+    '6           100C  5C41  ST.B    R0,R1             device 2 data 4D'
+expect 'back to nobody' 1 '' '.*sound.s19: none of the last 120 steps wrote \$4321' "$xm23" back -w 4321 sum.paper programs/sound.s19
+expect 'back to nobody so near' 1 '' '.*sound.s19: none of the last 5 steps wrote \$0120' "$xm23" back -n 5 -w 120 sum.paper programs/sound.s19
+expect 'back of a refused program' 1 '' '.*refused.s19:2: R11: .*' "$xm23" back sum.paper programs/refused.s19
+expect 'back of a halt' 0 "$back"$'\n''4 .*illegal; halt: fault 8, illegal word, with FLT set'$'\n''3 .*illegal; fault 8, illegal word .*' '' \
+    "$xm23" back -n 2 sum.paper programs/halting.s19
+printf 'steps 0' > "$room/p.paper"
+expect 'back from nowhere' 1 '' '.*: no step was taken' "$xm23" back "$room/p.paper" programs/sound.s19
+for word in '-n 0' '-n 1025' '-n x' '-n -1' '-n' '-w' '-w 10000' '-w x' '-w -1' '-w $' '-w $$1'; do
+    # shellcheck disable=SC2086
+    expect "back $word" 2 '' "$(usage back)" "$xm23" back $word sum.paper programs/sound.s19
+done
+expect 'back of one word' 2 '' "$(usage back)" "$xm23" back sum.paper
+expect 'back of no program' 3 '' 'no/such: No such .*' "$xm23" back sum.paper no/such
+expect 'back to a full disk' 3 '' 'standard output: cannot be written: .*' full "$xm23" back sum.paper programs/sound.s19
+cd "$top" || exit 1
 
 # ---- dis, card, stack
 same 'dis' "$("$xm23" dis examples/copy_words.s19)" "$(cat examples/copy_words.lst)"
@@ -190,7 +304,7 @@ same 'card to standard output' "$("$xm23" card | cksum)" "$(cksum < "$room/card.
 expect 'card with a word' 2 '' "$(usage card)" "$xm23" card x
 expect 'card to a folder' 3 '' '/: cannot be written: .*' "$xm23" card -o /
 expect 'stack' 0 'device  priority  use.1       3         4.above priority 0: 12 bytes' '' "$xm23" stack "$paper"
-printf 'steps 1\nuse 1 2\nuse 2 0\nuse 3 2\nvector 1 #40 0\nvector 2 #A0 0\nvector 3 #A0 0\n' > "$room/s.paper"
+printf 'steps 1\nuse 1 2\nuse 2 0\nuse 3 2\nvector 1 $40 0\nvector 2 $A0 0\nvector 3 $A0 0\n' > "$room/s.paper"
 expect "FORMATS' example" 0 '.*above priority 0: 20 bytes' '' "$xm23" stack "$room/s.paper"
 echo 'priority 2' >> "$room/s.paper"
 expect 'above priority 2' 0 '.*above priority 2: 10 bytes' '' "$xm23" stack "$room/s.paper"
@@ -212,17 +326,22 @@ expect 'stack of three' 2 '' "$(usage stack)" "$xm23" stack a b c
 
 # ---- mark: the example sitting, to the byte
 cd examples/sitting || exit 1
-expect 'mark' 1 '' '' "$xm23" mark -o "$room/marks" sum.paper programs/*.s19
+expect 'mark' 1 '' '' "$xm23" mark -o "$room/marks" sum.paper programs/*
 same 'its results' "$(cat "$room/marks/results.csv")" "$(cat expected.csv)"
 same 'a page for each' "$(ls "$room/marks/pages" | wc -l)" 5
 same 'links to pages that are there' "$(sed -n 's/.*href="\([^"]*\)".*/\1/p' "$room/marks/index.html" |
     while read -r page; do test -f "$room/marks/$page" && echo yes; done | sort | uniq -c | tr -d ' ')" 5yes
 sum() { (cd "$1" && find . -type f ! -name .lock -exec cksum {} + | sort -k 3); }
 first=$(sum "$room/marks")
-expect 'mark again' 1 '' '' "$xm23" mark -j 1 -o "$room/marks" sum.paper programs/*.s19
+expect 'mark again' 1 '' '' "$xm23" mark -j 1 -o "$room/marks" sum.paper programs/*
 same 'the same bytes, by one worker too' "$(sum "$room/marks")" "$first"
 expect 'all as expected' 0 '' '' "$xm23" mark -o "$room/one" sum.paper programs/sound.s19
-same 'the screen on its page' "$(sed -n '/<h2>Screen/,/<.pre>/p' "$room"/marks/pages/*screen*)" $'<h2>Screen</h2>\n<pre>SUM</pre>'
+same 'the source on its page' "$(grep -c '^1000  6829     3.  START   MOVLZ' "$room"/marks/pages/*screen*)" 1
+same 'the screen on its page' "$(sed -n '/<h2>Screen/,/<.pre>/p' "$room"/marks/pages/*screen*)" $'<h2>Screen</h2>\n<pre class="screen">SUM</pre>'
+if [ $# -eq 0 ]; then
+    expect 'make run' 0 'build/sitting/index.html .*build/sitting/results.csv .*' '' make -s --no-print-directory -C "$top" run
+    same 'marks the sitting' "$(cat "$top/build/sitting/results.csv")" "$(cat expected.csv)"
+fi
 marked() { printf 'programs/%s.s19\0' sound unsound | "$xm23" mark -o "$room/listed" -0 sum.paper; }
 expect 'names from standard input' 1 '' '' marked
 same 'two rows' "$(wc -l < "$room/listed/results.csv")" 3
@@ -236,11 +355,13 @@ cd "$top" || exit 1
 } > "$room/odd.asm"
 printf '        ORG $1000\n        MOVLZ $05,R1\n        MOVLZ $41,R0\nHERE    ST.B R0,R1\n        BRA HERE\n        END\n' > "$room/long.asm"
 for name in odd long; do "$xm23" asm -o "$room/$name.s19" "$room/$name.asm"; done
-printf 'steps 20002\ndevice 2 #10\n' > "$room/screen.paper"
+printf 'steps 20002\ndevice 2 $10\n' > "$room/screen.paper"
 expect 'mark of screens' 0 '' '' "$xm23" mark -o "$room/screens" "$room/screen.paper" "$room/odd.s19" "$room/long.s19"
-same 'odd bytes in a field' "$(sed -n 2p "$room/screens/results.csv" | cut -d , -f 5-6)" '"<,""\x0A\x00\x80é&"'
-same 'on a page' "$(sed -n '/<h2>Screen/,/<.pre>/p' "$room"/screens/pages/*odd*)" $'<h2>Screen</h2>\n<pre>&#60;,&#34;\n\\x00\\x80é&#38;</pre>'
-same 'a long one is cut' "$(sed -n 3p "$room/screens/results.csv" | cut -d , -f 5 | sed 's/A\{8192\}/8192/')" '8192 .. (10000 bytes)'
+same 'odd bytes in a field' "$(sed -n 2p "$room/screens/results.csv" | cut -d , -f 6-7)" '"<,""\x0A\x00\x80é&"'
+same 'on a page' "$(sed -n '/<h2>Screen/,/<.pre>/p' "$room"/screens/pages/*odd*)" $'<h2>Screen</h2>\n<pre class="screen">&#60;,&#34;\n\\x00\\x80é&#38;</pre>'
+same 'a long one is cut' "$(sed -n 3p "$room/screens/results.csv" | cut -d , -f 6 | sed 's/A\{8192\}/8192/')" '8192 .. (10000 bytes)'
+same 'and on its page' "$(sed -n '/<h2>Screen/,/<.pre>/p' "$room"/screens/pages/*long* | sed 's/A\{2048\}/2048/' | tr '\n' ' ')" \
+    '<h2>Screen</h2> <p>The first 2048 bytes of 10000.</p> <pre class="screen">2048</pre> '
 same 'these are well-formed too' "$(python3 -B tests/desk/pages.py "$room"/screens/pages/*.html)" 'all well-formed'
 
 # ---- mark: misuse, and files that are none
@@ -281,15 +402,55 @@ for r in list(csv.DictReader(open(sys.argv[1], newline="")))[:6]: print(r["line"
 R10:line 1
 R10:line 1'
 same 'pages are well-formed' "$(python3 -B tests/desk/pages.py "$room"/bad/index.html "$room"/bad/pages/*.html)" 'all well-formed'
-if [ "$(id -u)" -ne 0 ]; then
+# Without rights, as somebody who is not root.
+anybody=
+[ "$(id -u)" -ne 0 ] || anybody='setpriv --reuid=65534 --regid=65534 --clear-groups'
+if [ -z "$anybody" ] || $anybody "$xm23" --version > /dev/null 2>&1; then
+    chmod 755 "$room"
     chmod 0 "$room/a b.s19"
-    expect 'no rights' 1 '' '' "$xm23" mark -o "$room/rights" "$paper" "$room/a b.s19"
+    mkdir -m 777 "$room/rights"
+    mkdir -m 555 "$room/closed"
+    expect 'a program without rights is a row' 1 '' '' $anybody "$xm23" mark -o "$room/rights/marks" "$paper" "$room/a b.s19" "$sound"
+    same 'that says so' "$(sed -n 2p "$room/rights/marks/results.csv" | cut -d , -f 3)" 'Permission denied'
+    expect 'a folder without rights' 3 '' "$room/closed/marks: cannot be made: Permission denied" \
+        $anybody "$xm23" mark -o "$room/closed/marks" "$paper" "$sound"
+    expect 'a page without rights' 3 '' "$room/closed/page.html: cannot be written: Permission denied" \
+        $anybody "$xm23" report -o "$room/closed/page.html" "$paper" "$sound"
+    expect 'a paper without rights' 3 '' "$room/a b.s19: Permission denied" $anybody "$xm23" run "$room/a b.s19" "$sound"
+    chmod 755 "$room/closed"
 fi
 mkdir -p "$room/full/pages"
 ln -s /dev/full "$room/full/pages/000001-sound.s19.html"
 expect 'a full disk' 3 '' '.*cannot be written: No space left.*the marking is not whole.*' \
     "$xm23" mark -o "$room/full" "$paper" "$sound"
 same 'has no results' "$(ls "$room/full")" pages
+"$xm23" mark -o "$room/plain" "$paper" "$sound"
+for name in index.html results.csv; do
+    mkdir -p "$room/full_$name"
+    ln -s /dev/full "$room/full_$name/$name.part"
+    expect "a disk that is full at $name" 3 '' ".*$name: cannot be written: No space left.*" "$xm23" mark -o "$room/full_$name" "$paper" "$sound"
+    same 'leaves no results and no part' "$(ls "$room/full_$name" | grep -v index.html)" pages
+    expect 'and goes on' 0 '' '' "$xm23" mark -o "$room/full_$name" "$paper" "$sound"
+    same 'to the same bytes' "$(sum "$room/full_$name")" "$(sum "$room/plain")"
+done
+
+# ---- mark: pages that are as long as a page can be
+python3 - "$room" << 'END'
+import random, sys
+dice, room = random.Random(1), sys.argv[1]
+touch = ["ST.B R3,R4", "ST R0,R1+", "ADD R1,R0", "SWPB R0", "SVC #12", "LD R1,R2"]
+lines = ["ORG $1000", "MOVLZ $05,R4", "MOVLZ $3C,R3", "MOVH $30,R1", "TOP ADD #1,R0"]
+lines += [dice.choice(touch + [f"STR R0,R1,#{dice.randrange(-32, 32) * 2}", f"MOVLZ ${dice.randrange(256):02X},R2"]) for _ in range(900)]
+lines += ["BL TOP", "ORG $0F00", "ADD R0,R2", "MOV LR,PC"]
+with open(room + "/worst.asm", "w") as file:
+    file.write("".join(line + " ;" + "<" * 40 + "\n" for line in lines) + " END ;" + "<" * 9000 + "\n")
+with open(room + "/worst.paper", "w") as file:
+    file.write(f"title {'&' * 70000}\nsteps 1000000\ndevice 2 $10\nstart SP=$0F00 R1=$3000\nvector 12 $60 $0F00\nexpect {'<' * 70000}\n")
+    for at in range(0x2000, 0xFF00, 256):
+        file.write(f"bytes {at} {' '.join(str(dice.randrange(1, 256)) for _ in range(256))}\n")
+END
+expect 'the longest pages' 1 '' '' "$xm23" mark -o "$room/worst" "$room/worst.paper" "$room/worst.asm" "$long"
+same 'they are as long as they may be' "$(python3 -B tests/desk/pages.py "$room"/worst/pages/*.html)" 'all well-formed'
 
 (exec 9> "$room/bad/.lock"; exec python3 -c 'import fcntl, sys, time; fcntl.flock(9, fcntl.LOCK_EX); print("locked", flush=True); time.sleep(60)' > "$room/locked") &
 holder=$!
@@ -301,7 +462,7 @@ same 'leaves its results' "$(test -e "$room/bad/results.csv" && echo yes)" yes
 # ---- mark: killed in the middle, and again
 mkdir "$room/many"
 for i in $(seq -w 300); do cp "$sound" "$room/many/$i.s19"; done
-cp "${sound%/*}/screen.s19" "$room/many/001.s19"
+"$xm23" asm -o "$room/many/001.s19" "${sound%/*}/screen.asm"
 sed 's/^steps.*/steps 1000000/; /^expect/d' "$paper" > "$room/long.paper"
 expect 'a whole marking' 0 '' '' "$xm23" mark -o "$room/whole" "$room/long.paper" "$room"/many/*.s19
 (exec "$xm23" mark -j 2 -o "$room/killed" "$room/long.paper" "$room"/many/*.s19) 2> /dev/null &

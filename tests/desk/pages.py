@@ -4,7 +4,7 @@ import html.parser
 import os
 import sys
 
-VOID = {"meta", "br"}
+VOID = {"meta", "br", "input"}
 
 
 class Page(html.parser.HTMLParser):
@@ -15,7 +15,8 @@ class Page(html.parser.HTMLParser):
         self.close()
 
     def handle_starttag(self, tag, attrs):
-        if tag in ("script", "link", "img", "iframe") or tag not in VOID and tag in ("b",):
+        reaches = any(name in ("src", "href") and ":" in (value or "") for name, value in attrs)
+        if reaches or tag in ("link", "img", "iframe", "b"):
             self.wrong.append(f"<{tag}>")
         if tag not in VOID:
             self.open.append(tag)

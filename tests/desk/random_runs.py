@@ -1,16 +1,23 @@
 #!/usr/bin/env python3
-"""xm23 run and xm23 mark beside print_state on random runs: random_runs.py XM23 PRINT_STATE RUNS [SEED]. A run is a random
-start, program, devices, vectors, memory and events; of a sixth of them one rule is broken, which a paper tells by the
-refusal's number. The last line is 'N passed, M failed'."""
+"""xm23 beside print_state and the oracle on random runs: random_runs.py XM23 PRINT_STATE ORACLE RUNS [SEED]. A run is a
+random start, program, devices, vectors, memory and events. Of the first half the program is random bytes, and of a sixth of
+them one rule is broken, which a paper tells by the refusal's number: print_state gives the line that xm23 run and xm23 mark
+must give. Of the second half it is a source with handlers, SVC, CEX blocks, faults, sleep and stores: there what xm23 report
+and xm23 back tell of the last steps is held against the oracle's walk of the same run (ORACLE is its program, report), and
+the walk's data are replayed. The last line is 'N passed, M failed'."""
+import base64
 import csv
+import html
+import json
 import os
 import random
+import re
 import subprocess
 import sys
 import tempfile
 
-xm23, print_state, runs = sys.argv[1], sys.argv[2], int(sys.argv[3])
-dice = random.Random(int(sys.argv[4]) if len(sys.argv) > 4 else 1)
+xm23, print_state, oracle, runs = sys.argv[1], sys.argv[2], sys.argv[3], int(sys.argv[4])
+dice = random.Random(int(sys.argv[5]) if len(sys.argv) > 5 else 1)
 NAMES = ["R0", "R1", "R2", "R3", "R4", "LR", "SP", "PC"]
 
 
@@ -21,7 +28,7 @@ def record(kind, address, data):
 
 def number(value):
     """In any of the forms that a paper takes."""
-    return dice.choice([str(value), f"#{value:X}", f"#{value:04x}"])
+    return dice.choice([str(value), f"#{value}", f"${value:X}", f"${value:04x}"])
 
 
 def word():
@@ -108,6 +115,51 @@ class Run:
         return "\n".join(lines + [f"{number(s)}  {d} {number(b)}" for s, d, b in self.events]) + "\n"
 
 
+PLAIN = ["ADD #1,R0", "SUB #1,R1", "ADD R0,R2", "SWPB R3", "CMP R0,R1", "MOVL $5A,R3", "SXT R1", "RRC R2", "XOR R0,R3"]
+TOUCH = ["ST R0,R4", "ST.B R1,R4+", "LD R4,R2", "LD.B R4-,R3", "ST R2,-SP", "LD SP+,R1", "STR R0,R4,#2", "STR.B R3,R4,#-3",
+         "LDR R4,#4,R0", "MOVLZ $05,R4", "MOVLZ $02,R4", "MOVLZ $03,R4", "MOVH $01,R4", "MOVLZ $00,R4", "MOVLS #-2,R4"]
+TURNS = ["SVC #12", "SVC #13", "SETPRI #0", "WORD $4E00", "CEX EQ,#2,#1", "CEX NE,#1,#2", "SETCC S", "CEX TR,#1,#0", "SVC #14",
+         "ST R0,R0", "LD R4,PC", "BIS #1,PC", "MOV LR,PC"]
+
+
+def some(many, turns):
+    return [dice.choice(dice.choice([PLAIN, TOUCH] + [TURNS] * turns)) for _ in range(many)]
+
+
+class Source(Run):
+    """A run of a source: a loop and handlers of random lines, so that there is something to enter and to return from."""
+
+    def lay_program(self):
+        self.pc = self.registers[7] = 0x1000
+        self.registers[6] = dice.choice([0x0800, 0x0800, 0x0801, 0x0004, 0x0010, 0xFFC8, word()])
+        self.psw, self.cex, self.halted = dice.choice([0, 0, 0x20]), 0, 0
+        self.n = dice.choice([1, 40, 200, 900, 1024, 1025, 3000])
+        self.named_pc = False
+        self.lines = dice.choice([0, 0, 0, 0x10023])
+        lines = ["ORG $1000", "LOOP ADD #1,R0"] + some(dice.randrange(3, 12), 1) + ["BRA LOOP"]
+        for at in (0x2000, 0x2100, 0x2200, 0x2300):
+            lines += [f"ORG ${at:04X}"] + some(dice.randrange(0, 5), 0) + some(dice.randrange(0, 3), 1) + ["MOV LR,PC"]
+        self.source = "\n".join(lines + ["END\n"])
+        self.program = [self.source]
+        for line in run([xm23, "asm", "/dev/stdin"], input=self.source.encode()).stdout.decode().split():
+            if line[:2] == "S1":
+                self.lay(int(line[4:8], 16), bytes.fromhex(line[8:-2]))
+
+    def lay_paper(self):
+        for device in range(8):
+            status = dice.choice([0x11, 0x10, 0x13, 0x11, 0])
+            self.words.append(f"device {device} {number(status)}")
+            self.lay(2 * device, bytes([status, 0]))
+        for vector in range(16):
+            psw = dice.randrange(8) << 5
+            pc = dice.choice([0x2000, 0x2100, 0x2200, 0x2300])
+            self.words.append(f"vector {vector} {number(psw)} {number(pc)}")
+            self.lay(0xFFC0 + 4 * vector, psw.to_bytes(2, "little") + pc.to_bytes(2, "little"))
+
+    def break_rule(self):
+        pass
+
+
 def run(command, **more):
     return subprocess.run(command, stdout=subprocess.PIPE, stderr=subprocess.PIPE, **more)
 
@@ -122,8 +174,147 @@ def same(what, got, expected):
         print(f"{what}: {got!r}, expected {expected!r}")
 
 
+# ---- the last steps
+
+def rows(page, heading):
+    """The rows of the table below a heading, each as the texts of its cells."""
+    part = page[page.index(heading) + 4:] if heading in page else ""
+    part = part[:part.index("<h2")] if "<h2" in part else part
+    table = part[:part.index("</table>")] if "<table" in part else ""
+    return [[html.unescape(re.sub(r"<[^>]*>", "", cell)) for cell in re.findall(r"<t[dh][^>]*>(.*?)</t[dh]>", row, re.S)]
+            for row in re.findall(r"<tr.*?</tr>", table, re.S)][1:]
+
+
+ACTS = [(r"skipped by CEX: not decoded", r"skipped by CEX"), (r"asleep: nothing", r"asleep"),
+        (r"entry: line (\d) accepted", r"line of device \1 accepted"), (r"return: pulled (.*)", r"return: \1 pulled"),
+        (r"return, chained entry: line (\d), nothing pushed", r"return, chained to the line of device \1"),
+        (r"entry: SVC to vector", r"SVC by vector"), (r"entry: fault", r"fault")]
+
+
+# Kinds of steps that must be met among those that are compared.
+KINDS = ["skipped", "asleep", "accepted", "chained", "pulled", "SVC by", "fault 8", "fault 9", "fault 10", "halt: fault 8", "halt: fault 9",
+         "halt: fault 10", "; fault 9", "ST ", "ST.B", "STR ", "STR.B", "LD ", "LDR "]
+met = set()
+
+
+def in_desk_words(text):
+    for old, new in ACTS:
+        text = re.sub(old, new, text)
+    return re.sub(" +", " ", text).strip()
+
+
+def registers(left):
+    return [part for part in left.split(", ") if re.match(r"(R\d|LR|SP|PSW|CEX) ", part)]
+
+
+def oracle_steps(page):
+    for step, pc, fetched, what, left in rows(page, ">The last steps<"):
+        left = re.sub(r"CEX #00", "CEX #", left)
+        fetched = "" if what.startswith("skipped") else fetched
+        yield [cell.replace("#", "").replace(",", "") for cell in (step, pc, fetched)] + [in_desk_words(what),
+                                                                                       left.replace("#", "").split(", ")]
+
+
+def desk_steps(page):
+    for step, pc, fetched, what, left in rows(page, "<h2>The last "):
+        yield [step, pc, fetched, in_desk_words(what), registers(left) or [""]]
+
+
+def oracle_turns(page):
+    return [[cells[0].replace(",", ""), in_desk_words(cells[1])] for cells in rows(page, ">Entries, returns and faults<")]
+
+
+def walk_of(page):
+    return json.loads(page[page.index('id="data">') + 10:page.index("</script>")])
+
+
+class Walk:
+    """The data of a page's walk, gone through backwards and then forwards, as its script does."""
+
+    def __init__(self, page):
+        self.data = walk_of(page)
+        self.journal = base64.b64decode(self.data["journal"])
+        self.steps = self.data["steps"]
+        self.memory = bytearray(65536)
+        for at, text in self.data["memory"]:
+            data = base64.b64decode(text)
+            self.memory[at:at + len(data)] = data
+        self.writers, self.uncovered, self.deepest = {}, 0, 0
+        self.shown = {step: {2 * device + 1} for step, device, byte in self.data["log"]}
+        for i in range(len(self.steps) - 1, -1, -1):
+            self.undo(i)
+        for step in self.steps:
+            depth, frame = 0, step[2]
+            while frame:
+                depth, frame = depth + 1, self.data["frames"][frame][0]
+            self.deepest = max(self.deepest, depth)
+
+    def undo(self, i):
+        record = self.journal[64 * i:64 * i + 64]
+        at, before = int.from_bytes(record[48:50], "little"), bytes(self.memory)
+        self.memory[0:16] = record[32:48]
+        for k in range(8):
+            self.memory[(at + k) % 65536] = record[50 + k]
+        stored = {(at + k) % 65536 for k in range(self.steps[i][1])} | self.shown.get(i, set())
+        changed = {a for a in [*range(16), *((at + k) % 65536 for k in range(8))] if before[a] != self.memory[a]}
+        self.uncovered += len({a for a in changed if a >= 16} - stored)
+        for a in stored | changed:
+            self.writers.setdefault(a, i)
+
+
+def look_at(this, name, files):
+    """The page and what goes back, beside the oracle's walk."""
+    paper, program, given, line, page = files
+    told = run([xm23, "report", paper, program])
+    with open(given, "wb") as file:
+        file.write(this.input())
+    with open(line, "w") as file:
+        file.write(run([xm23, "run", paper, program]).stdout.decode())
+    made = run([oracle, given, line, page])
+    same(f"{name}: the oracle's page", (made.stderr.decode(), made.returncode), ("", 0))
+    if made.returncode:
+        return
+    mine = told.stdout.decode()
+    with open(page) as file:
+        theirs = file.read()
+    steps = list(desk_steps(mine))
+    same(f"{name}: last steps", steps, list(oracle_steps(theirs)))
+    met.update(kind for kind in KINDS for step in steps if kind in step[3])
+    walk = Walk(mine)
+    many = len(walk.steps)
+    counts = [int.from_bytes(walk.journal[64 * i + 22:64 * i + 26], "little") for i in range(many)]
+    turns = [[cells[0], in_desk_words(cells[1])] for cells in rows(mine, "<h2>Entries, returns and faults")]
+    last = [turn for turn in oracle_turns(theirs)[-48:] if turn[0] != ".." and int(turn[0]) >= counts[0]]
+    same(f"{name}: entries, returns and faults", turns[-len(last):] if last else turns, last)
+    same(f"{name}: every byte that changed has its writer", walk.uncovered, 0)
+    with open(line) as file:
+        fields = file.read().split()
+    if int(fields[1]) == many:
+        same(f"{name}: memory before", bytes(walk.memory), bytes(this.memory))
+        same(f"{name}: depth", walk.deepest, int(fields[-1]))
+    else:
+        same(f"{name}: depth", walk.deepest <= int(fields[-1]), True)
+    go_back(this, name, walk, counts, (paper, program), int(fields[1]))
+
+
+def go_back(this, name, walk, counts, files, steps):
+    many = dice.randrange(1, len(walk.steps) + 1)
+    lines = run([xm23, "back", "-n", str(many), *files]).stdout.decode().splitlines()
+    same(f"{name}: back {many}", [line.split()[0] for line in lines[1:-1]], [str(c) for c in counts[:-many - 1:-1]])
+    this.n = steps - many
+    fields = run([print_state], input=this.input()).stdout.decode().split()
+    same(f"{name}: the state {many} back", re.findall(r" ([0-9A-F]{2,8})\b", lines[-1].split(":")[1]), fields[2:13])
+    at = dice.choice(sorted(walk.writers)) if walk.writers else 0x4321
+    told = run([xm23, "back", "-w", f"{at:X}", *files])
+    if at in walk.writers:
+        same(f"{name}: who wrote {at:04X}", told.stdout.decode().splitlines()[-2].split()[0], str(counts[walk.writers[at]]))
+    else:
+        same(f"{name}: nobody wrote", told.returncode, 1)
+
+
 with tempfile.TemporaryDirectory() as room:
-    paper, program, marks = (os.path.join(room, name) for name in ("p.paper", "p.s19", "marks"))
+    paper, program, marks, given, line_file, page = (
+        os.path.join(room, name) for name in ("p.paper", "p.s19", "marks", "p.in", "p.line", "p.html"))
     for i in range(runs):
         this = Run()
         with open(paper, "w") as file:
@@ -142,5 +333,16 @@ with tempfile.TemporaryDirectory() as room:
             run([xm23, "mark", "-o", marks, paper, program])
             with open(os.path.join(marks, "results.csv"), newline="") as file:
                 same(f"run {i}, marked", [row["line"] for row in csv.DictReader(file)], [line])
+    source = os.path.join(room, "p.asm")
+    for i in range(runs // 4):
+        this = Source()
+        with open(paper, "w") as file:
+            file.write(this.paper())
+        with open(source, "w") as file:
+            file.write(this.source)
+        line = run([print_state], input=this.input()).stdout.decode().strip()
+        same(f"source {i}", run([xm23, "run", paper, source]).stdout.decode().strip(), line)
+        look_at(this, f"source {i}", (paper, source, given, line_file, page))
+same("kinds of steps that were not met", sorted(set(KINDS) - met), [])
 print(f"{passed} passed, {failed} failed")
 sys.exit(failed != 0)

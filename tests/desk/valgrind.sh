@@ -16,18 +16,25 @@ clean() {
 }
 clean 'help' 0 --help
 clean 'run' 0 run -l "$paper" "$programs/sound.s19"
-clean 'run with a screen' 1 run -l "$paper" "$programs/screen.s19"
+clean 'run with a screen' 1 run -l "$paper" "$programs/screen.asm"
 clean 'run of a refused program' 1 run "$paper" "$programs/refused.s19"
 clean 'run of noise' 1 run "$paper" "$room/noise"
 clean 'a paper of noise' 1 run "$room/noise" "$programs/sound.s19"
 clean 'twins' 1 run "$room/twins.paper" "$programs/sound.s19"
-clean 'asm' 0 asm -o "$room/asm.s19" "$programs/halting.asm"
+clean 'asm' 0 asm -o "$room/asm.s19" "$programs/screen.asm"
 clean 'asm -l' 0 asm -l examples/copy_words.asm
 clean 'asm of noise' 1 asm "$room/noise"
+clean 'report' 1 report -o "$room/report.html" "$paper" "$programs/screen.asm"
+clean 'report of a refused program' 1 report -o "$room/report.html" "$paper" "$programs/refused.s19"
+clean 'report of no program' 3 report -o "$room/report.html" "$paper" no/such
+clean 'back' 0 back "$paper" "$programs/halting.s19"
+clean 'back to a writer' 0 back -w 120 "$paper" "$programs/sound.s19"
+clean 'back to nobody' 1 back -w 4321 "$paper" "$programs/sound.s19"
+clean 'run of a source' 1 run "$paper" "$programs/screen.asm"
 clean 'dis' 0 dis -o "$room/list" examples/copy_words.s19
 clean 'stack' 0 stack "$paper"
 clean 'card' 0 card -o "$room/card.html"
-clean 'mark' 1 mark -j 2 -o "$room/marks" "$paper" "$programs"/*.s19 "$room/noise" no/such /
+clean 'mark' 1 mark -j 2 -o "$room/marks" "$paper" "$programs"/* "$room/noise" no/such /
 rm "$room/marks/results.csv"
-clean 'mark that goes on' 1 mark -j 2 -o "$room/marks" "$paper" "$programs"/*.s19 "$room/noise" no/such /
+clean 'mark that goes on' 1 mark -j 2 -o "$room/marks" "$paper" "$programs"/* "$room/noise" no/such /
 count

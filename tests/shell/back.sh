@@ -5,7 +5,6 @@ cd "$(dirname "$0")/../.."
 . tests/shell/expect.sh
 mkdir -p build
 gcc -std=c99 -pedantic -O2 -Wall -Wextra -Werror -Iinclude -o build/back examples/back.c target/staticlib/libxm23.a || exit 1
-gcc -std=c99 -pedantic -O2 -Wall -Wextra -Werror -Iinclude -o build/assemble examples/assemble.c target/staticlib/libxm23.a || exit 1
 back=build/back
 copy=examples/copy_words.s19
 
@@ -25,11 +24,11 @@ expect 'not yet' 1 '.*none of the last 6 steps wrote it' '' "$back" "$copy" 6 01
 expect 'no step at all' 1 '.*none of the last 0 steps wrote it' '' "$back" "$copy" 0 0120
 
 # A loop that stores in every byte from #0200 on: the newest 1,024 steps are kept, however long the run is.
-printf ' ORG $1000\nLOOP ST.B R1,R2+\n ADD #1,R1\n BRA LOOP\n END\n' | build/assemble > "$room/loop.s19"
+printf ' ORG $1000\nLOOP ST.B R1,R2+\n ADD #1,R1\n BRA LOOP\n END\n' | build/xm23 asm /dev/stdin > "$room/loop.s19"
 found 'the newest write of many' "$room/loop.s19" 3000 03E7 E7 'step 2997, PC #1000: #5CCA ST\.B, #00 became #E7'
 expect 'long ago' 1 '.*none of the last 1024 steps wrote it' '' "$back" "$room/loop.s19" 3000 0100
 # A device byte: the store that changed it; a screen stops no run.
-printf ' ORG $0002\n BYTE $10\n ORG $1000\n MOVLZ $48,R1\n STR.B R1,R0,#3\nHERE BRA HERE\n END\n' | build/assemble -s '$1000' > "$room/screen.s19"
+printf ' ORG $0002\n BYTE $10\n ORG $1000\n MOVLZ $48,R1\n STR.B R1,R0,#3\nHERE BRA HERE\n END\n' | build/xm23 asm -s '$1000' /dev/stdin > "$room/screen.s19"
 found 'a device byte' "$room/screen.s19" 50 0003 48 'step 1, PC #1002: #C1C8 STR\.B, #00 became #48'
 
 expect 'no word' 2 '' 'usage: back PROGRAM STEPS ADDRESS' "$back"

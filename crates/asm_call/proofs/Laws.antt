@@ -34,7 +34,9 @@ module _ (m s : List ℕ) (hm : length m ≡ 65536) where
       ≡ cond (eqb (v .refusal) 0) (assembled (assembleReply v) (imageOf (placedOf (namesOf s) s) m)) (assembled (assembleReply v) m)
   unfolding assembleCallOf
   call-is v e =
-      ap (λ (x : Verdict). cond (eqb (x .refusal) 0) (assembled (assembleReply x) (imageOf (placedOf (namesOf s) s) m)) (assembled (assembleReply x) m))
+      ap
+      (λ (x : Verdict). let r = assembleReply x in
+      cond (eqb (x .refusal) 0) (assembled r (imageOf (placedOf (namesOf s) s) m)) (assembled r m))
       (verdict-is v e)
 
   -- refused

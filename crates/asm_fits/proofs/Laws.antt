@@ -97,7 +97,9 @@ module _ (z : ℤ) (n : ℕ) where
 
 -- from 0 on, by the number
 abbrev upTo : ℕ → Fit
-upTo n = cond (ltb n 3) (Number n) (cond (eqb n 4) (Number 3) (cond (eqb n 8) (Number 4) (cond (eqb n 16) (Number 5) (cond (eqb n 32) (Number 6) Outside))))
+upTo n =
+    cond (ltb n 3) (Number n)
+    (cond (eqb n 4) (Number 3) (cond (eqb n 8) (Number 4) (cond (eqb n 16) (Number 5) (cond (eqb n 32) (Number 6) Outside))))
 
 pub constant-plus : (z : ℤ) (n : ℕ) → z ≡ pos n → upTo n ≡ constantNumber z
 unfolding constantNumber

@@ -42,7 +42,9 @@ nil-take (suc n) = refl
 drop-take : (q k : ℕ) (u : List ℕ) → drop q (take (q + k) u) ≡ take k (drop q u)
 drop-take zero k u = ap (λ (j : ℕ). take j u) (zero-add k)
 drop-take (suc q) k [] = ap (drop (suc q)) (nil-take (suc q + k)) ∙ sym (nil-take k)
-drop-take (suc q) k (b ∷ t) = (let e : suc q + k ≡ suc (q + k) = omega arith in ap (λ (j : ℕ). drop (suc q) (take j (b ∷ t))) e) ∙ drop-take q k t
+drop-take (suc q) k (b ∷ t) =
+    let e : suc q + k ≡ suc (q + k) = omega arith in
+    ap (λ (j : ℕ). drop (suc q) (take j (b ∷ t))) e ∙ drop-take q k t
 
 pub line-word : (s : List ℕ) (at stop q : ℕ) → Apart s at stop → at + q ≤ stop
     → word (drop (at + q) s) ≡ word (drop q (lineAt s at stop))
@@ -192,7 +194,10 @@ module _ (b : ℕ) (w : List ℕ) (ls : List (List ℕ)) where
   lf-none ms e = let z : _≡_ {A = ℕ} 0 (suc (length w)) = ap (λ (x : List (List ℕ)). length (firstLine x)) e in omega arith
 
 crlf-is : (b : ℕ) (t : List ℕ) → startsCrLf (b ∷ t) ≡ true → (b ≡ 13) × (startsLf t ≡ true)
-crlf-is b t h = bool-cases (eqb b 13) (λ q. (eqb-true b 13 q, rw q at h)) (λ q. let z : _≡_ {A = Bool} false true = rw q at h in absurd (bools z))
+crlf-is b t h =
+    bool-cases (eqb b 13)
+    (λ q. (eqb-true b 13 q, rw q at h))
+    (λ q. let z : _≡_ {A = Bool} false true = rw q at h in absurd (bools z))
 
 lf-lines : (t : List ℕ) → startsLf t ≡ true → linesOf t ≡ [] ∷ linesOf (behind t)
 unfolding linesOf

@@ -63,7 +63,8 @@ fn apply(op: u8, a: i32, b: i32) -> Value
     if b == 0 {
         return Value::Outside;
     }
-    fit(x / y)
+    let q = x / y;
+    fit(q)
 }
 
 // The same of two parts of an expression.

@@ -26,7 +26,8 @@ use Rattle.asm_write.specs.declared.Next.the-variants as next
 
 -- ---- the number that a statement stands for
 
--- the encoder's word. It refuses no instruction made here (Laws: never-refused). "the encoded instructions". [02 §12]
+-- the encoder's word. It refuses no instruction made here (asm_theorems: never-refused). "the encoded instructions".
+-- [02 §12]
 abbrev pub encoded : Encoded → Fit
 encoded (e.Word w) = Number w
 encoded e.Refused = Outside

@@ -16,7 +16,7 @@ use Rattle.machine.specs.Entry.{pushes}
 use Rattle.machine.specs.declared.Act.{Act}
 use Rattle.machine.specs.Step.{perform, outcomeOf, stepOf}
 use Rattle.machine.specs.declared.Act.the-variants as act
-use Rattle.machine_laws.specs.Bounds.{Each, EventFits, TidyCore, Among, Pushed, MayWrite}
+use Rattle.machine_laws.specs.Bounds.{Each, OfDevice, EventFits, TidyCore, Among, Pushed, MayWrite}
 use Rattle.machine_laws.proofs.Cases.{bool-cases, eq-of, lt-of, ge-of, not-eq, and-left}
 use Rattle.machine_laws.proofs.Memory.{unwritten, writes-append}
 use Rattle.machine_laws.proofs.Runs.{step-halted, step-live}
@@ -42,21 +42,25 @@ in-devices ws a p e =
 
 -- ---- events write device registers alone
 
-event-devices : (e : Event) (t : ℕ) → e .device < 8 → InDevices (eventWrites e t)
+event-devices : (e : Event) (t : ℕ) → OfDevice e → InDevices (eventWrites e t)
 event-devices e t h =
     bool-cases (input? t)
     (λ q. rw q (omega arith, (omega arith, tt)))
     (λ q. rw q (omega arith, tt))
 
-event-bytes : (e : Event) (s : State) (a : ℕ) → EventFits e → 16 ≤ a → a < length (s .mem) → byteAt (eventOn e s .mem) a ≡ byteAt (s .mem) a
+event-bytes : (e : Event) (s : State) (a : ℕ) → OfDevice e → 16 ≤ a → a < length (s .mem) → byteAt (eventOn e s .mem) a ≡ byteAt (s .mem) a
 unfolding eventOn
 event-bytes e s a f h k =
     let t = byteAt (s .mem) (statusOf (e .device)) in
     bool-cases (ena? t)
-    (λ q. rw q (unwritten (eventWrites e t) (s .mem) a k (devices-untouched (eventWrites e t) a (event-devices e t (f .0)) h)))
+    (λ q. rw q (unwritten (eventWrites e t) (s .mem) a k (devices-untouched (eventWrites e t) a (event-devices e t f) h)))
     (λ q. rw q refl)
 
-pub deliver-bytes : (k : ℕ) (ev : List Event) (s : State) (a : ℕ) → Each EventFits ev → 16 ≤ a → a < length (s .mem)
+pub fits-devices : (ev : List Event) → Each EventFits ev → Each OfDevice ev
+fits-devices [] f = tt
+fits-devices (e ∷ es) f = (f .0 .0, fits-devices es (f .1))
+
+pub deliver-bytes : (k : ℕ) (ev : List Event) (s : State) (a : ℕ) → Each OfDevice ev → 16 ≤ a → a < length (s .mem)
     → byteAt (deliverAt k ev s .mem) a ≡ byteAt (s .mem) a
 unfolding deliverAt
 deliver-bytes k [] s a f h l = refl
@@ -176,4 +180,4 @@ step-byte ev s a f h k w =
     (λ q.
     ap (λ t. byteAt (t .mem) a) (step-live ev s q)
     ∙ unwritten (outcomeOf (deliver ev s) .writes) (deliver ev s .mem) a (rw (deliver-size (s .count) ev s) k) w
-    ∙ deliver-bytes (s .count) ev s a f h k)
+    ∙ deliver-bytes (s .count) ev s a (fits-devices ev f) h k)

@@ -71,9 +71,12 @@ ActFits act.Plain = Unit {0}
 ActFits (act.Loads byte a d) = (a .0 < 65536) × (d < 8)
 ActFits (act.Stores byte a v) = (a .0 < 65536) × (v < 65536)
 
--- An event is a device's, and brings a byte. [01 State and memory]
+-- An event is a device's; and it brings a byte. [01 State and memory]
+abbrev pub OfDevice : Event → Type 0
+OfDevice e = e .device < 8
+
 abbrev pub EventFits : Event → Type 0
-EventFits e = (e .device < 8) × (e .byte < 256)
+EventFits e = OfDevice e × (e .byte < 256)
 
 -- x is one of the list. [01 Resumption]
 abbrev pub Among : ℕ → List ℕ → Type 0

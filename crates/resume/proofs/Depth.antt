@@ -1,5 +1,6 @@
--- At most 7 - p frames are open together: each frame's entry raised the current priority above that of the PSW that it
--- saved, and a chained entry above the previous priority, which is that of the saved PSW. Assumes nothing.
+-- The priorities of open frames rise, and so at most 7 - p frames are open together: each frame's entry raised the current
+-- priority above that of the PSW that it saved, and a chained entry above the previous priority, which is that of the
+-- saved PSW. Assumes nothing.
 use Prim.Native.Nat.{ℕ, zero, suc, _+_, _*_, _-_, _/_, _%_, _<_, _≤_}
 use mathlib.Core.Bool.{Bool, true, false, cond, _&&_, _||_, true≢false}
 use mathlib.Core.List.{List, [], _∷_}
@@ -38,6 +39,7 @@ use Rattle.machine_laws.proofs.Steps.{deliver-tidy, deliver-core, deliver-halte
 use Rattle.machine_laws.proofs.Records.{passed, start-tidy, events-fit}
 use Rattle.resume.specs.Frames.{Frame, frame, Calm, svc?, none?, framesAfter, after, due, act, frames}
 use Rattle.resume.specs.Depth.{setPri?, executes?, setsPriority?, lesser, lowest, Shallow, DepthPremises}
+use Rattle.resume.specs.Depth.{levelsAfter, newest, Rising, levels, PrioritiesRise}
 use Rattle.resume.proofs.Frame.{Saved, saves, found-word}
 use Rattle.resume.proofs.Steady.{Faultless, Steady, calm-faultless, faulting-faults, trap-granted, instruction-steady, plan-core}
 use Rattle.resume.proofs.Steady.{plan-moves}
@@ -55,7 +57,7 @@ entered-top x y z q hx hy hz hq =
     let a : (x + y * 16 + z * 256 + q * 8192) / 8192 ≡ q = omega arith in
     rw a (omega arith)
 
-pub entered-priorities : (p q : ℕ) (f : Bool) → q < 8 → (current (enteredPsw p q f) ≡ current p) × (previous (enteredPsw p q f) ≡ q)
+entered-priorities : (p q : ℕ) (f : Bool) → q < 8 → (current (enteredPsw p q f) ≡ current p) × (previous (enteredPsw p q f) ≡ q)
 unfolding enteredPsw
 entered-priorities p q f h =
     let b : p / 16 % 16 / 2 % 8 ≡ p / 32 % 8 = omega arith in (
@@ -73,7 +75,7 @@ pulled-top x y z h k l =
     let a : (x + y * 16 + z * 8192) / 8192 ≡ z = omega arith in
     rw a (omega arith)
 
-pub pulled-priorities : (p : ℕ) → SamePriorities (pulledPsw p) p
+pulled-priorities : (p : ℕ) → SamePriorities (pulledPsw p) p
 pulled-priorities p =
     let b : p / 16 % 32 / 2 % 8 ≡ p / 32 % 8 = omega arith in (
       pulled-sum (p % 8) (p / 16 % 32) (previous p) (omega arith) ∙ b,
@@ -101,7 +103,7 @@ interrupt-above c l m =
     (λ r. rw (q, r) tt))
 
 -- the same of the act
-abbrev pub Higher : (p q : ℕ) (m : List ℕ) → Act → Type 0
+abbrev Higher : (p q : ℕ) (m : List ℕ) → Act → Type 0
 Higher p q m acts.Stopped = Unit {0}
 Higher p q m acts.Pull = Unit {0}
 Higher p q m (acts.Chain d) = q < priority m d
@@ -129,7 +131,7 @@ steady-higher p q m acts.Plain s = tt
 steady-higher p q m (acts.Loads byte a d) s = tt
 steady-higher p q m (acts.Stores byte a v) s = tt
 
-pub plan-higher : (s : State) → Faultless (planOf s .act)
+plan-higher : (s : State) → Faultless (planOf s .act)
     → Higher (current (s .core .psw)) (previous (s .core .psw)) (s .mem) (planOf s .act)
 unfolding Above
 plan-higher s =
@@ -189,7 +191,7 @@ instruction-priorities c m =
     (λ q r o h u e. (refl, refl))
     (λ q r o h u e. granted-priorities c (x .core) m n (executed-priorities c n (decode-fields (wordAt m (pc c)))) (x .access) h u e)
 
-pub plan-priorities : (s : State) → Faultless (planOf s .act) → svc? (planOf s .act) ≡ false → setsPriority? s ≡ false
+plan-priorities : (s : State) → Faultless (planOf s .act) → svc? (planOf s .act) ≡ false → setsPriority? s ≡ false
     → Steady (planOf s .act) → SamePriorities (planOf s .core .psw) (s .core .psw)
 plan-priorities s =
     let b = setPri? (decodeOf (wordAt (s .mem) (pc (s .core)))) in
@@ -202,7 +204,7 @@ plan-priorities s =
     (λ d h q c u e st. absurd st)
     (λ h q c u e st. instruction-priorities (s .core) (s .mem) c u e)
 
-pub perform-steady : (a : Act) → Steady a → svc? a ≡ false → (c : Core) (l : ℕ) (m : List ℕ)
+perform-steady : (a : Act) → Steady a → svc? a ≡ false → (c : Core) (l : ℕ) (m : List ℕ)
     → perform a c l m .core .psw ≡ c .psw
 unfolding perform
 perform-steady acts.Stopped s u c l m = absurd s
@@ -221,24 +223,49 @@ perform-steady (acts.Stores byte a v) s u c l m = refl
 -- ---- the invariant
 
 -- the PSW that a frame holds
-abbrev pub savedPsw : State → ℕ
+abbrev savedPsw : State → ℕ
 savedPsw t = wordAt (t .mem) (wrap (sp (t .core) + 2))
 
--- what is known of the PSW w and the frames open under it: each lies above p by as many levels as frames are open, and
--- its previous priority is the current one of the PSW that the newest frame holds
-abbrev Deep : (p w : ℕ) → List Frame → Type 0
-Deep p w [] = p ≤ current w
-Deep p w (f ∷ fs) =
-    (p + suc (length fs) ≤ current w) × (previous w ≡ current (savedPsw (f .held))) × (sp (f .held .core) < 65536)
-    × Deep p (savedPsw (f .held)) fs
+-- what is known of the PSW w and the frames open under it, of the priorities ls: the newest is the current one, above that
+-- of the PSW that its frame holds, which is the previous one; and with no frame open the current one is at least p
+abbrev Deep : (p w : ℕ) → List Frame → List ℕ → Type 0
+Deep p w [] [] = p ≤ current w
+Deep p w [] (l ∷ ls) = ⊥
+Deep p w (f ∷ fs) [] = ⊥
+Deep p w (f ∷ fs) (l ∷ ls) =
+    (current w ≡ l) × (current (savedPsw (f .held)) < l) × (previous w ≡ current (savedPsw (f .held)))
+    × (sp (f .held .core) < 65536) × Deep p (savedPsw (f .held)) fs ls
 
-deep-same : (p w v : ℕ) (fs : List Frame) → SamePriorities w v → Deep p v fs → Deep p w fs
-deep-same p w v [] e h = rw (e .0) h
-deep-same p w v (f ∷ fs) e h = (rw (e .0) (h .0), e .1 ∙ h .1, h .2, h .3)
+deep-same : (p w v : ℕ) (fs : List Frame) (ls : List ℕ) → SamePriorities w v → Deep p v fs ls → Deep p w fs ls
+deep-same p w v [] [] e h = rw (e .0) h
+deep-same p w v [] (l ∷ ls) e h = h
+deep-same p w v (f ∷ fs) [] e h = h
+deep-same p w v (f ∷ fs) (l ∷ ls) e h = (e .0 ∙ h .0, h .1, e .1 ∙ h .2, h .3, h .4)
 
-deep-bound : (p w : ℕ) (fs : List Frame) → Deep p w fs → p + length fs ≤ current w
-deep-bound p w [] h = omega arith
-deep-bound p w (f ∷ fs) h = h .0
+deep-bound : (p w : ℕ) (fs : List Frame) (ls : List ℕ) → Deep p w fs ls → p + length fs ≤ current w
+deep-bound p w [] [] h = omega arith
+deep-bound p w [] (l ∷ ls) h = absurd h
+deep-bound p w (f ∷ fs) [] h = absurd h
+deep-bound p w (f ∷ fs) (l ∷ ls) h =
+    let b = deep-bound p (savedPsw (f .held)) fs ls (h .4) in
+    let e : current w ≡ l = h .0 in
+    let up : current (savedPsw (f .held)) < l = h .1 in
+    omega arith
+
+deep-newest : (p w : ℕ) (fs : List Frame) (ls : List ℕ) → Deep p w fs ls → newest p ls ≤ current w
+deep-newest p w [] [] h = h
+deep-newest p w [] (l ∷ ls) h = absurd h
+deep-newest p w (f ∷ fs) [] h = absurd h
+deep-newest p w (f ∷ fs) (l ∷ ls) h = let e : current w ≡ l = h .0 in omega arith
+
+deep-rising : (p w : ℕ) (fs : List Frame) (ls : List ℕ) → Deep p w fs ls → Rising p ls
+deep-rising p w [] [] h = tt
+deep-rising p w [] (l ∷ ls) h = absurd h
+deep-rising p w (f ∷ fs) [] h = absurd h
+deep-rising p w (f ∷ fs) (l ∷ ls) h =
+    let b = deep-newest p (savedPsw (f .held)) fs ls (h .4) in
+    let up : current (savedPsw (f .held)) < l = h .1 in
+    (omega arith, deep-rising p (savedPsw (f .held)) fs ls (h .4))
 
 -- p is at most each current priority held with no frame open
 lesser-left : (a b : ℕ) → lesser a b ≤ a
@@ -269,7 +296,7 @@ module _ (ev : List Event) (s : State) where
       let w = current (after ev s (suc k) .core .psw) in
       subst (λ b. cond b (lesser (lowest ev s k) w) (lowest ev s k) ≤ w) (sym (ap none? h)) (lesser-right (lowest ev s k) w)
 
-  pub lowest-open : (n k : ℕ) → k ≤ n → frames ev s k ≡ [] → lowest ev s n ≤ current (after ev s k .core .psw)
+  lowest-open : (n k : ℕ) → k ≤ n → frames ev s k ≡ [] → lowest ev s n ≤ current (after ev s k .core .psw)
   lowest-open n k h o =
       let e : k + (n - k) ≡ n = omega arith in
       let a : lowest ev s n ≤ lowest ev s k = subst (λ x. lowest ev s x ≤ lowest ev s k) e (lowest-later (n - k) k) in
@@ -304,22 +331,23 @@ module _ (memory r events : List ℕ) (n : ℕ) (P : DepthPremises memory r even
   due-core : (k : ℕ) → due ev s k .core ≡ after ev s k .core
   due-core k = deliver-core (after ev s k .count) ev (after ev s k)
 
-  module _ (k : ℕ) (below : k < n) (D : Deep p (after ev s k .core .psw) (frames ev s k)) where
-    due-deep : Deep p (due ev s k .core .psw) (frames ev s k)
-    due-deep = subst (λ c. Deep p (c .psw) (frames ev s k)) (sym (due-core k)) D
-
-    deep-at : (fs : List Frame) → frames ev s k ≡ fs → Deep p (due ev s k .core .psw) fs
-    deep-at fs o = subst (Deep p (due ev s k .core .psw)) o due-deep
+  module _ (k : ℕ) (below : k < n) (D : Deep p (after ev s k .core .psw) (frames ev s k) (levels ev s k)) where
+    deep-at : (fs : List Frame) (ls : List ℕ) → frames ev s k ≡ fs → levels ev s k ≡ ls → Deep p (due ev s k .core .psw) fs ls
+    deep-at fs ls o g =
+        subst (λ c. Deep p (c .psw) fs ls) (sym (due-core k))
+        (subst (Deep p (after ev s k .core .psw) fs) g
+        (subst (λ x. Deep p (after ev s k .core .psw) x (levels ev s k)) o D))
 
     -- a machine that is halted stays as it is, with its frames
-    halted-deep : after ev s k .halted ≡ true → Deep p (after ev s (suc k) .core .psw) (frames ev s (suc k))
-    unfolding frames
+    halted-deep : after ev s k .halted ≡ true → Deep p (after ev s (suc k) .core .psw) (frames ev s (suc k)) (levels ev s (suc k))
+    unfolding frames levels
     halted-deep h =
         let a : act ev s k ≡ acts.Stopped =
         ap (λ x. x .act) (plan-halted (due ev s k) (deliver-halted (after ev s k .count) ev (after ev s k) ∙ h)) in
         let t : after ev s (suc k) ≡ after ev s k = run-step ev s k ∙ step-halted ev (after ev s k) h in
-        subst (λ x. Deep p (after ev s (suc k) .core .psw) (framesAfter x (after ev s (suc k)) (frames ev s k))) (sym a)
-        (subst (λ x. Deep p (x .core .psw) (frames ev s k)) (sym t) D)
+        subst (λ x. Deep p (after ev s (suc k) .core .psw) (framesAfter x (after ev s (suc k)) (frames ev s k))
+        (levelsAfter x (due ev s k .mem) (levels ev s k))) (sym a)
+        (subst (λ x. Deep p (x .core .psw) (frames ev s k) (levels ev s k)) (sym t) D)
 
     module _ (live : after ev s k .halted ≡ false) where
       due-live : due ev s k .halted ≡ false
@@ -328,8 +356,9 @@ module _ (memory r events : List ℕ) (n : ℕ) (P : DepthPremises memory r even
       next-is : after ev s (suc k) ≡ finished (due ev s k)
       next-is = run-step ev s k ∙ step-live ev (after ev s k) live
 
-      onto : (fs : List Frame) → Deep p (finished (due ev s k) .core .psw) fs → Deep p (after ev s (suc k) .core .psw) fs
-      onto fs h = subst (λ t. Deep p (t .core .psw) fs) (sym next-is) h
+      onto : (fs : List Frame) (ls : List ℕ) → Deep p (finished (due ev s k) .core .psw) fs ls
+          → Deep p (after ev s (suc k) .core .psw) fs ls
+      onto fs ls h = subst (λ t. Deep p (t .core .psw) fs ls) (sym next-is) h
 
       faultless : Faultless (act ev s k)
       faultless = calm-faultless (act ev s k) (frames ev s k) (P .calm k below)
@@ -346,119 +375,136 @@ module _ (memory r events : List ℕ) (n : ℕ) (P : DepthPremises memory r even
           (plan-higher (due ev s k) faultless)
 
       -- an entry
-      accepted-deep : (d : ℕ) → act ev s k ≡ acts.Accept d
-          → Deep p (finished (due ev s k) .core .psw) (frame (after ev s (suc k)) false ∷ frames ev s k)
+      accepted-deep : (d : ℕ) → act ev s k ≡ acts.Accept d → (fs : List Frame) (ls : List ℕ) → frames ev s k ≡ fs → levels ev s k ≡ ls
+          → Deep p (finished (due ev s k) .core .psw) (frame (after ev s (suc k)) false ∷ fs) (priority (due ev s k .mem) d ∷ ls)
       unfolding perform vectored
-      accepted-deep d q =
+      accepted-deep d q fs ls o g =
           let c = due ev s k .core in
           let m = due ev s k .mem in
-          let o = outcome-is (acts.Accept d) q (λ h. h) in
+          let out = outcome-is (acts.Accept d) q (λ h. h) in
           let w-is : finished (due ev s k) .core .psw ≡ enteredPsw (vectorPsw m d) (current (c .psw)) (false || faulted? (c .psw)) =
-          ap (λ x. x .core .psw) o in
+          ap (λ x. x .core .psw) out in
           let pr = entered-priorities (vectorPsw m d) (current (c .psw)) (false || faulted? (c .psw)) (omega arith) in
           let sv : Saved (after ev s (suc k)) c =
           saves c m (due-tidy k .core) (due-tidy k .size) d (current (c .psw)) (false || faulted? (c .psw)) (after ev s (suc k))
-          (ap (λ t. t .core) next-is ∙ ap (λ x. x .core) o)
-          (ap (λ t. t .mem) next-is ∙ ap (λ x. commit (x .writes) m) o) in
+          (ap (λ t. t .core) next-is ∙ ap (λ x. x .core) out)
+          (ap (λ t. t .mem) next-is ∙ ap (λ x. commit (x .writes) m) out) in
           let saved-is : savedPsw (after ev s (suc k)) ≡ c .psw =
           ap (λ x. wordAt (after ev s (suc k) .mem) (wrap (x + 2))) (sv .stack) ∙ sv .psw-word in
           let up : current (c .psw) < priority m d = higher (acts.Accept d) q in
-          let bound : p + length (frames ev s k) ≤ current (c .psw) = deep-bound p (c .psw) (frames ev s k) due-deep in
           rw w-is (
-            rw (pr .0) (omega arith),
+            pr .0,
+            subst (λ x. current x < priority m d) (sym saved-is) up,
             pr .1 ∙ sym (ap current saved-is),
             after-tidy (suc k) .core .words 6,
-            subst (λ w. Deep p w (frames ev s k)) (sym saved-is) due-deep,
+            subst (λ w. Deep p w fs ls) (sym saved-is) (deep-at fs ls o g),
           )
 
       -- a chained entry
-      chained-deep : (d : ℕ) (f : Frame) (fs : List Frame) → act ev s k ≡ acts.Chain d → frames ev s k ≡ f ∷ fs
-          → Deep p (finished (due ev s k) .core .psw) (f ∷ fs)
+      chained-deep : (d : ℕ) → act ev s k ≡ acts.Chain d → (f : Frame) (fs : List Frame) (l : ℕ) (ls : List ℕ)
+          → frames ev s k ≡ f ∷ fs → levels ev s k ≡ l ∷ ls
+          → Deep p (finished (due ev s k) .core .psw) (f ∷ fs) (priority (due ev s k .mem) d ∷ ls)
       unfolding perform vectored
-      chained-deep d f fs q o =
+      chained-deep d q f fs l ls o g =
           let c = due ev s k .core in
           let m = due ev s k .mem in
           let w-is : finished (due ev s k) .core .psw ≡ enteredPsw (vectorPsw m d) (previous (c .psw)) (faulted? (c .psw)) =
           ap (λ x. x .core .psw) (outcome-is (acts.Chain d) q (λ h. h)) in
           let pr = entered-priorities (vectorPsw m d) (previous (c .psw)) (faulted? (c .psw)) (omega arith) in
-          let old : Deep p (c .psw) (f ∷ fs) = deep-at (f ∷ fs) o in
+          let old : Deep p (c .psw) (f ∷ fs) (l ∷ ls) = deep-at (f ∷ fs) (l ∷ ls) o g in
           let up : previous (c .psw) < priority m d = higher (acts.Chain d) q in
-          let bound : p + length fs ≤ current (savedPsw (f .held)) = deep-bound p _ fs (old .3) in
-          let same : previous (c .psw) ≡ current (savedPsw (f .held)) = old .1 in
-          rw w-is (rw (pr .0) (omega arith), pr .1 ∙ same, old .2, old .3)
+          rw w-is (pr .0, subst (λ x. x < priority m d) (old .2) up, pr .1 ∙ old .2, old .3, old .4)
 
       -- a return that pulls
-      pulled-deep : (f : Frame) (fs : List Frame) → act ev s k ≡ acts.Pull → frames ev s k ≡ f ∷ fs
-          → Deep p (finished (due ev s k) .core .psw) fs
+      pulled-deep : act ev s k ≡ acts.Pull → (f : Frame) (fs : List Frame) (l : ℕ) (ls : List ℕ)
+          → frames ev s k ≡ f ∷ fs → levels ev s k ≡ l ∷ ls
+          → Deep p (finished (due ev s k) .core .psw) fs ls
       unfolding perform pulled
-      pulled-deep f fs q o =
-          let old : Deep p (due ev s k .core .psw) (f ∷ fs) = deep-at (f ∷ fs) o in
+      pulled-deep q f fs l ls o g =
+          let old : Deep p (due ev s k .core .psw) (f ∷ fs) (l ∷ ls) = deep-at (f ∷ fs) (l ∷ ls) o g in
           let w-is : finished (due ev s k) .core .psw ≡ pulledPsw (savedPsw (f .held)) =
           ap (λ x. x .core .psw) (outcome-is acts.Pull q (λ h. h))
-          ∙ ap pulledPsw (found-word (f .held) (due ev s k) (P .found k f fs below q o) (old .2) 2 (omega arith) (lit< tt)) in
-          rw w-is (deep-same p _ (savedPsw (f .held)) fs (pulled-priorities (savedPsw (f .held))) (old .3))
+          ∙ ap pulledPsw (found-word (f .held) (due ev s k) (P .found k f fs below q o) (old .3) 2 (omega arith) (lit< tt)) in
+          rw w-is (deep-same p _ (savedPsw (f .held)) fs ls (pulled-priorities (savedPsw (f .held))) (old .4))
 
       -- an instruction in a handler
-      steady-deep : (f : Frame) (fs : List Frame) → Steady (act ev s k) → frames ev s k ≡ f ∷ fs
-          → Deep p (finished (due ev s k) .core .psw) (f ∷ fs)
-      steady-deep f fs st o =
+      steady-deep : Steady (act ev s k) → (f : Frame) (fs : List Frame) (ls : List ℕ) → frames ev s k ≡ f ∷ fs → levels ev s k ≡ ls
+          → Deep p (finished (due ev s k) .core .psw) (f ∷ fs) ls
+      steady-deep st f fs ls o g =
           let no : setsPriority? (due ev s k) ≡ false = P .no-setpri k below (ap none? o) in
           let same : SamePriorities (finished (due ev s k) .core .psw) (due ev s k .core .psw) =
           rw (perform-steady (act ev s k) st (P .no-svc k below) (planOf (due ev s k) .core) (due ev s k .lines) (due ev s k .mem))
           (plan-priorities (due ev s k) faultless (P .no-svc k below) no st) in
-          deep-same p _ (due ev s k .core .psw) (f ∷ fs) same (deep-at (f ∷ fs) o)
+          deep-same p _ (due ev s k .core .psw) (f ∷ fs) ls same (deep-at (f ∷ fs) ls o g)
 
       devices : (fs : List Frame) → frames ev s k ≡ fs → Devices fs
       devices fs o = subst Devices o (frames-devices ev s n (P .no-svc) k (omega arith))
 
       -- with no frame open, p is at most the current priority
       outside : (a : Act) → act ev s k ≡ a → frames ev s k ≡ [] → framesAfter a (after ev s (suc k)) [] ≡ []
-          → Deep p (after ev s (suc k) .core .psw) []
+          → p ≤ current (after ev s (suc k) .core .psw)
       unfolding frames
       outside a q o e =
           lowest-open ev s n (suc k) below
           (ap (λ x. framesAfter x (after ev s (suc k)) (frames ev s k)) q ∙ ap (framesAfter a (after ev s (suc k))) o ∙ e)
 
-      steady-next : (a : Act) → act ev s k ≡ a → (fs : List Frame) → frames ev s k ≡ fs → Steady a
-          → framesAfter a (after ev s (suc k)) [] ≡ []
-          → Deep p (after ev s (suc k) .core .psw) fs
-      steady-next a q [] o st e = outside a q o e
-      steady-next a q (f ∷ fs) o st e = onto (f ∷ fs) (steady-deep f fs (subst Steady (sym q) st) o)
+      steady-next : (a : Act) → act ev s k ≡ a → Steady a → framesAfter a (after ev s (suc k)) [] ≡ []
+          → (fs : List Frame) (ls : List ℕ) → frames ev s k ≡ fs → levels ev s k ≡ ls
+          → Deep p (after ev s (suc k) .core .psw) fs ls
+      steady-next a q st e [] [] o g = outside a q o e
+      steady-next a q st e [] (l ∷ ls) o g = absurd (deep-at [] (l ∷ ls) o g)
+      steady-next a q st e (f ∷ fs) ls o g = onto (f ∷ fs) ls (steady-deep (subst Steady (sym q) st) f fs ls o g)
 
-      deep-after : (a : Act) → act ev s k ≡ a → (fs : List Frame) → frames ev s k ≡ fs → Calm a fs
-          → Deep p (after ev s (suc k) .core .psw) (framesAfter a (after ev s (suc k)) fs)
-      deep-after acts.Stopped q fs o c = absurd (plan-moves (due ev s k) due-live faultless q)
-      deep-after acts.Pull q [] o c = absurd (true≢false c)
-      deep-after acts.Pull q (f ∷ fs) o c = onto fs (pulled-deep f fs q o)
-      deep-after (acts.Chain d) q [] o c = absurd (true≢false c)
-      deep-after (acts.Chain d) q (f ∷ fs) o c =
-          subst (Deep p (after ev s (suc k) .core .psw)) (sym (devices-chained (after ev s (suc k)) (f ∷ fs) (devices (f ∷ fs) o)))
-          (onto (f ∷ fs) (chained-deep d f fs q o))
-      deep-after (acts.Accept d) q fs o c =
-          subst (λ l. Deep p (after ev s (suc k) .core .psw) (frame (after ev s (suc k)) false ∷ l)) o
-          (onto (frame (after ev s (suc k)) false ∷ frames ev s k) (accepted-deep d q))
-      deep-after acts.Sleep q fs o c = steady-next acts.Sleep q fs o tt refl
-      deep-after (acts.Fault v) q fs o c = absurd c
-      deep-after acts.Halt q fs o c = absurd c
-      deep-after acts.Skip q fs o c = steady-next acts.Skip q fs o tt refl
-      deep-after (acts.Trap v) q fs o c = absurd (true≢false (sym (ap svc? q) ∙ P .no-svc k below))
-      deep-after acts.Plain q fs o c = steady-next acts.Plain q fs o tt refl
-      deep-after (acts.Loads byte a d) q fs o c = steady-next (acts.Loads byte a d) q fs o tt refl
-      deep-after (acts.Stores byte a v) q fs o c = steady-next (acts.Stores byte a v) q fs o tt refl
+      -- the invariant after the step, by its act
+      abbrev Next : Act → List Frame → List ℕ → Type 0
+      Next a fs ls =
+          Deep p (after ev s (suc k) .core .psw) (framesAfter a (after ev s (suc k)) fs) (levelsAfter a (due ev s k .mem) ls)
 
-      live-deep : Deep p (after ev s (suc k) .core .psw) (frames ev s (suc k))
-      unfolding frames
-      live-deep = deep-after (act ev s k) refl (frames ev s k) refl (P .calm k below)
+      -- a chaining leaves the frames as they are: each is a device's
+      chained-next : (d : ℕ) → act ev s k ≡ acts.Chain d → (f : Frame) (fs : List Frame) (l : ℕ) (ls : List ℕ)
+          → frames ev s k ≡ f ∷ fs → levels ev s k ≡ l ∷ ls → Next (acts.Chain d) (f ∷ fs) (l ∷ ls)
+      chained-next d q f fs l ls o g =
+          let new = priority (due ev s k .mem) d ∷ ls in
+          subst (λ x. Deep p (after ev s (suc k) .core .psw) x new)
+          (sym (devices-chained (after ev s (suc k)) (f ∷ fs) (devices (f ∷ fs) o)))
+          (onto (f ∷ fs) new (chained-deep d q f fs l ls o g))
 
-  deep : (k : ℕ) → k ≤ n → Deep p (after ev s k .core .psw) (frames ev s k)
-  unfolding frames
+      next : (a : Act) → act ev s k ≡ a → (fs : List Frame) (ls : List ℕ) → frames ev s k ≡ fs → levels ev s k ≡ ls → Calm a fs
+          → Next a fs ls
+      next acts.Stopped q fs ls o g c = absurd (plan-moves (due ev s k) due-live faultless q)
+      next acts.Pull q [] ls o g c = absurd (true≢false c)
+      next acts.Pull q (f ∷ fs) [] o g c = absurd (deep-at (f ∷ fs) [] o g)
+      next acts.Pull q (f ∷ fs) (l ∷ ls) o g c = onto fs ls (pulled-deep q f fs l ls o g)
+      next (acts.Chain d) q [] ls o g c = absurd (true≢false c)
+      next (acts.Chain d) q (f ∷ fs) [] o g c = absurd (deep-at (f ∷ fs) [] o g)
+      next (acts.Chain d) q (f ∷ fs) (l ∷ ls) o g c = chained-next d q f fs l ls o g
+      next (acts.Accept d) q fs ls o g c =
+          onto (frame (after ev s (suc k)) false ∷ fs) (priority (due ev s k .mem) d ∷ ls) (accepted-deep d q fs ls o g)
+      next acts.Sleep q fs ls o g c = steady-next acts.Sleep q tt refl fs ls o g
+      next (acts.Fault v) q fs ls o g c = absurd c
+      next acts.Halt q fs ls o g c = absurd c
+      next acts.Skip q fs ls o g c = steady-next acts.Skip q tt refl fs ls o g
+      next (acts.Trap v) q fs ls o g c = absurd (true≢false (sym (ap svc? q) ∙ P .no-svc k below))
+      next acts.Plain q fs ls o g c = steady-next acts.Plain q tt refl fs ls o g
+      next (acts.Loads byte a d) q fs ls o g c = steady-next (acts.Loads byte a d) q tt refl fs ls o g
+      next (acts.Stores byte a v) q fs ls o g c = steady-next (acts.Stores byte a v) q tt refl fs ls o g
+
+      live-deep : Deep p (after ev s (suc k) .core .psw) (frames ev s (suc k)) (levels ev s (suc k))
+      unfolding frames levels
+      live-deep = next (act ev s k) refl (frames ev s k) (levels ev s k) refl refl (P .calm k below)
+
+  deep : (k : ℕ) → k ≤ n → Deep p (after ev s k .core .psw) (frames ev s k) (levels ev s k)
+  unfolding frames levels
   deep zero h = lowest-open ev s n 0 h refl
   deep (suc k) h =
       let d = deep k (omega arith) in
       bool-cases (after ev s k .halted) (halted-deep k h d) (live-deep k h d)
 
+  pub priorities-rise : PrioritiesRise memory r events n
+  priorities-rise k h = deep-rising p (after ev s k .core .psw) (frames ev s k) (levels ev s k) (deep k h)
+
   pub depth : Shallow memory r events n
   depth k h =
-      let b = deep-bound p (after ev s k .core .psw) (frames ev s k) (deep k h) in
+      let b = deep-bound p (after ev s k .core .psw) (frames ev s k) (levels ev s k) (deep k h) in
       let c : current (after ev s k .core .psw) < 8 = omega arith in
       omega arith

@@ -26,7 +26,7 @@ use Rattle.machine_laws.proofs.Cases.{bool-cases, list-cases, eq-of, neq-of, ge
 use Rattle.machine_laws.proofs.Memory.{unwritten, commit-none}
 use Rattle.machine_laws.proofs.Plans.{plan-live}
 use Rattle.machine_laws.proofs.Runs.{step-live, run-zero, run-step}
-use Rattle.machine_laws.proofs.Writes.{deliver-bytes}
+use Rattle.machine_laws.proofs.Writes.{fits-devices, deliver-bytes}
 use Rattle.machine_laws.proofs.Steps.{deliver-tidy, deliver-core, deliver-halted, run-tidy}
 use Rattle.machine_laws.proofs.Records.{passed, start-tidy, events-fit}
 use Rattle.resume.specs.Frames.{Frame, frame, own?, none?, older, chained, framesAfter, acceptsNone?, Calm, NoChain, frameSpan}
@@ -137,7 +137,7 @@ module _ (memory r events : List ℕ) (n : ℕ) (P : WiderPremises memory r even
         → byteAt (due ev s k .mem) a ≡ byteAt (free ev s k .mem) a
     due-bytes a b h w =
         let size = after-tidy k .size in
-        deliver-bytes (after ev s k .count) ev (after ev s k) a fit (ge-of h) (rw size b) ∙ S .bytes a b h w
+        deliver-bytes (after ev s k .count) ev (after ev s k) a (fits-devices ev fit) (ge-of h) (rw size b) ∙ S .bytes a b h w
 
     faultless : Faultless (act ev s k)
     faultless = calm-faultless (act ev s k) (frames ev s k) (P .calm k below)

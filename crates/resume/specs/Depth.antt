@@ -3,7 +3,7 @@
 -- Assumes nothing.
 use Prim.Native.Nat.{ℕ, zero, suc, _-_, _<_, _≤_}
 use mathlib.Core.Bool.{Bool, true, false, cond, _&&_}
-use mathlib.Core.List.{List, _∷_}
+use mathlib.Core.List.{List, [], _∷_}
 use mathlib.Core.Path.{_≡_}
 use lib.Dec.{ltb}
 use lib.ListN.{length}
@@ -15,6 +15,7 @@ use Rattle.machine.specs.State.{State, pc}
 use Rattle.machine.specs.Memory.{wordAt}
 use Rattle.machine.specs.Record.{stateIn}
 use Rattle.machine.specs.Events.{Event, eventsOf}
+use Rattle.machine.specs.Entry.{priority}
 use Rattle.machine.specs.declared.Act.{Act}
 use Rattle.machine.specs.declared.Act.the-variants as acts
 use Rattle.machine.specs.Step.{planOf}
@@ -65,7 +66,40 @@ setsPriority? s = executes? (planOf s .act) && setPri? (decodeOf (wordAt (s .mem
 abbrev pub lesser : ℕ → ℕ → ℕ
 lesser a b = cond (ltb a b) a b
 
+-- The priorities of the open frames, newest first: that of the vector by which the handler in the frame was entered,
+-- pushing or chained. The list after a step that acts over the memory m. [01 Depth; 01 Entry; 01 Return]
+abbrev pub levelsAfter : Act → List ℕ → List ℕ → List ℕ
+levelsAfter acts.Stopped m ls = ls
+levelsAfter acts.Pull m [] = []
+levelsAfter acts.Pull m (l ∷ ls) = ls
+levelsAfter (acts.Chain d) m [] = []
+levelsAfter (acts.Chain d) m (l ∷ ls) = priority m d ∷ ls
+levelsAfter (acts.Accept d) m ls = priority m d ∷ ls
+levelsAfter acts.Sleep m ls = ls
+levelsAfter (acts.Fault v) m ls = priority m v ∷ ls
+levelsAfter acts.Halt m ls = ls
+levelsAfter acts.Skip m ls = ls
+levelsAfter (acts.Trap v) m ls = priority m v ∷ ls
+levelsAfter acts.Plain m ls = ls
+levelsAfter (acts.Loads byte a d) m ls = ls
+levelsAfter (acts.Stores byte a v) m ls = ls
+
+-- The newest of them; with no frame open p. [01 Depth]
+abbrev pub newest : (p : ℕ) → List ℕ → ℕ
+newest p [] = p
+newest p (l ∷ ls) = l
+
+-- They rise: each lies above the one before it, the oldest above p. [01 Depth]
+abbrev pub Rising : (p : ℕ) → List ℕ → Type 0
+Rising p [] = Unit {0}
+Rising p (l ∷ ls) = (newest p ls < l) × Rising p ls
+
 module _ (ev : List Event) (s : State) where
+  -- The priorities of the frames open before step k. [01 Depth]
+  unfoldable pub levels : ℕ → List ℕ
+  levels zero = []
+  levels (suc k) = levelsAfter (act ev s k) (due ev s k .mem) (levels k)
+
   -- "p the lowest current priority held while no frame is open", before the first of n steps and after each.
   -- [01 Depth]
   unfoldable pub lowest : ℕ → ℕ
@@ -98,3 +132,7 @@ module _ (memory r events : List ℕ) where
   -- "at most 7 − p frames are open together". [01 Depth]
   abbrev pub Shallow : ℕ → Type 0
   Shallow n = (k : ℕ) → k ≤ n → length (frames list start k) ≤ 7 - lowest list start n
+
+  -- The priorities of open frames rise from p on, whence their bound. [01 Depth]
+  abbrev pub PrioritiesRise : ℕ → Type 0
+  PrioritiesRise n = (k : ℕ) → k ≤ n → Rising (lowest list start n) (levels list start k)

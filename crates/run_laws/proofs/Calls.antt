@@ -23,7 +23,8 @@ use Rattle.machine_laws.specs.Bounds.{Bytes}
 use Rattle.machine_laws.proofs.Cases.{bool-cases, not-eq}
 use Rattle.machine_laws.proofs.Records.{passed, closing-read}
 use Rattle.run_laws.proofs.Room.{logged-run, records-fit, records-le, logged-le, short-fills, room-enough, logged-slices}
-use Rattle.run_laws.proofs.LogBytes.{log-length, log-append, log-tail, sets-before, sets-joined}
+use Rattle.stores.proofs.Laws.{sets-before, sets-joined}
+use Rattle.run_laws.proofs.LogBytes.{log-length, log-append, log-tail}
 use Rattle.run_laws.proofs.Verdicts.{call-start, call-whole, call-accepts, verdict-fewer}
 
 -- an accepted call's answer is its run's; a refused one leaves memory, record and log as handed over

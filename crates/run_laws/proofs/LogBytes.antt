@@ -1,11 +1,11 @@
 -- The log as bytes: eight a record, from the start, the rest as it was. Assumes nothing.
 use Prim.Native.Nat.{ℕ, zero, suc, _+_, _-_, _*_, _<_, _≤_}
-use native.Mathlib.Nat.{add-suc, add-zero, zero-add, suc-add}
 use native.Mathlib.Omega.{arith}
 use mathlib.Core.List.{List, [], _∷_, _++_}
-use mathlib.Core.Path.{_≡_, refl, sym, ap, subst, _∙_}
-use lib.ListN.{length, getD, set, drop, length-append, length-set, List·getD-append}
-use lib.Seq.{sets, sets-eq, length-sets, set-append-left, getD-append-add, getD-drop}
+use mathlib.Core.Path.{_≡_, refl, sym, ap, _∙_}
+use lib.ListN.{length, getD, drop, List·getD-append}
+use lib.Seq.{sets, sets-eq, getD-append-add, getD-drop}
+pub use Rattle.stores.proofs.Laws.{sets-append}
 use Rattle.machine.specs.Memory.{byteAt}
 use Rattle.machine.specs.Log.{Shown, shownBytes, logBytes}
 
@@ -18,41 +18,6 @@ pub log-append : (xs ys : List Shown) → logBytes (xs ++ ys) ≡ logBytes xs ++
 unfolding logBytes
 log-append [] ys = refl
 log-append (x ∷ xs) ys = ap (λ l. shownBytes x ++ l) (log-append xs ys)
-
--- ---- stores into a buffer
-
-pub sets-append : (m : List ℕ) (i : ℕ) (a b : List ℕ) → sets m i (a ++ b) ≡ sets (sets m i a) (i + length a) b
-sets-append m i [] b = rw add-zero refl
-sets-append m i (x ∷ a) b =
-    let e : suc i + length a ≡ i + suc (length a) = omega arith in
-    sets-append (set m i x) (suc i) a b ∙ ap (λ (n : ℕ). sets (sets (set m i x) (suc i) a) n b) e
-
-set-past : (a b : List ℕ) (i v : ℕ) → set (a ++ b) (length a + i) v ≡ a ++ set b i v
-set-past [] b i v = rw (zero-add i) refl
-set-past (x ∷ a) b i v = rw (suc-add (length a) i) (ap (λ l. x ∷ l) (set-past a b i v))
-
-pub sets-before : (a b : List ℕ) (i : ℕ) (vs : List ℕ) → i + length vs ≤ length a → sets (a ++ b) i vs ≡ sets a i vs ++ b
-sets-before a b i [] h = refl
-sets-before a b i (v ∷ vs) h =
-    ap (λ l. sets l (suc i) vs) (set-append-left a b i v (omega arith))
-    ∙ sets-before (set a i v) b (suc i) vs (rw (length-set a i v) (omega arith))
-
-sets-past : (a b : List ℕ) (i : ℕ) (vs : List ℕ) → sets (a ++ b) (length a + i) vs ≡ a ++ sets b i vs
-sets-past a b i [] = refl
-sets-past a b i (v ∷ vs) =
-    ap (λ l. sets l (suc (length a + i)) vs) (set-past a b i v)
-    ∙ ap (λ n. sets (a ++ set b i v) n vs) (sym (add-suc (length a) i))
-    ∙ sets-past a (set b i v) (suc i) vs
-
--- two buffers, the first of which is filled
-pub sets-joined : (a b vs ws : List ℕ) → length vs ≡ length a → sets (a ++ b) 0 (vs ++ ws) ≡ sets a 0 vs ++ sets b 0 ws
-sets-joined a b vs ws h =
-    let l = length-sets a 0 vs in
-    let e : 0 + length vs ≡ length (sets a 0 vs) + 0 = omega arith in
-    sets-append (a ++ b) 0 vs ws
-    ∙ ap (λ m. sets m (0 + length vs) ws) (sets-before a b 0 vs (omega arith))
-    ∙ ap (λ n. sets (sets a 0 vs ++ b) n ws) e
-    ∙ sets-past (sets a 0 vs) b 0 ws
 
 -- ---- the log that a run leaves
 

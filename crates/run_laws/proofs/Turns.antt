@@ -1,30 +1,30 @@
 -- A run with a log as its loop goes: the step of the general way, the stretch after it, the three ways in which it ends; and the
 -- events of an untaken step given back. Assumes nothing.
-use Prim.Native.Nat.{ℕ, zero, suc, _+_, _-_, _*_, _/_, _%_, _<_, _≤_}
-use native.Mathlib.Nat.{add-suc, add-zero, min-eq-left}
+use Prim.Native.Nat.{ℕ, zero, suc, _+_, _-_, _%_, _<_, _≤_}
+use native.Mathlib.Nat.{min-eq-left}
 use native.Mathlib.Omega.{arith}
-use mathlib.Core.Bool.{Bool, true, false, cond, not, _&&_, _||_, true≢false, false≢true}
+use mathlib.Core.Bool.{true, false, cond, not, _&&_, false≢true}
 use mathlib.Core.List.{List, [], _∷_, _++_, append-nil}
 use mathlib.Core.Path.{_≡_, refl, sym, ap, subst, _∙_}
 use lib.Dec.{eqb, ltb}
-use lib.ListN.{length, take, drop, set, getD, length-take, length-drop, take-append-drop}
-use lib.Seq.{sets, sets-eq, ext-getD, getD-drop, length-sets}
+use lib.ListN.{length, take, drop, length-take, length-drop, take-append-drop}
+use lib.Seq.{sets, sets-eq, ext-getD, getD-drop}
 use Rattle.machine.specs.State.{State}
 use Rattle.machine.specs.Memory.{byteAt, wordNumber, lowByte, highByte}
 use Rattle.machine.specs.Events.{Event}
-use Rattle.machine.specs.Devices.{statusOf, device?, ena?, input?, deliver, deliverAt, eventOn, eventWrites}
+use Rattle.machine.specs.Devices.{statusOf, device?, ena?, input?, deliver}
 use Rattle.machine.specs.declared.Act.{Act}
 use Rattle.machine.specs.declared.Act.the-variants as act
 use Rattle.machine.specs.Step.{planOf, stepOf, finished}
-use Rattle.machine.specs.Run.{Run, ran, runOf}
+use Rattle.machine.specs.Run.{ran, runOf}
+pub use Rattle.machine_laws.specs.Bounds.{OfDevice}
 use Rattle.machine_laws.specs.Bounds.{Each}
-use Rattle.machine_laws.proofs.Steps.{deliver-size, event-size}
-use Rattle.machine_laws.proofs.Writes.{InDevices, devices-untouched}
-use Rattle.machine_laws.proofs.Memory.{unwritten}
-use Rattle.machine_laws.proofs.Cases.{bool-cases, lt-of, ge-of, is-lt, not-lt}
-use Rattle.machine_laws.proofs.Runs.{step-live, run-zero, run-next, run-halted, run-append, steps-all}
+use Rattle.machine_laws.proofs.Steps.{deliver-size}
+use Rattle.machine_laws.proofs.Writes.{deliver-bytes}
+use Rattle.machine_laws.proofs.Cases.{bool-cases, ge-of, not-lt}
+use Rattle.machine_laws.proofs.Runs.{step-live, run-zero, run-next, run-halted, run-append}
 use Rattle.machine.specs.Log.{Shown, shownOn, loggedOf, loggedNext}
-use Rattle.machine.specs.Logged.{Logged, logged, ranOf, fresh, over?, onward, runLogged, recordsOf, joined}
+use Rattle.machine.specs.Logged.{Logged, logged, ranOf, fresh, over?, onward, runLogged, joined}
 use Rattle.machine.specs.Uneventful.{uneventful?, nextAct, Uneventful}
 use Rattle.run_laws.proofs.Room.{logged-zero, logged-next, onward-over, onward-stuck, onward-taken, logged-stays}
 use Rattle.run_laws.proofs.Room.{logged-append, logged-run, roomy-run, short-fills, records-le}
@@ -164,30 +164,6 @@ bytes-back m m′ e h f =
     ∙ ap (λ n. take 16 m ++ drop n m′) z
     ∙ ap (λ r. take 16 m ++ r) rest
     ∙ take-append-drop 16 m
-
--- An event is a device's. [01 Who can be turned back, 6]
-abbrev pub OfDevice : Event → Type 0
-OfDevice e = e .device < 8
-
-event-devices : (e : Event) (t : ℕ) → OfDevice e → InDevices (eventWrites e t)
-event-devices e t h = bool-cases (input? t) (λ q. rw q (omega arith, (omega arith, tt))) (λ q. rw q (omega arith, tt))
-
-event-bytes : (e : Event) (s : State) (a : ℕ) → OfDevice e → 16 ≤ a → a < length (s .mem) → byteAt (eventOn e s .mem) a ≡ byteAt (s .mem) a
-unfolding eventOn
-event-bytes e s a f h k =
-    let t = byteAt (s .mem) (statusOf (e .device)) in
-    bool-cases (ena? t)
-    (λ q. rw q (unwritten (eventWrites e t) (s .mem) a k (devices-untouched (eventWrites e t) a (event-devices e t f) h)))
-    (λ q. rw q refl)
-
-deliver-bytes : (k : ℕ) (ev : List Event) (s : State) (a : ℕ) → Each OfDevice ev → 16 ≤ a → a < length (s .mem)
-    → byteAt (deliverAt k ev s .mem) a ≡ byteAt (s .mem) a
-unfolding deliverAt
-deliver-bytes k [] s a f h l = refl
-deliver-bytes k (e ∷ es) s a f h l =
-    let t = cond (eqb (e .step) k) (eventOn e s) s in
-    deliver-bytes k es t a (f .1) h (bool-cases (eqb (e .step) k) (λ q. rw (q, event-size e s) l) (λ q. rw q l))
-    ∙ bool-cases (eqb (e .step) k) (λ q. rw q (event-bytes e s a (f .0) h l)) (λ q. rw q refl)
 
 -- Lines and the device bytes are all that the events of a step change: put back, they give the memory before it.
 pub given-back : (ev : List Event) (s : State) → Each OfDevice ev → 16 ≤ length (s .mem)

@@ -35,7 +35,8 @@ module _ (memory r events log : List ℕ) (n : ℕ) where
 
   -- the log's length is looked at once the start has passed
   pub call-verdict : callVerdict memory r events log n
-      ≡ cond (accepted? (verdictOf memory r events n)) (cond (not (eqb (length log % 8) 0)) LogLength Accepted)
+      ≡ cond (accepted? (verdictOf memory r events n))
+      (cond (not (eqb (length log % 8) 0)) LogLength Accepted)
       (verdictOf memory r events n)
   unfolding verdictOf callVerdict
   call-verdict = first-then (rulesOf memory r events n) (rule (not (eqb (length log % 8) 0)) LogLength ∷ []) all-refuse
@@ -62,8 +63,8 @@ module _ (memory r events log : List ℕ) (n : ℕ) where
   call-start e =
       bool-cases (accepted? (verdictOf memory r events n))
       (λ q. is-accepted (verdictOf memory r events n) (eq-of q))
-      (λ q. sym (call-verdict ∙ ap (λ b. cond b (cond (not (eqb (length log % 8) 0)) LogLength Accepted)
-      (verdictOf memory r events n)) q) ∙ e)
+      (λ q. let whole = cond (not (eqb (length log % 8) 0)) LogLength Accepted in
+      sym (call-verdict ∙ ap (λ b. cond b whole (verdictOf memory r events n)) q) ∙ e)
 
   pub call-whole : callVerdict memory r events log n ≡ Accepted → length log % 8 ≡ 0
   call-whole e =

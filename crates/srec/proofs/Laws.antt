@@ -1,16 +1,15 @@
 -- Laws of S-records that the code's proofs cite: bytes of a line by place, what an accepted line and an accepted text
--- are, runs of stores.
+-- are.
 -- Assumes nothing.
 use Prim.Native.Nat.{ℕ, zero, suc, _+_, _-_, _*_, _/_, _%_, _≤_, _<_, min}
 use mathlib.Core.Path.{_≡_, refl, sym, ap, _∙_, subst}
 use mathlib.Core.Bool.{Bool, true, false, cond, _&&_, false≢true}
 use mathlib.Core.List.{List, [], _∷_, _++_}
 use native.Mathlib.Numerals.{add-one}
-use native.Mathlib.Nat.{add-zero}
 use native.Mathlib.Omega.{arith}
 use lib.Dec.{eqb, ltb, leb}
-use lib.ListN.{length, getD, take, drop, set, length-append, length-drop, drop-of-length-le}
-use lib.Seq.{sets, getD-drop, drop-cons, length-take-le}
+use lib.ListN.{length, getD, take, drop, length-append, length-drop, drop-of-length-le}
+use lib.Seq.{getD-drop, drop-cons, length-take-le}
 use borrow.Author.Tests.{eqb-true, ltb-false, leb-true, eq-eqb, ne-eqb}
 use Rattle.word.proofs.Laws.{bool-cases}
 use Rattle.lines.specs.Lines.{textOf, none}
@@ -163,24 +162,6 @@ verdict-sound k (l ∷ ls) h =
 
     bad : isAccepted (faultOf (none ls) l) ≡ false → isAccepted (verdictFrom k (l ∷ ls) .refusal) ≡ true → ⊥
     bad p e = false≢true (sym p ∙ rw p at e)
-
--- ---- runs of stores
-
-pub sets-append : (m : List ℕ) (i : ℕ) (a b : List ℕ) → sets m i (a ++ b) ≡ sets (sets m i a) (i + length a) b
-sets-append m i [] b = rw add-zero
-sets-append m i (x ∷ a) b =
-    let e : suc i + length a ≡ i + suc (length a) = omega arith in
-    sets-append (set m i x) (suc i) a b ∙ ap (λ (n : ℕ). sets (sets (set m i x) (suc i) a) n b) e
-
--- one more store of a run: k are done, of a list d
-pub sets-more : (m d : List ℕ) (i k : ℕ) → k < length d
-    → sets m (i + k) (drop k d) ≡ sets (set m (i + k) (getD d k 0)) (i + (k + 1)) (drop (k + 1) d)
-sets-more m d i k h =
-    let e : i + (k + 1) ≡ suc (i + k) = omega arith in
-    rw (drop-cons d k 0 h, e, add-one) refl
-
-pub sets-then : (m : List ℕ) (i j : ℕ) (a b : List ℕ) → j ≡ i + length a → sets (sets m i a) j b ≡ sets m i (a ++ b)
-sets-then m i j a b e = rw e (sym (sets-append m i a b))
 
 -- ---- lengths of what is written
 

@@ -16,7 +16,8 @@ use Rattle.srec.specs.declared.Refusal.{Refusal}
 use Rattle.srec.specs.declared.Refusal.the-variants.{Accepted, Form, Checksum, Room}
 use Rattle.srec.specs.Record.{isAccepted, bytesOf, kindOf, countOf, addressOf, known, shapedOf, summedOf, faultOf, Loadable}
 use Rattle.srec.specs.Load.{verdict, verdictFrom, storedOf, memoryAfter, pcAt, pcAfter, Sound}
-use Rattle.srec.proofs.Laws.{verdict-fault, verdict-end, verdict-more, sets-more, bytes-length}
+use Rattle.stores.proofs.Laws.{sets-more}
+use Rattle.srec.proofs.Laws.{verdict-fault, verdict-end, verdict-more, bytes-length}
 
 -- ---- digits
 

@@ -15,7 +15,8 @@ use Rattle.srec.specs.declared.Refusal.the-variants.{Accepted}
 use Rattle.srec.specs.Record.{isAccepted}
 use Rattle.srec.specs.Load.{verdict, verdictFrom, verdictOf, storedOf, memoryAfter, pcAt, pcAfter}
 use Rattle.srec.specs.Write.{lineOf, dataLines, spanLines, spanText}
-use Rattle.srec.proofs.Laws.{sets-append, verdict-end, verdict-more}
+use Rattle.stores.proofs.Laws.{sets-append}
+use Rattle.srec.proofs.Laws.{verdict-end, verdict-more}
 use Rattle.srec_trip.specs.Trip.{Bytes, Restored}
 use Rattle.srec_trip.proofs.Digits.{bytes-take, bytes-drop}
 use Rattle.srec_trip.proofs.Line.{line-plain, line-address, data-clean, end-clean, data-stored}

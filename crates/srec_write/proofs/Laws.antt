@@ -13,7 +13,8 @@ use Rattle.text.specs.Text.{glyph}
 use Rattle.lines.specs.Lines.{textOf}
 use Rattle.srec.specs.Digits.{digitsOf, sumOf}
 use Rattle.srec.specs.Write.{lineOf, dataLines, spanText, spanLength}
-use Rattle.srec.proofs.Laws.{sets-then, length-digits, length-line}
+use Rattle.stores.proofs.Laws.{sets-then}
+use Rattle.srec.proofs.Laws.{length-digits, length-line}
 
 -- ---- bytes
 

@@ -1,41 +1,37 @@
--- No handler's SP and no pushed byte lies further below the application's SP than the figure: the handlers of the open
--- frames have strictly rising priorities, and each adds at most 8 and its use. Assumes nothing.
-use Prim.Native.Nat.{ℕ, zero, suc, _+_, _*_, _-_, _/_, _%_, _<_, _≤_}
-use mathlib.Core.Bool.{Bool, true, false, cond, _||_, true≢false}
+-- No handler's SP and no pushed byte lies further below the application's SP than the figure: the priorities of open
+-- frames rise (resume's Depth), and each handler adds at most 8 and its use. Assumes nothing.
+use Prim.Native.Nat.{ℕ, zero, suc, _+_, _*_, _-_, _%_, _<_, _≤_}
+use mathlib.Core.Bool.{true, false, cond, _||_, true≢false}
 use mathlib.Core.List.{List, [], _∷_}
-use mathlib.Core.Logic.{_⊎_, inl, inr}
+use mathlib.Core.Logic.{inl, inr}
 use mathlib.Core.Path.{_≡_, refl, sym, ap, subst, _∙_}
 use native.Mathlib.Omega.{arith}
-use lib.Dec.{lit<}
-use lib.ListN.{length, set, getD}
-use Rattle.word.specs.Psw.{faulted?, current, previous}
-use Rattle.machine.specs.State.{Core, State, sp, wrap, down}
-use Rattle.machine.specs.Memory.{byteAt, wordAt, even, commit, writes?}
-use Rattle.machine.specs.Record.{stateIn, twoAt}
+use lib.ListN.{getD}
+use Rattle.word.specs.Psw.{faulted?, current}
+use Rattle.machine.specs.State.{State, sp, wrap, down}
+use Rattle.machine.specs.Memory.{byteAt, even, commit, writes?}
+use Rattle.machine.specs.Record.{stateIn}
 use Rattle.machine.specs.Events.{Event, eventsOf}
-use Rattle.machine.specs.Entry.{vectorPsw, priority, vectored, enteredPsw, pulled, pulledPsw, pushed}
+use Rattle.machine.specs.Entry.{priority, vectored, pulled}
 use Rattle.machine.specs.declared.Act.{Act}
 use Rattle.machine.specs.declared.Act.the-variants as acts
-use Rattle.machine.specs.Step.{planOf, perform, outcomeOf, finished}
-use Rattle.machine_laws.specs.Bounds.{Each, Tidy, ActFits, EventFits, MayWrite, Pushed}
+use Rattle.machine.specs.Step.{perform, outcomeOf, finished}
+use Rattle.machine_laws.specs.Bounds.{Each, Tidy, ActFits, EventFits, Pushed}
 use Rattle.machine_laws.specs.Passed.{Passed}
-use Rattle.machine_laws.proofs.Cases.{bool-cases, lt-of, ge-of}
-use Rattle.machine_laws.proofs.Effects.{SamePriorities}
+use Rattle.machine_laws.proofs.Cases.{bool-cases}
 use Rattle.machine_laws.proofs.Plans.{plan-halted}
 use Rattle.machine_laws.proofs.Records.{passed, start-tidy, events-fit}
-use Rattle.machine_laws.proofs.Runs.{step-halted, step-live, run-zero, run-step}
+use Rattle.machine_laws.proofs.Runs.{step-halted, step-live, run-step}
 use Rattle.machine_laws.proofs.Steps.{deliver-tidy, deliver-core, deliver-halted, run-tidy, plan-fits}
-use Rattle.machine_laws.proofs.Writes.{deliver-bytes, perform-writes}
-use Rattle.resume.specs.Frames.{Frame, frame, Calm, svc?, none?, framesAfter, after, due, act, frames}
-use Rattle.resume.specs.Depth.{setsPriority?, lowest, DepthPremises}
-use Rattle.resume.proofs.Frame.{three, Saved, saves, found-word}
+use Rattle.machine_laws.proofs.Writes.{fits-devices, deliver-bytes, perform-writes}
+use Rattle.resume.specs.Frames.{Frame, Calm, svc?, none?, framesAfter, after, due, act, frames}
+use Rattle.resume.specs.Depth.{lowest, levelsAfter, newest, Rising, levels}
+use Rattle.resume.proofs.Frame.{three, Saved, saves}
 use Rattle.resume.proofs.Steady.{Faultless, Steady, calm-faultless, plan-core, plan-moves}
-use Rattle.resume.proofs.Devices.{Devices, devices-chained, frames-devices}
-use Rattle.resume.proofs.Depth.{entered-priorities, pulled-priorities, Higher, plan-higher, plan-priorities, perform-steady, savedPsw}
-use Rattle.resume.proofs.Depth.{lowest-open}
+use Rattle.resume.proofs.Depth.{priorities-rise}
 use Rattle.stack_need.specs.Need.{given?, levelOf, useOf, costOf, needOf, sumAbove}
 use Rattle.stack_need.specs.Stack.{below, Handler, handlersAfter, return?, works?, handlers, opened, StackPremises, Within}
-use Rattle.stack_need.proofs.Need.{sum-falls, sum-device, need-is}
+use Rattle.stack_need.proofs.Need.{sum-device, need-is}
 
 -- ---- distances downwards
 
@@ -63,7 +59,7 @@ down-back x h = omega arith
 below-self : (b : ℕ) → b < 65536 → below b b ≡ 0
 below-self b h = omega arith
 
--- ---- what is known of the PSW w, the open frames and their handlers
+-- ---- what is known of the open frames, their handlers and their priorities
 
 module _ (vectors : List ℕ) (devices : ℕ) (uses : List ℕ) (p : ℕ) where
   -- what the handlers cost
@@ -71,43 +67,47 @@ module _ (vectors : List ℕ) (devices : ℕ) (uses : List ℕ) (p : ℕ) where
   costs [] = 0
   costs (h ∷ hs) = costOf uses (h .vector) + costs hs
 
-  -- the running handler has the current priority; its previous priority is the current one of the PSW that its frame holds,
-  -- which is lower; and with no frame open the current priority is at least p
-  Rising : (w : ℕ) → List Frame → List Handler → Type 0
-  Rising w [] [] = p ≤ current w
-  Rising w [] (h ∷ hs) = ⊥
-  Rising w (f ∷ fs) [] = ⊥
-  Rising w (f ∷ fs) (h ∷ hs) =
-      (current w ≡ levelOf vectors (h .vector)) × (previous w ≡ current (savedPsw (f .held)))
-      × (current (savedPsw (f .held)) < current w) × (h .vector < 8) × (given? devices (h .vector) ≡ true)
-      × (sp (f .held .core) < 65536) × Rising (savedPsw (f .held)) fs hs
+  -- each frame has one handler and one priority: that of the handler's vector, which is a given device's
+  Paired : List Frame → List Handler → List ℕ → Type 0
+  Paired [] [] [] = Unit {0}
+  Paired [] [] (l ∷ ls) = ⊥
+  Paired [] (h ∷ hs) ls = ⊥
+  Paired (f ∷ fs) [] ls = ⊥
+  Paired (f ∷ fs) (h ∷ hs) [] = ⊥
+  Paired (f ∷ fs) (h ∷ hs) (l ∷ ls) =
+      (l ≡ levelOf vectors (h .vector)) × (h .vector < 8) × (given? devices (h .vector) ≡ true) × Paired fs hs ls
 
   -- each handler's entry left SP no further below the base than 8 and the cost of the handlers under it
   Placed : (base : ℕ) → List Handler → Type 0
   Placed base [] = Unit {0}
   Placed base (h ∷ hs) = (h .left < 65536) × (below base (h .left) ≤ 8 + costs hs) × Placed base hs
 
-  rising-same : (w v : ℕ) (fs : List Frame) (hs : List Handler) → SamePriorities w v → Rising v fs hs → Rising w fs hs
-  unfolding Rising
-  rising-same w v [] [] e h = rw (e .0) h
-  rising-same w v [] (g ∷ hs) e h = h
-  rising-same w v (f ∷ fs) [] e h = h
-  rising-same w v (f ∷ fs) (g ∷ hs) e h =
-      (e .0 ∙ h .0, e .1 ∙ h .1, rw (e .0) (h .2), h .3, h .4, h .5, h .6)
+  -- priorities that rise from q rise from what is not above it
+  newest-lower : (q : ℕ) → p ≤ q → (ls : List ℕ) → newest p ls ≤ newest q ls
+  newest-lower q h [] = h
+  newest-lower q h (l ∷ ls) = omega arith
 
-  -- the handlers cost no more than the levels from p up to the current one need
-  rising-costs : (w : ℕ) (fs : List Frame) (hs : List Handler) → Rising w fs hs
-      → costs hs + sumAbove vectors devices uses 7 (current w) ≤ sumAbove vectors devices uses 7 p
-  unfolding Rising costs
-  rising-costs w [] [] h = let a = sum-falls vectors devices uses 7 p (current w) h in omega arith
-  rising-costs w [] (g ∷ hs) h = absurd h
-  rising-costs w (f ∷ fs) [] h = absurd h
-  rising-costs w (f ∷ fs) (g ∷ hs) h =
-      let q = current (savedPsw (f .held)) in
-      let up : q < levelOf vectors (g .vector) = subst (λ x. q < x) (h .0) (h .2) in
-      let a = sum-device vectors devices uses (g .vector) q (h .3) (h .4) up in
-      let b = rising-costs (savedPsw (f .held)) fs hs (h .6) in
-      let e : sumAbove vectors devices uses 7 (current w) ≡ sumAbove vectors devices uses 7 (levelOf vectors (g .vector)) =
+  rising-lower : (q : ℕ) → p ≤ q → (ls : List ℕ) → Rising q ls → Rising p ls
+  rising-lower q h [] r = tt
+  rising-lower q h (l ∷ ls) r =
+      let a = newest-lower q h ls in
+      let b : newest q ls < l = r .0 in
+      (omega arith, rising-lower q h ls (r .1))
+
+  -- the handlers cost no more than the levels from p up to the newest need
+  rising-costs : (fs : List Frame) (hs : List Handler) (ls : List ℕ) → Paired fs hs ls → Rising p ls
+      → costs hs + sumAbove vectors devices uses 7 (newest p ls) ≤ sumAbove vectors devices uses 7 p
+  unfolding Paired costs
+  rising-costs [] [] [] h r = omega arith
+  rising-costs [] [] (l ∷ ls) h r = absurd h
+  rising-costs [] (g ∷ hs) ls h r = absurd h
+  rising-costs (f ∷ fs) [] ls h r = absurd h
+  rising-costs (f ∷ fs) (g ∷ hs) [] h r = absurd h
+  rising-costs (f ∷ fs) (g ∷ hs) (l ∷ ls) h r =
+      let up : newest p ls < levelOf vectors (g .vector) = subst (λ x. newest p ls < x) (h .0) (r .0) in
+      let a = sum-device vectors devices uses (g .vector) (newest p ls) (h .1) (h .2) up in
+      let b = rising-costs fs hs ls (h .3) (r .1) in
+      let e : sumAbove vectors devices uses 7 l ≡ sumAbove vectors devices uses 7 (levelOf vectors (g .vector)) =
       ap (sumAbove vectors devices uses 7) (h .0) in
       omega arith
 
@@ -164,7 +164,7 @@ module _ (memory r events vectors : List ℕ) (devices : ℕ) (uses : List ℕ) 
   due-byte : (k i : ℕ) → k ≤ n → i < 64 → byteAt (due ev s k .mem) (0xFFC0 + i) ≡ byteAt vectors i
   due-byte k i h l =
       let size = after-tidy k .size in
-      deliver-bytes (after ev s k .count) ev (after ev s k) (0xFFC0 + i) fit (omega arith) (rw size (omega arith))
+      deliver-bytes (after ev s k .count) ev (after ev s k) (0xFFC0 + i) (fits-devices ev fit) (omega arith) (rw size (omega arith))
       ∙ P .unaltered k i h l
 
   level-is : (k d : ℕ) → k ≤ n → d < 8 → priority (due ev s k .mem) d ≡ levelOf vectors d
@@ -337,7 +337,7 @@ module _ (memory r events vectors : List ℕ) (devices : ℕ) (uses : List ℕ) 
 
   -- the invariant
   record Holds (k : ℕ) : Type 0 where
-    rising : Rising vectors devices uses p (after ev s k .core .psw) (frames ev s k) (handlers ev s k)
+    paired : Paired vectors devices uses p (frames ev s k) (handlers ev s k) (levels ev s k)
     placed : Placed vectors devices uses p (opened ev s k) (handlers ev s k)
 
   abbrev cost : List Handler → ℕ
@@ -355,94 +355,60 @@ module _ (memory r events vectors : List ℕ) (devices : ℕ) (uses : List ℕ) 
       let b : below (opened ev s k) (h .left) ≤ 8 + cost hs = pl .1 in
       omega arith
 
-  module _ (k : ℕ) (l : k < n) (H : Holds k) where
-    due-rising : (fs : List Frame) (hs : List Handler) → frames ev s k ≡ fs → handlers ev s k ≡ hs
-        → Rising vectors devices uses p (due ev s k .core .psw) fs hs
-    due-rising fs hs o g =
-        subst (λ c. Rising vectors devices uses p (c .psw) fs hs) (sym (due-core k))
-        (subst (λ x. Rising vectors devices uses p (after ev s k .core .psw) x hs) o
-        (subst (Rising vectors devices uses p (after ev s k .core .psw) (frames ev s k)) g (H .rising)))
+  module _ (k : ℕ) (H : Holds k) where
+    paired-at : (fs : List Frame) (hs : List Handler) (ls : List ℕ) → frames ev s k ≡ fs → handlers ev s k ≡ hs → levels ev s k ≡ ls
+        → Paired vectors devices uses p fs hs ls
+    paired-at fs hs ls o g e =
+        subst (Paired vectors devices uses p fs hs) e
+        (subst (λ x. Paired vectors devices uses p fs x (levels ev s k)) g
+        (subst (λ x. Paired vectors devices uses p x (handlers ev s k) (levels ev s k)) o (H .paired)))
 
+    no-handler : (h : Handler) (hs : List Handler) → frames ev s k ≡ [] → handlers ev s k ≡ h ∷ hs → ⊥
+    unfolding Paired
+    no-handler h hs o g = paired-at [] (h ∷ hs) (levels ev s k) o g refl
+
+    no-frame : (f : Frame) (fs : List Frame) → frames ev s k ≡ f ∷ fs → handlers ev s k ≡ [] → ⊥
+    unfolding Paired
+    no-frame f fs o g = paired-at (f ∷ fs) [] (levels ev s k) o g refl
+
+  module _ (k : ℕ) (l : k < n) (H : Holds k) where
     placed-at : (hs : List Handler) → handlers ev s k ≡ hs → Placed vectors devices uses p (opened ev s k) hs
     placed-at hs g = subst (Placed vectors devices uses p (opened ev s k)) g (H .placed)
 
     -- the same handlers, one step later
     placed-kept : (fs : List Frame) → frames ev s k ≡ fs → (hs : List Handler) → handlers ev s k ≡ hs
         → Placed vectors devices uses p (opened ev s (suc k)) hs
-    unfolding Rising Placed
+    unfolding Placed
     placed-kept fs o [] g = tt
-    placed-kept [] o (h ∷ hs) g = absurd (due-rising [] (h ∷ hs) o g)
+    placed-kept [] o (h ∷ hs) g = absurd (no-handler k H h hs o g)
     placed-kept (f ∷ fs) o (h ∷ hs) g =
         subst (λ b. Placed vectors devices uses p b (h ∷ hs)) (sym (opened-kept k f fs o)) (placed-at (h ∷ hs) g)
 
     -- a machine that is halted stays as it is, with its frames and handlers
     halted-holds : after ev s k .halted ≡ true → Holds (suc k)
-    unfolding frames handlers opened
+    unfolding frames handlers levels
     halted-holds h =
         let a : act ev s k ≡ acts.Stopped =
         ap (λ x. x .act) (plan-halted (due ev s k) (deliver-halted (after ev s k .count) ev (after ev s k) ∙ h)) in
-        let t : after ev s (suc k) ≡ after ev s k = run-step ev s k ∙ step-halted ev (after ev s k) h in
-        let fr : frames ev s (suc k) ≡ frames ev s k = ap (λ x. framesAfter x (after ev s (suc k)) (frames ev s k)) a in
-        let hn : handlers ev s (suc k) ≡ handlers ev s k = ap (λ x. handlersAfter x (after ev s (suc k)) (handlers ev s k)) a in
+        let t = after ev s (suc k) in
+        let hn : handlers ev s (suc k) ≡ handlers ev s k = ap (λ x. handlersAfter x t (handlers ev s k)) a in
         record {
-          rising = subst (λ w. Rising vectors devices uses p w (frames ev s (suc k)) (handlers ev s (suc k))) (ap (λ x. x .core .psw)
-              (sym t))
-              (subst (λ x. Rising vectors devices uses p (after ev s k .core .psw) x (handlers ev s (suc k))) (sym fr)
-              (subst (Rising vectors devices uses p (after ev s k .core .psw) (frames ev s k)) (sym hn) (H .rising)));
+          paired = subst (λ x. Paired vectors devices uses p (framesAfter x t (frames ev s k)) (handlersAfter x t (handlers ev s k))
+              (levelsAfter x (due ev s k .mem) (levels ev s k))) (sym a) (H .paired);
           placed = subst (Placed vectors devices uses p (opened ev s (suc k))) (sym hn)
               (placed-kept (frames ev s k) refl (handlers ev s k) refl);
         }
 
     module _ (live : after ev s k .halted ≡ false) where
-      due-live : due ev s k .halted ≡ false
-      due-live = deliver-halted (after ev s k .count) ev (after ev s k) ∙ live
-
-      onto : (fs : List Frame) (hs : List Handler) → Rising vectors devices uses p (finished (due ev s k) .core .psw) fs hs
-          → Rising vectors devices uses p (after ev s (suc k) .core .psw) fs hs
-      onto fs hs h = subst (λ t. Rising vectors devices uses p (t .core .psw) fs hs) (sym (next-is k l live)) h
-
-      higher : (a : Act) → act ev s k ≡ a → Higher (current (due ev s k .core .psw)) (previous (due ev s k .core .psw)) (due ev s k .mem) a
-      higher a q =
-          subst (Higher (current (due ev s k .core .psw)) (previous (due ev s k .core .psw)) (due ev s k .mem)) q
-          (plan-higher (due ev s k) (faultless k l))
-
-      -- an entry
-      accepted-rising : (d : ℕ) → act ev s k ≡ acts.Accept d → (fs : List Frame) (hs : List Handler)
-          → frames ev s k ≡ fs → handlers ev s k ≡ hs
-          → Rising vectors devices uses p (finished (due ev s k) .core .psw) (frame (after ev s (suc k)) false ∷ fs)
-          (record { vector = d; left = sp (after ev s (suc k) .core) } ∷ hs)
-      unfolding perform vectored Rising
-      accepted-rising d q fs hs o g =
-          let c = due ev s k .core in
-          let m = due ev s k .mem in
-          let w-is : finished (due ev s k) .core .psw ≡ enteredPsw (vectorPsw m d) (current (c .psw)) (false || faulted? (c .psw)) =
-          ap (λ x. x .core .psw) (outcome-is k l live (acts.Accept d) q (λ h. h)) in
-          let pr = entered-priorities (vectorPsw m d) (current (c .psw)) (false || faulted? (c .psw)) (omega arith) in
-          let sv = entry-saves k l live d q in
-          let saved-is : savedPsw (after ev s (suc k)) ≡ c .psw =
-          ap (λ x. wordAt (after ev s (suc k) .mem) (wrap (x + 2))) (sv .stack) ∙ sv .psw-word in
-          let up : current (c .psw) < priority m d = higher (acts.Accept d) q in
-          let small : d < 8 = device k d q in
-          rw w-is (
-            pr .0 ∙ level-is k d (omega arith) small,
-            pr .1 ∙ sym (ap current saved-is),
-            subst (λ x. current x < current (enteredPsw (vectorPsw m d) (current (c .psw)) (false || faulted? (c .psw)))) (sym saved-is)
-                (rw (pr .0) up),
-            small,
-            P .only-given k d l (inl q),
-            after-tidy (suc k) .core .words 6,
-            subst (λ w. Rising vectors devices uses p w fs hs) (sym saved-is) (due-rising fs hs o g),
-          )
-
       -- SP before an entry lies no further below than the handlers cost
       before-entry : (fs : List Frame) (hs : List Handler) → frames ev s k ≡ fs → handlers ev s k ≡ hs
           → below (opened ev s (suc k)) (sp (due ev s k .core)) ≤ cost hs
-      unfolding Rising costs
+      unfolding costs
       before-entry [] [] o g =
           let a = below-self (sp (due ev s k .core)) (due-tidy k .core .words 6) in
           subst (λ b. below b (sp (due ev s k .core)) ≤ 0) (sym (opened-first k o)) (omega arith)
-      before-entry [] (h ∷ hs) o g = absurd (due-rising [] (h ∷ hs) o g)
-      before-entry (f ∷ fs) [] o g = absurd (due-rising (f ∷ fs) [] o g)
+      before-entry [] (h ∷ hs) o g = absurd (no-handler k H h hs o g)
+      before-entry (f ∷ fs) [] o g = absurd (no-frame k H f fs o g)
       before-entry (f ∷ fs) (h ∷ hs) o g =
           let c = reach k (omega arith) H h hs g in
           subst (λ b. below b (sp (due ev s k .core)) ≤ cost (h ∷ hs)) (sym (opened-kept k f fs o))
@@ -466,30 +432,6 @@ module _ (memory r events vectors : List ℕ) (devices : ℕ) (uses : List ℕ) 
           )
 
       -- a chained entry
-      chained-rising : (d : ℕ) → act ev s k ≡ acts.Chain d → (f : Frame) (fs : List Frame) (h : Handler) (hs : List Handler)
-          → frames ev s k ≡ f ∷ fs → handlers ev s k ≡ h ∷ hs
-          → Rising vectors devices uses p (finished (due ev s k) .core .psw) (f ∷ fs)
-          (record { vector = d; left = sp (after ev s (suc k) .core) } ∷ hs)
-      unfolding perform vectored Rising
-      chained-rising d q f fs h hs o g =
-          let c = due ev s k .core in
-          let m = due ev s k .mem in
-          let w-is : finished (due ev s k) .core .psw ≡ enteredPsw (vectorPsw m d) (previous (c .psw)) (faulted? (c .psw)) =
-          ap (λ x. x .core .psw) (outcome-is k l live (acts.Chain d) q (λ h. h)) in
-          let pr = entered-priorities (vectorPsw m d) (previous (c .psw)) (faulted? (c .psw)) (omega arith) in
-          let old : Rising vectors devices uses p (c .psw) (f ∷ fs) (h ∷ hs) = due-rising (f ∷ fs) (h ∷ hs) o g in
-          let up : previous (c .psw) < priority m d = higher (acts.Chain d) q in
-          let small : d < 8 = chained-device k d q in
-          rw w-is (
-            pr .0 ∙ level-is k d (omega arith) small,
-            pr .1 ∙ old .1,
-            subst (λ x. x < current (enteredPsw (vectorPsw m d) (previous (c .psw)) (faulted? (c .psw)))) (old .1) (rw (pr .0) up),
-            small,
-            P .only-given k d l (inr q),
-            old .5,
-            old .6,
-          )
-
       chained-placed : (d : ℕ) → act ev s k ≡ acts.Chain d → (fs : List Frame) (h : Handler) (hs : List Handler)
           → frames ev s k ≡ fs → handlers ev s k ≡ h ∷ hs
           → Placed vectors devices uses p (opened ev s (suc k)) (record { vector = d; left = sp (after ev s (suc k) .core) } ∷ hs)
@@ -503,97 +445,61 @@ module _ (memory r events vectors : List ℕ) (devices : ℕ) (uses : List ℕ) 
             old .2,
           )
 
-      -- a return that pulls
-      pulled-rising : act ev s k ≡ acts.Pull → (f : Frame) (fs : List Frame) (h : Handler) (hs : List Handler)
-          → frames ev s k ≡ f ∷ fs → handlers ev s k ≡ h ∷ hs
-          → Rising vectors devices uses p (finished (due ev s k) .core .psw) fs hs
-      unfolding perform pulled Rising
-      pulled-rising q f fs h hs o g =
-          let old : Rising vectors devices uses p (due ev s k .core .psw) (f ∷ fs) (h ∷ hs) = due-rising (f ∷ fs) (h ∷ hs) o g in
-          let w-is : finished (due ev s k) .core .psw ≡ pulledPsw (savedPsw (f .held)) =
-          ap (λ x. x .core .psw) (outcome-is k l live acts.Pull q (λ h. h))
-          ∙ ap pulledPsw (found-word (f .held) (due ev s k) (P .depth .found k f fs l q o) (old .5) 2 (omega arith) (lit< tt)) in
-          rw w-is (rising-same vectors devices uses p _ (savedPsw (f .held)) fs hs (pulled-priorities (savedPsw (f .held))) (old .6))
-
-      -- an instruction in a handler
-      steady-rising : Steady (act ev s k) → (f : Frame) (fs : List Frame) (h : Handler) (hs : List Handler)
-          → frames ev s k ≡ f ∷ fs → handlers ev s k ≡ h ∷ hs
-          → Rising vectors devices uses p (finished (due ev s k) .core .psw) (f ∷ fs) (h ∷ hs)
-      steady-rising st f fs h hs o g =
-          let no : setsPriority? (due ev s k) ≡ false = P .depth .no-setpri k l (ap none? o) in
-          let same : SamePriorities (finished (due ev s k) .core .psw) (due ev s k .core .psw) =
-          rw (perform-steady (act ev s k) st (P .depth .no-svc k l) (planOf (due ev s k) .core) (due ev s k .lines) (due ev s k .mem))
-          (plan-priorities (due ev s k) (faultless k l) (P .depth .no-svc k l) no st) in
-          rising-same vectors devices uses p _ (due ev s k .core .psw) (f ∷ fs) (h ∷ hs) same (due-rising (f ∷ fs) (h ∷ hs) o g)
-
-      -- with no frame open, p is at most the current priority
-      outside : (a : Act) → act ev s k ≡ a → frames ev s k ≡ [] → framesAfter a (after ev s (suc k)) [] ≡ []
-          → p ≤ current (after ev s (suc k) .core .psw)
-      unfolding frames
-      outside a q o e =
-          let b = lowest-open ev s n (suc k) l
-          (ap (λ x. framesAfter x (after ev s (suc k)) (frames ev s k)) q ∙ ap (framesAfter a (after ev s (suc k))) o ∙ e) in
-          let c = P .not-below in
-          omega arith
-
-      -- a chaining leaves the frames as they are: each is a device's
-      chained-next : (d : ℕ) → act ev s k ≡ acts.Chain d → (f : Frame) (fs : List Frame) (h : Handler) (hs : List Handler)
-          → frames ev s k ≡ f ∷ fs → handlers ev s k ≡ h ∷ hs
-          → Rising vectors devices uses p (after ev s (suc k) .core .psw) (framesAfter (acts.Chain d) (after ev s (suc k)) (f ∷ fs))
-          (record { vector = d; left = sp (after ev s (suc k) .core) } ∷ hs)
-      chained-next d q f fs h hs o g =
-          let new : List Handler = record { vector = d; left = sp (after ev s (suc k) .core) } ∷ hs in
-          let own : Devices (f ∷ fs) = subst Devices o (frames-devices ev s n (P .depth .no-svc) k (omega arith)) in
-          subst (λ x. Rising vectors devices uses p (after ev s (suc k) .core .psw) x new)
-          (sym (devices-chained (after ev s (suc k)) (f ∷ fs) own)) (onto (f ∷ fs) new (chained-rising d q f fs h hs o g))
-
       -- the invariant after the step, by its act
-      Next : Act → List Frame → List Handler → Type 0
-      Next a fs hs =
-          Rising vectors devices uses p (after ev s (suc k) .core .psw) (framesAfter a (after ev s (suc k)) fs)
-          (handlersAfter a (after ev s (suc k)) hs)
-          × Placed vectors devices uses p (opened ev s (suc k)) (handlersAfter a (after ev s (suc k)) hs)
+      abbrev PairedAfter : Act → List Frame → List Handler → List ℕ → Type 0
+      PairedAfter a fs hs ls =
+          Paired vectors devices uses p (framesAfter a (after ev s (suc k)) fs) (handlersAfter a (after ev s (suc k)) hs)
+          (levelsAfter a (due ev s k .mem) ls)
 
-      steady-next : (a : Act) → act ev s k ≡ a → (fs : List Frame) (hs : List Handler) → frames ev s k ≡ fs → handlers ev s k ≡ hs
-          → Steady a
-          → framesAfter a (after ev s (suc k)) [] ≡ []
-          → Rising vectors devices uses p (after ev s (suc k) .core .psw) fs hs × Placed vectors devices uses p (opened ev s (suc k)) hs
-      unfolding Rising
-      steady-next a q [] [] o g st e = (outside a q o e, placed-kept [] o [] g)
-      steady-next a q [] (h ∷ hs) o g st e = absurd (due-rising [] (h ∷ hs) o g)
-      steady-next a q (f ∷ fs) [] o g st e = absurd (due-rising (f ∷ fs) [] o g)
-      steady-next a q (f ∷ fs) (h ∷ hs) o g st e =
-          (onto (f ∷ fs) (h ∷ hs) (steady-rising (subst Steady (sym q) st) f fs h hs o g), placed-kept (f ∷ fs) o (h ∷ hs) g)
+      next-paired : (a : Act) → act ev s k ≡ a → (fs : List Frame) (hs : List Handler) (ls : List ℕ) → Calm a fs
+          → Paired vectors devices uses p fs hs ls → PairedAfter a fs hs ls
+      unfolding Paired
+      next-paired acts.Stopped q fs hs ls c h = h
+      next-paired acts.Pull q [] hs ls c h = absurd (true≢false c)
+      next-paired acts.Pull q (f ∷ fs) [] ls c h = absurd h
+      next-paired acts.Pull q (f ∷ fs) (g ∷ hs) [] c h = absurd h
+      next-paired acts.Pull q (f ∷ fs) (g ∷ hs) (v ∷ ls) c h = h .3
+      next-paired (acts.Chain d) q [] hs ls c h = absurd (true≢false c)
+      next-paired (acts.Chain d) q (f ∷ fs) [] ls c h = absurd h
+      next-paired (acts.Chain d) q (f ∷ fs) (g ∷ hs) [] c h = absurd h
+      next-paired (acts.Chain d) q (f ∷ fs) (g ∷ hs) (v ∷ ls) c h =
+          (level-is k d (omega arith) (chained-device k d q), chained-device k d q, P .only-given k d l (inr q), h .3)
+      next-paired (acts.Accept d) q fs hs ls c h =
+          (level-is k d (omega arith) (device k d q), device k d q, P .only-given k d l (inl q), h)
+      next-paired acts.Sleep q fs hs ls c h = h
+      next-paired (acts.Fault v) q fs hs ls c h = absurd c
+      next-paired acts.Halt q fs hs ls c h = absurd c
+      next-paired acts.Skip q fs hs ls c h = h
+      next-paired (acts.Trap v) q fs hs ls c h = absurd (no-trap k v l q)
+      next-paired acts.Plain q fs hs ls c h = h
+      next-paired (acts.Loads byte a d) q fs hs ls c h = h
+      next-paired (acts.Stores byte a v) q fs hs ls c h = h
 
-      next : (a : Act) → act ev s k ≡ a → (fs : List Frame) (hs : List Handler) → frames ev s k ≡ fs → handlers ev s k ≡ hs → Calm a fs
-          → Next a fs hs
-      unfolding Next Rising Placed
-      next acts.Stopped q fs hs o g c = absurd (plan-moves (due ev s k) due-live (faultless k l) q)
-      next acts.Pull q [] hs o g c = absurd (true≢false c)
-      next acts.Pull q (f ∷ fs) [] o g c = absurd (due-rising (f ∷ fs) [] o g)
-      next acts.Pull q (f ∷ fs) (h ∷ hs) o g c = (onto fs hs (pulled-rising q f fs h hs o g), placed-kept (f ∷ fs) o (h ∷ hs) g .2)
-      next (acts.Chain d) q [] hs o g c = absurd (true≢false c)
-      next (acts.Chain d) q (f ∷ fs) [] o g c = absurd (due-rising (f ∷ fs) [] o g)
-      next (acts.Chain d) q (f ∷ fs) (h ∷ hs) o g c = (chained-next d q f fs h hs o g, chained-placed d q (f ∷ fs) h hs o g)
-      next (acts.Accept d) q fs hs o g c = (
-        onto (frame (after ev s (suc k)) false ∷ fs) (record { vector = d; left = sp (after ev s (suc k) .core) } ∷ hs)
-            (accepted-rising d q fs hs o g),
-        accepted-placed d q fs hs o g,
-      )
-      next acts.Sleep q fs hs o g c = steady-next acts.Sleep q fs hs o g tt refl
-      next (acts.Fault v) q fs hs o g c = absurd c
-      next acts.Halt q fs hs o g c = absurd c
-      next acts.Skip q fs hs o g c = steady-next acts.Skip q fs hs o g tt refl
-      next (acts.Trap v) q fs hs o g c = absurd (no-trap k v l q)
-      next acts.Plain q fs hs o g c = steady-next acts.Plain q fs hs o g tt refl
-      next (acts.Loads byte a d) q fs hs o g c = steady-next (acts.Loads byte a d) q fs hs o g tt refl
-      next (acts.Stores byte a v) q fs hs o g c = steady-next (acts.Stores byte a v) q fs hs o g tt refl
+      next-placed : (a : Act) → act ev s k ≡ a → (fs : List Frame) (hs : List Handler) → frames ev s k ≡ fs → handlers ev s k ≡ hs
+          → Calm a fs → Placed vectors devices uses p (opened ev s (suc k)) (handlersAfter a (after ev s (suc k)) hs)
+      unfolding Placed
+      next-placed acts.Stopped q fs hs o g c = placed-kept fs o hs g
+      next-placed acts.Pull q fs [] o g c = tt
+      next-placed acts.Pull q fs (h ∷ hs) o g c = placed-kept fs o (h ∷ hs) g .2
+      next-placed (acts.Chain d) q fs [] o g c = tt
+      next-placed (acts.Chain d) q fs (h ∷ hs) o g c = chained-placed d q fs h hs o g
+      next-placed (acts.Accept d) q fs hs o g c = accepted-placed d q fs hs o g
+      next-placed acts.Sleep q fs hs o g c = placed-kept fs o hs g
+      next-placed (acts.Fault v) q fs hs o g c = absurd c
+      next-placed acts.Halt q fs hs o g c = absurd c
+      next-placed acts.Skip q fs hs o g c = placed-kept fs o hs g
+      next-placed (acts.Trap v) q fs hs o g c = absurd (no-trap k v l q)
+      next-placed acts.Plain q fs hs o g c = placed-kept fs o hs g
+      next-placed (acts.Loads byte a d) q fs hs o g c = placed-kept fs o hs g
+      next-placed (acts.Stores byte a v) q fs hs o g c = placed-kept fs o hs g
 
       live-holds : Holds (suc k)
-      unfolding frames handlers Next
+      unfolding frames handlers levels
       live-holds =
-          let x = next (act ev s k) refl (frames ev s k) (handlers ev s k) refl refl (P .depth .calm k l) in
-          record { rising = x .0; placed = x .1 }
+          record {
+            paired = next-paired (act ev s k) refl (frames ev s k) (handlers ev s k) (levels ev s k) (P .depth .calm k l) (H .paired);
+            placed = next-placed (act ev s k) refl (frames ev s k) (handlers ev s k) refl refl (P .depth .calm k l);
+          }
 
       -- the bytes that an entry pushes
       pushed-within : (d a : ℕ) → act ev s k ≡ acts.Accept d → writes? (outcomeOf (due ev s k) .writes) a ≡ true
@@ -610,25 +516,24 @@ module _ (memory r events vectors : List ℕ) (devices : ℕ) (uses : List ℕ) 
           (sum-of (before-entry (frames ev s k) (handlers ev s k) refl refl) b t)
 
   holds : (k : ℕ) → k ≤ n → Holds k
-  unfolding frames handlers Rising Placed
-  holds zero h = let b = lowest-open ev s n 0 h refl in let c = P .not-below in record { rising = omega arith; placed = tt }
+  unfolding frames handlers levels Paired Placed
+  holds zero h = record { paired = tt; placed = tt }
   holds (suc k) h =
       let d = holds k (omega arith) in
       bool-cases (after ev s k .halted) (halted-holds k h d) (live-holds k h d)
 
   cost-within : (k : ℕ) → k ≤ n → cost (handlers ev s k) ≤ needOf vectors devices uses p
   cost-within k h =
-      let a = rising-costs vectors devices uses p (after ev s k .core .psw) (frames ev s k) (handlers ev s k) (holds k h .rising) in
+      let up = rising-lower vectors devices uses p (lowest ev s n) (P .not-below) (levels ev s k)
+      (priorities-rise memory r events n (P .depth) k h) in
+      let a = rising-costs vectors devices uses p (frames ev s k) (handlers ev s k) (levels ev s k) (holds k h .paired) up in
       let b = need-is vectors devices uses p in
       omega arith
 
-  stack-at : (k : ℕ) → k ≤ n → (fs : List Frame) (hs : List Handler) → frames ev s k ≡ fs → handlers ev s k ≡ hs → none? fs ≡ false
+  stack-at : (k : ℕ) → (h : k ≤ n) → (fs : List Frame) (hs : List Handler) → frames ev s k ≡ fs → handlers ev s k ≡ hs → none? fs ≡ false
       → below (opened ev s k) (sp (after ev s k .core)) ≤ needOf vectors devices uses p
-  unfolding Rising
   stack-at k h [] hs o g e = absurd (true≢false e)
-  stack-at k h (f ∷ fs) [] o g e =
-      absurd (subst (λ x. Rising vectors devices uses p (after ev s k .core .psw) (f ∷ fs) x) g
-      (subst (λ x. Rising vectors devices uses p (after ev s k .core .psw) x (handlers ev s k)) o (holds k h .rising)))
+  stack-at k h (f ∷ fs) [] o g e = absurd (no-frame k (holds k h) f fs o g)
   stack-at k h (f ∷ fs) (a ∷ hs) o g e =
       let b = reach k h (holds k h) a hs g in
       let c : cost (a ∷ hs) ≤ needOf vectors devices uses p = subst (λ x. cost x ≤ needOf vectors devices uses p) g (cost-within k h) in

@@ -36,7 +36,12 @@ array-share-prefix-places c = search needs
 
 -- src/lib.rt:36:38
 slice-aggregate-uses : tie.Need-slice-aggregate-uses
-slice-aggregate-uses c = sym (length-take-le (c .before .before .before .before .collect .result .count) (c .before .before .before .before .collect .last .1 .0) (omega (arith, c .before .before .before .before .collect .ensures .1 .within, c .before .before .before .before .collect .ensures .1 .places)))
+slice-aggregate-uses c =
+    let c4 = c .before .before .before .before in
+    let collect = c4 .collect in
+    sym
+    (length-take-le (collect .result .count) (collect .last .1 .0)
+    (omega (arith, collect .ensures .1 .within, collect .ensures .1 .places)))
 
 -- src/lib.rt:36:52
 array-share-prefix-keys : tie.Need-array-share-prefix-keys
@@ -44,7 +49,12 @@ array-share-prefix-keys c = search needs
 
 -- src/lib.rt:36:52
 slice-aggregate-uses-2 : tie.Need-slice-aggregate-uses-2
-slice-aggregate-uses-2 c = sym (length-take-le (c .before .before .before .before .before .collect .result .count) (c .before .before .before .before .before .collect .last .1 .1 .0) (omega (arith, c .before .before .before .before .before .collect .ensures .1 .within, c .before .before .before .before .before .collect .ensures .1 .keys)))
+slice-aggregate-uses-2 c =
+    let c5 = c .before .before .before .before .before in
+    let collect = c5 .collect in
+    sym
+    (length-take-le (collect .result .count) (collect .last .1 .1 .0)
+    (omega (arith, collect .ensures .1 .within, collect .ensures .1 .keys)))
 
 -- src/lib.rt:36:64
 array-share-prefix-values : tie.Need-array-share-prefix-values
@@ -52,7 +62,12 @@ array-share-prefix-values c = search needs
 
 -- src/lib.rt:36:64
 slice-aggregate-uses-3 : tie.Need-slice-aggregate-uses-3
-slice-aggregate-uses-3 c = sym (length-take-le (c .before .before .before .before .before .before .collect .result .count) (c .before .before .before .before .before .before .collect .last .1 .1 .1 .0) (omega (arith, c .before .before .before .before .before .before .collect .ensures .1 .within, c .before .before .before .before .before .before .collect .ensures .1 .values)))
+slice-aggregate-uses-3 c =
+    let c6 = c .before .before .before .before .before .before in
+    let collect = c6 .collect in
+    sym
+    (length-take-le (collect .result .count) (collect .last .1 .1 .1 .0)
+    (omega (arith, collect .ensures .1 .within, collect .ensures .1 .values)))
 
 -- src/lib.rt:36:9
 uses-requires : tie.Need-uses-requires
@@ -68,7 +83,21 @@ reply-requires c κs = search needs
 
 -- src/lib.rt:39:9
 returns : tie.Need-returns
-returns c = let e = call-refused (c .before .before .before .before .before .before .before .before .before .before .before .before .before .before .before .before .before .args .memory .now) (c .before .before .before .before .before .before .before .before .before .before .before .before .before .before .before .before .before .args .source .now) (c .before .before .before .before .before .before .before .before .before .before .before .before .before .before .before .before .before .pre .0) (c .before .before .before .decide .result) (c .reply .result) (verdict-found (c .before .before .before .before .before .before .before .before .before .before .before .before .before .before .before .before .before .args .source .now) (c .before .before .before .before .before .before .before .before .before .before .before .collect .last .1 .0) (c .before .before .before .before .before .before .before .before .before .before .before .collect .last .1 .1 .0) (c .before .before .before .before .before .before .before .before .before .before .before .collect .last .1 .1 .1 .0) (c .before .before .before .before .before .before .before .before .before .before .before .collect .result) (c .before .before .before .before .before .before .before .before .before .before .before .collect .ensures .1) (c .before .before .before .before .before .before .before .before .before .before .before .collect .ensures .0) (c .before .before .before .before .before .before .before .before .before .before .before .before .before .before .before .before .before .pre .1) (c .before .before .before .before .uses .result) (c .before .before .before .before .uses .ensures) (c .before .before .before .decide .result) (c .before .before .before .decide .ensures)) (c .before .if1 .taken) (c .reply .ensures) in (ap (λ (x : Assembled). x .reply) e, ap (λ (x : Assembled). x .memory) e)
+returns c =
+    let c1 = c .before in
+    let c3 = c1 .before .before in
+    let c4 = c3 .before in
+    let c11 = c4 .before .before .before .before .before .before .before in
+    let c17 = c11 .before .before .before .before .before .before in
+    let a = c17 .args in
+    let collect = c11 .collect in
+    let decide = c3 .decide in
+    let e =
+    call-refused (a .memory .now) (a .source .now) (c17 .pre .0) (decide .result) (c .reply .result)
+    (verdict-found (a .source .now) (collect .last .1 .0) (collect .last .1 .1 .0) (collect .last .1 .1 .1 .0) (collect .result)
+    (collect .ensures .1) (collect .ensures .0) (c17 .pre .1) (c4 .uses .result) (c4 .uses .ensures) (decide .result)
+    (decide .ensures)) (c1 .if1 .taken) (c .reply .ensures) in
+    (ap (λ (x : Assembled). x .reply) e, ap (λ (x : Assembled). x .memory) e)
 
 -- src/lib.rt:41:38
 array-share-prefix-places-2 : tie.Need-array-share-prefix-places-2
@@ -76,7 +105,12 @@ array-share-prefix-places-2 c = search needs
 
 -- src/lib.rt:41:38
 slice-aggregate-image : tie.Need-slice-aggregate-image
-slice-aggregate-image c = sym (length-take-le (c .before .before .before .before .before .before .before .before .before .before .before .before .collect .result .count) (c .before .before .before .before .before .before .before .before .before .before .before .before .collect .last .1 .0) (omega (arith, c .before .before .before .before .before .before .before .before .before .before .before .before .collect .ensures .1 .within, c .before .before .before .before .before .before .before .before .before .before .before .before .collect .ensures .1 .places)))
+slice-aggregate-image c =
+    let c12 = c .before .before .before .before .before .before .before .before .before .before .before .before in
+    let collect = c12 .collect in
+    sym
+    (length-take-le (collect .result .count) (collect .last .1 .0)
+    (omega (arith, collect .ensures .1 .within, collect .ensures .1 .places)))
 
 -- src/lib.rt:41:52
 array-share-prefix-keys-2 : tie.Need-array-share-prefix-keys-2
@@ -84,7 +118,12 @@ array-share-prefix-keys-2 c = search needs
 
 -- src/lib.rt:41:52
 slice-aggregate-image-2 : tie.Need-slice-aggregate-image-2
-slice-aggregate-image-2 c = sym (length-take-le (c .before .before .before .before .before .before .before .before .before .before .before .before .before .collect .result .count) (c .before .before .before .before .before .before .before .before .before .before .before .before .before .collect .last .1 .1 .0) (omega (arith, c .before .before .before .before .before .before .before .before .before .before .before .before .before .collect .ensures .1 .within, c .before .before .before .before .before .before .before .before .before .before .before .before .before .collect .ensures .1 .keys)))
+slice-aggregate-image-2 c =
+    let c13 = c .before .before .before .before .before .before .before .before .before .before .before .before .before in
+    let collect = c13 .collect in
+    sym
+    (length-take-le (collect .result .count) (collect .last .1 .1 .0)
+    (omega (arith, collect .ensures .1 .within, collect .ensures .1 .keys)))
 
 -- src/lib.rt:41:64
 array-share-prefix-values-2 : tie.Need-array-share-prefix-values-2
@@ -92,11 +131,19 @@ array-share-prefix-values-2 c = search needs
 
 -- src/lib.rt:41:64
 slice-aggregate-image-3 : tie.Need-slice-aggregate-image-3
-slice-aggregate-image-3 c = sym (length-take-le (c .before .before .before .before .before .before .before .before .before .before .before .before .before .before .collect .result .count) (c .before .before .before .before .before .before .before .before .before .before .before .before .before .before .collect .last .1 .1 .1 .0) (omega (arith, c .before .before .before .before .before .before .before .before .before .before .before .before .before .before .collect .ensures .1 .within, c .before .before .before .before .before .before .before .before .before .before .before .before .before .before .collect .ensures .1 .values)))
+slice-aggregate-image-3 c =
+    let c14 = c .before .before .before .before .before .before .before .before .before .before .before .before .before .before in
+    let collect = c14 .collect in
+    sym
+    (length-take-le (collect .result .count) (collect .last .1 .1 .1 .0)
+    (omega (arith, collect .ensures .1 .within, collect .ensures .1 .values)))
 
 -- src/lib.rt:41:5
 image-requires : tie.Need-image-requires
-image-requires c κs = c .before .before .before .before .before .before .before .before .before .before .before .before .before .before .before .before .before .before .before .before .pre .0
+image-requires c κs =
+    let c10 = c .before .before .before .before .before .before .before .before .before .before in
+    let c20 = c10 .before .before .before .before .before .before .before .before .before .before in
+    c20 .pre .0
 
 -- src/lib.rt:42:5
 reply-requires-2 : tie.Need-reply-requires-2
@@ -108,7 +155,25 @@ same-length c = search needs
 
 -- src/lib.rt:25:1
 returns-2 : tie.Need-returns-2
-returns-2 c = let e = call-accepted (c .before .before .before .before .before .before .before .before .before .before .before .before .before .before .before .before .before .before .before .before .before .before .before .before .args .memory .now) (c .before .before .before .before .before .before .before .before .before .before .before .before .before .before .before .before .before .before .before .before .before .before .before .before .args .source .now) (c .before .before .before .before .before .before .before .before .before .before .before .before .before .before .before .before .before .before .before .before .before .before .before .before .pre .0) (c .before .before .before .before .before .before .before .before .before .before .decide .result) (c .reply2 .result) (c .before .before .before .image .last .0) (verdict-found (c .before .before .before .before .before .before .before .before .before .before .before .before .before .before .before .before .before .before .before .before .before .before .before .before .args .source .now) (c .before .before .before .before .before .before .before .before .before .before .before .before .before .before .before .before .before .before .collect .last .1 .0) (c .before .before .before .before .before .before .before .before .before .before .before .before .before .before .before .before .before .before .collect .last .1 .1 .0) (c .before .before .before .before .before .before .before .before .before .before .before .before .before .before .before .before .before .before .collect .last .1 .1 .1 .0) (c .before .before .before .before .before .before .before .before .before .before .before .before .before .before .before .before .before .before .collect .result) (c .before .before .before .before .before .before .before .before .before .before .before .before .before .before .before .before .before .before .collect .ensures .1) (c .before .before .before .before .before .before .before .before .before .before .before .before .before .before .before .before .before .before .collect .ensures .0) (c .before .before .before .before .before .before .before .before .before .before .before .before .before .before .before .before .before .before .before .before .before .before .before .before .pre .1) (c .before .before .before .before .before .before .before .before .before .before .before .uses .result) (c .before .before .before .before .before .before .before .before .before .before .before .uses .ensures) (c .before .before .before .before .before .before .before .before .before .before .decide .result) (c .before .before .before .before .before .before .before .before .before .before .decide .ensures)) (c .before .before .before .before .before .before .before .before .if1 .left) (c .reply2 .ensures) (image-found (c .before .before .before .before .before .before .before .before .before .before .before .before .before .before .before .before .before .before .before .before .before .before .before .before .args .source .now) (c .before .before .before .before .before .before .before .before .before .before .before .before .before .before .before .before .before .before .collect .last .1 .0) (c .before .before .before .before .before .before .before .before .before .before .before .before .before .before .before .before .before .before .collect .last .1 .1 .0) (c .before .before .before .before .before .before .before .before .before .before .before .before .before .before .before .before .before .before .collect .last .1 .1 .1 .0) (c .before .before .before .before .before .before .before .before .before .before .before .before .before .before .before .before .before .before .collect .result) (c .before .before .before .before .before .before .before .before .before .before .before .before .before .before .before .before .before .before .collect .ensures .1) (c .before .before .before .before .before .before .before .before .before .before .before .before .before .before .before .before .before .before .collect .ensures .0) (c .before .before .before .before .before .before .before .before .before .before .before .before .before .before .before .before .before .before .before .before .before .before .before .before .args .memory .now) (c .before .before .before .image .last .0) (c .before .before .before .image .ensures)) in (ap (λ (x : Assembled). x .reply) e, ap (λ (x : Assembled). x .memory) e)
+returns-2 c =
+    let c3 = c .before .before .before in
+    let c8 = c3 .before .before .before .before .before in
+    let c10 = c8 .before .before in
+    let c11 = c10 .before in
+    let c18 = c11 .before .before .before .before .before .before .before in
+    let c24 = c18 .before .before .before .before .before .before in
+    let a = c24 .args in
+    let collect = c18 .collect in
+    let decide = c10 .decide in
+    let image = c3 .image in
+    let e =
+    call-accepted (a .memory .now) (a .source .now) (c24 .pre .0) (decide .result) (c .reply2 .result) (image .last .0)
+    (verdict-found (a .source .now) (collect .last .1 .0) (collect .last .1 .1 .0) (collect .last .1 .1 .1 .0) (collect .result)
+    (collect .ensures .1) (collect .ensures .0) (c24 .pre .1) (c11 .uses .result) (c11 .uses .ensures) (decide .result)
+    (decide .ensures)) (c8 .if1 .left) (c .reply2 .ensures)
+    (image-found (a .source .now) (collect .last .1 .0) (collect .last .1 .1 .0) (collect .last .1 .1 .1 .0) (collect .result)
+    (collect .ensures .1) (collect .ensures .0) (a .memory .now) (image .last .0) (image .ensures)) in
+    (ap (λ (x : Assembled). x .reply) e, ap (λ (x : Assembled). x .memory) e)
 
 pub assemble-spec : {M : Type 1} → statement M
 assemble-spec =

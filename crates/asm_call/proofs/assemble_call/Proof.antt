@@ -15,7 +15,10 @@ use Rattle.asm_sweeps.proofs.form.Reads as form-reads
 
 -- src/lib.rt:52:9
 returns : tie.Need-returns
-returns c = let e = call-length (c .before .before .before .args .memory .now) (c .before .before .before .args .source .now) (c .if1 .taken) in (ap (λ (x : Assembled). x .reply) e, ap (λ (x : Assembled). x .memory) e)
+returns c =
+    let c3 = c .before .before .before in
+    let e = call-length (c3 .args .memory .now) (c3 .args .source .now) (c .if1 .taken) in
+    (ap (λ (x : Assembled). x .reply) e, ap (λ (x : Assembled). x .memory) e)
 
 -- src/lib.rt:54:9
 form-requires : tie.Need-form-requires
@@ -27,7 +30,18 @@ reply-requires c κs = search needs
 
 -- src/lib.rt:56:9
 returns-2 : tie.Need-returns-2
-returns-2 c = let e = call-refused (c .before .before .before .before .before .before .args .memory .now) (c .before .before .before .before .before .before .args .source .now) (c .before .before .before .if1 .left) (verdict 17 (c .before .before .form .result)) (c .reply .result) (verdict-form (c .before .before .before .before .before .before .args .source .now) (c .before .before .form .result) (c .before .before .form .ensures) (c .before .if2 .taken)) (λ z. let k : _≡_ {A = ℕ} 17 0 = z in omega arith) (c .reply .ensures) in (ap (λ (x : Assembled). x .reply) e, ap (λ (x : Assembled). x .memory) e)
+returns-2 c =
+    let c1 = c .before in
+    let c2 = c1 .before in
+    let c3 = c2 .before in
+    let c6 = c3 .before .before .before in
+    let a = c6 .args in
+    let form = c2 .form in
+    let e =
+    call-refused (a .memory .now) (a .source .now) (c3 .if1 .left) (verdict 17 (form .result)) (c .reply .result)
+    (verdict-form (a .source .now) (form .result) (form .ensures) (c1 .if2 .taken))
+    (λ z. let k : _≡_ {A = ℕ} 17 0 = z in omega arith) (c .reply .ensures) in
+    (ap (λ (x : Assembled). x .reply) e, ap (λ (x : Assembled). x .memory) e)
 
 -- src/lib.rt:61:5
 assemble-requires : tie.Need-assemble-requires

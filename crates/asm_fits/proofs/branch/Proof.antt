@@ -35,15 +35,37 @@ enum-told-2 c = search needs
 
 -- src/lib.rt:207:1
 returns : tie.Need-returns
-returns c = (branch-number (c .before .before .before .before .before .before .args .half) (c .before .before .before .before .before .before .args .p) (c .before .before .before .before .before .word .result) (wordFit (c .before .before .before .before .before .before .args .v)) (c .before .before .before .before .before .word .ensures) (c .before .before .before .n .given .0 .0) (c .before .way .result) (c .steps .result) (c .before .before .before .n .given .1) (c .before .way .ensures .0) (c .steps .ensures .0), c .steps .ensures .1)
+returns c =
+    let c1 = c .before in
+    let c3 = c1 .before .before in
+    let c5 = c3 .before .before in
+    let c6 = c5 .before in
+    let a = c6 .args in
+    let steps = c .steps in (
+      branch-number (a .half) (a .p) (c5 .word .result) (wordFit (a .v)) (c5 .word .ensures) (c3 .n .given .0 .0) (c1 .way .result)
+          (steps .result) (c3 .n .given .1) (c1 .way .ensures .0) (steps .ensures .0),
+      steps .ensures .1,
+    )
 
 -- src/lib.rt:207:1
 returns-2 : tie.Need-returns-2
-returns-2 c = (branch-unknown (c .before .before .before .args .half) (c .before .before .before .args .p) (c .before .before .word .result) (wordFit (c .before .before .before .args .v)) (c .before .before .word .ensures) (c .enum-told .given .1), tt)
+returns-2 c =
+    let c2 = c .before .before in
+    let c3 = c2 .before in (
+      branch-unknown (c3 .args .half) (c3 .args .p) (c2 .word .result) (wordFit (c3 .args .v)) (c2 .word .ensures)
+          (c .enum-told .given .1),
+      tt,
+    )
 
 -- src/lib.rt:207:1
 returns-3 : tie.Need-returns-3
-returns-3 c = (branch-outside (c .before .before .before .args .half) (c .before .before .before .args .p) (c .before .before .word .result) (wordFit (c .before .before .before .args .v)) (c .before .before .word .ensures) (c .enum-told2 .given .1), tt)
+returns-3 c =
+    let c2 = c .before .before in
+    let c3 = c2 .before in (
+      branch-outside (c3 .args .half) (c3 .args .p) (c2 .word .result) (wordFit (c3 .args .v)) (c2 .word .ensures)
+          (c .enum-told2 .given .1),
+      tt,
+    )
 
 pub branch-spec : {M : Type 1} → statement M
 branch-spec =

@@ -28,7 +28,11 @@ enum-told-2 c = search needs
 
 -- src/lib.rt:169:1
 returns : tie.Need-returns
-returns c = let e : toZ w32 (ofZ w32 (c .before .before .v .given .0 .0)) ≡ c .before .before .v .given .0 .0 = search needs in ((rw e at (c .constant-number .ensures .0)) ∙ sym (ap constantFit (c .before .before .v .given .1)), c .constant-number .ensures .1)
+returns c =
+    let c2 = c .before .before in
+    let v = c2 .v in
+    let e : toZ w32 (ofZ w32 (v .given .0 .0)) ≡ v .given .0 .0 = search needs in
+    ((rw e at (c .constant-number .ensures .0)) ∙ sym (ap constantFit (v .given .1)), c .constant-number .ensures .1)
 
 -- src/lib.rt:169:1
 returns-2 : tie.Need-returns-2

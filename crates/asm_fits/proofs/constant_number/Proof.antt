@@ -1,6 +1,7 @@
 use native.Mathlib.Omega.{arith}
 use mathlib.Core.Path.{_∙_}
-use Rattle.asm_fits.proofs.Laws.{constant-minus, constant-less, constant-plus, up-to-3, up-to-4, up-to-8, up-to-16, up-to-32, up-to-none}
+use Rattle.asm_fits.proofs.Laws.{constant-minus, constant-less, constant-plus}
+use Rattle.asm_fits.proofs.Laws.{up-to-3, up-to-4, up-to-8, up-to-16, up-to-32, up-to-none}
 use Rattle.asm_fits.proofs.Signed.{is-minus, is-plus}
 use borrow.Author.Needs.{needs}
 use Rattle.asm_fits.proofs.constant_number.Statement.{statement}
@@ -15,11 +16,27 @@ magnitude-requires c κs = search needs
 
 -- src/lib.rt:146:13
 returns : tie.Need-returns
-returns c = (constant-minus (c .before .before .before .args .z) (c .before .before .magnitude .result) (is-minus (c .before .before .before .args .z) (c .before .before .before .fits .z) (c .before .before .magnitude .result) (c .before .before .magnitude .ensures) (c .before .if1 .taken)) (c .if2 .taken), omega arith)
+returns c =
+    let c1 = c .before in
+    let c2 = c1 .before in
+    let c3 = c2 .before in
+    let magnitude = c2 .magnitude in (
+      constant-minus (c3 .args .z) (magnitude .result)
+          (is-minus (c3 .args .z) (c3 .fits .z) (magnitude .result) (magnitude .ensures) (c1 .if1 .taken)) (c .if2 .taken),
+      omega arith,
+    )
 
 -- src/lib.rt:148:9
 returns-2 : tie.Need-returns-2
-returns-2 c = (constant-less (c .before .before .before .args .z) (c .before .before .magnitude .result) (is-minus (c .before .before .before .args .z) (c .before .before .before .fits .z) (c .before .before .magnitude .result) (c .before .before .magnitude .ensures) (c .before .if1 .taken)) (c .if2 .left), tt)
+returns-2 c =
+    let c1 = c .before in
+    let c2 = c1 .before in
+    let c3 = c2 .before in
+    let magnitude = c2 .magnitude in (
+      constant-less (c3 .args .z) (magnitude .result)
+          (is-minus (c3 .args .z) (c3 .fits .z) (magnitude .result) (magnitude .ensures) (c1 .if1 .taken)) (c .if2 .left),
+      tt,
+    )
 
 -- src/lib.rt:151:28
 cast-t5 : tie.Need-cast-t5
@@ -27,27 +44,95 @@ cast-t5 c = search needs
 
 -- src/lib.rt:151:9
 returns-3 : tie.Need-returns-3
-returns-3 c = ((up-to-3 (c .before .before .magnitude .result) (c .if3 .taken)) ∙ constant-plus (c .before .before .before .args .z) (c .before .before .magnitude .result) (is-plus (c .before .before .before .args .z) (c .before .before .before .fits .z) (c .before .before .magnitude .result) (c .before .before .magnitude .ensures) (c .before .if1 .left)), omega (arith, c .if3 .taken))
+returns-3 c =
+    let c1 = c .before in
+    let c2 = c1 .before in
+    let c3 = c2 .before in
+    let magnitude = c2 .magnitude in (
+      (up-to-3 (magnitude .result) (c .if3 .taken))
+          ∙ constant-plus (c3 .args .z) (magnitude .result)
+          (is-plus (c3 .args .z) (c3 .fits .z) (magnitude .result) (magnitude .ensures) (c1 .if1 .left)),
+      omega (arith, c .if3 .taken),
+    )
 
 -- src/lib.rt:154:9
 returns-4 : tie.Need-returns-4
-returns-4 c = ((up-to-4 (c .before .before .before .magnitude .result) (c .before .if3 .left) (c .if4 .taken)) ∙ constant-plus (c .before .before .before .before .args .z) (c .before .before .before .magnitude .result) (is-plus (c .before .before .before .before .args .z) (c .before .before .before .before .fits .z) (c .before .before .before .magnitude .result) (c .before .before .before .magnitude .ensures) (c .before .before .if1 .left)), omega arith)
+returns-4 c =
+    let c1 = c .before in
+    let c2 = c1 .before in
+    let c3 = c2 .before in
+    let c4 = c3 .before in
+    let magnitude = c3 .magnitude in (
+      (up-to-4 (magnitude .result) (c1 .if3 .left) (c .if4 .taken))
+          ∙ constant-plus (c4 .args .z) (magnitude .result)
+          (is-plus (c4 .args .z) (c4 .fits .z) (magnitude .result) (magnitude .ensures) (c2 .if1 .left)),
+      omega arith,
+    )
 
 -- src/lib.rt:157:9
 returns-5 : tie.Need-returns-5
-returns-5 c = ((up-to-8 (c .before .before .before .before .magnitude .result) (c .before .before .if3 .left) (c .before .if4 .left) (c .if5 .taken)) ∙ constant-plus (c .before .before .before .before .before .args .z) (c .before .before .before .before .magnitude .result) (is-plus (c .before .before .before .before .before .args .z) (c .before .before .before .before .before .fits .z) (c .before .before .before .before .magnitude .result) (c .before .before .before .before .magnitude .ensures) (c .before .before .before .if1 .left)), omega arith)
+returns-5 c =
+    let c1 = c .before in
+    let c2 = c1 .before in
+    let c3 = c2 .before in
+    let c4 = c3 .before in
+    let c5 = c4 .before in
+    let magnitude = c4 .magnitude in (
+      (up-to-8 (magnitude .result) (c2 .if3 .left) (c1 .if4 .left) (c .if5 .taken))
+          ∙ constant-plus (c5 .args .z) (magnitude .result)
+          (is-plus (c5 .args .z) (c5 .fits .z) (magnitude .result) (magnitude .ensures) (c3 .if1 .left)),
+      omega arith,
+    )
 
 -- src/lib.rt:160:9
 returns-6 : tie.Need-returns-6
-returns-6 c = ((up-to-16 (c .before .before .before .before .before .magnitude .result) (c .before .before .before .if3 .left) (c .before .before .if4 .left) (c .before .if5 .left) (c .if6 .taken)) ∙ constant-plus (c .before .before .before .before .before .before .args .z) (c .before .before .before .before .before .magnitude .result) (is-plus (c .before .before .before .before .before .before .args .z) (c .before .before .before .before .before .before .fits .z) (c .before .before .before .before .before .magnitude .result) (c .before .before .before .before .before .magnitude .ensures) (c .before .before .before .before .if1 .left)), omega arith)
+returns-6 c =
+    let c1 = c .before in
+    let c2 = c1 .before in
+    let c3 = c2 .before in
+    let c4 = c3 .before in
+    let c5 = c4 .before in
+    let c6 = c5 .before in
+    let magnitude = c5 .magnitude in (
+      (up-to-16 (magnitude .result) (c3 .if3 .left) (c2 .if4 .left) (c1 .if5 .left) (c .if6 .taken))
+          ∙ constant-plus (c6 .args .z) (magnitude .result)
+          (is-plus (c6 .args .z) (c6 .fits .z) (magnitude .result) (magnitude .ensures) (c4 .if1 .left)),
+      omega arith,
+    )
 
 -- src/lib.rt:163:9
 returns-7 : tie.Need-returns-7
-returns-7 c = ((up-to-32 (c .before .before .before .before .before .before .magnitude .result) (c .before .before .before .before .if3 .left) (c .before .before .before .if4 .left) (c .before .before .if5 .left) (c .before .if6 .left) (c .if7 .taken)) ∙ constant-plus (c .before .before .before .before .before .before .before .args .z) (c .before .before .before .before .before .before .magnitude .result) (is-plus (c .before .before .before .before .before .before .before .args .z) (c .before .before .before .before .before .before .before .fits .z) (c .before .before .before .before .before .before .magnitude .result) (c .before .before .before .before .before .before .magnitude .ensures) (c .before .before .before .before .before .if1 .left)), omega arith)
+returns-7 c =
+    let c1 = c .before in
+    let c2 = c1 .before in
+    let c3 = c2 .before in
+    let c4 = c3 .before in
+    let c5 = c4 .before in
+    let c6 = c5 .before in
+    let c7 = c6 .before in
+    let magnitude = c6 .magnitude in (
+      (up-to-32 (magnitude .result) (c4 .if3 .left) (c3 .if4 .left) (c2 .if5 .left) (c1 .if6 .left) (c .if7 .taken))
+          ∙ constant-plus (c7 .args .z) (magnitude .result)
+          (is-plus (c7 .args .z) (c7 .fits .z) (magnitude .result) (magnitude .ensures) (c5 .if1 .left)),
+      omega arith,
+    )
 
 -- src/lib.rt:139:1
 returns-8 : tie.Need-returns-8
-returns-8 c = ((up-to-none (c .before .before .before .before .before .before .magnitude .result) (c .before .before .before .before .if3 .left) (c .before .before .before .if4 .left) (c .before .before .if5 .left) (c .before .if6 .left) (c .if7 .left)) ∙ constant-plus (c .before .before .before .before .before .before .before .args .z) (c .before .before .before .before .before .before .magnitude .result) (is-plus (c .before .before .before .before .before .before .before .args .z) (c .before .before .before .before .before .before .before .fits .z) (c .before .before .before .before .before .before .magnitude .result) (c .before .before .before .before .before .before .magnitude .ensures) (c .before .before .before .before .before .if1 .left)), tt)
+returns-8 c =
+    let c1 = c .before in
+    let c2 = c1 .before in
+    let c3 = c2 .before in
+    let c4 = c3 .before in
+    let c5 = c4 .before in
+    let c6 = c5 .before in
+    let c7 = c6 .before in
+    let magnitude = c6 .magnitude in (
+      (up-to-none (magnitude .result) (c4 .if3 .left) (c3 .if4 .left) (c2 .if5 .left) (c1 .if6 .left) (c .if7 .left))
+          ∙ constant-plus (c7 .args .z) (magnitude .result)
+          (is-plus (c7 .args .z) (c7 .fits .z) (magnitude .result) (magnitude .ensures) (c5 .if1 .left)),
+      tt,
+    )
 
 pub constant-number-spec : {M : Type 1} → statement M
 constant-number-spec =

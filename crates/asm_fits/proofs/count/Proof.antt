@@ -13,7 +13,13 @@ ranged-requires c κs = search needs
 
 -- src/lib.rt:104:1
 returns : tie.Need-returns
-returns c = (c .ranged .ensures, below-at (c .before .args .limit) (c .ranged .result) (fitOf 0 (c .before .args .limit) (c .before .args .v)) (c .ranged .ensures) (count-below (c .before .args .limit) (c .before .args .v)))
+returns c =
+    let c1 = c .before in
+    let a = c1 .args in
+    let ranged = c .ranged in (
+      ranged .ensures,
+      below-at (a .limit) (ranged .result) (fitOf 0 (a .limit) (a .v)) (ranged .ensures) (count-below (a .limit) (a .v)),
+    )
 
 pub count-spec : {M : Type 1} → statement M
 count-spec = tie.close (tie.spec ranged-requires returns)

@@ -21,7 +21,10 @@ enum-told-2 c = search needs
 
 -- src/lib.rt:84:1
 returns : tie.Need-returns
-returns c = (map-number (λ (n : ℕ). n / 256) (c .before .before .before .args .f) (c .before .f .given .0 .0) (c .before .f .given .1), omega arith)
+returns c =
+    let c1 = c .before in
+    let c3 = c1 .before .before in
+    (map-number (λ (n : ℕ). n / 256) (c3 .args .f) (c1 .f .given .0 .0) (c1 .f .given .1), omega arith)
 
 -- src/lib.rt:84:1
 returns-2 : tie.Need-returns-2

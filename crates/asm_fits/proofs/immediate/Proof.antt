@@ -20,7 +20,18 @@ byte-requires c κs = search needs
 
 -- src/lib.rt:130:9
 returns : tie.Need-returns
-returns c = (c .byte .ensures .0 ∙ sym (ap (λ (b : Bool). cond b (byteFit (c .before .before .args .v)) (cond (eqb (c .before .before .args .op) 3) (mapFit (λ (n : ℕ). n / 256) (wordFit (c .before .before .args .v))) (mapFit (λ (n : ℕ). n % 256) (wordFit (c .before .before .args .v))))) (c .before .if1 .taken)), c .byte .ensures .1)
+returns c =
+    let c1 = c .before in
+    let c2 = c1 .before in
+    let a = c2 .args in (
+      c .byte .ensures .0
+          ∙ sym
+          (ap
+          (λ (b : Bool). cond b (byteFit (a .v))
+          (cond (eqb (a .op) 3) (mapFit (λ (n : ℕ). n / 256) (wordFit (a .v))) (mapFit (λ (n : ℕ). n % 256) (wordFit (a .v)))))
+          (c1 .if1 .taken)),
+      c .byte .ensures .1,
+    )
 
 -- src/lib.rt:133:26
 word-requires : tie.Need-word-requires
@@ -32,7 +43,16 @@ high-byte-requires c κs = search needs
 
 -- src/lib.rt:133:9
 returns-2 : tie.Need-returns-2
-returns-2 c = (c .high-byte .ensures .0 ∙ ap (mapFit (λ (n : ℕ). n / 256)) (c .before .word .ensures) ∙ rw (c .before .before .before .if1 .left, eq-eqb (c .before .before .before .before .args .op) 3 (c .before .before .if2 .taken)), c .high-byte .ensures .1)
+returns-2 c =
+    let c1 = c .before in
+    let c2 = c1 .before in
+    let c3 = c2 .before in
+    let c4 = c3 .before in (
+      c .high-byte .ensures .0
+          ∙ ap (mapFit (λ (n : ℕ). n / 256)) (c1 .word .ensures)
+          ∙ rw (c3 .if1 .left, eq-eqb (c4 .args .op) 3 (c2 .if2 .taken)),
+      c .high-byte .ensures .1,
+    )
 
 -- src/lib.rt:135:14
 word-requires-2 : tie.Need-word-requires-2
@@ -44,7 +64,16 @@ low-byte-requires c κs = search needs
 
 -- src/lib.rt:125:1
 returns-3 : tie.Need-returns-3
-returns-3 c = (c .low-byte .ensures .0 ∙ ap (mapFit (λ (n : ℕ). n % 256)) (c .before .word2 .ensures) ∙ rw (c .before .before .before .if1 .left, ne-eqb (c .before .before .before .before .args .op) 3 (c .before .before .if2 .left)), c .low-byte .ensures .1)
+returns-3 c =
+    let c1 = c .before in
+    let c2 = c1 .before in
+    let c3 = c2 .before in
+    let c4 = c3 .before in (
+      c .low-byte .ensures .0
+          ∙ ap (mapFit (λ (n : ℕ). n % 256)) (c1 .word2 .ensures)
+          ∙ rw (c3 .if1 .left, ne-eqb (c4 .args .op) 3 (c2 .if2 .left)),
+      c .low-byte .ensures .1,
+    )
 
 pub immediate-spec : {M : Type 1} → statement M
 immediate-spec =

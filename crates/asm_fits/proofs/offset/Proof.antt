@@ -28,15 +28,31 @@ enum-told-2 c = search needs
 
 -- src/lib.rt:112:1
 returns : tie.Need-returns
-returns c = (map-number (λ (n : ℕ). n % 128) (c .before .before .before .ranged .result) (c .before .n .given .0 .0) (c .before .n .given .1) ∙ ap (mapFit (λ (n : ℕ). n % 128)) (c .before .before .before .ranged .ensures), omega arith)
+returns c =
+    let c1 = c .before in
+    let c3 = c1 .before .before in (
+      map-number (λ (n : ℕ). n % 128) (c3 .ranged .result) (c1 .n .given .0 .0) (c1 .n .given .1)
+          ∙ ap (mapFit (λ (n : ℕ). n % 128)) (c3 .ranged .ensures),
+      omega arith,
+    )
 
 -- src/lib.rt:112:1
 returns-2 : tie.Need-returns-2
-returns-2 c = (map-unknown (λ (n : ℕ). n % 128) (c .before .before .ranged .result) (c .enum-told .given .1) ∙ ap (mapFit (λ (n : ℕ). n % 128)) (c .before .before .ranged .ensures), tt)
+returns-2 c =
+    let c2 = c .before .before in (
+      map-unknown (λ (n : ℕ). n % 128) (c2 .ranged .result) (c .enum-told .given .1)
+          ∙ ap (mapFit (λ (n : ℕ). n % 128)) (c2 .ranged .ensures),
+      tt,
+    )
 
 -- src/lib.rt:112:1
 returns-3 : tie.Need-returns-3
-returns-3 c = (map-outside (λ (n : ℕ). n % 128) (c .before .before .ranged .result) (c .enum-told2 .given .1) ∙ ap (mapFit (λ (n : ℕ). n % 128)) (c .before .before .ranged .ensures), tt)
+returns-3 c =
+    let c2 = c .before .before in (
+      map-outside (λ (n : ℕ). n % 128) (c2 .ranged .result) (c .enum-told2 .given .1)
+          ∙ ap (mapFit (λ (n : ℕ). n % 128)) (c2 .ranged .ensures),
+      tt,
+    )
 
 pub offset-spec : {M : Type 1} → statement M
 offset-spec =

@@ -24,7 +24,16 @@ residue-requires c κs = search needs
 
 -- src/lib.rt:56:17
 returns : tie.Need-returns
-returns c = let e : toZ w32 (ofZ w32 (c .before .before .before .before .v .given .0 .0)) ≡ c .before .before .before .before .v .given .0 .0 = search needs in ranged-in (c .before .before .before .before .before .before .args .below) (c .before .before .before .before .before .before .args .limit) (c .before .before .before .before .before .before .args .v) (c .before .before .before .before .v .given .0 .0) (c .before .before .within .result) (c .residue .result) (c .before .before .before .before .v .given .1) (rw e at (c .before .before .within .ensures)) (c .before .if1 .taken) (rw e at (c .residue .ensures))
+returns c =
+    let c1 = c .before in
+    let c2 = c1 .before in
+    let c4 = c2 .before .before in
+    let c6 = c4 .before .before in
+    let a = c6 .args in
+    let v = c4 .v in
+    let e : toZ w32 (ofZ w32 (v .given .0 .0)) ≡ v .given .0 .0 = search needs in
+    ranged-in (a .below) (a .limit) (a .v) (v .given .0 .0) (c2 .within .result) (c .residue .result) (v .given .1)
+    (rw e at (c2 .within .ensures)) (c1 .if1 .taken) (rw e at (c .residue .ensures))
 
 -- src/lib.rt:60:27
 enum-told : tie.Need-enum-told
@@ -36,15 +45,27 @@ enum-told-2 c = search needs
 
 -- src/lib.rt:50:1
 returns-2 : tie.Need-returns-2
-returns-2 c = let e : toZ w32 (ofZ w32 (c .before .before .before .v .given .0 .0)) ≡ c .before .before .before .v .given .0 .0 = search needs in ranged-out (c .before .before .before .before .before .args .below) (c .before .before .before .before .before .args .limit) (c .before .before .before .before .before .args .v) (c .before .before .before .v .given .0 .0) (c .before .within .result) (c .before .before .before .v .given .1) (rw e at (c .before .within .ensures)) (c .if1 .left)
+returns-2 c =
+    let c1 = c .before in
+    let c3 = c1 .before .before in
+    let c5 = c3 .before .before in
+    let a = c5 .args in
+    let v = c3 .v in
+    let e : toZ w32 (ofZ w32 (v .given .0 .0)) ≡ v .given .0 .0 = search needs in
+    ranged-out (a .below) (a .limit) (a .v) (v .given .0 .0) (c1 .within .result) (v .given .1) (rw e at (c1 .within .ensures))
+    (c .if1 .left)
 
 -- src/lib.rt:50:1
 returns-3 : tie.Need-returns-3
-returns-3 c = ranged-unknown (c .before .before .args .below) (c .before .before .args .limit) (c .before .before .args .v) (c .enum-told .given .1)
+returns-3 c =
+    let c2 = c .before .before in
+    ranged-unknown (c2 .args .below) (c2 .args .limit) (c2 .args .v) (c .enum-told .given .1)
 
 -- src/lib.rt:50:1
 returns-4 : tie.Need-returns-4
-returns-4 c = ranged-outside (c .before .before .args .below) (c .before .before .args .limit) (c .before .before .args .v) (c .enum-told2 .given .1)
+returns-4 c =
+    let c2 = c .before .before in
+    ranged-outside (c2 .args .below) (c2 .args .limit) (c2 .args .v) (c .enum-told2 .given .1)
 
 pub ranged-spec : {M : Type 1} → statement M
 ranged-spec =

@@ -20,11 +20,21 @@ sub-result c = search needs
 
 -- src/lib.rt:33:9
 returns : tie.Need-returns
-returns c = residue-minus (c .before .before .args .z) (c .before .magnitude .result) (is-minus (c .before .before .args .z) (c .before .before .fits .z) (c .before .magnitude .result) (c .before .magnitude .ensures) (c .if1 .taken))
+returns c =
+    let c1 = c .before in
+    let c2 = c1 .before in
+    let magnitude = c1 .magnitude in
+    residue-minus (c2 .args .z) (magnitude .result)
+    (is-minus (c2 .args .z) (c2 .fits .z) (magnitude .result) (magnitude .ensures) (c .if1 .taken))
 
 -- src/lib.rt:28:1
 returns-2 : tie.Need-returns-2
-returns-2 c = residue-plus (c .before .before .args .z) (c .before .magnitude .result) (is-plus (c .before .before .args .z) (c .before .before .fits .z) (c .before .magnitude .result) (c .before .magnitude .ensures) (c .if1 .left))
+returns-2 c =
+    let c1 = c .before in
+    let c2 = c1 .before in
+    let magnitude = c1 .magnitude in
+    residue-plus (c2 .args .z) (magnitude .result)
+    (is-plus (c2 .args .z) (c2 .fits .z) (magnitude .result) (magnitude .ensures) (c .if1 .left))
 
 pub residue-spec : {M : Type 1} → statement M
 residue-spec = tie.close (tie.spec magnitude-requires cast-n sub-result returns returns-2)

@@ -16,7 +16,10 @@ cast-t6 c = search needs
 
 -- src/lib.rt:198:9
 returns-2 : tie.Need-returns-2
-returns-2 c = (steps-up (c .before .before .args .half) (c .before .before .args .d) (c .before .if1 .left) (c .if2 .taken), omega (arith, c .if2 .taken))
+returns-2 c =
+    let c1 = c .before in
+    let c2 = c1 .before in
+    (steps-up (c2 .args .half) (c2 .args .d) (c1 .if1 .left) (c .if2 .taken), omega (arith, c .if2 .taken))
 
 -- src/lib.rt:200:16
 sub-if3 : tie.Need-sub-if3
@@ -24,7 +27,11 @@ sub-if3 c = search needs
 
 -- src/lib.rt:201:9
 returns-3 : tie.Need-returns-3
-returns-3 c = (steps-far (c .before .before .before .args .half) (c .before .before .before .args .d) (c .before .before .if1 .left) (c .before .if2 .left) (c .if3 .taken), tt)
+returns-3 c =
+    let c1 = c .before in
+    let c2 = c1 .before in
+    let c3 = c2 .before in
+    (steps-far (c3 .args .half) (c3 .args .d) (c2 .if1 .left) (c1 .if2 .left) (c .if3 .taken), tt)
 
 -- src/lib.rt:203:27
 sub-t7 : tie.Need-sub-t7
@@ -44,7 +51,13 @@ cast-t10 c = search needs
 
 -- src/lib.rt:189:1
 returns-4 : tie.Need-returns-4
-returns-4 c = (steps-down (c .before .before .before .args .half) (c .before .before .before .args .d) (c .before .before .if1 .left) (c .before .if2 .left) (c .if3 .left), omega (arith, c .before .before .before .pre .0, c .before .before .before .pre .1, c .if3 .left))
+returns-4 c =
+    let c1 = c .before in
+    let c2 = c1 .before in
+    let c3 = c2 .before in (
+      steps-down (c3 .args .half) (c3 .args .d) (c2 .if1 .left) (c1 .if2 .left) (c .if3 .left),
+      omega (arith, c3 .pre .0, c3 .pre .1, c .if3 .left),
+    )
 
 pub steps-spec : {M : Type 1} → statement M
 steps-spec =

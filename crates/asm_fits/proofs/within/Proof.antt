@@ -12,11 +12,23 @@ magnitude-requires c κs = search needs
 
 -- src/lib.rt:44:9
 returns : tie.Need-returns
-returns c = within-minus (c .before .before .args .below) (c .before .before .args .limit) (c .before .before .args .z) (c .before .magnitude .result) (is-minus (c .before .before .args .z) (c .before .before .fits .z) (c .before .magnitude .result) (c .before .magnitude .ensures) (c .if1 .taken))
+returns c =
+    let c1 = c .before in
+    let c2 = c1 .before in
+    let a = c2 .args in
+    let magnitude = c1 .magnitude in
+    within-minus (a .below) (a .limit) (a .z) (magnitude .result)
+    (is-minus (a .z) (c2 .fits .z) (magnitude .result) (magnitude .ensures) (c .if1 .taken))
 
 -- src/lib.rt:39:1
 returns-2 : tie.Need-returns-2
-returns-2 c = within-plus (c .before .before .args .below) (c .before .before .args .limit) (c .before .before .args .z) (c .before .magnitude .result) (is-plus (c .before .before .args .z) (c .before .before .fits .z) (c .before .magnitude .result) (c .before .magnitude .ensures) (c .if1 .left))
+returns-2 c =
+    let c1 = c .before in
+    let c2 = c1 .before in
+    let a = c2 .args in
+    let magnitude = c1 .magnitude in
+    within-plus (a .below) (a .limit) (a .z) (magnitude .result)
+    (is-plus (a .z) (c2 .fits .z) (magnitude .result) (magnitude .ensures) (c .if1 .left))
 
 pub within-spec : {M : Type 1} → statement M
 within-spec = tie.close (tie.spec magnitude-requires returns returns-2)

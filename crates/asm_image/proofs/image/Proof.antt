@@ -15,7 +15,10 @@ use Rattle.asm_image.proofs.store_line.Reads as store-line-reads
 use Rattle.lines.proofs.line_at.Reads as line-at-reads
 
 abbrev Inv-loop : tie.InvT-loop
-Inv-loop memory₀ source places keys values at₀ p₀ memory at p = (at ≤ length source) × (length memory ≡ 65536) × (imageOf (placedFrom (lookUpAt source places keys values) (linesOf (drop at source)) p) memory ≡ imageOf (placedOf (lookUpAt source places keys values) source) memory₀)
+Inv-loop memory₀ source places keys values at₀ p₀ memory at p =
+    (at ≤ length source) × (length memory ≡ 65536)
+    × (imageOf (placedFrom (lookUpAt source places keys values) (linesOf (drop at source)) p) memory
+    ≡ imageOf (placedOf (lookUpAt source places keys values) source) memory₀)
 
 abbrev μ-loop : tie.MeasureT-loop
 μ-loop memory₀ source places keys values at₀ p₀ memory at p = length source - at
@@ -46,11 +49,26 @@ store-line-requires c κs = c .before .before .before .before .loop .inv .1
 
 -- src/lib.rt:102:13
 same-length : tie.Need-same-length Inv-loop μ-loop
-same-length c = c .before .before .before .store-line .kept .0 ∙ c .before .before .before .before .before .before .before .before .loop .inv .1 ∙ sym (c .before .before .before .before .before .before .before .before .before .before .before .before .before .pre)
+same-length c =
+    let c3 = c .before .before .before in
+    let c8 = c3 .before .before .before .before .before in
+    let c13 = c8 .before .before .before .before .before in
+    c3 .store-line .kept .0 ∙ c8 .loop .inv .1 ∙ sym (c13 .pre)
 
 -- src/lib.rt:102:13
 returns : tie.Need-returns Inv-loop μ-loop
-returns c = store-end (lookUpAt (c .before .before .before .before .before .before .before .before .before .before .before .before .before .args .source .now) (c .before .before .before .before .before .before .before .before .before .before .before .before .before .args .places .now) (c .before .before .before .before .before .before .before .before .before .before .before .before .before .args .keys .now) (c .before .before .before .before .before .before .before .before .before .before .before .before .before .args .values .now)) (c .before .before .before .before .before .before .before .before .before .before .before .before .before .args .source .now) (c .before .before .before .before .before .before .before .before .loop .at) (c .before .before .before .before .before .before .line-at .result .stop) (c .before .before .before .before .before .before .line-at .result .next) (c .before .before .before .before .before .before .before .before .loop .p) (c .before .before .before .before .before .before .before .before .loop .memory) (c .before .before .before .store-line .last .0) (c .before .before .before .before .before .before .line-at .ensures) (c .before .before .before .store-line .ensures .0) (c .before .before .before .store-line .result .end) (c .before .before .before .store-line .ensures .1 .1) (c .if1 .taken) ∙ c .before .before .before .before .before .before .before .before .loop .inv .2
+returns c =
+    let c3 = c .before .before .before in
+    let c6 = c3 .before .before .before in
+    let c8 = c6 .before .before in
+    let c13 = c8 .before .before .before .before .before in
+    let a = c13 .args in
+    let cut = c6 .line-at in
+    let stored = c3 .store-line in
+    store-end (lookUpAt (a .source .now) (a .places .now) (a .keys .now) (a .values .now)) (a .source .now) (c8 .loop .at)
+    (cut .result .stop) (cut .result .next) (c8 .loop .p) (c8 .loop .memory) (stored .last .0) (cut .ensures) (stored .ensures .0)
+    (stored .result .end) (stored .ensures .1 .1) (c .if1 .taken)
+    ∙ c8 .loop .inv .2
 
 -- src/lib.rt:95:5
 loop-less : tie.Need-loop-less Inv-loop μ-loop
@@ -58,7 +76,21 @@ loop-less c = omega arith
 
 -- src/lib.rt:95:5
 loop-again : tie.Need-loop-again Inv-loop μ-loop
-loop-again c = (omega arith, c .before .before .before .store-line .kept .0 ∙ c .before .before .before .before .before .before .before .before .loop .inv .1, store-more (lookUpAt (c .before .before .before .before .before .before .before .before .before .before .before .before .before .args .source .now) (c .before .before .before .before .before .before .before .before .before .before .before .before .before .args .places .now) (c .before .before .before .before .before .before .before .before .before .before .before .before .before .args .keys .now) (c .before .before .before .before .before .before .before .before .before .before .before .before .before .args .values .now)) (c .before .before .before .before .before .before .before .before .before .before .before .before .before .args .source .now) (c .before .before .before .before .before .before .before .before .loop .at) (c .before .before .before .before .before .before .line-at .result .stop) (c .before .before .before .before .before .before .line-at .result .next) (c .before .before .before .before .before .before .before .before .loop .p) (c .before .before .before .before .before .before .before .before .loop .memory) (c .before .before .before .store-line .last .0) (c .before .before .before .before .before .before .line-at .ensures) (c .before .before .before .store-line .ensures .0) (c .before .before .before .store-line .result .end) (c .before .before .before .store-line .ensures .1 .1) (c .if1 .left) (c .before .before .before .store-line .result .place) (c .before .before .before .store-line .ensures .1 .0) ∙ c .before .before .before .before .before .before .before .before .loop .inv .2)
+loop-again c =
+    let c3 = c .before .before .before in
+    let c6 = c3 .before .before .before in
+    let c8 = c6 .before .before in
+    let c13 = c8 .before .before .before .before .before in
+    let a = c13 .args in
+    let cut = c6 .line-at in
+    let stored = c3 .store-line in (
+      omega arith,
+      stored .kept .0 ∙ c8 .loop .inv .1,
+      store-more (lookUpAt (a .source .now) (a .places .now) (a .keys .now) (a .values .now)) (a .source .now) (c8 .loop .at)
+          (cut .result .stop) (cut .result .next) (c8 .loop .p) (c8 .loop .memory) (stored .last .0) (cut .ensures) (stored .ensures .0)
+          (stored .result .end) (stored .ensures .1 .1) (c .if1 .left) (stored .result .place) (stored .ensures .1 .0)
+          ∙ c8 .loop .inv .2,
+    )
 
 -- src/lib.rt:87:1
 same-length-2 : tie.Need-same-length-2 Inv-loop μ-loop
@@ -66,7 +98,13 @@ same-length-2 c = c .before .loop .inv .1 ∙ sym (c .before .before .before .be
 
 -- src/lib.rt:87:1
 returns-2 : tie.Need-returns-2 Inv-loop μ-loop
-returns-2 c = image-last (lookUpAt (c .before .before .before .before .before .before .args .source .now) (c .before .before .before .before .before .before .args .places .now) (c .before .before .before .before .before .before .args .keys .now) (c .before .before .before .before .before .before .args .values .now)) (c .before .before .before .before .before .before .args .source .now) (c .before .loop .at) (c .before .loop .p) (c .before .loop .memory) (omega arith) ∙ c .before .loop .inv .2
+returns-2 c =
+    let c1 = c .before in
+    let c6 = c1 .before .before .before .before .before in
+    let a = c6 .args in
+    image-last (lookUpAt (a .source .now) (a .places .now) (a .keys .now) (a .values .now)) (a .source .now) (c1 .loop .at)
+    (c1 .loop .p) (c1 .loop .memory) (omega arith)
+    ∙ c1 .loop .inv .2
 
 pub image-spec : {M : Type 1} → statement M
 image-spec =

@@ -30,7 +30,12 @@ add-memory c = search needs
 
 -- src/lib.rt:31:9
 slice-write-memory-2 : tie.Need-slice-write-memory-2
-slice-write-memory-2 c = let h = c .before .before .pre .1 (c .before .if1 .left) in let l = length-set (c .before .before .args .memory .now) (c .before .before .args .p) (c .before .before .args .n % 256) in omega (arith, h, l, c .before .before .pre .0, c .before .if1 .left, c .if2 .taken)
+slice-write-memory-2 c =
+    let c1 = c .before in
+    let c2 = c1 .before in
+    let a = c2 .args in
+    let h = c2 .pre .1 (c1 .if1 .left) in
+    let l = length-set (a .memory .now) (a .p) (a .n % 256) in omega (arith, h, l, c2 .pre .0, c1 .if1 .left, c .if2 .taken)
 
 -- src/lib.rt:21:1
 same-length : tie.Need-same-length
@@ -38,7 +43,10 @@ same-length c = search needs
 
 -- src/lib.rt:21:1
 returns-2 : tie.Need-returns-2
-returns-2 c = put-two (c .before .before .args .memory .now) (c .before .before .args .p) (c .before .before .args .size) (c .before .before .args .n) (c .before .if1 .left) (c .if2 .taken)
+returns-2 c =
+    let c1 = c .before in
+    let c2 = c1 .before in
+    put-two (c2 .args .memory .now) (c2 .args .p) (c2 .args .size) (c2 .args .n) (c1 .if1 .left) (c .if2 .taken)
 
 -- src/lib.rt:21:1
 same-length-2 : tie.Need-same-length-2
@@ -46,7 +54,10 @@ same-length-2 c = search needs
 
 -- src/lib.rt:21:1
 returns-3 : tie.Need-returns-3
-returns-3 c = put-one (c .before .before .args .memory .now) (c .before .before .args .p) (c .before .before .args .size) (c .before .before .args .n) (c .before .if1 .left) (c .if2 .left)
+returns-3 c =
+    let c1 = c .before in
+    let c2 = c1 .before in
+    put-one (c2 .args .memory .now) (c2 .args .p) (c2 .args .size) (c2 .args .n) (c1 .if1 .left) (c .if2 .left)
 
 pub put-spec : {M : Type 1} → statement M
 put-spec =

@@ -29,7 +29,19 @@ enum-told c = search needs
 
 -- src/lib.rt:74:9
 returns : tie.Need-returns
-returns c = (image-fault (c .before .before .before .before .before .before .before .before .args .p) (lineOf (lookUpAt (c .before .before .before .before .before .before .before .before .args .source .now) (c .before .before .before .before .before .before .before .before .args .places .now) (c .before .before .before .before .before .before .before .before .args .keys .now) (c .before .before .before .before .before .before .before .before .args .values .now)) (c .before .before .before .before .before .before .before .before .args .part .now)) (c .before .before .before .before .before .before .before .before .args .memory .now) (sym (c .before .before .read-line .ensures) ∙ c .enum-told .given .1), (place-fault (c .before .before .read-line .result) (lineOf (lookUpAt (c .before .before .before .before .before .before .before .before .args .source .now) (c .before .before .before .before .before .before .before .before .args .places .now) (c .before .before .before .before .before .before .before .before .args .keys .now) (c .before .before .before .before .before .before .before .before .args .values .now)) (c .before .before .before .before .before .before .before .before .args .part .now)) (c .before .before .read-line .ensures) (c .before .before .before .before .before .before .before .before .args .p) (c .enum-told .given .1), form-none (c .before .before .read-line .result) (lineOf (lookUpAt (c .before .before .before .before .before .before .before .before .args .source .now) (c .before .before .before .before .before .before .before .before .args .places .now) (c .before .before .before .before .before .before .before .before .args .keys .now) (c .before .before .before .before .before .before .before .before .args .values .now)) (c .before .before .before .before .before .before .before .before .args .part .now)) (c .before .before .read-line .ensures) (c .enum-told .given .1) .1))
+returns c =
+    let c2 = c .before .before in
+    let c8 = c2 .before .before .before .before .before .before in
+    let a = c8 .args in
+    let read = c2 .read-line in
+    let enum-told = c .enum-told in
+    let names = lookUpAt (a .source .now) (a .places .now) (a .keys .now) (a .values .now) in (
+      image-fault (a .p) (lineOf names (a .part .now)) (a .memory .now) (sym (read .ensures) ∙ enum-told .given .1),
+      (
+        place-fault (read .result) (lineOf names (a .part .now)) (read .ensures) (a .p) (enum-told .given .1),
+        form-none (read .result) (lineOf names (a .part .now)) (read .ensures) (enum-told .given .1) .1,
+      ),
+    )
 
 -- src/lib.rt:79:5
 store-requires : tie.Need-store-requires
@@ -57,7 +69,28 @@ same-length c = search needs
 
 -- src/lib.rt:49:1
 returns-2 : tie.Need-returns-2
-returns-2 c = (image-one (c .before .before .before .before .before .before .before .before .before .before .before .before .before .before .before .before .before .args .p) (lineOf (lookUpAt (c .before .before .before .before .before .before .before .before .before .before .before .before .before .before .before .before .before .args .source .now) (c .before .before .before .before .before .before .before .before .before .before .before .before .before .before .before .before .before .args .places .now) (c .before .before .before .before .before .before .before .before .before .before .before .before .before .before .before .before .before .args .keys .now) (c .before .before .before .before .before .before .before .before .before .before .before .before .before .before .before .before .before .args .values .now)) (c .before .before .before .before .before .before .before .before .before .before .before .before .before .before .before .before .before .args .part .now)) (c .before .before .before .before .before .before .before .before .before .r .given .0 .0) (c .before .before .before .before .before .before .before .before .before .r .given .0 .1 .0) (c .before .before .before .before .before .before .before .before .before .r .given .0 .1 .1 .0) (c .before .before .before .before .before .before .before .before .before .before .before .before .before .before .before .before .before .args .memory .now) (c .before .before .before .before .before .before .store .last .0) (sym (c .before .before .before .before .before .before .before .before .before .before .before .read-line .ensures) ∙ c .before .before .before .before .before .before .before .before .before .r .given .1) (c .before .before .before .before .before .before .store .ensures), (place-line (c .before .before .before .before .before .before .before .before .before .before .before .read-line .result) (lineOf (lookUpAt (c .before .before .before .before .before .before .before .before .before .before .before .before .before .before .before .before .before .args .source .now) (c .before .before .before .before .before .before .before .before .before .before .before .before .before .before .before .before .before .args .places .now) (c .before .before .before .before .before .before .before .before .before .before .before .before .before .before .before .before .before .args .keys .now) (c .before .before .before .before .before .before .before .before .before .before .before .before .before .before .before .before .before .args .values .now)) (c .before .before .before .before .before .before .before .before .before .before .before .before .before .before .before .before .before .args .part .now)) (c .before .before .before .before .before .before .before .before .before .before .before .read-line .ensures) (c .before .before .before .before .before .before .before .before .before .before .before .before .before .before .before .before .before .args .p) (c .before .before .before .before .before .before .before .before .before .r .given .0 .0) (c .before .before .before .before .before .before .before .before .before .r .given .0 .1 .0) (c .before .before .before .before .before .before .before .before .before .r .given .0 .1 .1 .0) (c .before .before .before .before .before .before .before .before .before .r .given .1) (c .before .before .before .layout-of .result) (c .before .before .before .layout-of .ensures) (c .before .after .result) (c .before .after .ensures) (c .place-after .result) (c .place-after .ensures), form-line (c .before .before .before .before .before .before .before .before .before .before .before .read-line .result) (lineOf (lookUpAt (c .before .before .before .before .before .before .before .before .before .before .before .before .before .before .before .before .before .args .source .now) (c .before .before .before .before .before .before .before .before .before .before .before .before .before .before .before .before .before .args .places .now) (c .before .before .before .before .before .before .before .before .before .before .before .before .before .before .before .before .before .args .keys .now) (c .before .before .before .before .before .before .before .before .before .before .before .before .before .before .before .before .before .args .values .now)) (c .before .before .before .before .before .before .before .before .before .before .before .before .before .before .before .before .before .args .part .now)) (c .before .before .before .before .before .before .before .before .before .before .before .read-line .ensures) (c .before .before .before .before .before .before .before .before .before .r .given .0 .0) (c .before .before .before .before .before .before .before .before .before .r .given .0 .1 .0) (c .before .before .before .before .before .before .before .before .before .r .given .0 .1 .1 .0) (c .before .before .before .layout-of .result) (c .before .before .is-stop .result) (c .before .before .before .before .before .before .before .before .before .r .given .1) (c .before .before .before .layout-of .ensures) (c .before .before .is-stop .ensures) .1))
+returns-2 c =
+    let c1 = c .before in
+    let c2 = c1 .before in
+    let c3 = c2 .before in
+    let c6 = c3 .before .before .before in
+    let c9 = c6 .before .before .before in
+    let c11 = c9 .before .before in
+    let c17 = c11 .before .before .before .before .before .before in
+    let a = c17 .args in
+    let read = c11 .read-line in
+    let g = c9 .r .given in
+    let layout = c3 .layout-of in
+    let names = lookUpAt (a .source .now) (a .places .now) (a .keys .now) (a .values .now) in (
+      image-one (a .p) (lineOf names (a .part .now)) (g .0 .0) (g .0 .1 .0) (g .0 .1 .1 .0) (a .memory .now) (c6 .store .last .0)
+          (sym (read .ensures) ∙ g .1) (c6 .store .ensures),
+      (
+        place-line (read .result) (lineOf names (a .part .now)) (read .ensures) (a .p) (g .0 .0) (g .0 .1 .0) (g .0 .1 .1 .0) (g .1)
+            (layout .result) (layout .ensures) (c1 .after .result) (c1 .after .ensures) (c .place-after .result) (c .place-after .ensures),
+        form-line (read .result) (lineOf names (a .part .now)) (read .ensures) (g .0 .0) (g .0 .1 .0) (g .0 .1 .1 .0) (layout .result)
+            (c2 .is-stop .result) (g .1) (layout .ensures) (c2 .is-stop .ensures) .1,
+      ),
+    )
 
 pub store-line-spec : {M : Type 1} → statement M
 store-line-spec =

@@ -18,14 +18,24 @@ use Rattle.asm_sweeps.proofs.next_line.Reads as next-line-reads
 use Rattle.lines.proofs.line_at.Reads as line-at-reads
 
 abbrev Inv-loop : tie.InvT-loop
-Inv-loop source places₀ keys₀ values₀ at₀ t₀ places keys values at t = (at ≤ length source) × (t .line ≤ at + 1) × (tableFrom (linesOf (drop at source)) (tableAt source places values t) ≡ tableOf source) × Holds source places keys values t
+Inv-loop source places₀ keys₀ values₀ at₀ t₀ places keys values at t =
+    (at ≤ length source) × (t .line ≤ at + 1)
+    × (tableFrom (linesOf (drop at source)) (tableAt source places values t) ≡ tableOf source)
+    × Holds source places keys values t
 
 abbrev μ-loop : tie.MeasureT-loop
 μ-loop source places₀ keys₀ values₀ at₀ t₀ places keys values at t = length source - at
 
 -- src/lib.rt:333:5
 loop-holds : tie.Need-loop-holds Inv-loop μ-loop
-loop-holds c = (omega arith, omega arith, ap (tableFrom (linesOf (c .before .before .before .args .source .now))) (table-start (c .before .before .before .args .source .now) (c .before .before .before .args .places .now) (c .before .before .before .args .values .now)), holds-start (c .before .before .before .args .source .now) (c .before .before .before .args .places .now) (c .before .before .before .args .keys .now) (c .before .before .before .args .values .now) (c .before .before .before .pre .0) (c .before .before .before .pre .1) (c .before .before .before .pre .2))
+loop-holds c =
+    let c3 = c .before .before .before in
+    let a = c3 .args in (
+      omega arith,
+      omega arith,
+      ap (tableFrom (linesOf (a .source .now))) (table-start (a .source .now) (a .places .now) (a .values .now)),
+      holds-start (a .source .now) (a .places .now) (a .keys .now) (a .values .now) (c3 .pre .0) (c3 .pre .1) (c3 .pre .2),
+    )
 
 -- src/lib.rt:334:13
 line-at-requires : tie.Need-line-at-requires Inv-loop μ-loop
@@ -33,27 +43,59 @@ line-at-requires c κs = omega arith
 
 -- src/lib.rt:337:13
 name-line-requires : tie.Need-name-line-requires Inv-loop μ-loop
-name-line-requires c κs = (c .before .before .before .before .before .loop .inv .3, apart-of (c .before .before .before .before .before .before .before .before .before .args .source .now) (c .before .before .before .before .before .loop .at) (c .before .before .before .line-at .result .stop) (c .before .before .before .line-at .result .next) (c .before .before .before .line-at .ensures))
+name-line-requires c κs =
+    let c3 = c .before .before .before in
+    let c5 = c3 .before .before in
+    let c9 = c5 .before .before .before .before in (
+      c5 .loop .inv .3,
+      apart-of (c9 .args .source .now) (c5 .loop .at) (c3 .line-at .result .stop) (c3 .line-at .result .next) (c3 .line-at .ensures),
+    )
 
 -- src/lib.rt:339:13
 same-length : tie.Need-same-length Inv-loop μ-loop
-same-length c = c .before .before .before .before .before .before .before .name-line .ensures .1 .1 .0 .places ∙ sym (c .before .before .before .before .before .before .before .before .before .before .before .before .before .before .before .before .before .pre .0)
+same-length c =
+    let c7 = c .before .before .before .before .before .before .before in
+    let c17 = c7 .before .before .before .before .before .before .before .before .before .before in
+    c7 .name-line .ensures .1 .1 .0 .places ∙ sym (c17 .pre .0)
 
 -- src/lib.rt:339:13
 same-length-2 : tie.Need-same-length-2 Inv-loop μ-loop
-same-length-2 c = c .before .before .before .before .before .before .before .name-line .ensures .1 .1 .0 .keys ∙ sym (c .before .before .before .before .before .before .before .before .before .before .before .before .before .before .before .before .before .pre .1)
+same-length-2 c =
+    let c7 = c .before .before .before .before .before .before .before in
+    let c17 = c7 .before .before .before .before .before .before .before .before .before .before in
+    c7 .name-line .ensures .1 .1 .0 .keys ∙ sym (c17 .pre .1)
 
 -- src/lib.rt:339:13
 same-length-3 : tie.Need-same-length-3 Inv-loop μ-loop
-same-length-3 c = c .before .before .before .before .before .before .before .name-line .ensures .1 .1 .0 .values ∙ sym (c .before .before .before .before .before .before .before .before .before .before .before .before .before .before .before .before .before .pre .2)
+same-length-3 c =
+    let c7 = c .before .before .before .before .before .before .before in
+    let c17 = c7 .before .before .before .before .before .before .before .before .before .before in
+    c7 .name-line .ensures .1 .1 .0 .values ∙ sym (c17 .pre .2)
 
 -- src/lib.rt:339:13
 returns : tie.Need-returns Inv-loop μ-loop
-returns c = (collect-end (c .before .before .before .before .before .before .before .before .before .before .before .before .before .before .before .before .before .args .source .now) (c .before .before .before .before .before .before .before .before .before .before .before .before .before .loop .at) (c .before .before .before .before .before .before .before .before .before .before .before .line-at .result .stop) (c .before .before .before .before .before .before .before .before .before .before .before .line-at .result .next) (c .before .before .before .before .before .before .before .before .before .before .before .line-at .ensures) (c .before .before .before .before .before .before .before .before .before .before .before .before .before .loop .places) (c .before .before .before .before .before .before .before .name-line .last .1 .0) (c .before .before .before .before .before .before .before .before .before .before .before .before .before .loop .values) (c .before .before .before .before .before .before .before .name-line .last .1 .1 .1 .0) (c .before .before .before .before .before .before .before .before .before .before .before .before .before .loop .t) (c .before .before .before .before .before .before .before .name-line .result .tally) (c .before .before .before .before .before .before .before .name-line .ensures .0) (c .before .before .before .before .before .before .before .name-line .result .end) (c .before .before .before .before .before .before .before .name-line .ensures .1 .0) (c .before .if1 .taken) ∙ c .before .before .before .before .before .before .before .before .before .before .before .before .before .loop .inv .2, c .before .before .before .before .before .before .before .name-line .ensures .1 .1 .0)
+returns c =
+    let c1 = c .before in
+    let c7 = c1 .before .before .before .before .before .before in
+    let c11 = c7 .before .before .before .before in
+    let c13 = c11 .before .before in
+    let c17 = c13 .before .before .before .before in
+    let cut = c11 .line-at in
+    let named = c7 .name-line in (
+      collect-end (c17 .args .source .now) (c13 .loop .at) (cut .result .stop) (cut .result .next) (cut .ensures) (c13 .loop .places)
+          (named .last .1 .0) (c13 .loop .values) (named .last .1 .1 .1 .0) (c13 .loop .t) (named .result .tally) (named .ensures .0)
+          (named .result .end) (named .ensures .1 .0) (c1 .if1 .taken)
+          ∙ c13 .loop .inv .2,
+      named .ensures .1 .1 .0,
+    )
 
 -- src/lib.rt:341:9
 next-line-requires : tie.Need-next-line-requires Inv-loop μ-loop
-next-line-requires c κs = omega (arith, c .before .before .before .before .before .before .name-line .ensures .1 .1 .1, c .before .before .before .before .before .before .before .before .before .before .before .before .loop .inv .1, c .before .before .before .before .before .before .before .before .before .before .before .before .before .before .before .before .good .0 .1)
+next-line-requires c κs =
+    let c6 = c .before .before .before .before .before .before in
+    let c12 = c6 .before .before .before .before .before .before in
+    let c16 = c12 .before .before .before .before in
+    omega (arith, c6 .name-line .ensures .1 .1 .1, c12 .loop .inv .1, c16 .good .0 .1)
 
 -- src/lib.rt:333:5
 loop-less : tie.Need-loop-less Inv-loop μ-loop
@@ -61,7 +103,24 @@ loop-less c = omega arith
 
 -- src/lib.rt:333:5
 loop-again : tie.Need-loop-again Inv-loop μ-loop
-loop-again c = (omega arith, omega (arith, ap (λ (x : Tally). x .line) (c .next-line .ensures), c .before .before .before .before .before .before .before .name-line .ensures .1 .1 .1), collect-more (c .before .before .before .before .before .before .before .before .before .before .before .before .before .before .before .before .before .args .source .now) (c .before .before .before .before .before .before .before .before .before .before .before .before .before .loop .at) (c .before .before .before .before .before .before .before .before .before .before .before .line-at .result .stop) (c .before .before .before .before .before .before .before .before .before .before .before .line-at .result .next) (c .before .before .before .before .before .before .before .before .before .before .before .line-at .ensures) (c .before .before .before .before .before .before .before .before .before .before .before .before .before .loop .places) (c .before .before .before .before .before .before .before .name-line .last .1 .0) (c .before .before .before .before .before .before .before .before .before .before .before .before .before .loop .values) (c .before .before .before .before .before .before .before .name-line .last .1 .1 .1 .0) (c .before .before .before .before .before .before .before .before .before .before .before .before .before .loop .t) (c .before .before .before .before .before .before .before .name-line .result .tally) (c .before .before .before .before .before .before .before .name-line .ensures .0) (c .before .before .before .before .before .before .before .name-line .result .end) (c .before .before .before .before .before .before .before .name-line .ensures .1 .0) (c .before .if1 .left) (c .next-line .result) (c .next-line .ensures) ∙ c .before .before .before .before .before .before .before .before .before .before .before .before .before .loop .inv .2, holds-as (c .before .before .before .before .before .before .before .before .before .before .before .before .before .before .before .before .before .args .source .now) (c .before .before .before .before .before .before .before .name-line .last .1 .0) (c .before .before .before .before .before .before .before .name-line .last .1 .1 .0) (c .before .before .before .before .before .before .before .name-line .last .1 .1 .1 .0) (c .before .before .before .before .before .before .before .name-line .result .tally) (c .next-line .result) (ap (λ (x : Tally). x .count) (c .next-line .ensures)) (c .before .before .before .before .before .before .before .name-line .ensures .1 .1 .0))
+loop-again c =
+    let c1 = c .before in
+    let c7 = c1 .before .before .before .before .before .before in
+    let c11 = c7 .before .before .before .before in
+    let c13 = c11 .before .before in
+    let c17 = c13 .before .before .before .before in
+    let cut = c11 .line-at in
+    let named = c7 .name-line in
+    let next-line = c .next-line in (
+      omega arith,
+      omega (arith, ap (λ (x : Tally). x .line) (next-line .ensures), named .ensures .1 .1 .1),
+      collect-more (c17 .args .source .now) (c13 .loop .at) (cut .result .stop) (cut .result .next) (cut .ensures) (c13 .loop .places)
+          (named .last .1 .0) (c13 .loop .values) (named .last .1 .1 .1 .0) (c13 .loop .t) (named .result .tally) (named .ensures .0)
+          (named .result .end) (named .ensures .1 .0) (c1 .if1 .left) (next-line .result) (next-line .ensures)
+          ∙ c13 .loop .inv .2,
+      holds-as (c17 .args .source .now) (named .last .1 .0) (named .last .1 .1 .0) (named .last .1 .1 .1 .0) (named .result .tally)
+          (next-line .result) (ap (λ (x : Tally). x .count) (next-line .ensures)) (named .ensures .1 .1 .0),
+    )
 
 -- src/lib.rt:317:1
 same-length-4 : tie.Need-same-length-4 Inv-loop μ-loop
@@ -77,7 +136,14 @@ same-length-6 c = c .before .loop .inv .3 .values ∙ sym (c .before .before .be
 
 -- src/lib.rt:317:1
 returns-2 : tie.Need-returns-2 Inv-loop μ-loop
-returns-2 c = (table-last (c .before .before .before .before .before .args .source .now) (c .before .loop .at) (omega arith) (tableAt (c .before .before .before .before .before .args .source .now) (c .before .loop .places) (c .before .loop .values) (c .before .loop .t)) ∙ c .before .loop .inv .2, c .before .loop .inv .3)
+returns-2 c =
+    let c1 = c .before in
+    let c5 = c1 .before .before .before .before in (
+      table-last (c5 .args .source .now) (c1 .loop .at) (omega arith)
+          (tableAt (c5 .args .source .now) (c1 .loop .places) (c1 .loop .values) (c1 .loop .t))
+          ∙ c1 .loop .inv .2,
+      c1 .loop .inv .3,
+    )
 
 pub collect-spec : {M : Type 1} → statement M
 collect-spec =

@@ -16,19 +16,45 @@ least-requires c κs = search needs
 
 -- src/lib.rt:472:9
 returns-2 : tie.Need-returns-2
-returns-2 c = decide-unknown (c .before .before .before .args .form) (c .before .before .before .args .t) (c .before .before .before .args .u) (c .before .before .if1 .left) (c .before .least .result) (c .before .least .ensures) (c .if2 .taken)
+returns-2 c =
+    let c1 = c .before in
+    let c2 = c1 .before in
+    let c3 = c2 .before in
+    decide-unknown (c3 .args .form) (c3 .args .t) (c3 .args .u) (c2 .if1 .left) (c1 .least .result) (c1 .least .ensures) (c .if2 .taken)
 
 -- src/lib.rt:478:9
 returns-3 : tie.Need-returns-3
-returns-3 c = decide-places (c .before .before .before .before .before .args .form) (c .before .before .before .before .before .args .t) (c .before .before .before .before .before .args .u) (c .before .before .before .before .if1 .left) (c .before .before .before .least .result) (c .before .before .before .least .ensures) (c .before .before .if2 .left) (c .if3 .taken)
+returns-3 c =
+    let c2 = c .before .before in
+    let c3 = c2 .before in
+    let c4 = c3 .before in
+    let c5 = c4 .before in
+    decide-places (c5 .args .form) (c5 .args .t) (c5 .args .u) (c4 .if1 .left) (c3 .least .result) (c3 .least .ensures) (c2 .if2 .left)
+    (c .if3 .taken)
 
 -- src/lib.rt:484:9
 returns-4 : tie.Need-returns-4
-returns-4 c = decide-uses (c .before .before .before .before .before .before .before .args .form) (c .before .before .before .before .before .before .before .args .t) (c .before .before .before .before .before .before .before .args .u) (c .before .before .before .before .before .before .if1 .left) (c .before .before .before .before .before .least .result) (c .before .before .before .before .before .least .ensures) (c .before .before .before .before .if2 .left) (c .before .before .if3 .left) (c .if4 .taken)
+returns-4 c =
+    let c2 = c .before .before in
+    let c4 = c2 .before .before in
+    let c5 = c4 .before in
+    let c6 = c5 .before in
+    let c7 = c6 .before in
+    let a = c7 .args in
+    decide-uses (a .form) (a .t) (a .u) (c6 .if1 .left) (c5 .least .result) (c5 .least .ensures) (c4 .if2 .left) (c2 .if3 .left)
+    (c .if4 .taken)
 
 -- src/lib.rt:461:1
 returns-5 : tie.Need-returns-5
-returns-5 c = decide-none (c .before .before .before .before .before .before .before .args .form) (c .before .before .before .before .before .before .before .args .t) (c .before .before .before .before .before .before .before .args .u) (c .before .before .before .before .before .before .if1 .left) (c .before .before .before .before .before .least .result) (c .before .before .before .before .before .least .ensures) (c .before .before .before .before .if2 .left) (c .before .before .if3 .left) (c .if4 .left)
+returns-5 c =
+    let c2 = c .before .before in
+    let c4 = c2 .before .before in
+    let c5 = c4 .before in
+    let c6 = c5 .before in
+    let c7 = c6 .before in
+    let a = c7 .args in
+    decide-none (a .form) (a .t) (a .u) (c6 .if1 .left) (c5 .least .result) (c5 .least .ensures) (c4 .if2 .left) (c2 .if3 .left)
+    (c .if4 .left)
 
 pub decide-spec : {M : Type 1} → statement M
 decide-spec = tie.close (tie.spec returns least-requires returns-2 returns-3 returns-4 returns-5)

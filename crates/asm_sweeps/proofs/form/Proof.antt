@@ -14,7 +14,8 @@ use Rattle.asm_sweeps.proofs.form_line.Reads as form-line-reads
 use Rattle.lines.proofs.line_at.Reads as line-at-reads
 
 abbrev Inv-loop : tie.InvT-loop
-Inv-loop source at₀ number₀ at number = (at ≤ length source) × (number ≤ at + 1) × (formFrom number (linesOf (drop at source)) ≡ formOf source)
+Inv-loop source at₀ number₀ at number =
+    (at ≤ length source) × (number ≤ at + 1) × (formFrom number (linesOf (drop at source)) ≡ formOf source)
 
 abbrev μ-loop : tie.MeasureT-loop
 μ-loop source at₀ number₀ at number = length source - at
@@ -45,11 +46,28 @@ form-line-requires c κs = tt
 
 -- src/lib.rt:196:13
 returns : tie.Need-returns Inv-loop μ-loop
-returns c = form-fault (c .before .before .before .before .before .before .before .args .source .now) (c .before .before .before .before .before .loop .at) (c .before .before .before .line-at .result .stop) (c .before .before .before .line-at .result .next) (c .before .before .before .line-at .ensures) (c .before .before .before .before .before .loop .number) (sym (c .before .form-line .ensures .0) ∙ c .if1 .taken) ∙ c .before .before .before .before .before .loop .inv .2
+returns c =
+    let c1 = c .before in
+    let c3 = c1 .before .before in
+    let c5 = c3 .before .before in
+    let c7 = c5 .before .before in
+    let cut = c3 .line-at in
+    form-fault (c7 .args .source .now) (c5 .loop .at) (cut .result .stop) (cut .result .next) (cut .ensures) (c5 .loop .number)
+    (sym (c1 .form-line .ensures .0) ∙ c .if1 .taken)
+    ∙ c5 .loop .inv .2
 
 -- src/lib.rt:199:13
 returns-2 : tie.Need-returns-2 Inv-loop μ-loop
-returns-2 c = form-end (c .before .before .before .before .before .before .before .before .args .source .now) (c .before .before .before .before .before .before .loop .at) (c .before .before .before .before .line-at .result .stop) (c .before .before .before .before .line-at .result .next) (c .before .before .before .before .line-at .ensures) (c .before .before .before .before .before .before .loop .number) (sym (c .before .before .form-line .ensures .0) ∙ c .before .if1 .left) (sym (c .before .before .form-line .ensures .1) ∙ c .if2 .taken) ∙ c .before .before .before .before .before .before .loop .inv .2
+returns-2 c =
+    let c1 = c .before in
+    let c2 = c1 .before in
+    let c4 = c2 .before .before in
+    let c6 = c4 .before .before in
+    let c8 = c6 .before .before in
+    let cut = c4 .line-at in
+    form-end (c8 .args .source .now) (c6 .loop .at) (cut .result .stop) (cut .result .next) (cut .ensures) (c6 .loop .number)
+    (sym (c2 .form-line .ensures .0) ∙ c1 .if1 .left) (sym (c2 .form-line .ensures .1) ∙ c .if2 .taken)
+    ∙ c6 .loop .inv .2
 
 -- src/lib.rt:202:9
 add-number : tie.Need-add-number Inv-loop μ-loop
@@ -61,11 +79,26 @@ loop-less c = omega arith
 
 -- src/lib.rt:189:5
 loop-again : tie.Need-loop-again Inv-loop μ-loop
-loop-again c = (omega arith, omega arith, form-more (c .before .before .before .before .before .before .before .before .args .source .now) (c .before .before .before .before .before .before .loop .at) (c .before .before .before .before .line-at .result .stop) (c .before .before .before .before .line-at .result .next) (c .before .before .before .before .line-at .ensures) (c .before .before .before .before .before .before .loop .number) (sym (c .before .before .form-line .ensures .0) ∙ c .before .if1 .left) (sym (c .before .before .form-line .ensures .1) ∙ c .if2 .left) ∙ c .before .before .before .before .before .before .loop .inv .2)
+loop-again c =
+    let c1 = c .before in
+    let c2 = c1 .before in
+    let c4 = c2 .before .before in
+    let c6 = c4 .before .before in
+    let c8 = c6 .before .before in
+    let cut = c4 .line-at in (
+      omega arith,
+      omega arith,
+      form-more (c8 .args .source .now) (c6 .loop .at) (cut .result .stop) (cut .result .next) (cut .ensures) (c6 .loop .number)
+          (sym (c2 .form-line .ensures .0) ∙ c1 .if1 .left) (sym (c2 .form-line .ensures .1) ∙ c .if2 .left)
+          ∙ c6 .loop .inv .2,
+    )
 
 -- src/lib.rt:184:1
 returns-3 : tie.Need-returns-3 Inv-loop μ-loop
-returns-3 c = form-last (c .before .before .before .args .source .now) (c .before .loop .at) (omega arith) (c .before .loop .number) ∙ c .before .loop .inv .2
+returns-3 c =
+    let c1 = c .before in
+    let c3 = c1 .before .before in
+    form-last (c3 .args .source .now) (c1 .loop .at) (omega arith) (c1 .loop .number) ∙ c1 .loop .inv .2
 
 pub form-spec : {M : Type 1} → statement M
 form-spec =

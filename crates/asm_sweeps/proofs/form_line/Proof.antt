@@ -60,11 +60,26 @@ enum-told c = search needs
 
 -- src/lib.rt:158:1
 returns : tie.Need-returns
-returns c = form-line (c .before .before .before .before .before .read-line .result) (lineOf noNames (c .before .before .before .before .before .before .before .before .before .before .args .part .now)) (c .before .before .before .before .before .read-line .ensures ∙ ap (λ (f : List ℕ → Value). lineOf f (c .before .before .before .before .before .before .before .before .before .before .args .part .now)) (no-names (c .before .before .before .before .before .before .before .before .before .before .args .part .now) [] [])) (c .before .before .before .r .given .0 .0) (c .before .before .before .r .given .0 .1 .0) (c .before .before .before .r .given .0 .1 .1 .0) (c .before .layout-of .result) (c .is-stop .result) (c .before .before .before .r .given .1) (c .before .layout-of .ensures) (c .is-stop .ensures)
+returns c =
+    let c1 = c .before in
+    let c3 = c1 .before .before in
+    let c5 = c3 .before .before in
+    let c10 = c5 .before .before .before .before .before in
+    let a = c10 .args in
+    let g = c3 .r .given in
+    form-line (c5 .read-line .result) (lineOf noNames (a .part .now))
+    (c5 .read-line .ensures ∙ ap (λ (f : List ℕ → Value). lineOf f (a .part .now)) (no-names (a .part .now) [] [])) (g .0 .0)
+    (g .0 .1 .0) (g .0 .1 .1 .0) (c1 .layout-of .result) (c .is-stop .result) (g .1) (c1 .layout-of .ensures) (c .is-stop .ensures)
 
 -- src/lib.rt:158:1
 returns-2 : tie.Need-returns-2
-returns-2 c = form-none (c .before .before .read-line .result) (lineOf noNames (c .before .before .before .before .before .before .before .args .part .now)) (c .before .before .read-line .ensures ∙ ap (λ (f : List ℕ → Value). lineOf f (c .before .before .before .before .before .before .before .args .part .now)) (no-names (c .before .before .before .before .before .before .before .args .part .now) [] [])) (c .enum-told .given .1)
+returns-2 c =
+    let c2 = c .before .before in
+    let c7 = c2 .before .before .before .before .before in
+    let a = c7 .args in
+    form-none (c2 .read-line .result) (lineOf noNames (a .part .now))
+    (c2 .read-line .ensures ∙ ap (λ (f : List ℕ → Value). lineOf f (a .part .now)) (no-names (a .part .now) [] []))
+    (c .enum-told .given .1)
 
 pub form-line-spec : {M : Type 1} → statement M
 form-line-spec =

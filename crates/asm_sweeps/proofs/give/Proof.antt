@@ -33,7 +33,9 @@ slice-reshare-prefix-look-up c = search needs
 
 -- src/lib.rt:250:9
 slice-aggregate-look-up : tie.Need-slice-aggregate-look-up
-slice-aggregate-look-up c = sym (length-take-le (c .before .before .before .before .before .args .t .count) (c .before .before .before .before .before .args .places .now) (omega (arith, c .before .before .before .before .before .pre .within, c .before .before .before .before .before .pre .places)))
+slice-aggregate-look-up c =
+    let c5 = c .before .before .before .before .before in
+    sym (length-take-le (c5 .args .t .count) (c5 .args .places .now) (omega (arith, c5 .pre .within, c5 .pre .places)))
 
 -- src/lib.rt:251:9
 slice-reshare-prefix-look-up-2 : tie.Need-slice-reshare-prefix-look-up-2
@@ -41,7 +43,9 @@ slice-reshare-prefix-look-up-2 c = search needs
 
 -- src/lib.rt:251:9
 slice-aggregate-look-up-2 : tie.Need-slice-aggregate-look-up-2
-slice-aggregate-look-up-2 c = sym (length-take-le (c .before .before .before .before .before .before .args .t .count) (c .before .before .before .before .before .before .args .keys .now) (omega (arith, c .before .before .before .before .before .before .pre .within, c .before .before .before .before .before .before .pre .keys)))
+slice-aggregate-look-up-2 c =
+    let c6 = c .before .before .before .before .before .before in
+    sym (length-take-le (c6 .args .t .count) (c6 .args .keys .now) (omega (arith, c6 .pre .within, c6 .pre .keys)))
 
 -- src/lib.rt:252:9
 slice-reshare-prefix-look-up-3 : tie.Need-slice-reshare-prefix-look-up-3
@@ -49,7 +53,9 @@ slice-reshare-prefix-look-up-3 c = search needs
 
 -- src/lib.rt:252:9
 slice-aggregate-look-up-3 : tie.Need-slice-aggregate-look-up-3
-slice-aggregate-look-up-3 c = sym (length-take-le (c .before .before .before .before .before .before .before .args .t .count) (c .before .before .before .before .before .before .before .args .values .now) (omega (arith, c .before .before .before .before .before .before .before .pre .within, c .before .before .before .before .before .before .before .pre .values)))
+slice-aggregate-look-up-3 c =
+    let c7 = c .before .before .before .before .before .before .before in
+    sym (length-take-le (c7 .args .t .count) (c7 .args .values .now) (omega (arith, c7 .pre .within, c7 .pre .values)))
 
 -- src/lib.rt:248:9
 look-up-requires : tie.Need-look-up-requires
@@ -77,7 +83,23 @@ same-length-3 c = search needs
 
 -- src/lib.rt:258:9
 returns : tie.Need-returns
-returns c = (ap (tableAt (c .before .before .before .before .before .before .before .before .before .before .before .args .source .now) (c .before .before .before .before .before .before .before .before .before .before .before .args .places .now) (c .before .before .before .before .before .before .before .before .before .before .before .args .values .now)) (c .note-unknown .ensures) ∙ give-known (c .before .before .before .before .before .before .before .before .before .before .before .args .source .now) (c .before .before .before .before .before .before .before .before .before .before .before .args .places .now) (c .before .before .before .before .before .before .before .before .before .before .before .args .keys .now) (c .before .before .before .before .before .before .before .before .before .before .before .args .values .now) (c .before .before .before .before .before .before .before .before .before .before .before .args .t) (c .before .before .before .before .before .before .before .before .before .before .before .pre) (word (drop (c .before .before .before .before .before .before .before .before .before .before .before .args .at) (c .before .before .before .before .before .before .before .before .before .before .before .args .source .now))) (c .before .before .before .before .before .before .before .before .before .before .before .args .v) (c .before .before .before .look-up .result) (c .before .before .before .look-up .ensures) (sym (c .before .before .is-known .ensures) ∙ c .before .if1 .taken), (holds-as (c .before .before .before .before .before .before .before .before .before .before .before .args .source .now) (c .before .before .before .before .before .before .before .before .before .before .before .args .places .now) (c .before .before .before .before .before .before .before .before .before .before .before .args .keys .now) (c .before .before .before .before .before .before .before .before .before .before .before .args .values .now) (c .before .before .before .before .before .before .before .before .before .before .before .args .t) (c .note-unknown .result) (ap (λ (x : Tally). x .count) (c .note-unknown .ensures)) (c .before .before .before .before .before .before .before .before .before .before .before .pre), (ap (λ (x : Tally). x .line) (c .note-unknown .ensures))))
+returns c =
+    let c1 = c .before in
+    let c2 = c1 .before in
+    let c3 = c2 .before in
+    let c11 = c3 .before .before .before .before .before .before .before .before in
+    let a = c11 .args in
+    let note-unknown = c .note-unknown in (
+      ap (tableAt (a .source .now) (a .places .now) (a .values .now)) (note-unknown .ensures)
+          ∙ give-known (a .source .now) (a .places .now) (a .keys .now) (a .values .now) (a .t) (c11 .pre)
+          (word (drop (a .at) (a .source .now))) (a .v) (c3 .look-up .result) (c3 .look-up .ensures)
+          (sym (c2 .is-known .ensures) ∙ c1 .if1 .taken),
+      (
+        holds-as (a .source .now) (a .places .now) (a .keys .now) (a .values .now) (a .t) (note-unknown .result)
+            (ap (λ (x : Tally). x .count) (note-unknown .ensures)) (c11 .pre),
+        (ap (λ (x : Tally). x .line) (note-unknown .ensures)),
+      ),
+    )
 
 -- src/lib.rt:261:9
 note-unknown-requires-2 : tie.Need-note-unknown-requires-2
@@ -97,7 +119,24 @@ same-length-6 c = search needs
 
 -- src/lib.rt:261:9
 returns-2 : tie.Need-returns-2
-returns-2 c = (ap (tableAt (c .before .before .before .before .before .before .before .before .before .before .before .before .args .source .now) (c .before .before .before .before .before .before .before .before .before .before .before .before .args .places .now) (c .before .before .before .before .before .before .before .before .before .before .before .before .args .values .now)) (c .note-unknown2 .ensures) ∙ give-full (c .before .before .before .before .before .before .before .before .before .before .before .before .args .source .now) (c .before .before .before .before .before .before .before .before .before .before .before .before .args .places .now) (c .before .before .before .before .before .before .before .before .before .before .before .before .args .keys .now) (c .before .before .before .before .before .before .before .before .before .before .before .before .args .values .now) (c .before .before .before .before .before .before .before .before .before .before .before .before .args .t) (c .before .before .before .before .before .before .before .before .before .before .before .before .pre) (word (drop (c .before .before .before .before .before .before .before .before .before .before .before .before .args .at) (c .before .before .before .before .before .before .before .before .before .before .before .before .args .source .now))) (c .before .before .before .before .before .before .before .before .before .before .before .before .args .v) (c .before .before .before .before .look-up .result) (c .before .before .before .before .look-up .ensures) (sym (c .before .before .before .is-known .ensures) ∙ c .before .before .if1 .left) (c .before .if2 .taken), (holds-as (c .before .before .before .before .before .before .before .before .before .before .before .before .args .source .now) (c .before .before .before .before .before .before .before .before .before .before .before .before .args .places .now) (c .before .before .before .before .before .before .before .before .before .before .before .before .args .keys .now) (c .before .before .before .before .before .before .before .before .before .before .before .before .args .values .now) (c .before .before .before .before .before .before .before .before .before .before .before .before .args .t) (c .note-unknown2 .result) (ap (λ (x : Tally). x .count) (c .note-unknown2 .ensures)) (c .before .before .before .before .before .before .before .before .before .before .before .before .pre), (ap (λ (x : Tally). x .line) (c .note-unknown2 .ensures))))
+returns-2 c =
+    let c1 = c .before in
+    let c2 = c1 .before in
+    let c3 = c2 .before in
+    let c4 = c3 .before in
+    let c12 = c4 .before .before .before .before .before .before .before .before in
+    let a = c12 .args in
+    let note-unknown2 = c .note-unknown2 in (
+      ap (tableAt (a .source .now) (a .places .now) (a .values .now)) (note-unknown2 .ensures)
+          ∙ give-full (a .source .now) (a .places .now) (a .keys .now) (a .values .now) (a .t) (c12 .pre)
+          (word (drop (a .at) (a .source .now))) (a .v) (c4 .look-up .result) (c4 .look-up .ensures)
+          (sym (c3 .is-known .ensures) ∙ c2 .if1 .left) (c1 .if2 .taken),
+      (
+        holds-as (a .source .now) (a .places .now) (a .keys .now) (a .values .now) (a .t) (note-unknown2 .result)
+            (ap (λ (x : Tally). x .count) (note-unknown2 .ensures)) (c12 .pre),
+        (ap (λ (x : Tally). x .line) (note-unknown2 .ensures)),
+      ),
+    )
 
 -- src/lib.rt:263:5
 mul-places : tie.Need-mul-places
@@ -133,7 +172,10 @@ note-value-requires c κs = search needs
 
 -- src/lib.rt:266:5
 one-more-requires : tie.Need-one-more-requires
-one-more-requires c κs = omega (arith, ap (λ (x : Tally). x .count) (c .note-value .ensures) ∙ note-count (c .before .before .before .before .before .before .before .before .before .before .before .before .before .args .t) (c .before .before .before .before .before .before .before .before .before .before .before .before .before .args .v), c .before .before .if2 .left)
+one-more-requires c κs =
+    let c2 = c .before .before in
+    let c13 = c2 .before .before .before .before .before .before .before .before .before .before .before in
+    omega (arith, ap (λ (x : Tally). x .count) (c .note-value .ensures) ∙ note-count (c13 .args .t) (c13 .args .v), c2 .if2 .left)
 
 -- src/lib.rt:229:1
 same-length-7 : tie.Need-same-length-7
@@ -149,7 +191,32 @@ same-length-9 c = search needs
 
 -- src/lib.rt:229:1
 returns-3 : tie.Need-returns-3
-returns-3 c = let e : toZ w32 (ofZ w32 (c .before .before .stored .result)) ≡ c .before .before .stored .result = search needs in let eu = c .one-more .ensures ∙ ap oneMore (c .before .note-value .ensures) in (give-new (c .before .before .before .before .before .before .before .before .before .before .before .before .before .before .args .source .now) (c .before .before .before .before .before .before .before .before .before .before .before .before .before .before .args .places .now) (c .before .before .before .before .before .before .before .before .before .before .before .before .before .before .args .keys .now) (c .before .before .before .before .before .before .before .before .before .before .before .before .before .before .args .values .now) (c .before .before .before .before .before .before .before .before .before .before .before .before .before .before .args .t) (c .before .before .before .before .before .before .before .before .before .before .before .before .before .before .pre) (word (drop (c .before .before .before .before .before .before .before .before .before .before .before .before .before .before .args .at) (c .before .before .before .before .before .before .before .before .before .before .before .before .before .before .args .source .now))) (c .before .before .before .before .before .before .before .before .before .before .before .before .before .before .args .v) (c .before .before .before .before .before .before .look-up .result) (c .before .before .before .before .before .before .look-up .ensures) (sym (c .before .before .before .before .before .is-known .ensures) ∙ c .before .before .before .before .if1 .left) (c .before .before .before .if2 .left) (c .before .before .before .before .before .before .before .before .before .before .before .before .before .before .args .at) (toZ w32 (ofZ w32 (c .before .before .stored .result))) (c .one-more .result) refl (e ∙ c .before .before .stored .ensures) eu, (holds-new (c .before .before .before .before .before .before .before .before .before .before .before .before .before .before .args .source .now) (c .before .before .before .before .before .before .before .before .before .before .before .before .before .before .args .places .now) (c .before .before .before .before .before .before .before .before .before .before .before .before .before .before .args .keys .now) (c .before .before .before .before .before .before .before .before .before .before .before .before .before .before .args .values .now) (c .before .before .before .before .before .before .before .before .before .before .before .before .before .before .args .t) (c .before .before .before .before .before .before .before .before .before .before .before .before .before .before .pre) (word (drop (c .before .before .before .before .before .before .before .before .before .before .before .before .before .before .args .at) (c .before .before .before .before .before .before .before .before .before .before .before .before .before .before .args .source .now))) (c .before .before .before .before .before .before .before .before .before .before .before .before .before .before .args .v) (c .before .before .before .before .before .before .look-up .result) (c .before .before .before .before .before .before .look-up .ensures) (sym (c .before .before .before .before .before .is-known .ensures) ∙ c .before .before .before .before .if1 .left) (c .before .before .before .if2 .left) (c .before .before .before .before .before .before .before .before .before .before .before .before .before .before .args .at) (toZ w32 (ofZ w32 (c .before .before .stored .result))) (c .one-more .result) refl (e ∙ c .before .before .stored .ensures) eu (c .before .before .before .before .before .before .before .before .before .before .read-word .result .key) (c .before .before .before .before .before .before .before .before .before .before .read-word .ensures .1 .1), ap (λ (x : Tally). x .line) eu ∙ note-line (c .before .before .before .before .before .before .before .before .before .before .before .before .before .before .args .t) (c .before .before .before .before .before .before .before .before .before .before .before .before .before .before .args .v)))
+returns-3 c =
+    let c1 = c .before in
+    let c2 = c1 .before in
+    let c3 = c2 .before in
+    let c4 = c3 .before in
+    let c5 = c4 .before in
+    let c6 = c5 .before in
+    let c10 = c6 .before .before .before .before in
+    let c14 = c10 .before .before .before .before in
+    let a = c14 .args in
+    let look-up = c6 .look-up in
+    let stored = c2 .stored in
+    let one-more = c .one-more in
+    let e : toZ w32 (ofZ w32 (stored .result)) ≡ stored .result = search needs in
+    let eu = one-more .ensures ∙ ap oneMore (c1 .note-value .ensures) in (
+      give-new (a .source .now) (a .places .now) (a .keys .now) (a .values .now) (a .t) (c14 .pre) (word (drop (a .at) (a .source .now)))
+          (a .v) (look-up .result) (look-up .ensures) (sym (c5 .is-known .ensures) ∙ c4 .if1 .left) (c3 .if2 .left) (a .at)
+          (toZ w32 (ofZ w32 (stored .result))) (one-more .result) refl (e ∙ stored .ensures) eu,
+      (
+        holds-new (a .source .now) (a .places .now) (a .keys .now) (a .values .now) (a .t) (c14 .pre)
+            (word (drop (a .at) (a .source .now))) (a .v) (look-up .result) (look-up .ensures) (sym (c5 .is-known .ensures) ∙ c4 .if1 .left)
+            (c3 .if2 .left) (a .at) (toZ w32 (ofZ w32 (stored .result))) (one-more .result) refl (e ∙ stored .ensures) eu
+            (c10 .read-word .result .key) (c10 .read-word .ensures .1 .1),
+        ap (λ (x : Tally). x .line) eu ∙ note-line (a .t) (a .v),
+      ),
+    )
 
 pub give-spec : {M : Type 1} → statement M
 give-spec =

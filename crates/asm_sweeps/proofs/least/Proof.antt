@@ -14,11 +14,19 @@ returns-2 c = least-second (c .before .before .args .a) (c .before .before .args
 
 -- src/lib.rt:448:1
 returns-3 : tie.Need-returns-3
-returns-3 c = least-less (c .before .before .before .args .a) (c .before .before .before .args .b) (c .before .before .if1 .left) (c .before .if2 .left) (c .if3 .taken)
+returns-3 c =
+    let c1 = c .before in
+    let c2 = c1 .before in
+    let c3 = c2 .before in
+    least-less (c3 .args .a) (c3 .args .b) (c2 .if1 .left) (c1 .if2 .left) (c .if3 .taken)
 
 -- src/lib.rt:448:1
 returns-4 : tie.Need-returns-4
-returns-4 c = least-more (c .before .before .before .args .a) (c .before .before .before .args .b) (c .before .before .if1 .left) (c .before .if2 .left) (c .if3 .left)
+returns-4 c =
+    let c1 = c .before in
+    let c2 = c1 .before in
+    let c3 = c2 .before in
+    least-more (c3 .args .a) (c3 .args .b) (c2 .if1 .left) (c1 .if2 .left) (c .if3 .left)
 
 pub least-spec : {M : Type 1} → statement M
 least-spec = tie.close (tie.spec returns returns-2 returns-3 returns-4)

@@ -41,7 +41,9 @@ slice-reshare-prefix-read-line c = search needs
 
 -- src/lib.rt:293:41
 slice-aggregate-read-line : tie.Need-slice-aggregate-read-line
-slice-aggregate-read-line c = sym (length-take-le (c .before .before .before .before .before .args .t .count) (c .before .before .before .before .before .args .places .now) (omega (arith, c .before .before .before .before .before .pre .0 .within, c .before .before .before .before .before .pre .0 .places)))
+slice-aggregate-read-line c =
+    let c5 = c .before .before .before .before .before in
+    sym (length-take-le (c5 .args .t .count) (c5 .args .places .now) (omega (arith, c5 .pre .0 .within, c5 .pre .0 .places)))
 
 -- src/lib.rt:293:55
 slice-reshare-prefix-read-line-2 : tie.Need-slice-reshare-prefix-read-line-2
@@ -49,7 +51,9 @@ slice-reshare-prefix-read-line-2 c = search needs
 
 -- src/lib.rt:293:55
 slice-aggregate-read-line-2 : tie.Need-slice-aggregate-read-line-2
-slice-aggregate-read-line-2 c = sym (length-take-le (c .before .before .before .before .before .before .args .t .count) (c .before .before .before .before .before .before .args .keys .now) (omega (arith, c .before .before .before .before .before .before .pre .0 .within, c .before .before .before .before .before .before .pre .0 .keys)))
+slice-aggregate-read-line-2 c =
+    let c6 = c .before .before .before .before .before .before in
+    sym (length-take-le (c6 .args .t .count) (c6 .args .keys .now) (omega (arith, c6 .pre .0 .within, c6 .pre .0 .keys)))
 
 -- src/lib.rt:293:67
 slice-reshare-prefix-read-line-3 : tie.Need-slice-reshare-prefix-read-line-3
@@ -57,7 +61,9 @@ slice-reshare-prefix-read-line-3 c = search needs
 
 -- src/lib.rt:293:67
 slice-aggregate-read-line-3 : tie.Need-slice-aggregate-read-line-3
-slice-aggregate-read-line-3 c = sym (length-take-le (c .before .before .before .before .before .before .before .args .t .count) (c .before .before .before .before .before .before .before .args .values .now) (omega (arith, c .before .before .before .before .before .before .before .pre .0 .within, c .before .before .before .before .before .before .before .pre .0 .values)))
+slice-aggregate-read-line-3 c =
+    let c7 = c .before .before .before .before .before .before .before in
+    sym (length-take-le (c7 .args .t .count) (c7 .args .values .now) (omega (arith, c7 .pre .0 .within, c7 .pre .0 .values)))
 
 -- src/lib.rt:293:9
 read-line-requires : tie.Need-read-line-requires
@@ -85,7 +91,20 @@ same-length-3 c = search needs
 
 -- src/lib.rt:300:9
 returns : tie.Need-returns
-returns c = (name-fault (c .before .before .before .before .before .before .before .before .before .before .args .source .now) (c .before .before .before .before .before .before .before .before .before .before .args .places .now) (c .before .before .before .before .before .before .before .before .before .before .args .keys .now) (c .before .before .before .before .before .before .before .before .before .before .args .values .now) (c .before .before .before .before .before .before .before .before .before .before .args .t) (c .before .before .before .before .before .before .before .before .before .before .pre .0) (lineAt (c .before .before .before .before .before .before .before .before .before .before .args .source .now) (c .before .before .before .before .before .before .before .before .before .before .args .at) (c .before .before .before .before .before .before .before .before .before .before .args .stop)) (c .before .before .read-line .result) (c .before .before .read-line .ensures) (c .enum-told .given .1), (end-fault (c .before .before .before .before .before .before .before .before .before .before .args .source .now) (c .before .before .before .before .before .before .before .before .before .before .args .places .now) (c .before .before .before .before .before .before .before .before .before .before .args .keys .now) (c .before .before .before .before .before .before .before .before .before .before .args .values .now) (c .before .before .before .before .before .before .before .before .before .before .args .t) (c .before .before .before .before .before .before .before .before .before .before .pre .0) (lineAt (c .before .before .before .before .before .before .before .before .before .before .args .source .now) (c .before .before .before .before .before .before .before .before .before .before .args .at) (c .before .before .before .before .before .before .before .before .before .before .args .stop)) (c .before .before .read-line .result) (c .before .before .read-line .ensures) (c .enum-told .given .1), (c .before .before .before .before .before .before .before .before .before .before .pre .0, refl)))
+returns c =
+    let c2 = c .before .before in
+    let c10 = c2 .before .before .before .before .before .before .before .before in
+    let a = c10 .args in
+    let read = c2 .read-line in
+    let line = lineAt (a .source .now) (a .at) (a .stop) in (
+      name-fault (a .source .now) (a .places .now) (a .keys .now) (a .values .now) (a .t) (c10 .pre .0) line (read .result)
+          (read .ensures) (c .enum-told .given .1),
+      (
+        end-fault (a .source .now) (a .places .now) (a .keys .now) (a .values .now) (a .t) (c10 .pre .0) line (read .result)
+            (read .ensures) (c .enum-told .given .1),
+        (c10 .pre .0, refl),
+      ),
+    )
 
 -- src/lib.rt:305:9
 layout-of-requires : tie.Need-layout-of-requires
@@ -117,7 +136,38 @@ same-length-6 c = search needs
 
 -- src/lib.rt:309:9
 returns-2 : tie.Need-returns-2
-returns-2 c = (name-none (c .before .before .before .before .before .before .before .before .before .before .before .before .before .before .before .before .args .source .now) (c .before .before .before .before .before .before .before .before .before .before .before .before .before .before .before .before .args .places .now) (c .before .before .before .before .before .before .before .before .before .before .before .before .before .before .before .before .args .keys .now) (c .before .before .before .before .before .before .before .before .before .before .before .before .before .before .before .before .args .values .now) (c .before .before .before .before .before .before .before .before .before .before .before .before .before .before .before .before .args .t) (c .before .before .before .before .before .before .before .before .before .before .before .before .before .before .before .before .pre .0) (lineAt (c .before .before .before .before .before .before .before .before .before .before .before .before .before .before .before .before .args .source .now) (c .before .before .before .before .before .before .before .before .before .before .before .before .before .before .before .before .args .at) (c .before .before .before .before .before .before .before .before .before .before .before .before .before .before .before .before .args .stop)) (c .before .before .before .before .before .before .before .before .read-line .result) (c .before .before .before .before .before .before .before .before .read-line .ensures) (c .before .before .before .before .before .before .r .given .0 .0) (c .before .before .before .before .before .before .r .given .0 .1 .0) (c .before .before .before .before .before .before .r .given .0 .1 .1 .0) (c .before .before .before .before .before .before .r .given .1) (c .before .before .before .before .layout-of .result) (c .before .before .before .before .layout-of .ensures) (c .before .before .after .result) (c .before .before .after .ensures) (c .before .placed-at .result) (c .before .placed-at .ensures) (not-true _ (c .if1 .taken)), (end-line (c .before .before .before .before .before .before .before .before .before .before .before .before .before .before .before .before .args .source .now) (c .before .before .before .before .before .before .before .before .before .before .before .before .before .before .before .before .args .places .now) (c .before .before .before .before .before .before .before .before .before .before .before .before .before .before .before .before .args .keys .now) (c .before .before .before .before .before .before .before .before .before .before .before .before .before .before .before .before .args .values .now) (c .before .before .before .before .before .before .before .before .before .before .before .before .before .before .before .before .args .t) (c .before .before .before .before .before .before .before .before .before .before .before .before .before .before .before .before .pre .0) (lineAt (c .before .before .before .before .before .before .before .before .before .before .before .before .before .before .before .before .args .source .now) (c .before .before .before .before .before .before .before .before .before .before .before .before .before .before .before .before .args .at) (c .before .before .before .before .before .before .before .before .before .before .before .before .before .before .before .before .args .stop)) (c .before .before .before .before .before .before .before .before .read-line .result) (c .before .before .before .before .before .before .before .before .read-line .ensures) (c .before .before .before .before .before .before .r .given .0 .0) (c .before .before .before .before .before .before .r .given .0 .1 .0) (c .before .before .before .before .before .before .r .given .0 .1 .1 .0) (c .before .before .before .before .before .before .r .given .1) (c .before .before .before .before .layout-of .result) (c .before .before .before .before .layout-of .ensures) (c .before .before .before .is-stop .result) (c .before .before .before .is-stop .ensures), (holds-on (c .before .before .before .before .before .before .before .before .before .before .before .before .before .before .before .before .args .source .now) (c .before .before .before .before .before .before .before .before .before .before .before .before .before .before .before .before .args .places .now) (c .before .before .before .before .before .before .before .before .before .before .before .before .before .before .before .before .args .keys .now) (c .before .before .before .before .before .before .before .before .before .before .before .before .before .before .before .before .args .values .now) (c .before .before .before .before .before .before .before .before .before .before .before .before .before .before .before .before .args .t) (c .before .before .before .before .before .before .before .before .before .before .before .before .before .before .before .before .pre .0) (lineAt (c .before .before .before .before .before .before .before .before .before .before .before .before .before .before .before .before .args .source .now) (c .before .before .before .before .before .before .before .before .before .before .before .before .before .before .before .before .args .at) (c .before .before .before .before .before .before .before .before .before .before .before .before .before .before .before .before .args .stop)) (c .before .before .before .before .before .before .before .before .read-line .result) (c .before .before .before .before .before .before .before .before .read-line .ensures) (c .before .before .before .before .before .before .r .given .0 .0) (c .before .before .before .before .before .before .r .given .0 .1 .0) (c .before .before .before .before .before .before .r .given .0 .1 .1 .0) (c .before .before .before .before .before .before .r .given .1) (c .before .before .before .before .layout-of .result) (c .before .before .before .before .layout-of .ensures) (c .before .before .after .result) (c .before .before .after .ensures) (c .before .placed-at .result) (c .before .placed-at .ensures), line-on (c .before .before .before .before .before .before .before .before .before .before .before .before .before .before .before .before .args .source .now) (c .before .before .before .before .before .before .before .before .before .before .before .before .before .before .before .before .args .places .now) (c .before .before .before .before .before .before .before .before .before .before .before .before .before .before .before .before .args .keys .now) (c .before .before .before .before .before .before .before .before .before .before .before .before .before .before .before .before .args .values .now) (c .before .before .before .before .before .before .before .before .before .before .before .before .before .before .before .before .args .t) (c .before .before .before .before .before .before .before .before .before .before .before .before .before .before .before .before .pre .0) (lineAt (c .before .before .before .before .before .before .before .before .before .before .before .before .before .before .before .before .args .source .now) (c .before .before .before .before .before .before .before .before .before .before .before .before .before .before .before .before .args .at) (c .before .before .before .before .before .before .before .before .before .before .before .before .before .before .before .before .args .stop)) (c .before .before .before .before .before .before .before .before .read-line .result) (c .before .before .before .before .before .before .before .before .read-line .ensures) (c .before .before .before .before .before .before .r .given .0 .0) (c .before .before .before .before .before .before .r .given .0 .1 .0) (c .before .before .before .before .before .before .r .given .0 .1 .1 .0) (c .before .before .before .before .before .before .r .given .1) (c .before .before .before .before .layout-of .result) (c .before .before .before .before .layout-of .ensures) (c .before .before .after .result) (c .before .before .after .ensures) (c .before .placed-at .result) (c .before .placed-at .ensures))))
+returns-2 c =
+    let c1 = c .before in
+    let c2 = c1 .before in
+    let c3 = c2 .before in
+    let c4 = c3 .before in
+    let c6 = c4 .before .before in
+    let c8 = c6 .before .before in
+    let c16 = c8 .before .before .before .before .before .before .before .before in
+    let a = c16 .args in
+    let read = c8 .read-line in
+    let g = c6 .r .given in
+    let layout = c4 .layout-of in
+    let after = c2 .after in
+    let placed-at = c1 .placed-at in
+    let line = lineAt (a .source .now) (a .at) (a .stop) in (
+      name-none (a .source .now) (a .places .now) (a .keys .now) (a .values .now) (a .t) (c16 .pre .0) line (read .result)
+          (read .ensures) (g .0 .0) (g .0 .1 .0) (g .0 .1 .1 .0) (g .1) (layout .result) (layout .ensures) (after .result) (after .ensures)
+          (placed-at .result) (placed-at .ensures) (not-true _ (c .if1 .taken)),
+      (
+        end-line (a .source .now) (a .places .now) (a .keys .now) (a .values .now) (a .t) (c16 .pre .0) line (read .result)
+            (read .ensures) (g .0 .0) (g .0 .1 .0) (g .0 .1 .1 .0) (g .1) (layout .result) (layout .ensures) (c3 .is-stop .result)
+            (c3 .is-stop .ensures),
+        (
+          holds-on (a .source .now) (a .places .now) (a .keys .now) (a .values .now) (a .t) (c16 .pre .0) line (read .result)
+              (read .ensures) (g .0 .0) (g .0 .1 .0) (g .0 .1 .1 .0) (g .1) (layout .result) (layout .ensures) (after .result)
+              (after .ensures) (placed-at .result) (placed-at .ensures),
+          line-on (a .source .now) (a .places .now) (a .keys .now) (a .values .now) (a .t) (c16 .pre .0) line (read .result)
+              (read .ensures) (g .0 .0) (g .0 .1 .0) (g .0 .1 .1 .0) (g .1) (layout .result) (layout .ensures) (after .result)
+              (after .ensures) (placed-at .result) (placed-at .ensures),
+        ),
+      ),
+    )
 
 -- src/lib.rt:311:9
 name-value-requires : tie.Need-name-value-requires
@@ -125,11 +175,34 @@ name-value-requires c κs = search needs
 
 -- src/lib.rt:312:59
 add-give : tie.Need-add-give
-add-give c = let k = name-within (c .before .before .before .before .before .before .before .before .before .before .before .before .before .before .before .before .before .before .before .before .args .source .now) (c .before .before .before .before .before .before .before .before .before .before .before .before .before .before .before .before .before .before .before .before .args .at) (c .before .before .before .before .before .before .before .before .before .before .before .before .before .before .before .before .before .before .before .before .args .stop) (c .before .before .before .before .before .before .before .before .before .before .r .given .0 .1 .0) (c .before .before .before .before .before .before .before .before .before .before .before .before .before .before .before .before .before .before .before .before .pre .1) (named-in _ (lineAt (c .before .before .before .before .before .before .before .before .before .before .before .before .before .before .before .before .before .before .before .before .args .source .now) (c .before .before .before .before .before .before .before .before .before .before .before .before .before .before .before .before .before .before .before .before .args .at) (c .before .before .before .before .before .before .before .before .before .before .before .before .before .before .before .before .before .before .before .before .args .stop)) (c .before .before .before .before .before .before .before .before .before .before .before .before .read-line .result) (c .before .before .before .before .before .before .before .before .before .before .r .given .0 .0) (c .before .before .before .before .before .before .before .before .before .before .r .given .0 .1 .0) (c .before .before .before .before .before .before .before .before .before .before .r .given .0 .1 .1 .0) (c .before .before .before .before .before .before .before .before .before .before .before .before .read-line .ensures) (c .before .before .before .before .before .before .before .before .before .before .r .given .1) (not-false _ (c .before .before .before .before .if1 .left))) in record { fits = omega (arith, k, c .before .before .before .before .before .before .before .before .before .before .before .before .before .before .before .before .before .before .before .before .pre .1 .to, c .before .before .before .before .before .before .before .before .before .before .before .before .before .before .before .before .before .before .before .before .good .0 .1) }
+add-give c =
+    let c4 = c .before .before .before .before in
+    let c10 = c4 .before .before .before .before .before .before in
+    let c12 = c10 .before .before in
+    let c20 = c12 .before .before .before .before .before .before .before .before in
+    let a = c20 .args in
+    let g = c10 .r .given in
+    let k =
+    name-within (a .source .now) (a .at) (a .stop) (g .0 .1 .0) (c20 .pre .1)
+    (named-in _ (lineAt (a .source .now) (a .at) (a .stop)) (c12 .read-line .result) (g .0 .0) (g .0 .1 .0) (g .0 .1 .1 .0)
+    (c12 .read-line .ensures) (g .1) (not-false _ (c4 .if1 .left))) in
+    record { fits = omega (arith, k, c20 .pre .1 .to, c20 .good .0 .1) }
 
 -- src/lib.rt:312:9
 give-requires : tie.Need-give-requires
-give-requires c κs = holds-on (c .before .before .before .before .before .before .before .before .before .before .before .before .before .before .before .before .before .before .before .before .args .source .now) (c .before .before .before .before .before .before .before .before .before .before .before .before .before .before .before .before .before .before .before .before .args .places .now) (c .before .before .before .before .before .before .before .before .before .before .before .before .before .before .before .before .before .before .before .before .args .keys .now) (c .before .before .before .before .before .before .before .before .before .before .before .before .before .before .before .before .before .before .before .before .args .values .now) (c .before .before .before .before .before .before .before .before .before .before .before .before .before .before .before .before .before .before .before .before .args .t) (c .before .before .before .before .before .before .before .before .before .before .before .before .before .before .before .before .before .before .before .before .pre .0) (lineAt (c .before .before .before .before .before .before .before .before .before .before .before .before .before .before .before .before .before .before .before .before .args .source .now) (c .before .before .before .before .before .before .before .before .before .before .before .before .before .before .before .before .before .before .before .before .args .at) (c .before .before .before .before .before .before .before .before .before .before .before .before .before .before .before .before .before .before .before .before .args .stop)) (c .before .before .before .before .before .before .before .before .before .before .before .before .read-line .result) (c .before .before .before .before .before .before .before .before .before .before .before .before .read-line .ensures) (c .before .before .before .before .before .before .before .before .before .before .r .given .0 .0) (c .before .before .before .before .before .before .before .before .before .before .r .given .0 .1 .0) (c .before .before .before .before .before .before .before .before .before .before .r .given .0 .1 .1 .0) (c .before .before .before .before .before .before .before .before .before .before .r .given .1) (c .before .before .before .before .before .before .before .before .layout-of .result) (c .before .before .before .before .before .before .before .before .layout-of .ensures) (c .before .before .before .before .before .before .after .result) (c .before .before .before .before .before .before .after .ensures) (c .before .before .before .before .before .placed-at .result) (c .before .before .before .before .before .placed-at .ensures)
+give-requires c κs =
+    let c5 = c .before .before .before .before .before in
+    let c6 = c5 .before in
+    let c8 = c6 .before .before in
+    let c10 = c8 .before .before in
+    let c12 = c10 .before .before in
+    let c20 = c12 .before .before .before .before .before .before .before .before in
+    let a = c20 .args in
+    let g = c10 .r .given in
+    holds-on (a .source .now) (a .places .now) (a .keys .now) (a .values .now) (a .t) (c20 .pre .0)
+    (lineAt (a .source .now) (a .at) (a .stop)) (c12 .read-line .result) (c12 .read-line .ensures) (g .0 .0) (g .0 .1 .0)
+    (g .0 .1 .1 .0) (g .1) (c8 .layout-of .result) (c8 .layout-of .ensures) (c6 .after .result) (c6 .after .ensures)
+    (c5 .placed-at .result) (c5 .placed-at .ensures)
 
 -- src/lib.rt:270:1
 same-length-7 : tie.Need-same-length-7
@@ -145,7 +218,47 @@ same-length-9 c = search needs
 
 -- src/lib.rt:270:1
 returns-3 : tie.Need-returns-3
-returns-3 c = let k = name-within (c .before .before .before .before .before .before .before .before .before .before .before .before .before .before .before .before .before .before .before .before .before .before .before .before .before .before .args .source .now) (c .before .before .before .before .before .before .before .before .before .before .before .before .before .before .before .before .before .before .before .before .before .before .before .before .before .before .args .at) (c .before .before .before .before .before .before .before .before .before .before .before .before .before .before .before .before .before .before .before .before .before .before .before .before .before .before .args .stop) (c .before .before .before .before .before .before .before .before .before .before .before .before .before .before .before .before .r .given .0 .1 .0) (c .before .before .before .before .before .before .before .before .before .before .before .before .before .before .before .before .before .before .before .before .before .before .before .before .before .before .pre .1) (named-in _ (lineAt (c .before .before .before .before .before .before .before .before .before .before .before .before .before .before .before .before .before .before .before .before .before .before .before .before .before .before .args .source .now) (c .before .before .before .before .before .before .before .before .before .before .before .before .before .before .before .before .before .before .before .before .before .before .before .before .before .before .args .at) (c .before .before .before .before .before .before .before .before .before .before .before .before .before .before .before .before .before .before .before .before .before .before .before .before .before .before .args .stop)) (c .before .before .before .before .before .before .before .before .before .before .before .before .before .before .before .before .before .before .read-line .result) (c .before .before .before .before .before .before .before .before .before .before .before .before .before .before .before .before .r .given .0 .0) (c .before .before .before .before .before .before .before .before .before .before .before .before .before .before .before .before .r .given .0 .1 .0) (c .before .before .before .before .before .before .before .before .before .before .before .before .before .before .before .before .r .given .0 .1 .1 .0) (c .before .before .before .before .before .before .before .before .before .before .before .before .before .before .before .before .before .before .read-line .ensures) (c .before .before .before .before .before .before .before .before .before .before .before .before .before .before .before .before .r .given .1) (not-false _ (c .before .before .before .before .before .before .before .before .before .before .if1 .left))) in let ew = line-word (c .before .before .before .before .before .before .before .before .before .before .before .before .before .before .before .before .before .before .before .before .before .before .before .before .before .before .args .source .now) (c .before .before .before .before .before .before .before .before .before .before .before .before .before .before .before .before .before .before .before .before .before .before .before .before .before .before .args .at) (c .before .before .before .before .before .before .before .before .before .before .before .before .before .before .before .before .before .before .before .before .before .before .before .before .before .before .args .stop) (c .before .before .before .before .before .before .before .before .before .before .before .before .before .before .before .before .r .given .0 .1 .0) (c .before .before .before .before .before .before .before .before .before .before .before .before .before .before .before .before .before .before .before .before .before .before .before .before .before .before .pre .1) (omega (arith, k)) in (name-some (c .before .before .before .before .before .before .before .before .before .before .before .before .before .before .before .before .before .before .before .before .before .before .before .before .before .before .args .source .now) (c .before .before .before .before .before .before .before .before .before .before .before .before .before .before .before .before .before .before .before .before .before .before .before .before .before .before .args .places .now) (c .before .before .before .before .before .before .before .before .before .before .before .before .before .before .before .before .before .before .before .before .before .before .before .before .before .before .args .keys .now) (c .before .before .before .before .before .before .before .before .before .before .before .before .before .before .before .before .before .before .before .before .before .before .before .before .before .before .args .values .now) (c .before .before .before .before .before .before .before .before .before .before .before .before .before .before .before .before .before .before .before .before .before .before .before .before .before .before .args .t) (c .before .before .before .before .before .before .before .before .before .before .before .before .before .before .before .before .before .before .before .before .before .before .before .before .before .before .pre .0) (lineAt (c .before .before .before .before .before .before .before .before .before .before .before .before .before .before .before .before .before .before .before .before .before .before .before .before .before .before .args .source .now) (c .before .before .before .before .before .before .before .before .before .before .before .before .before .before .before .before .before .before .before .before .before .before .before .before .before .before .args .at) (c .before .before .before .before .before .before .before .before .before .before .before .before .before .before .before .before .before .before .before .before .before .before .before .before .before .before .args .stop)) (c .before .before .before .before .before .before .before .before .before .before .before .before .before .before .before .before .before .before .read-line .result) (c .before .before .before .before .before .before .before .before .before .before .before .before .before .before .before .before .before .before .read-line .ensures) (c .before .before .before .before .before .before .before .before .before .before .before .before .before .before .before .before .r .given .0 .0) (c .before .before .before .before .before .before .before .before .before .before .before .before .before .before .before .before .r .given .0 .1 .0) (c .before .before .before .before .before .before .before .before .before .before .before .before .before .before .before .before .r .given .0 .1 .1 .0) (c .before .before .before .before .before .before .before .before .before .before .before .before .before .before .before .before .r .given .1) (c .before .before .before .before .before .before .before .before .before .before .before .before .before .before .layout-of .result) (c .before .before .before .before .before .before .before .before .before .before .before .before .before .before .layout-of .ensures) (c .before .before .before .before .before .before .before .before .before .before .before .before .after .result) (c .before .before .before .before .before .before .before .before .before .before .before .before .after .ensures) (c .before .before .before .before .before .before .before .before .before .before .before .placed-at .result) (c .before .before .before .before .before .before .before .before .before .before .before .placed-at .ensures) (not-false _ (c .before .before .before .before .before .before .before .before .before .before .if1 .left)) (c .before .before .before .before .before .before .before .before .before .name-value .result) (c .before .before .before .before .before .before .before .before .before .name-value .ensures) (word (drop (c .before .before .before .before .before .before .before .before .before .before .before .before .before .before .before .before .before .before .before .before .before .before .before .before .before .before .args .at + (c .before .before .before .before .before .before .before .before .before .before .before .before .before .before .before .before .r .given .0 .1 .0)) (c .before .before .before .before .before .before .before .before .before .before .before .before .before .before .before .before .before .before .before .before .before .before .before .before .before .before .args .source .now))) ew (tableAt (c .before .before .before .before .before .before .before .before .before .before .before .before .before .before .before .before .before .before .before .before .before .before .before .before .before .before .args .source .now) (c .before .before .before .before .before .give .last .1 .0) (c .before .before .before .before .before .give .last .1 .1 .1 .0) (c .before .before .before .before .before .give .result)) (c .before .before .before .before .before .give .ensures .0), (end-line (c .before .before .before .before .before .before .before .before .before .before .before .before .before .before .before .before .before .before .before .before .before .before .before .before .before .before .args .source .now) (c .before .before .before .before .before .before .before .before .before .before .before .before .before .before .before .before .before .before .before .before .before .before .before .before .before .before .args .places .now) (c .before .before .before .before .before .before .before .before .before .before .before .before .before .before .before .before .before .before .before .before .before .before .before .before .before .before .args .keys .now) (c .before .before .before .before .before .before .before .before .before .before .before .before .before .before .before .before .before .before .before .before .before .before .before .before .before .before .args .values .now) (c .before .before .before .before .before .before .before .before .before .before .before .before .before .before .before .before .before .before .before .before .before .before .before .before .before .before .args .t) (c .before .before .before .before .before .before .before .before .before .before .before .before .before .before .before .before .before .before .before .before .before .before .before .before .before .before .pre .0) (lineAt (c .before .before .before .before .before .before .before .before .before .before .before .before .before .before .before .before .before .before .before .before .before .before .before .before .before .before .args .source .now) (c .before .before .before .before .before .before .before .before .before .before .before .before .before .before .before .before .before .before .before .before .before .before .before .before .before .before .args .at) (c .before .before .before .before .before .before .before .before .before .before .before .before .before .before .before .before .before .before .before .before .before .before .before .before .before .before .args .stop)) (c .before .before .before .before .before .before .before .before .before .before .before .before .before .before .before .before .before .before .read-line .result) (c .before .before .before .before .before .before .before .before .before .before .before .before .before .before .before .before .before .before .read-line .ensures) (c .before .before .before .before .before .before .before .before .before .before .before .before .before .before .before .before .r .given .0 .0) (c .before .before .before .before .before .before .before .before .before .before .before .before .before .before .before .before .r .given .0 .1 .0) (c .before .before .before .before .before .before .before .before .before .before .before .before .before .before .before .before .r .given .0 .1 .1 .0) (c .before .before .before .before .before .before .before .before .before .before .before .before .before .before .before .before .r .given .1) (c .before .before .before .before .before .before .before .before .before .before .before .before .before .before .layout-of .result) (c .before .before .before .before .before .before .before .before .before .before .before .before .before .before .layout-of .ensures) (c .before .before .before .before .before .before .before .before .before .before .before .before .before .is-stop .result) (c .before .before .before .before .before .before .before .before .before .before .before .before .before .is-stop .ensures), (c .before .before .before .before .before .give .ensures .1 .0, c .before .before .before .before .before .give .ensures .1 .1 ∙ line-on (c .before .before .before .before .before .before .before .before .before .before .before .before .before .before .before .before .before .before .before .before .before .before .before .before .before .before .args .source .now) (c .before .before .before .before .before .before .before .before .before .before .before .before .before .before .before .before .before .before .before .before .before .before .before .before .before .before .args .places .now) (c .before .before .before .before .before .before .before .before .before .before .before .before .before .before .before .before .before .before .before .before .before .before .before .before .before .before .args .keys .now) (c .before .before .before .before .before .before .before .before .before .before .before .before .before .before .before .before .before .before .before .before .before .before .before .before .before .before .args .values .now) (c .before .before .before .before .before .before .before .before .before .before .before .before .before .before .before .before .before .before .before .before .before .before .before .before .before .before .args .t) (c .before .before .before .before .before .before .before .before .before .before .before .before .before .before .before .before .before .before .before .before .before .before .before .before .before .before .pre .0) (lineAt (c .before .before .before .before .before .before .before .before .before .before .before .before .before .before .before .before .before .before .before .before .before .before .before .before .before .before .args .source .now) (c .before .before .before .before .before .before .before .before .before .before .before .before .before .before .before .before .before .before .before .before .before .before .before .before .before .before .args .at) (c .before .before .before .before .before .before .before .before .before .before .before .before .before .before .before .before .before .before .before .before .before .before .before .before .before .before .args .stop)) (c .before .before .before .before .before .before .before .before .before .before .before .before .before .before .before .before .before .before .read-line .result) (c .before .before .before .before .before .before .before .before .before .before .before .before .before .before .before .before .before .before .read-line .ensures) (c .before .before .before .before .before .before .before .before .before .before .before .before .before .before .before .before .r .given .0 .0) (c .before .before .before .before .before .before .before .before .before .before .before .before .before .before .before .before .r .given .0 .1 .0) (c .before .before .before .before .before .before .before .before .before .before .before .before .before .before .before .before .r .given .0 .1 .1 .0) (c .before .before .before .before .before .before .before .before .before .before .before .before .before .before .before .before .r .given .1) (c .before .before .before .before .before .before .before .before .before .before .before .before .before .before .layout-of .result) (c .before .before .before .before .before .before .before .before .before .before .before .before .before .before .layout-of .ensures) (c .before .before .before .before .before .before .before .before .before .before .before .before .after .result) (c .before .before .before .before .before .before .before .before .before .before .before .before .after .ensures) (c .before .before .before .before .before .before .before .before .before .before .before .placed-at .result) (c .before .before .before .before .before .before .before .before .before .before .before .placed-at .ensures))))
+returns-3 c =
+    let c5 = c .before .before .before .before .before in
+    let c9 = c5 .before .before .before .before in
+    let c10 = c9 .before in
+    let c11 = c10 .before in
+    let c12 = c11 .before in
+    let c13 = c12 .before in
+    let c14 = c13 .before in
+    let c16 = c14 .before .before in
+    let c18 = c16 .before .before in
+    let c26 = c18 .before .before .before .before .before .before .before .before in
+    let a = c26 .args in
+    let read = c18 .read-line in
+    let g = c16 .r .given in
+    let layout = c14 .layout-of in
+    let after = c12 .after in
+    let placed-at = c11 .placed-at in
+    let give = c5 .give in
+    let line = lineAt (a .source .now) (a .at) (a .stop) in
+    let k =
+    name-within (a .source .now) (a .at) (a .stop) (g .0 .1 .0) (c26 .pre .1)
+    (named-in _ line (read .result) (g .0 .0) (g .0 .1 .0) (g .0 .1 .1 .0) (read .ensures) (g .1) (not-false _ (c10 .if1 .left))) in
+    let ew = line-word (a .source .now) (a .at) (a .stop) (g .0 .1 .0) (c26 .pre .1) (omega (arith, k)) in (
+      name-some (a .source .now) (a .places .now) (a .keys .now) (a .values .now) (a .t) (c26 .pre .0) line (read .result)
+          (read .ensures) (g .0 .0) (g .0 .1 .0) (g .0 .1 .1 .0) (g .1) (layout .result) (layout .ensures) (after .result) (after .ensures)
+          (placed-at .result) (placed-at .ensures) (not-false _ (c10 .if1 .left)) (c9 .name-value .result) (c9 .name-value .ensures)
+          (word (drop (a .at + (g .0 .1 .0)) (a .source .now))) ew
+          (tableAt (a .source .now) (give .last .1 .0) (give .last .1 .1 .1 .0) (give .result)) (give .ensures .0),
+      (
+        end-line (a .source .now) (a .places .now) (a .keys .now) (a .values .now) (a .t) (c26 .pre .0) line (read .result)
+            (read .ensures) (g .0 .0) (g .0 .1 .0) (g .0 .1 .1 .0) (g .1) (layout .result) (layout .ensures) (c13 .is-stop .result)
+            (c13 .is-stop .ensures),
+        (
+          give .ensures .1 .0,
+          give .ensures .1 .1
+              ∙ line-on (a .source .now) (a .places .now) (a .keys .now) (a .values .now) (a .t) (c26 .pre .0) line (read .result)
+              (read .ensures) (g .0 .0) (g .0 .1 .0) (g .0 .1 .1 .0) (g .1) (layout .result) (layout .ensures) (after .result)
+              (after .ensures) (placed-at .result) (placed-at .ensures),
+        ),
+      ),
+    )
 
 pub name-line-spec : {M : Type 1} → statement M
 name-line-spec =

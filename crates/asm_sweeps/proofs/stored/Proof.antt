@@ -22,7 +22,9 @@ enum-told-2 c = search needs
 
 -- src/lib.rt:128:1
 returns : tie.Need-returns
-returns c = let e : toZ w32 (ofZ w32 (c .before .v .given .0 .0)) ≡ c .before .v .given .0 .0 = search needs in e ∙ sym (ap storedOf (c .before .v .given .1))
+returns c =
+    let c1 = c .before in
+    let e : toZ w32 (ofZ w32 (c1 .v .given .0 .0)) ≡ c1 .v .given .0 .0 = search needs in e ∙ sym (ap storedOf (c1 .v .given .1))
 
 -- src/lib.rt:128:1
 returns-2 : tie.Need-returns-2

@@ -30,7 +30,15 @@ enum-told c = search needs
 
 -- src/lib.rt:404:9
 returns : tie.Need-returns
-returns c = (use-fault (c .before .before .read-line .result) (lineOf (lookUpAt (c .before .before .before .before .before .before .before .args .source .now) (c .before .before .before .before .before .before .before .args .places .now) (c .before .before .before .before .before .before .before .args .keys .now) (c .before .before .before .before .before .before .before .args .values .now)) (c .before .before .before .before .before .before .before .args .part .now)) (c .before .before .read-line .ensures) (c .before .before .before .before .before .before .before .args .t) (c .enum-told .given .1), (use-end-fault (c .before .before .read-line .result) (lineOf (lookUpAt (c .before .before .before .before .before .before .before .args .source .now) (c .before .before .before .before .before .before .before .args .places .now) (c .before .before .before .before .before .before .before .args .keys .now) (c .before .before .before .before .before .before .before .args .values .now)) (c .before .before .before .before .before .before .before .args .part .now)) (c .before .before .read-line .ensures) (c .before .before .before .before .before .before .before .args .t) (c .enum-told .given .1), refl))
+returns c =
+    let c2 = c .before .before in
+    let c7 = c2 .before .before .before .before .before in
+    let a = c7 .args in
+    let read = c2 .read-line in
+    let names = lookUpAt (a .source .now) (a .places .now) (a .keys .now) (a .values .now) in (
+      use-fault (read .result) (lineOf names (a .part .now)) (read .ensures) (a .t) (c .enum-told .given .1),
+      (use-end-fault (read .result) (lineOf names (a .part .now)) (read .ensures) (a .t) (c .enum-told .given .1), refl),
+    )
 
 -- src/lib.rt:409:9
 layout-of-requires : tie.Need-layout-of-requires
@@ -62,7 +70,36 @@ at-place-requires c κs = search needs
 
 -- src/lib.rt:383:1
 returns-2 : tie.Need-returns-2
-returns-2 c = (use-line (c .before .before .before .before .before .before .before .before .before .before .read-line .result) (lineOf (lookUpAt (c .before .before .before .before .before .before .before .before .before .before .before .before .before .before .before .args .source .now) (c .before .before .before .before .before .before .before .before .before .before .before .before .before .before .before .args .places .now) (c .before .before .before .before .before .before .before .before .before .before .before .before .before .before .before .args .keys .now) (c .before .before .before .before .before .before .before .before .before .before .before .before .before .before .before .args .values .now)) (c .before .before .before .before .before .before .before .before .before .before .before .before .before .before .before .args .part .now)) (c .before .before .before .before .before .before .before .before .before .before .read-line .ensures) (c .before .before .before .before .before .before .before .before .before .before .before .before .before .before .before .args .t) (c .before .before .before .before .before .before .before .before .r .given .0 .0) (c .before .before .before .before .before .before .before .before .r .given .0 .1 .0) (c .before .before .before .before .before .before .before .before .r .given .0 .1 .1 .0) (c .before .before .before .before .before .before .before .before .r .given .1) (c .before .before .before .before .before .before .layout-of .result) (c .before .before .before .before .before .before .layout-of .ensures) (c .before .before .before .before .used .result) (c .before .before .before .before .used .ensures) (c .before .before .before .note-use .result) (c .before .before .before .note-use .ensures) (c .before .before .after .result) (c .before .before .after .ensures) (c .before .place-after .result) (c .before .place-after .ensures) (c .at-place .result) (c .at-place .ensures), (use-end (c .before .before .before .before .before .before .before .before .before .before .read-line .result) (lineOf (lookUpAt (c .before .before .before .before .before .before .before .before .before .before .before .before .before .before .before .args .source .now) (c .before .before .before .before .before .before .before .before .before .before .before .before .before .before .before .args .places .now) (c .before .before .before .before .before .before .before .before .before .before .before .before .before .before .before .args .keys .now) (c .before .before .before .before .before .before .before .before .before .before .before .before .before .before .before .args .values .now)) (c .before .before .before .before .before .before .before .before .before .before .before .before .before .before .before .args .part .now)) (c .before .before .before .before .before .before .before .before .before .before .read-line .ensures) (c .before .before .before .before .before .before .before .before .before .before .before .before .before .before .before .args .t) (c .before .before .before .before .before .before .before .before .r .given .0 .0) (c .before .before .before .before .before .before .before .before .r .given .0 .1 .0) (c .before .before .before .before .before .before .before .before .r .given .0 .1 .1 .0) (c .before .before .before .before .before .before .before .before .r .given .1) (c .before .before .before .before .before .before .layout-of .result) (c .before .before .before .before .before .before .layout-of .ensures) (c .before .before .before .before .before .is-stop .result) (c .before .before .before .before .before .is-stop .ensures), use-same (c .before .before .before .before .before .before .before .before .before .before .read-line .result) (lineOf (lookUpAt (c .before .before .before .before .before .before .before .before .before .before .before .before .before .before .before .args .source .now) (c .before .before .before .before .before .before .before .before .before .before .before .before .before .before .before .args .places .now) (c .before .before .before .before .before .before .before .before .before .before .before .before .before .before .before .args .keys .now) (c .before .before .before .before .before .before .before .before .before .before .before .before .before .before .before .args .values .now)) (c .before .before .before .before .before .before .before .before .before .before .before .before .before .before .before .args .part .now)) (c .before .before .before .before .before .before .before .before .before .before .read-line .ensures) (c .before .before .before .before .before .before .before .before .before .before .before .before .before .before .before .args .t) (c .before .before .before .before .before .before .before .before .r .given .0 .0) (c .before .before .before .before .before .before .before .before .r .given .0 .1 .0) (c .before .before .before .before .before .before .before .before .r .given .0 .1 .1 .0) (c .before .before .before .before .before .before .before .before .r .given .1) (c .before .before .before .before .before .before .layout-of .result) (c .before .before .before .before .before .before .layout-of .ensures) (c .before .before .before .before .used .result) (c .before .before .before .note-use .result) (c .before .before .before .note-use .ensures) (c .before .place-after .result) (c .at-place .result) (c .at-place .ensures)))
+returns-2 c =
+    let c1 = c .before in
+    let c2 = c1 .before in
+    let c3 = c2 .before in
+    let c4 = c3 .before in
+    let c5 = c4 .before in
+    let c6 = c5 .before in
+    let c8 = c6 .before .before in
+    let c10 = c8 .before .before in
+    let c15 = c10 .before .before .before .before .before in
+    let a = c15 .args in
+    let read = c10 .read-line in
+    let g = c8 .r .given in
+    let layout = c6 .layout-of in
+    let used = c4 .used in
+    let note-use = c3 .note-use in
+    let place-after = c1 .place-after in
+    let at-place = c .at-place in
+    let names = lookUpAt (a .source .now) (a .places .now) (a .keys .now) (a .values .now) in (
+      use-line (read .result) (lineOf names (a .part .now)) (read .ensures) (a .t) (g .0 .0) (g .0 .1 .0) (g .0 .1 .1 .0) (g .1)
+          (layout .result) (layout .ensures) (used .result) (used .ensures) (note-use .result) (note-use .ensures) (c2 .after .result)
+          (c2 .after .ensures) (place-after .result) (place-after .ensures) (at-place .result) (at-place .ensures),
+      (
+        use-end (read .result) (lineOf names (a .part .now)) (read .ensures) (a .t) (g .0 .0) (g .0 .1 .0) (g .0 .1 .1 .0) (g .1)
+            (layout .result) (layout .ensures) (c5 .is-stop .result) (c5 .is-stop .ensures),
+        use-same (read .result) (lineOf names (a .part .now)) (read .ensures) (a .t) (g .0 .0) (g .0 .1 .0) (g .0 .1 .1 .0) (g .1)
+            (layout .result) (layout .ensures) (used .result) (note-use .result) (note-use .ensures) (place-after .result)
+            (at-place .result) (at-place .ensures),
+      ),
+    )
 
 pub use-line-spec : {M : Type 1} → statement M
 use-line-spec =

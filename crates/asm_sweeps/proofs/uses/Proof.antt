@@ -17,7 +17,9 @@ use Rattle.asm_sweeps.proofs.use_line.Reads as use-line-reads
 use Rattle.lines.proofs.line_at.Reads as line-at-reads
 
 abbrev Inv-loop : tie.InvT-loop
-Inv-loop source places keys values at₀ t₀ at t = (at ≤ length source) × (t .line ≤ at + 1) × (usesFrom (lookUpAt source places keys values) (linesOf (drop at source)) t ≡ usesOf (lookUpAt source places keys values) source)
+Inv-loop source places keys values at₀ t₀ at t =
+    (at ≤ length source) × (t .line ≤ at + 1)
+    × (usesFrom (lookUpAt source places keys values) (linesOf (drop at source)) t ≡ usesOf (lookUpAt source places keys values) source)
 
 abbrev μ-loop : tie.MeasureT-loop
 μ-loop source places keys values at₀ t₀ at t = length source - at
@@ -48,11 +50,27 @@ use-line-requires c κs = tt
 
 -- src/lib.rt:439:13
 returns : tie.Need-returns Inv-loop μ-loop
-returns c = use-all-end (c .before .before .before .before .before .before .before .before .before .before .args .source .now) (c .before .before .before .before .before .before .loop .at) (c .before .before .before .before .line-at .result .stop) (c .before .before .before .before .line-at .result .next) (c .before .before .before .before .line-at .ensures) (lookUpAt (c .before .before .before .before .before .before .before .before .before .before .args .source .now) (c .before .before .before .before .before .before .before .before .before .before .args .places .now) (c .before .before .before .before .before .before .before .before .before .before .args .keys .now) (c .before .before .before .before .before .before .before .before .before .before .args .values .now)) (c .before .before .before .before .before .before .loop .t) (c .before .before .use-line .result .tally) (c .before .before .use-line .ensures .0) (c .before .before .use-line .result .end) (c .before .before .use-line .ensures .1 .0) (c .before .if1 .taken) ∙ c .before .before .before .before .before .before .loop .inv .2
+returns c =
+    let c1 = c .before in
+    let c2 = c1 .before in
+    let c4 = c2 .before .before in
+    let c6 = c4 .before .before in
+    let c10 = c6 .before .before .before .before in
+    let a = c10 .args in
+    let cut = c4 .line-at in
+    let use-line = c2 .use-line in
+    use-all-end (a .source .now) (c6 .loop .at) (cut .result .stop) (cut .result .next) (cut .ensures)
+    (lookUpAt (a .source .now) (a .places .now) (a .keys .now) (a .values .now)) (c6 .loop .t) (use-line .result .tally)
+    (use-line .ensures .0) (use-line .result .end) (use-line .ensures .1 .0) (c1 .if1 .taken)
+    ∙ c6 .loop .inv .2
 
 -- src/lib.rt:441:9
 next-line-requires : tie.Need-next-line-requires Inv-loop μ-loop
-next-line-requires c κs = omega (arith, c .before .use-line .ensures .1 .1, c .before .before .before .before .before .loop .inv .1, c .before .before .before .before .before .before .before .before .before .good .0 .1)
+next-line-requires c κs =
+    let c1 = c .before in
+    let c5 = c1 .before .before .before .before in
+    let c9 = c5 .before .before .before .before in
+    omega (arith, c1 .use-line .ensures .1 .1, c5 .loop .inv .1, c9 .good .0 .1)
 
 -- src/lib.rt:432:5
 loop-less : tie.Need-loop-less Inv-loop μ-loop
@@ -60,11 +78,33 @@ loop-less c = omega arith
 
 -- src/lib.rt:432:5
 loop-again : tie.Need-loop-again Inv-loop μ-loop
-loop-again c = (omega arith, omega (arith, ap (λ (x : Tally). x .line) (c .next-line .ensures), c .before .before .use-line .ensures .1 .1), use-all-more (c .before .before .before .before .before .before .before .before .before .before .args .source .now) (c .before .before .before .before .before .before .loop .at) (c .before .before .before .before .line-at .result .stop) (c .before .before .before .before .line-at .result .next) (c .before .before .before .before .line-at .ensures) (lookUpAt (c .before .before .before .before .before .before .before .before .before .before .args .source .now) (c .before .before .before .before .before .before .before .before .before .before .args .places .now) (c .before .before .before .before .before .before .before .before .before .before .args .keys .now) (c .before .before .before .before .before .before .before .before .before .before .args .values .now)) (c .before .before .before .before .before .before .loop .t) (c .before .before .use-line .result .tally) (c .before .before .use-line .ensures .0) (c .before .before .use-line .result .end) (c .before .before .use-line .ensures .1 .0) (c .before .if1 .left) (c .next-line .result) (c .next-line .ensures) ∙ c .before .before .before .before .before .before .loop .inv .2)
+loop-again c =
+    let c1 = c .before in
+    let c2 = c1 .before in
+    let c4 = c2 .before .before in
+    let c6 = c4 .before .before in
+    let c10 = c6 .before .before .before .before in
+    let a = c10 .args in
+    let cut = c4 .line-at in
+    let use-line = c2 .use-line in
+    let next-line = c .next-line in (
+      omega arith,
+      omega (arith, ap (λ (x : Tally). x .line) (next-line .ensures), use-line .ensures .1 .1),
+      use-all-more (a .source .now) (c6 .loop .at) (cut .result .stop) (cut .result .next) (cut .ensures)
+          (lookUpAt (a .source .now) (a .places .now) (a .keys .now) (a .values .now)) (c6 .loop .t) (use-line .result .tally)
+          (use-line .ensures .0) (use-line .result .end) (use-line .ensures .1 .0) (c1 .if1 .left) (next-line .result) (next-line .ensures)
+          ∙ c6 .loop .inv .2,
+    )
 
 -- src/lib.rt:420:1
 returns-2 : tie.Need-returns-2 Inv-loop μ-loop
-returns-2 c = uses-last (c .before .before .before .before .before .args .source .now) (c .before .loop .at) (omega arith) (lookUpAt (c .before .before .before .before .before .args .source .now) (c .before .before .before .before .before .args .places .now) (c .before .before .before .before .before .args .keys .now) (c .before .before .before .before .before .args .values .now)) (c .before .loop .t) ∙ c .before .loop .inv .2
+returns-2 c =
+    let c1 = c .before in
+    let c5 = c1 .before .before .before .before in
+    let a = c5 .args in
+    uses-last (a .source .now) (c1 .loop .at) (omega arith) (lookUpAt (a .source .now) (a .places .now) (a .keys .now) (a .values .now))
+    (c1 .loop .t)
+    ∙ c1 .loop .inv .2
 
 pub uses-spec : {M : Type 1} → statement M
 uses-spec =

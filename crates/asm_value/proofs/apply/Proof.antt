@@ -94,8 +94,8 @@ returns-4 c =
       no-quotient (c4 .args .a) (c4 .args .b) (zero-bits (c4 .args .b) (c4 .fits .b) (c .if4 .taken)),
     )
 
-div-fit : tie.Need-div-fit
-div-fit c =
+div-q : tie.Need-div-q
+div-q c =
     let c4 = c .before .before .before .before in (
       bits-pos (c4 .args .b) (c4 .fits .b) (c .if4 .left),
       fits-on-wide (c4 .args .a) (c4 .args .b) (c4 .fits .a) (c4 .fits .b) quotZ
@@ -133,6 +133,6 @@ apply-spec =
     fit-requires-3
     returns-3
     returns-4
-    div-fit
+    div-q
     fit-requires-4
     returns-5)

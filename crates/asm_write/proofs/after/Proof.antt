@@ -45,7 +45,10 @@ enum-told-2 c = search needs
 -- src/lib.rt:366:1
 returns : tie.Need-returns
 unfolding nextOf
-returns c = ap next.Place (c .moved .ensures) ∙ sym (ap (nextOf (c .before .before .before .before .args .p)) (c .before .before .l .given .1))
+returns c =
+    let c2 = c .before .before in
+    let c4 = c2 .before .before in
+    ap next.Place (c .moved .ensures) ∙ sym (ap (nextOf (c4 .args .p)) (c2 .l .given .1))
 
 -- src/lib.rt:366:1
 returns-2 : tie.Need-returns-2

@@ -29,7 +29,11 @@ enum-known-n c = search needs
 
 -- src/lib.rt:52:18
 signed-requires : tie.Need-signed-requires
-signed-requires c κs = let h = number-below (4096 + 4096) (c .before .n .given .0 .0) (c .before .before .before .branch .result) (c .before .n .given .1) (c .before .before .before .branch .ensures .1) in (omega arith, omega (arith, h))
+signed-requires c κs =
+    let c1 = c .before in
+    let c3 = c1 .before .before in
+    let h = number-below (4096 + 4096) (c1 .n .given .0 .0) (c3 .branch .result) (c1 .n .given .1) (c3 .branch .ensures .1) in
+    (omega arith, omega (arith, h))
 
 -- src/lib.rt:51:27
 word-of-requires : tie.Need-word-of-requires
@@ -46,17 +50,34 @@ enum-told-2 c = search needs
 -- src/lib.rt:47:1
 returns : tie.Need-returns
 unfolding numberOf
-returns c = let e : toZ w16 (ofZ w16 (c .before .signed .result)) ≡ c .before .signed .result = search needs in coded-number (c .before .before .before .before .before .branch .result) (branchFit 4096 (c .before .before .before .before .before .before .args .p) (c .before .before .before .before .before .before .args .v)) (c .before .before .before .before .before .branch .ensures .0) (λ (n : ℕ). i.Bl (signedOf 4096 n)) (c .before .before .before .n .given .0 .0) (i.Bl (c .before .signed .result)) (c .word-of .result) (c .before .before .before .n .given .1) (rw e at (c .word-of .ensures)) (ap (λ (z : ℤ). i.Bl (z)) (c .before .signed .ensures))
+returns c =
+    let c1 = c .before in
+    let c3 = c1 .before .before in
+    let c5 = c3 .before .before in
+    let c6 = c5 .before in
+    let signed = c1 .signed in
+    let e : toZ w16 (ofZ w16 (signed .result)) ≡ signed .result = search needs in
+    coded-number (c5 .branch .result) (branchFit 4096 (c6 .args .p) (c6 .args .v)) (c5 .branch .ensures .0)
+    (λ (n : ℕ). i.Bl (signedOf 4096 n)) (c3 .n .given .0 .0) (i.Bl (signed .result)) (c .word-of .result) (c3 .n .given .1)
+    (rw e at (c .word-of .ensures)) (ap (λ (z : ℤ). i.Bl z) (signed .ensures))
 
 -- src/lib.rt:47:1
 returns-2 : tie.Need-returns-2
 unfolding numberOf
-returns-2 c = coded-unknown (c .before .before .branch .result) (branchFit 4096 (c .before .before .before .args .p) (c .before .before .before .args .v)) (c .before .before .branch .ensures .0) (λ (n : ℕ). i.Bl (signedOf 4096 n)) (c .enum-told .given .1)
+returns-2 c =
+    let c2 = c .before .before in
+    let c3 = c2 .before in
+    coded-unknown (c2 .branch .result) (branchFit 4096 (c3 .args .p) (c3 .args .v)) (c2 .branch .ensures .0)
+    (λ (n : ℕ). i.Bl (signedOf 4096 n)) (c .enum-told .given .1)
 
 -- src/lib.rt:47:1
 returns-3 : tie.Need-returns-3
 unfolding numberOf
-returns-3 c = coded-outside (c .before .before .branch .result) (branchFit 4096 (c .before .before .before .args .p) (c .before .before .before .args .v)) (c .before .before .branch .ensures .0) (λ (n : ℕ). i.Bl (signedOf 4096 n)) (c .enum-told2 .given .1)
+returns-3 c =
+    let c2 = c .before .before in
+    let c3 = c2 .before in
+    coded-outside (c2 .branch .result) (branchFit 4096 (c3 .args .p) (c3 .args .v)) (c2 .branch .ensures .0)
+    (λ (n : ℕ). i.Bl (signedOf 4096 n)) (c .enum-told2 .given .1)
 
 pub branch-and-link-spec : {M : Type 1} → statement M
 branch-and-link-spec =

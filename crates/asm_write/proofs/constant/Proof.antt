@@ -28,7 +28,10 @@ enum-known-n c = search needs
 
 -- src/lib.rt:82:18
 cast-t9 : tie.Need-cast-t9
-cast-t9 c = let h = number-below 8 (c .before .n .given .0 .0) (c .before .before .before .constant .result) (c .before .n .given .1) (c .before .before .before .constant .ensures .1) in omega (arith, h)
+cast-t9 c =
+    let c1 = c .before in
+    let c3 = c1 .before .before in
+    let h = number-below 8 (c1 .n .given .0 .0) (c3 .constant .result) (c1 .n .given .1) (c3 .constant .ensures .1) in omega (arith, h)
 
 -- src/lib.rt:78:27
 word-of-requires : tie.Need-word-of-requires
@@ -45,17 +48,35 @@ enum-told-2 c = search needs
 -- src/lib.rt:74:1
 returns : tie.Need-returns
 unfolding numberOf
-returns c = coded-number (c .before .before .before .before .constant .result) (constantFit (c .before .before .before .before .before .args .v)) (c .before .before .before .before .constant .ensures .0) (λ (n : ℕ). i.Alu (c .before .before .before .before .before .args .op) 1 (c .before .before .before .before .before .args .wb) n (c .before .before .before .before .before .args .dst)) (c .before .before .n .given .0 .0) (i.Alu (c .before .before .before .before .before .args .op) 1 (c .before .before .before .before .before .args .wb) (c .before .before .n .given .0 .0) (c .before .before .before .before .before .args .dst)) (c .word-of .result) (c .before .before .n .given .1) (c .word-of .ensures) refl
+returns c =
+    let c2 = c .before .before in
+    let c4 = c2 .before .before in
+    let c5 = c4 .before in
+    let a = c5 .args in
+    let n- = c2 .n in
+    coded-number (c4 .constant .result) (constantFit (a .v)) (c4 .constant .ensures .0) (λ (n : ℕ). i.Alu (a .op) 1 (a .wb) n (a .dst))
+    (n- .given .0 .0) (i.Alu (a .op) 1 (a .wb) (n- .given .0 .0) (a .dst)) (c .word-of .result) (n- .given .1) (c .word-of .ensures)
+    refl
 
 -- src/lib.rt:74:1
 returns-2 : tie.Need-returns-2
 unfolding numberOf
-returns-2 c = coded-unknown (c .before .before .constant .result) (constantFit (c .before .before .before .args .v)) (c .before .before .constant .ensures .0) (λ (n : ℕ). i.Alu (c .before .before .before .args .op) 1 (c .before .before .before .args .wb) n (c .before .before .before .args .dst)) (c .enum-told .given .1)
+returns-2 c =
+    let c2 = c .before .before in
+    let c3 = c2 .before in
+    let a = c3 .args in
+    coded-unknown (c2 .constant .result) (constantFit (a .v)) (c2 .constant .ensures .0) (λ (n : ℕ). i.Alu (a .op) 1 (a .wb) n (a .dst))
+    (c .enum-told .given .1)
 
 -- src/lib.rt:74:1
 returns-3 : tie.Need-returns-3
 unfolding numberOf
-returns-3 c = coded-outside (c .before .before .constant .result) (constantFit (c .before .before .before .args .v)) (c .before .before .constant .ensures .0) (λ (n : ℕ). i.Alu (c .before .before .before .args .op) 1 (c .before .before .before .args .wb) n (c .before .before .before .args .dst)) (c .enum-told2 .given .1)
+returns-3 c =
+    let c2 = c .before .before in
+    let c3 = c2 .before in
+    let a = c3 .args in
+    coded-outside (c2 .constant .result) (constantFit (a .v)) (c2 .constant .ensures .0) (λ (n : ℕ). i.Alu (a .op) 1 (a .wb) n (a .dst))
+    (c .enum-told2 .given .1)
 
 pub constant-spec : {M : Type 1} → statement M
 constant-spec =

@@ -28,7 +28,11 @@ enum-known-n c = search needs
 
 -- src/lib.rt:148:19
 cast-t9 : tie.Need-cast-t9
-cast-t9 c = let h = number-below 256 (c .before .n .given .0 .0) (c .before .before .before .immediate .result) (c .before .n .given .1) (c .before .before .before .immediate .ensures .1) in omega (arith, h)
+cast-t9 c =
+    let c1 = c .before in
+    let c3 = c1 .before .before in
+    let h = number-below 256 (c1 .n .given .0 .0) (c3 .immediate .result) (c1 .n .given .1) (c3 .immediate .ensures .1) in
+    omega (arith, h)
 
 -- src/lib.rt:146:27
 word-of-requires : tie.Need-word-of-requires
@@ -45,17 +49,35 @@ enum-told-2 c = search needs
 -- src/lib.rt:142:1
 returns : tie.Need-returns
 unfolding numberOf
-returns c = coded-number (c .before .before .before .before .immediate .result) (immediateFit (c .before .before .before .before .before .args .op) (c .before .before .before .before .before .args .plain) (c .before .before .before .before .before .args .v)) (c .before .before .before .before .immediate .ensures .0) (λ (n : ℕ). i.MovImm (c .before .before .before .before .before .args .op) n (c .before .before .before .before .before .args .dst)) (c .before .before .n .given .0 .0) (i.MovImm (c .before .before .before .before .before .args .op) (c .before .before .n .given .0 .0) (c .before .before .before .before .before .args .dst)) (c .word-of .result) (c .before .before .n .given .1) (c .word-of .ensures) refl
+returns c =
+    let c2 = c .before .before in
+    let c4 = c2 .before .before in
+    let c5 = c4 .before in
+    let a = c5 .args in
+    let n- = c2 .n in
+    coded-number (c4 .immediate .result) (immediateFit (a .op) (a .plain) (a .v)) (c4 .immediate .ensures .0)
+    (λ (n : ℕ). i.MovImm (a .op) n (a .dst)) (n- .given .0 .0) (i.MovImm (a .op) (n- .given .0 .0) (a .dst)) (c .word-of .result)
+    (n- .given .1) (c .word-of .ensures) refl
 
 -- src/lib.rt:142:1
 returns-2 : tie.Need-returns-2
 unfolding numberOf
-returns-2 c = coded-unknown (c .before .before .immediate .result) (immediateFit (c .before .before .before .args .op) (c .before .before .before .args .plain) (c .before .before .before .args .v)) (c .before .before .immediate .ensures .0) (λ (n : ℕ). i.MovImm (c .before .before .before .args .op) n (c .before .before .before .args .dst)) (c .enum-told .given .1)
+returns-2 c =
+    let c2 = c .before .before in
+    let c3 = c2 .before in
+    let a = c3 .args in
+    coded-unknown (c2 .immediate .result) (immediateFit (a .op) (a .plain) (a .v)) (c2 .immediate .ensures .0)
+    (λ (n : ℕ). i.MovImm (a .op) n (a .dst)) (c .enum-told .given .1)
 
 -- src/lib.rt:142:1
 returns-3 : tie.Need-returns-3
 unfolding numberOf
-returns-3 c = coded-outside (c .before .before .immediate .result) (immediateFit (c .before .before .before .args .op) (c .before .before .before .args .plain) (c .before .before .before .args .v)) (c .before .before .immediate .ensures .0) (λ (n : ℕ). i.MovImm (c .before .before .before .args .op) n (c .before .before .before .args .dst)) (c .enum-told2 .given .1)
+returns-3 c =
+    let c2 = c .before .before in
+    let c3 = c2 .before in
+    let a = c3 .args in
+    coded-outside (c2 .immediate .result) (immediateFit (a .op) (a .plain) (a .v)) (c2 .immediate .ensures .0)
+    (λ (n : ℕ). i.MovImm (a .op) n (a .dst)) (c .enum-told2 .given .1)
 
 pub immediate-spec : {M : Type 1} → statement M
 immediate-spec =

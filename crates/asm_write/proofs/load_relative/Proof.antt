@@ -29,7 +29,11 @@ enum-known-n c = search needs
 
 -- src/lib.rt:162:18
 signed-requires : tie.Need-signed-requires
-signed-requires c κs = let h = number-below 128 (c .before .n .given .0 .0) (c .before .before .before .offset .result) (c .before .n .given .1) (c .before .before .before .offset .ensures .1) in (omega arith, omega (arith, h))
+signed-requires c κs =
+    let c1 = c .before in
+    let c3 = c1 .before .before in
+    let h = number-below 128 (c1 .n .given .0 .0) (c3 .offset .result) (c1 .n .given .1) (c3 .offset .ensures .1) in
+    (omega arith, omega (arith, h))
 
 -- src/lib.rt:161:27
 word-of-requires : tie.Need-word-of-requires
@@ -46,17 +50,38 @@ enum-told-2 c = search needs
 -- src/lib.rt:157:1
 returns : tie.Need-returns
 unfolding numberOf
-returns c = let e : toZ w16 (ofZ w16 (c .before .signed .result)) ≡ c .before .signed .result = search needs in coded-number (c .before .before .before .before .before .offset .result) (offsetFit (c .before .before .before .before .before .before .args .v)) (c .before .before .before .before .before .offset .ensures .0) (λ (n : ℕ). i.Ldr (signedOf 64 n) (c .before .before .before .before .before .before .args .wb) (c .before .before .before .before .before .before .args .src) (c .before .before .before .before .before .before .args .dst)) (c .before .before .before .n .given .0 .0) (i.Ldr (c .before .signed .result) (c .before .before .before .before .before .before .args .wb) (c .before .before .before .before .before .before .args .src) (c .before .before .before .before .before .before .args .dst)) (c .word-of .result) (c .before .before .before .n .given .1) (rw e at (c .word-of .ensures)) (ap (λ (z : ℤ). i.Ldr (z) (c .before .before .before .before .before .before .args .wb) (c .before .before .before .before .before .before .args .src) (c .before .before .before .before .before .before .args .dst)) (c .before .signed .ensures))
+returns c =
+    let c1 = c .before in
+    let c3 = c1 .before .before in
+    let c5 = c3 .before .before in
+    let c6 = c5 .before in
+    let a = c6 .args in
+    let signed = c1 .signed in
+    let e : toZ w16 (ofZ w16 (signed .result)) ≡ signed .result = search needs in
+    coded-number (c5 .offset .result) (offsetFit (a .v)) (c5 .offset .ensures .0)
+    (λ (n : ℕ). i.Ldr (signedOf 64 n) (a .wb) (a .src) (a .dst)) (c3 .n .given .0 .0)
+    (i.Ldr (signed .result) (a .wb) (a .src) (a .dst)) (c .word-of .result) (c3 .n .given .1) (rw e at (c .word-of .ensures))
+    (ap (λ (z : ℤ). i.Ldr z (a .wb) (a .src) (a .dst)) (signed .ensures))
 
 -- src/lib.rt:157:1
 returns-2 : tie.Need-returns-2
 unfolding numberOf
-returns-2 c = coded-unknown (c .before .before .offset .result) (offsetFit (c .before .before .before .args .v)) (c .before .before .offset .ensures .0) (λ (n : ℕ). i.Ldr (signedOf 64 n) (c .before .before .before .args .wb) (c .before .before .before .args .src) (c .before .before .before .args .dst)) (c .enum-told .given .1)
+returns-2 c =
+    let c2 = c .before .before in
+    let c3 = c2 .before in
+    let a = c3 .args in
+    coded-unknown (c2 .offset .result) (offsetFit (a .v)) (c2 .offset .ensures .0)
+    (λ (n : ℕ). i.Ldr (signedOf 64 n) (a .wb) (a .src) (a .dst)) (c .enum-told .given .1)
 
 -- src/lib.rt:157:1
 returns-3 : tie.Need-returns-3
 unfolding numberOf
-returns-3 c = coded-outside (c .before .before .offset .result) (offsetFit (c .before .before .before .args .v)) (c .before .before .offset .ensures .0) (λ (n : ℕ). i.Ldr (signedOf 64 n) (c .before .before .before .args .wb) (c .before .before .before .args .src) (c .before .before .before .args .dst)) (c .enum-told2 .given .1)
+returns-3 c =
+    let c2 = c .before .before in
+    let c3 = c2 .before in
+    let a = c3 .args in
+    coded-outside (c2 .offset .result) (offsetFit (a .v)) (c2 .offset .ensures .0)
+    (λ (n : ℕ). i.Ldr (signedOf 64 n) (a .wb) (a .src) (a .dst)) (c .enum-told2 .given .1)
 
 pub load-relative-spec : {M : Type 1} → statement M
 load-relative-spec =

@@ -177,7 +177,10 @@ returns-8 c = c .word-of .ensures ∙ sym (ap (numberOf (c .before .before .befo
 -- src/lib.rt:189:1
 returns-9 : tie.Need-returns-9
 unfolding numberOf
-returns-9 c = c .branch-and-link .ensures ∙ sym (ap (numberOf (c .before .before .before .before .args .p)) (c .before .before .x4 .given .1))
+returns-9 c =
+    let c2 = c .before .before in
+    let c4 = c2 .before .before in
+    c .branch-and-link .ensures ∙ sym (ap (numberOf (c4 .args .p)) (c2 .x4 .given .1))
 
 -- src/lib.rt:189:1
 returns-10 : tie.Need-returns-10
@@ -212,12 +215,18 @@ returns-15 c = c .immediate .ensures ∙ sym (ap (numberOf (c .before .before .b
 -- src/lib.rt:189:1
 returns-16 : tie.Need-returns-16
 unfolding numberOf
-returns-16 c = c .load-relative .ensures ∙ sym (ap (numberOf (c .before .before .before .before .args .p)) (c .before .before .x11 .given .1))
+returns-16 c =
+    let c2 = c .before .before in
+    let c4 = c2 .before .before in
+    c .load-relative .ensures ∙ sym (ap (numberOf (c4 .args .p)) (c2 .x11 .given .1))
 
 -- src/lib.rt:189:1
 returns-17 : tie.Need-returns-17
 unfolding numberOf
-returns-17 c = c .store-relative .ensures ∙ sym (ap (numberOf (c .before .before .before .before .args .p)) (c .before .before .x12 .given .1))
+returns-17 c =
+    let c2 = c .before .before in
+    let c4 = c2 .before .before in
+    c .store-relative .ensures ∙ sym (ap (numberOf (c4 .args .p)) (c2 .x12 .given .1))
 
 pub number-spec : {M : Type 1} → statement M
 number-spec =

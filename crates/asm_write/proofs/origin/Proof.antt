@@ -18,11 +18,18 @@ enum-known-v c = search needs
 
 -- src/lib.rt:328:17
 returns : tie.Need-returns
-returns c = let f : SFits w32 (c .before .before .v .given .0 .0) = search needs in org-minus (c .before .before .before .before .args .v) (c .before .before .v .given .0 .0) (c .before .before .v .given .1) (mag (c .before .before .v .given .0 .0)) (from-minus (c .before .before .v .given .0 .0) f (c .if1 .taken))
+returns c =
+    let c2 = c .before .before in
+    let c4 = c2 .before .before in
+    let v = c2 .v in
+    let f : SFits w32 (v .given .0 .0) = search needs in
+    org-minus (c4 .args .v) (v .given .0 .0) (v .given .1) (mag (v .given .0 .0)) (from-minus (v .given .0 .0) f (c .if1 .taken))
 
 -- src/lib.rt:330:25
 cast-t5 : tie.Need-cast-t5
-cast-t5 c = let f : SFits w32 (c .before .before .v .given .0 .0) = search needs in up-cast (c .before .before .v .given .0 .0) f (c .if1 .left)
+cast-t5 c =
+    let c2 = c .before .before in
+    let f : SFits w32 (c2 .v .given .0 .0) = search needs in up-cast (c2 .v .given .0 .0) f (c .if1 .left)
 
 -- src/lib.rt:332:27
 enum-told : tie.Need-enum-told
@@ -34,7 +41,13 @@ enum-told-2 c = search needs
 
 -- src/lib.rt:322:1
 returns-2 : tie.Need-returns-2
-returns-2 c = let f : SFits w32 (c .before .before .v .given .0 .0) = search needs in org-plus (c .before .before .before .before .args .v) (c .before .before .v .given .0 .0) (c .before .before .v .given .1) (natAbs (toZ w32 (ofZ w32 (c .before .before .v .given .0 .0)))) (from-plus (c .before .before .v .given .0 .0) f (c .if1 .left))
+returns-2 c =
+    let c2 = c .before .before in
+    let c4 = c2 .before .before in
+    let v = c2 .v in
+    let f : SFits w32 (v .given .0 .0) = search needs in
+    org-plus (c4 .args .v) (v .given .0 .0) (v .given .1) (natAbs (toZ w32 (ofZ w32 (v .given .0 .0))))
+    (from-plus (v .given .0 .0) f (c .if1 .left))
 
 -- src/lib.rt:322:1
 returns-3 : tie.Need-returns-3

@@ -28,7 +28,10 @@ enum-known-n c = search needs
 
 -- src/lib.rt:96:20
 cast-t6 : tie.Need-cast-t6
-cast-t6 c = let h = number-below 8 (c .before .n .given .0 .0) (c .before .before .before .count .result) (c .before .n .given .1) (c .before .before .before .count .ensures .1) in omega (arith, h)
+cast-t6 c =
+    let c1 = c .before in
+    let c3 = c1 .before .before in
+    let h = number-below 8 (c1 .n .given .0 .0) (c3 .count .result) (c1 .n .given .1) (c3 .count .ensures .1) in omega (arith, h)
 
 -- src/lib.rt:95:27
 word-of-requires : tie.Need-word-of-requires
@@ -45,17 +48,29 @@ enum-told-2 c = search needs
 -- src/lib.rt:91:1
 returns : tie.Need-returns
 unfolding numberOf
-returns c = coded-number (c .before .before .before .before .count .result) (countFit 8 (c .before .before .before .before .before .args .v)) (c .before .before .before .before .count .ensures .0) (i.SetPri) (c .before .before .n .given .0 .0) (i.SetPri (c .before .before .n .given .0 .0)) (c .word-of .result) (c .before .before .n .given .1) (c .word-of .ensures) refl
+returns c =
+    let c2 = c .before .before in
+    let c4 = c2 .before .before in
+    let c5 = c4 .before in
+    let n = c2 .n in
+    coded-number (c4 .count .result) (countFit 8 (c5 .args .v)) (c4 .count .ensures .0) i.SetPri (n .given .0 .0)
+    (i.SetPri (n .given .0 .0)) (c .word-of .result) (n .given .1) (c .word-of .ensures) refl
 
 -- src/lib.rt:91:1
 returns-2 : tie.Need-returns-2
 unfolding numberOf
-returns-2 c = coded-unknown (c .before .before .count .result) (countFit 8 (c .before .before .before .args .v)) (c .before .before .count .ensures .0) (i.SetPri) (c .enum-told .given .1)
+returns-2 c =
+    let c2 = c .before .before in
+    let c3 = c2 .before in
+    coded-unknown (c2 .count .result) (countFit 8 (c3 .args .v)) (c2 .count .ensures .0) (i.SetPri) (c .enum-told .given .1)
 
 -- src/lib.rt:91:1
 returns-3 : tie.Need-returns-3
 unfolding numberOf
-returns-3 c = coded-outside (c .before .before .count .result) (countFit 8 (c .before .before .before .args .v)) (c .before .before .count .ensures .0) (i.SetPri) (c .enum-told2 .given .1)
+returns-3 c =
+    let c2 = c .before .before in
+    let c3 = c2 .before in
+    coded-outside (c2 .count .result) (countFit 8 (c3 .args .v)) (c2 .count .ensures .0) (i.SetPri) (c .enum-told2 .given .1)
 
 pub set-priority-spec : {M : Type 1} → statement M
 set-priority-spec =

@@ -19,11 +19,19 @@ enum-known-v c = search needs
 
 -- src/lib.rt:356:17
 returns : tie.Need-returns
-returns c = let f : SFits w32 (c .before .before .v .given .0 .0) = search needs in bss-minus (c .before .before .before .before .args .v) (c .before .before .v .given .0 .0) (c .before .before .v .given .1) (c .before .before .before .before .args .p) (mag (c .before .before .v .given .0 .0)) (from-minus (c .before .before .v .given .0 .0) f (c .if1 .taken))
+returns c =
+    let c2 = c .before .before in
+    let c4 = c2 .before .before in
+    let v = c2 .v in
+    let f : SFits w32 (v .given .0 .0) = search needs in
+    bss-minus (c4 .args .v) (v .given .0 .0) (v .given .1) (c4 .args .p) (mag (v .given .0 .0))
+    (from-minus (v .given .0 .0) f (c .if1 .taken))
 
 -- src/lib.rt:358:21
 cast-room : tie.Need-cast-room
-cast-room c = let f : SFits w32 (c .before .before .v .given .0 .0) = search needs in up-cast (c .before .before .v .given .0 .0) f (c .if1 .left)
+cast-room c =
+    let c2 = c .before .before in
+    let f : SFits w32 (c2 .v .given .0 .0) = search needs in up-cast (c2 .v .given .0 .0) f (c .if1 .left)
 
 -- src/lib.rt:358:13
 room-requires : tie.Need-room-requires
@@ -39,7 +47,14 @@ enum-told-2 c = search needs
 
 -- src/lib.rt:350:1
 returns-2 : tie.Need-returns-2
-returns-2 c = let f : SFits w32 (c .before .before .before .v .given .0 .0) = search needs in bss-plus (c .before .before .before .before .before .args .v) (c .before .before .before .v .given .0 .0) (c .before .before .before .v .given .1) (c .before .before .before .before .before .args .p) (natAbs (toZ w32 (ofZ w32 (c .before .before .before .v .given .0 .0)))) (c .room .result) (c .room .ensures) (from-plus (c .before .before .before .v .given .0 .0) f (c .before .if1 .left))
+returns-2 c =
+    let c1 = c .before in
+    let c3 = c1 .before .before in
+    let c5 = c3 .before .before in
+    let v = c3 .v in
+    let f : SFits w32 (v .given .0 .0) = search needs in
+    bss-plus (c5 .args .v) (v .given .0 .0) (v .given .1) (c5 .args .p) (natAbs (toZ w32 (ofZ w32 (v .given .0 .0)))) (c .room .result)
+    (c .room .ensures) (from-plus (v .given .0 .0) f (c1 .if1 .left))
 
 -- src/lib.rt:350:1
 returns-3 : tie.Need-returns-3

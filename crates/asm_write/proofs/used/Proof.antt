@@ -31,7 +31,16 @@ misplaced-requires c κs = search needs
 
 -- src/lib.rt:301:17
 returns : tie.Need-returns
-returns c = used-misplaced (c .before .before .before .before .before .before .before .before .args .p) (c .before .before .before .before .before .before .before .before .args .x) (c .before .before .before .before .before .before .before .layout-of .result) (c .before .before .before .before .before .before .size .result) (c .before .before .before .before .before .number .result) (c .before .before .before .before .before .before .before .layout-of .ensures) (c .before .before .before .before .before .before .size .ensures) (c .before .before .before .before .before .number .ensures) (c .before .before .before .n .given .0 .0) (c .before .misplaced .result) (c .before .before .before .n .given .1) (c .before .misplaced .ensures) (c .if1 .taken)
+returns c =
+    let c1 = c .before in
+    let c3 = c1 .before .before in
+    let c5 = c3 .before .before in
+    let c6 = c5 .before in
+    let c7 = c6 .before in
+    let c8 = c7 .before in
+    used-misplaced (c8 .args .p) (c8 .args .x) (c7 .layout-of .result) (c6 .size .result) (c5 .number .result) (c7 .layout-of .ensures)
+    (c6 .size .ensures) (c5 .number .ensures) (c3 .n .given .0 .0) (c1 .misplaced .result) (c3 .n .given .1) (c1 .misplaced .ensures)
+    (c .if1 .taken)
 
 -- src/lib.rt:305:25
 enum-told : tie.Need-enum-told
@@ -43,15 +52,36 @@ enum-told-2 c = search needs
 
 -- src/lib.rt:294:1
 returns-2 : tie.Need-returns-2
-returns-2 c = used-placed (c .before .before .before .before .before .before .before .before .args .p) (c .before .before .before .before .before .before .before .before .args .x) (c .before .before .before .before .before .before .before .layout-of .result) (c .before .before .before .before .before .before .size .result) (c .before .before .before .before .before .number .result) (c .before .before .before .before .before .before .before .layout-of .ensures) (c .before .before .before .before .before .before .size .ensures) (c .before .before .before .before .before .number .ensures) (c .before .before .before .n .given .0 .0) (c .before .misplaced .result) (c .before .before .before .n .given .1) (c .before .misplaced .ensures) (c .if1 .left)
+returns-2 c =
+    let c1 = c .before in
+    let c3 = c1 .before .before in
+    let c5 = c3 .before .before in
+    let c6 = c5 .before in
+    let c7 = c6 .before in
+    let c8 = c7 .before in
+    used-placed (c8 .args .p) (c8 .args .x) (c7 .layout-of .result) (c6 .size .result) (c5 .number .result) (c7 .layout-of .ensures)
+    (c6 .size .ensures) (c5 .number .ensures) (c3 .n .given .0 .0) (c1 .misplaced .result) (c3 .n .given .1) (c1 .misplaced .ensures)
+    (c .if1 .left)
 
 -- src/lib.rt:294:1
 returns-3 : tie.Need-returns-3
-returns-3 c = used-unknown (c .before .before .before .before .before .args .p) (c .before .before .before .before .before .args .x) (c .before .before .before .before .layout-of .result) (c .before .before .before .size .result) (c .before .before .number .result) (c .before .before .before .before .layout-of .ensures) (c .before .before .before .size .ensures) (c .before .before .number .ensures) (c .enum-told .given .1)
+returns-3 c =
+    let c2 = c .before .before in
+    let c3 = c2 .before in
+    let c4 = c3 .before in
+    let c5 = c4 .before in
+    used-unknown (c5 .args .p) (c5 .args .x) (c4 .layout-of .result) (c3 .size .result) (c2 .number .result) (c4 .layout-of .ensures)
+    (c3 .size .ensures) (c2 .number .ensures) (c .enum-told .given .1)
 
 -- src/lib.rt:294:1
 returns-4 : tie.Need-returns-4
-returns-4 c = used-outside (c .before .before .before .before .before .args .p) (c .before .before .before .before .before .args .x) (c .before .before .before .before .layout-of .result) (c .before .before .before .size .result) (c .before .before .number .result) (c .before .before .before .before .layout-of .ensures) (c .before .before .before .size .ensures) (c .before .before .number .ensures) (c .enum-told2 .given .1)
+returns-4 c =
+    let c2 = c .before .before in
+    let c3 = c2 .before in
+    let c4 = c3 .before in
+    let c5 = c4 .before in
+    used-outside (c5 .args .p) (c5 .args .x) (c4 .layout-of .result) (c3 .size .result) (c2 .number .result) (c4 .layout-of .ensures)
+    (c3 .size .ensures) (c2 .number .ensures) (c .enum-told2 .given .1)
 
 pub used-spec : {M : Type 1} → statement M
 used-spec =

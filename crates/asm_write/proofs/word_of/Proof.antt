@@ -21,11 +21,18 @@ enum-told c = search needs
 
 -- src/lib.rt:37:1
 returns : tie.Need-returns
-returns c = encoded-word (c .before .before .before .encode .result) (encodeOf (c .before .before .before .before .args .x)) (c .before .w .given .0 .0) (c .before .before .before .encode .ensures) (c .before .w .given .1)
+returns c =
+    let c1 = c .before in
+    let c3 = c1 .before .before in
+    let c4 = c3 .before in
+    encoded-word (c3 .encode .result) (encodeOf (c4 .args .x)) (c1 .w .given .0 .0) (c3 .encode .ensures) (c1 .w .given .1)
 
 -- src/lib.rt:37:1
 returns-2 : tie.Need-returns-2
-returns-2 c = encoded-refused (c .before .before .encode .result) (encodeOf (c .before .before .before .args .x)) (c .before .before .encode .ensures) (c .enum-told .given .1)
+returns-2 c =
+    let c2 = c .before .before in
+    let c3 = c2 .before in
+    encoded-refused (c2 .encode .result) (encodeOf (c3 .args .x)) (c2 .encode .ensures) (c .enum-told .given .1)
 
 pub word-of-spec : {M : Type 1} → statement M
 word-of-spec = tie.close (tie.spec encode-requires enum-known-w enum-told returns returns-2)

@@ -1,8 +1,8 @@
-; Stops one number early: its sum is too small.
+; Adds the eight numbers at $0100 and puts their sum at $0120.
         ORG $1000
 START   MOVLZ $00,R1
-        MOVH $01,R1         ; R1 is #0100
-        MOVLZ #7,R2
+        MOVH $01,R1         ; R1 is $0100
+        MOVLZ #8,R2
         MOVLZ #0,R0
 NEXT    LD R1+,R3
         ADD R3,R0

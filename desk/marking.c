@@ -1,0 +1,62 @@
+/* One program of a sitting: read, run, and told in its row. */
+#include <string.h>
+
+#include "desk.h"
+
+/* Of a long screen text the row has the first bytes, and how many there were. */
+static void put_screen(struct row *r, const struct text *screen)
+{
+    add_bytes(&r->screen, screen->at, screen->length < MOST_SCREEN ? screen->length : MOST_SCREEN);
+    if (screen->length > MOST_SCREEN)
+        add(&r->screen, " .. (%lu bytes)", (unsigned long)screen->length);
+}
+
+static void run_marked(const struct sitting *s, struct marked *m)
+{
+    struct row *r = &m->row;
+    struct fault f = {0};
+    m->o.screen = &m->screen;
+    m->ran = open_program(s->paper, &m->program, &m->before, &f);
+    if (m->ran) {
+        memcpy(&m->after, &m->before, sizeof m->after);
+        run_machine(&m->after, s->paper, s->paper->steps, &m->o);
+        add_line(&r->line, m->after.record, &m->o);
+        r->steps = m->o.steps;
+        r->deepest = m->o.deepest;
+        put_screen(r, &m->screen);
+        memcpy(&m->scratch, &m->before, sizeof m->scratch);
+        walk_run(&m->walk, s->paper, &m->scratch, m->o.steps);
+    } else {
+        add(&r->line, "R%u", f.refusal);
+        add(&r->says, "line %lu: %s", (unsigned long)f.line, f.why.at);
+    }
+    drop(&f.why);
+}
+
+int mark_program(const struct sitting *s, const char *name, int regular, struct marked *m)
+{
+    struct row *r = &m->row;
+    int good = 1;
+    memset(r, 0, sizeof *r);
+    memset(&m->o, 0, sizeof m->o);
+    memset(&m->screen, 0, sizeof m->screen);
+    m->ran = 0;
+    r->name = name;
+    add_bytes(&r->line, "", 0);
+    add_bytes(&r->says, "", 0);
+    add_bytes(&r->screen, "", 0);
+    if (read_program(name, regular, &m->program, &r->says)) {
+        good = sha256(m->program.bytes, m->program.length, r->digest);
+        if (good)
+            run_marked(s, m);
+    }
+    r->agrees = !s->paper->expected ? -1 : strcmp(r->line.at, s->paper->expected) == 0;
+    return good;
+}
+
+void drop_marked(struct marked *m)
+{
+    drop_row(&m->row);
+    drop(&m->screen);
+    drop_program(&m->program);
+}

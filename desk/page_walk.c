@@ -1,0 +1,265 @@
+/*
+ * The walk on a page: its last steps, the frames and the stack at the close as tables, which are there without scripts;
+ * and the whole walk as data for desk/walk.js.
+ */
+#include <stdlib.h>
+#include <string.h>
+
+#include "desk.h"
+
+#define LAST_STEPS 32 /* rows of the table of last steps */
+#define MOST_TURNS 64 /* of that of entries, returns and faults */
+#define MOST_WORDS 24 /* of that of the stack */
+#define SCREEN_BEFORE 2048 /* bytes of screen text from before the walk */
+
+/* ---- tables */
+
+static void add_step_row(struct text *t, const struct step *s)
+{
+    struct text what = {0};
+    add_what(&what, s);
+    add(t, "<tr><td class=\"n\">%lu</td><td class=\"n\">%04X</td><td class=\"n\">", (unsigned long)step_count(s),
+        get_word(s->before, XM23_RECORD_REGISTER(7)));
+    if (s->fetched)
+        add(t, "%04X", s->word);
+    add(t, "</td><td class=\"n pre\">");
+    add_html(t, what.at, what.length);
+    add(t, "</td><td class=\"n\">");
+    add_left(t, s);
+    add(t, "</td></tr>\n");
+    drop(&what);
+}
+
+static void add_last_steps(struct text *t, const struct walk *w)
+{
+    uint32_t many = w->many < LAST_STEPS ? w->many : LAST_STEPS;
+    add(t, "<h2>The last %lu step%s</h2>\n", (unsigned long)many, many == 1 ? "" : "s");
+    add(t, "<p>A step is named by the step count before it.</p>\n");
+    open_table(t, "Step|PC|Word|Instruction, or what else it was|What it left, PC aside");
+    for (uint32_t i = w->many - many; i < w->many; i++)
+        add_step_row(t, &w->steps[i]);
+    close_table(t);
+}
+
+static int is_turn(const struct step *s)
+{
+    return s->act != EXECUTED && s->act != SKIPPED && s->act != ASLEEP;
+}
+
+/* Entries, returns and faults of the walk, the newest of them. */
+static void add_turns(struct text *t, const struct walk *w)
+{
+    unsigned many = 0, passed = 0;
+    for (uint32_t i = 0; i < w->many; i++)
+        many += (unsigned)is_turn(&w->steps[i]);
+    add(t, "<h2>Entries, returns and faults of the last %lu steps</h2>\n", (unsigned long)w->many);
+    if (!many) {
+        add(t, "<p>None.</p>\n");
+        return;
+    }
+    if (many > MOST_TURNS)
+        add(t, "<p>The last %u of %u.</p>\n", (unsigned)MOST_TURNS, many);
+    open_table(t, "Step|What|PC before|PC after|SP after|Priority after");
+    for (uint32_t i = 0; i < w->many; i++) {
+        const struct step *s = &w->steps[i];
+        if (!is_turn(s) || passed++ + MOST_TURNS < many)
+            continue;
+        add(t, "<tr><td class=\"n\">%lu</td><td>", (unsigned long)step_count(s));
+        add_act(t, s->act, s->number);
+        add(t, "</td><td class=\"n\">%04X</td><td class=\"n\">%04X</td><td class=\"n\">%04X</td><td>%u</td></tr>\n",
+            get_word(s->before, XM23_RECORD_REGISTER(7)), get_word(s->after, XM23_RECORD_REGISTER(7)),
+            get_word(s->after, XM23_RECORD_REGISTER(6)), XM23_PSW_CURRENT(get_word(s->after, XM23_RECORD_PSW)));
+    }
+    close_table(t);
+}
+
+/* What the word at an even address is of the frames that are open. */
+static void add_place(struct text *t, const struct walk *w, unsigned at)
+{
+    static const char *const words[] = {"CEX", "PSW", "LR", "PC"};
+    unsigned number = 0, open = w->many ? w->steps[w->many - 1].frame : 0;
+    for (unsigned f = open; f; f = w->frames[f].older)
+        number++;
+    for (unsigned f = open; f; f = w->frames[f].older, number--)
+        for (unsigned i = 0; i < 4; i++)
+            if (((w->frames[f].sp + 2 * i) & 0xFFFE) == at) {
+                add(t, "%s of frame %u: ", words[i], number);
+                add_act(t, w->frames[f].act, w->frames[f].number);
+                add(t, " at step %lu", (unsigned long)step_count(&w->steps[w->frames[f].step]));
+                return;
+            }
+}
+
+/* The words from SP upwards, as far as the oldest open frame, and some more. */
+static void add_stack(struct text *t, const struct walk *w, const struct machine *after)
+{
+    unsigned sp = get_word(after->record, XM23_RECORD_REGISTER(6)), many = 8;
+    for (unsigned f = w->many ? w->steps[w->many - 1].frame : 0; f; f = w->frames[f].older) {
+        unsigned up = ((w->frames[f].sp - sp) & 0xFFFF) / 2 + 6;
+        many = up > many && up <= MOST_WORDS ? up : many;
+    }
+    add(t, "<h2>Stack at the close</h2>\n");
+    open_table(t, "Address|Word|What it is");
+    for (unsigned i = 0; i < many; i++) {
+        unsigned at = (sp + 2 * i) & 0xFFFE;
+        add(t, "<tr><td class=\"n\">%04X</td><td class=\"n\">%04X</td><td>%s", at, word_at(after->memory, at),
+            i ? "" : "SP. ");
+        add_place(t, w, at);
+        add(t, "</td></tr>\n");
+    }
+    close_table(t);
+    if (w->strays)
+        add(t, "<p>Returns that pulled a frame from before these steps, or none: %u.</p>\n", w->strays);
+}
+
+/* The devices that are not all zeros, or have events waiting. */
+static void add_devices(struct text *t, const struct machine *m)
+{
+    static const struct {
+        unsigned bit;
+        const char *name;
+    } bits[] = {{0x10, "ENA"}, {0x08, "OF"}, {0x04, "DBA"}, {0x02, "input"}, {0x01, "IE"}};
+    unsigned many = 0;
+    add(t, "<h2>Devices at the close</h2>\n");
+    for (unsigned d = 0; d < 8; d++) {
+        unsigned status = m->memory[2 * d], data = m->memory[2 * d + 1], waiting = XM23_RECORD_WAITING(m->record, d);
+        if (!status && !data && !waiting)
+            continue;
+        if (!many++)
+            open_table(t, "Device|Status||Data|Events waiting");
+        add(t, "<tr><td>%u</td><td class=\"n\">%02X</td><td>", d, status);
+        for (unsigned i = 0; i < 5; i++)
+            add(t, "%s%s", status & bits[i].bit ? bits[i].name : "", status & bits[i].bit ? " " : "");
+        add(t, "</td><td class=\"n\">%02X</td><td>%u</td></tr>\n", data, waiting);
+    }
+    if (many)
+        close_table(t);
+    else
+        add(t, "<p>All are zero.</p>\n");
+}
+
+void add_walk_tables(struct text *t, const struct walk *w, const struct machine *after)
+{
+    add_last_steps(t, w);
+    add_turns(t, w);
+    add_stack(t, w, after);
+    add_devices(t, after);
+}
+
+/* ---- data */
+
+static void add_base64(struct text *t, const uint8_t *bytes, size_t length)
+{
+    static const char digits[] = "ABCDEFGHIJKLMNOPQRSTUVWXYZabcdefghijklmnopqrstuvwxyz0123456789+/";
+    for (size_t i = 0; i < length; i += 3) {
+        size_t many = length - i < 3 ? length - i : 3;
+        unsigned group = (unsigned)bytes[i] << 16 | (many > 1 ? bytes[i + 1] << 8 : 0) | (many > 2 ? bytes[i + 2] : 0);
+        char four[4] = {digits[group >> 18], digits[group >> 12 & 63], digits[group >> 6 & 63], digits[group & 63]};
+        memset(four + many + 1, '=', 3 - many);
+        add_bytes(t, four, 4);
+    }
+}
+
+/* Memory at the close, stretches of zeros left out: where each stretch begins, and its bytes. */
+static void add_memory_data(struct text *t, const uint8_t *memory)
+{
+    unsigned at = 0, end, many = 0;
+    add(t, "\"memory\":[");
+    while (at < XM23_MEMORY_SIZE) {
+        unsigned zeros = 0;
+        for (end = at; end < XM23_MEMORY_SIZE && zeros < 24; end++)
+            zeros = memory[end] ? 0 : zeros + 1;
+        if (end - zeros > at) {
+            add(t, "%s[%u,\"", many++ ? "," : "", at);
+            add_base64(t, memory + at, end - zeros - at);
+            add(t, "\"]");
+        }
+        for (at = end; at < XM23_MEMORY_SIZE && !memory[at];)
+            at++;
+    }
+    add(t, "],\n");
+}
+
+/* Texts, each once: where a text stands in the list. */
+struct texts {
+    struct text list;
+    char *known[2 * MOST_WALK];
+    unsigned place[2 * MOST_WALK], many;
+};
+
+static unsigned place_of(struct texts *all, const char *text)
+{
+    unsigned hash = 5381, slot;
+    for (const char *c = text; *c; c++)
+        hash = 33 * hash + (unsigned char)*c;
+    slot = hash % (2 * MOST_WALK);
+    while (all->known[slot] && strcmp(all->known[slot], text) != 0)
+        slot = (slot + 1) % (2 * MOST_WALK);
+    if (!all->known[slot]) {
+        all->known[slot] = (char *)room_for(NULL, strlen(text) + 1);
+        memcpy(all->known[slot], text, strlen(text) + 1);
+        all->place[slot] = all->many++;
+        add(&all->list, "%s\"%s\"", all->many > 1 ? "," : "", text);
+    }
+    return all->place[slot];
+}
+
+static void add_steps_data(struct text *t, const struct walk *w)
+{
+    static struct texts all;
+    memset(&all, 0, sizeof all);
+    add(t, "\"steps\":[");
+    for (uint32_t i = 0; i < w->many; i++) {
+        const struct step *s = &w->steps[i];
+        struct text what = {0};
+        if (s->fetched)
+            add(&what, "%04X ", s->word);
+        add_what(&what, s);
+        add(t, "%s[%u,%u,%u]", i ? "," : "", place_of(&all, what.at), s->stored, s->frame);
+        drop(&what);
+    }
+    add(t, "],\n\"what\":[%s],\n", all.list.at ? all.list.at : "");
+    for (unsigned i = 0; i < 2 * MOST_WALK; i++)
+        free(all.known[i]);
+    drop(&all.list);
+}
+
+static void add_frames_data(struct text *t, const struct walk *w)
+{
+    add(t, "\"frames\":[null");
+    for (unsigned f = 1; f <= w->many_frames; f++) {
+        add(t, ",[%u,%u,%u,\"", w->frames[f].older, w->frames[f].sp, w->frames[f].step);
+        add_act(t, w->frames[f].act, w->frames[f].number);
+        add(t, "\"]");
+    }
+    add(t, "],\n");
+}
+
+/* The screen: its last bytes from before the walk, how many there were before these, and those of the walk by step. */
+static void add_screen_data(struct text *t, const struct walk *w, const struct text *screen)
+{
+    size_t before = screen->length - w->shown, kept = before < SCREEN_BEFORE ? before : SCREEN_BEFORE;
+    add(t, "\"shown\":%lu,\"screen\":\"", (unsigned long)(before - kept));
+    add_base64(t, (const uint8_t *)screen->at + before - kept, kept);
+    add(t, "\",\"log\":[");
+    for (uint32_t i = 0; i < w->shown; i++) {
+        const uint8_t *record = w->log + XM23_LOG_SIZE * i;
+        unsigned long step = get_long(record, XM23_LOG_STEP) - step_count(&w->steps[0]);
+        add(t, "%s[%lu,%u,%u]", i ? "," : "", step, record[XM23_LOG_DEVICE], record[XM23_LOG_BYTE]);
+    }
+    add(t, "]");
+}
+
+void add_walk_data(struct text *t, const struct walk *w, const struct machine *after, const struct text *screen)
+{
+    add(t, "<script type=\"application/json\" id=\"data\">{\n\"journal\":\"");
+    add_base64(t, w->journal, XM23_JOURNAL_SIZE * (size_t)w->many);
+    add(t, "\",\n\"close\":\"");
+    add_base64(t, w->close, sizeof w->close);
+    add(t, "\",\n");
+    add_memory_data(t, after->memory);
+    add_steps_data(t, w);
+    add_frames_data(t, w);
+    add_screen_data(t, w, screen);
+    add(t, "}\n</script>\n<script>\n%s</script>\n", walk_js);
+}

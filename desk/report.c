@@ -1,0 +1,56 @@
+/* xm23 report: the page of one run. */
+#include <unistd.h>
+
+#include "desk.h"
+
+/* What is not as it should be, of a page that is written. */
+static int tell_verdict(const struct paper *p, const struct marked *m)
+{
+    if (!m->ran)
+        say_at(m->row.name, 0, "%s: %s", m->row.line.at, m->row.says.at);
+    else if (m->row.agrees == 0)
+        say_at(p->name, p->expected_line, "another line was expected: %s", p->expected);
+    return m->ran && m->row.agrees != 0 ? DONE : REFUSED;
+}
+
+static int report(struct sitting *s, const char *name, const char *to)
+{
+    static struct marked m;
+    struct text page = {0};
+    int status = UNREADABLE;
+    if (mark_program(s, name, 0, &m)) {
+        if (m.row.digest[0]) {
+            add_page(&page, s, &m);
+            status = write_file(to, &page);
+        } else {
+            say_at(name, 0, "%s", m.row.says.at);
+        }
+    }
+    if (status == DONE)
+        status = tell_verdict(s->paper, &m);
+    drop_marked(&m);
+    drop(&page);
+    return status;
+}
+
+int xm23_desk_report(int argc, char **argv)
+{
+    static struct paper p;
+    struct sitting s = {0};
+    const char *to = "-";
+    int option, status;
+    while ((option = getopt(argc, argv, "+:o:")) != -1) {
+        if (option != 'o')
+            return misused("report");
+        to = optarg;
+    }
+    if (argc - optind != 2)
+        return misused("report");
+    status = read_paper(argv[optind], &p);
+    if (status != DONE)
+        return status;
+    s.paper = &p;
+    status = sha256(p.bytes, p.length, s.paper_digest) ? report(&s, argv[optind + 1], to) : UNREADABLE;
+    drop_paper(&p);
+    return status;
+}

@@ -1,0 +1,83 @@
+/* A step of a walk in words: the instruction or what else it was, and what it left. */
+#include <string.h>
+
+#include "desk.h"
+
+static const char *fault_name(unsigned fault)
+{
+    return fault == 8 ? "illegal word" : fault == 9 ? "odd address" : "priority";
+}
+
+void add_act(struct text *t, unsigned act, unsigned number)
+{
+    switch (act) {
+    case EXECUTED: add(t, "executed"); break;
+    case SKIPPED: add(t, "skipped by CEX"); break;
+    case ASLEEP: add(t, "asleep"); break;
+    case ACCEPTED: add(t, "line of device %u accepted", number); break;
+    case CHAINED: add(t, "return, chained to the line of device %u", number); break;
+    case PULLED: add(t, "return: CEX, PSW, LR, PC pulled"); break;
+    case TRAPPED: add(t, "SVC by vector %u", number); break;
+    case FAULTED: add(t, "fault %u, %s", number, fault_name(number)); break;
+    default: add(t, "halt: fault %u, %s, with FLT set", number, fault_name(number));
+    }
+}
+
+void add_what(struct text *t, const struct step *s)
+{
+    if (s->fetched)
+        add_instruction(t, get_word(s->before, XM23_RECORD_REGISTER(7)), s->word);
+    if (s->act == EXECUTED)
+        return;
+    add(t, "%s", s->fetched ? "; " : "");
+    add_act(t, s->act, s->number);
+}
+
+static void separate(struct text *t, size_t from)
+{
+    if (t->length > from)
+        add(t, ", ");
+}
+
+/* R0 to SP, PSW and CEX that are others than before. */
+static void add_registers(struct text *t, size_t from, const struct step *s)
+{
+    static const char *const names[] = {"R0", "R1", "R2", "R3", "R4", "LR", "SP", "", "PSW", "CEX"};
+    for (unsigned i = 0; i < 10; i++) {
+        unsigned value = get_word(s->after, 2 * i);
+        if (i == 7 || value == get_word(s->before, 2 * i))
+            continue;
+        separate(t, from);
+        add(t, i == 9 ? "%s %02X" : "%s %04X", names[i], value);
+    }
+}
+
+/* Bytes stored or pushed, whether they are others or not. */
+static void add_stored(struct text *t, size_t from, const struct step *s)
+{
+    if (!s->stored)
+        return;
+    separate(t, from);
+    add(t, "%04X:", get_word(s->before, XM23_JOURNAL_ADDRESS));
+    for (unsigned i = 0; i < s->stored; i++)
+        add(t, " %02X", s->bytes[i]);
+}
+
+/* Device bytes that are others than before, by the step or by an event, and one that was shown. */
+static void add_devices(struct text *t, size_t from, const struct step *s)
+{
+    for (unsigned i = 0; i < 16; i++) {
+        if (!device_written(s, i))
+            continue;
+        separate(t, from);
+        add(t, "device %u %s %02X", i / 2, i % 2 ? "data" : "status", s->devices[i]);
+    }
+}
+
+void add_left(struct text *t, const struct step *s)
+{
+    size_t from = t->length;
+    add_registers(t, from, s);
+    add_stored(t, from, s);
+    add_devices(t, from, s);
+}

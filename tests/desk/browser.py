@@ -1,0 +1,217 @@
+#!/usr/bin/env python3
+"""Pages of xm23 in a real browser, headless: browser.py XM23. The example sitting is marked; its table and its pages are
+loaded, keys are pressed, buttons clicked and what is shown then is held to what xm23 back tells; without scripts, in print
+and at several widths too. The last line is 'N passed, M failed'."""
+import os
+import re
+import subprocess
+import sys
+import tempfile
+
+sys.path.insert(0, os.path.dirname(os.path.abspath(__file__)))
+from chromium import Browser
+
+xm23 = os.path.abspath(sys.argv[1])
+os.chdir(os.path.join(os.path.dirname(os.path.abspath(__file__)), "../../examples/sitting"))
+passed = failed = 0
+
+
+def same(what, got, expected):
+    global passed, failed
+    passed, failed = passed + (got == expected), failed + (got != expected)
+    if got != expected:
+        print(f"{what}: {got!r}, expected {expected!r}")
+
+
+def run(*words):
+    return subprocess.run([xm23, *words], stdout=subprocess.PIPE, stderr=subprocess.PIPE).stdout.decode()
+
+
+def shown_rows(browser):
+    return browser.value("[...document.querySelectorAll('tbody tr')].filter((r) => !r.hidden).length")
+
+
+def fits(browser, what):
+    for width in (360, 768, 1280, 1920):
+        browser.size(width, 900)
+        same(f"{what}: {width} pixels wide", browser.value("document.documentElement.scrollWidth <= window.innerWidth"), True)
+    browser.size(1280, 900)
+
+
+def on_paper(browser, what, room):
+    """A4, and nothing of what only a screen can show."""
+    path = os.path.join(room, "page.pdf")
+    browser.pdf(path)
+    with open(path, "rb") as file:
+        boxes = set(re.findall(rb"/MediaBox *\[0 0 (\d+)[\d.]* (\d+)[\d.]*\]", file.read()))
+    same(f"{what}: on A4", boxes <= {(b"594", b"841"), (b"595", b"842"), (b"595", b"841")} and len(boxes) == 1, True)
+    browser.call("Emulation.setEmulatedMedia", media="print")
+    same(f"{what}: no walk in print", browser.value("[...document.querySelectorAll('#walk, .find')].every((e) => getComputedStyle(e).display === 'none')"), True)
+    browser.call("Emulation.setEmulatedMedia", media="")
+
+
+def try_index(browser, marks, room):
+    browser.open(os.path.join(marks, "index.html"))
+    same("index: rows", shown_rows(browser), 5)
+    browser.click("#name")
+    browser.type("SCREEN")
+    same("index: find", (shown_rows(browser), browser.text("count")), (1, "1 of 5 are shown"))
+    browser.value("document.getElementById('name').value = ''")
+    browser.click("#others")
+    browser.value("document.getElementById('name').dispatchEvent(new Event('input'))")
+    same("index: those that are not as expected", shown_rows(browser), 4)
+    fits(browser, "index")
+    on_paper(browser, "index", room)
+    same("index: errors", browser.errors(), [])
+    same("index: a link that leads to a page", browser.value("document.querySelector('a').getAttribute('href')"),
+         "pages/000001-halting.s19.html")
+
+
+def registers(browser):
+    return [line.split("\t")[1] for line in browser.text("registers").split("\n") if line.strip()]
+
+
+def state_back(program, many):
+    """Registers, PSW, CEX and lines so many steps before the close, by xm23 back."""
+    last = run("back", "-n", str(many), "sum.paper", program).splitlines()[-1]
+    return re.findall(r" ([0-9A-F]{2,8})\b", last.split(":")[1])
+
+
+def try_walk(browser, marks, room):
+    browser.open(os.path.join(marks, "pages/000005-unsound.s19.html"))
+    same("walk: it is there", browser.value("document.getElementById('walk').hidden"), False)
+    same("walk: the close", browser.text("now"), "After step 119, at $1016: BRA $1016. It left: nothing but PC. The run ends here.")
+    browser.click("#to_back")
+    browser.press("ArrowLeft")
+    browser.press("ArrowLeft")
+    same("walk: three back", (browser.value("document.getElementById('step').value"), registers(browser)),
+         ("116", state_back("programs/unsound.s19", 3)))
+    for many in (20, 54, 75, 99):
+        browser.value(f"document.getElementById('slide').value = {120 - many}; document.getElementById('slide').oninput()")
+        same(f"walk: {many} back", registers(browser), state_back("programs/unsound.s19", many))
+    browser.press("Home")
+    same("walk: Home", browser.text("now"), "Before step 0, the first of these.")
+    same("walk: the start", registers(browser), state_back("programs/unsound.s19", 120))
+    browser.press("ArrowRight")
+    same("walk: one forward", browser.text("now").split(".")[0], "After step 0, at $1000: MOVLZ $00,R1")
+    browser.press("ArrowRight", shift=True)
+    same("walk: 32 forward", browser.value("document.getElementById('step').value"), "32")
+    browser.press("End")
+    same("walk: End", browser.text("now").endswith("The run ends here."), True)
+    same("walk: buttons at the end", browser.value("[document.getElementById('to_on').disabled, document.getElementById('to_back').disabled]"), [True, False])
+    browser.click("#to_first")
+    browser.click("#to_last")
+    same("walk: first and last by buttons", browser.text("now").endswith("The run ends here."), True)
+    browser.value("document.getElementById('step').value = '20'; document.getElementById('step').onchange()")
+    same("walk: the stack with its frame", re.sub(r"\s+", " ", browser.text("stack")).count("of frame 1"), 4)
+    same("walk: the frame's words", re.findall(r"(07F.)\s+(\w{4})\s+(CEX|PSW|LR|PC)", browser.text("stack")),
+         [("07F8", "0000", "CEX"), ("07FA", "0001", "PSW"), ("07FC", "FFFF", "LR"), ("07FE", "1008", "PC")])
+    same("walk: the frames", browser.text("frames").endswith(": 1."), True)
+    browser.value("document.getElementById('step').value = '31'; document.getElementById('step').onchange()")
+    same("walk: the frame is pulled", browser.text("frames").endswith(": 0."), True)
+    same("walk: errors", browser.errors(), [])
+
+
+def try_steps(browser, program):
+    """Every step of the walk as its row tells it, beside xm23 back."""
+    lines = run("back", "-n", "1024", "sum.paper", program).splitlines()[-2:0:-1]
+    seen = {}
+    for at in range(1, len(lines) + 1, 7):
+        browser.value(f"document.getElementById('slide').value = {at}; document.getElementById('slide').oninput()")
+        for row in browser.value("[...document.querySelectorAll('#around tr')].map((r) => [...r.cells].map((c) => c.textContent))"):
+            seen[int(row[0])] = " ".join(row)
+    same(f"{program}: every step", [re.sub(" +", " ", seen[step]).strip() for step in sorted(seen)],
+         [re.sub(" +", " ", line).strip() for line in lines])
+
+
+def try_writer(browser):
+    browser.press("End")
+    browser.press("w")
+    browser.type("0120")
+    browser.press("Enter")
+    same("writer: found", browser.text("found"), "Step 46 wrote $0120: ST R0,R1.")
+    same("writer: it is gone to", browser.value("document.getElementById('step').value"), "46")
+    same("writer: the bytes", browser.value("document.querySelector('#memory .chosen').innerText"), "19")
+    same("writer: as xm23 back tells", run("back", "-w", "120", "sum.paper", "programs/unsound.s19").splitlines()[-2].split()[0], "46")
+    browser.click("#writer")
+    same("writer: none before it", browser.text("found"), "No step before, back to step 0, wrote $0120.")
+    browser.value("document.getElementById('byte').value = '$0130'")
+    browser.click("#next_writer")
+    same("writer: after", browser.text("found"), "Step 72 wrote $0130: ST R1,R0.")
+    browser.click("#writer")
+    same("writer: the one before", browser.text("found"), "Step 27 wrote $0130: ST R1,R0.")
+    browser.value("document.getElementById('byte').value = 'x'")
+    browser.click("#writer")
+    same("writer: no address", browser.text("found"), "An address has one to four digits of base sixteen.")
+    browser.click("#memory span")
+    same("writer: a byte that is clicked", len(browser.value("document.getElementById('byte').value")), 4)
+    browser.click("#around tr")
+    same("writer: a step that is clicked", browser.value("document.querySelector('#around .current') !== null"), True)
+
+
+def try_screen(browser, marks):
+    browser.open(os.path.join(marks, "pages/000003-screen.asm.html"))
+    same("screen: at the close", browser.text("screen"), "SUM")
+    browser.press("Home")
+    seen = [browser.text("screen")]
+    for _ in range(8):
+        browser.press("ArrowRight")
+        if browser.text("screen") != seen[-1]:
+            seen.append(browser.text("screen"))
+    same("screen: so far", seen, ["", "S", "SU", "SUM"])
+    same("screen: lines of the source", browser.value("[...document.querySelectorAll('#around tr')].slice(0, 3).map((r) => r.cells[4].textContent)"),
+         ["3.  START   MOVLZ $05,R1        ; the screen's data byte", "4.          MOVLZ $53,R0        ; S", "5.          ST.B R0,R1"])
+    same("screen: errors", browser.errors(), [])
+
+
+def try_without_scripts(browser, marks):
+    browser.open(os.path.join(marks, "pages/000005-unsound.s19.html"), scripts=False)
+    text = browser.call("DOM.getOuterHTML", nodeId=browser.call("DOM.getDocument")["root"]["nodeId"])["outerHTML"]
+    browser.call("Emulation.setScriptExecutionDisabled", value=False)
+    same("without scripts: no walk", 'id="walk" hidden' in text, True)
+    last = text[text.index("<h2>The last 32 steps</h2>"):]
+    same("without scripts: the last 32 steps", last[:last.index("</table>")].count("<tr>"), 33)
+    same("without scripts: the closing state", "<h2>Closing state</h2>" in text, True)
+    same("without scripts: it says so", "Without scripts" in text, True)
+
+
+def try_long(browser, room):
+    paper, page = os.path.join(room, "long.paper"), os.path.join(room, "long.html")
+    with open("sum.paper") as file:
+        text = re.sub(r"(?m)^expect.*\n", "", file.read()).replace("steps    120", "steps 1000000")
+    with open(paper, "w") as file:
+        file.write(text)
+    run("report", "-o", page, paper, "programs/sound.s19")
+    same("long: at most 400 KB", os.path.getsize(page) <= 400_000, True)
+    browser.open(page)
+    browser.press("Home")
+    same("long: 1,024 steps", browser.text("now"), "Before step 998976, the first of these.")
+    browser.press("End")
+    same("long: the close", browser.text("now").startswith("After step 999999"), True)
+    same("long: errors", browser.errors(), [])
+
+
+with tempfile.TemporaryDirectory() as room:
+    marks = os.path.join(room, "marks")
+    run("mark", "-o", marks, "sum.paper", *sorted("programs/" + name for name in os.listdir("programs")))
+    browser = Browser()
+    try:
+        try_index(browser, marks, room)
+        try_walk(browser, marks, room)
+        try_steps(browser, "programs/unsound.s19")
+        try_writer(browser)
+        fits(browser, "page")
+        on_paper(browser, "page", room)
+        try_screen(browser, marks)
+        for name in ("000001-halting.s19", "000002-refused.s19"):
+            browser.open(os.path.join(marks, "pages", name + ".html"))
+            same(f"{name}: errors", browser.errors(), [])
+            fits(browser, name)
+        browser.open(os.path.join(marks, "pages/000001-halting.s19.html"))
+        try_steps(browser, "programs/halting.s19")
+        try_without_scripts(browser, marks)
+        try_long(browser, room)
+    finally:
+        browser.close()
+print(f"{passed} passed, {failed} failed")
+sys.exit(failed != 0)

@@ -99,7 +99,8 @@ granted-eight c x a l m h =
 
 -- ---- one step
 
-module _ (regs m : List ℕ) (psw cex l : ℕ) (even : getD regs 7 0 % 2 ≡ 0) (woken : asleep? psw ≡ false) (q : NoneAbove m l (current psw)) where
+module _ (regs m :
+    List ℕ) (psw cex l : ℕ) (even : getD regs 7 0 % 2 ≡ 0) (woken : asleep? psw ≡ false) (q : NoneAbove m l (current psw)) where
   -- an even PC is not #FFFF
   no-return : returns? (coreOf regs psw cex) ≡ false
   no-return =
@@ -276,7 +277,8 @@ module _ (l : ℕ) (regs m : List ℕ) (psw cex : ℕ) where
   pub goes-none : Goes l regs psw cex m regs psw cex m 0
   goes-none r p x o j f = let e : j + 0 ≡ j = omega arith in rw e f
 
-  pub goes-one : (regs₁ m₁ : List ℕ) (psw₁ cex₁ : ℕ) → OneStep l regs psw cex m regs₁ psw₁ cex₁ m₁ → Goes l regs psw cex m regs₁ psw₁ cex₁ m₁ 1
+  pub goes-one : (regs₁ m₁ : List ℕ) (psw₁ cex₁ : ℕ) → OneStep l regs psw cex m regs₁ psw₁ cex₁ m₁
+      → Goes l regs psw cex m regs₁ psw₁ cex₁ m₁ 1
   goes-one regs₁ m₁ psw₁ cex₁ g r p x o j f = reaches-next l r o regs m regs₁ m₁ p x psw cex psw₁ cex₁ j f g
 
   pub goes-join :
@@ -339,7 +341,8 @@ awake-set regs psw v a = (a .0, subst (λ (n : ℕ). 7 < n) (sym (length-set reg
 
 -- PC put back before a word that was left alone
 back : (regs : List ℕ) (p : ℕ) → 7 < length regs →
-    set (set regs 7 ((p % 65536 + 2) % 65536)) 7 ((getD (set regs 7 ((p % 65536 + 2) % 65536)) 7 0 + 65534) % 65536) ≡ set regs 7 (p % 65536)
+    set (set regs 7 ((p % 65536 + 2) % 65536)) 7 ((getD (set regs 7 ((p % 65536 + 2) % 65536)) 7 0 + 65534) % 65536) ≡ set regs 7
+    (p % 65536)
 back regs p h =
     let y = (p % 65536 + 2) % 65536 in
     let e : (y + 65534) % 65536 ≡ p % 65536 = near (p % 65536) (omega arith) in
@@ -351,7 +354,9 @@ back regs p h =
     near k lt = omega arith
 
 -- R7 is there after a step, taken or not
-pub long : (regs m regs₁ m₁ : List ℕ) (psw cex psw₁ cex₁ p r : ℕ) → Awake regs psw → Stepping p regs psw cex m regs₁ psw₁ cex₁ m₁ r → 7 < length regs₁
+pub long :
+    (regs m regs₁ m₁ : List ℕ) (psw cex psw₁ cex₁ p r : ℕ) → Awake regs psw → Stepping p regs psw cex m regs₁ psw₁ cex₁ m₁ r
+    → 7 < length regs₁
 long regs m regs₁ m₁ psw cex psw₁ cex₁ p r a g =
     ⊎-elim
     (λ u. rw (u .1 .0) (awake-set regs psw ((p % 65536 + 2) % 65536) a .1))
@@ -555,7 +560,8 @@ tests-fetching regs t {a} {v} h e f g =
     (p .0, (sym h ∙ p .1, there regs v f (eqb-false v 0 (not-true _ g))))
   where
     there : (l : List ℕ) (v : ℕ) → v ≡ getD l 7 0 → (v ≡ 0 → ⊥) → 7 < length l
-    there l v e n = bool-cases (ltb 7 (length l)) (λ b. ltb-true 7 (length l) b) (λ b. absurd (n (e ∙ getD-past l 7 (ltb-false 7 (length l) b))))
+    there l v e n = bool-cases (ltb 7 (length l)) (λ b. ltb-true 7 (length l) b) (λ b. absurd (n (e ∙ getD-past l 7 (ltb-false 7
+        (length l) b))))
 
 pub tests-asleep :
     (regs m : List ℕ) (t : Rest) {a : Bool} → a ≡ asleep? (t .psw) → t .halted || not a ≡ false →

@@ -1,8 +1,8 @@
 // A stretch of steps done at once, looking at nothing but their instructions and how many are left:
 // awake, PC even, no line waiting above the priority, no event due. Every step of it is uneventful.
-// A word that could end any of this is left to the general way: SVC, SLP, an odd word access, a store
-// to the device bytes or to the vectors, a write to R7 other than BL, branches and MOV. Where a CEX
-// block is open, the steps are taken one by one.
+// A word that could end any of this is left to the general way: SETPRI, SVC, SLP, an odd word
+// access, a store to the device bytes or to the vectors, a write to R7 other than BL, branches and
+// MOV. Where a CEX block is open, the steps are taken one by one.
 ghost use mathlib.Core.Bool.{true, false};
 ghost use mathlib.Core.List.{List};
 ghost use mathlib.Core.Logic.{_⊎_};
@@ -167,7 +167,7 @@ fn some_steps(regs: &mut [u16; 8], mem: &mut [u8], psw: u16, cex: u16, n: u32) -
     p
 }
 
-// CEX, and SETPRI after which no line waits above the priority: one step, or none.
+// CEX: one step, or none.
 fn control(regs: &mut [u16; 8], mem: &[u8], psw: u16, cex: u16, lines: Lines) -> Progress
     requires { ⌜ (length (now mem) ≡ 65536) × Awake (now regs) psw ⌝ }
     ensures goes { λ r. ⌜ Goes lines (now (regs .entry)) psw cex (now (mem .entry))
@@ -255,8 +255,8 @@ fn until(count: u32, due: u64, left: u32) -> u32
     left
 }
 
-// Does the next step fetch an instruction, if no line is accepted and no block skips it: not halted,
-// awake, PC even? PC 0 is for the general way, so that R7 is known to be there.
+// Is the machine not halted and awake? PC 0 is for the general way, so that R7 is known to be
+// there.
 fn fetching(regs: &[u16; 8], t: Rest) -> bool
     ensures { λ r. ⌜ (r ≡ true → (t .halted ≡ false) × Awake (now (regs .entry)) (t .psw)) ⌝ }
 {

@@ -1,5 +1,5 @@
--- One instruction, with the memory it reads and writes. Its answer r is as in Effected: 1,048,576 where it was left alone,
--- else the next PC in its low sixteen bits.
+-- One instruction, with the memory it reads and writes. Its answer r is as in Effected: 1,048,576 where it was left
+-- alone, else the next PC in its low sixteen bits.
 -- Assumes nothing.
 use Prim.Native.Nat.{ℕ, _+_, _%_, _<_}
 use mathlib.Core.Bool.{true, false}

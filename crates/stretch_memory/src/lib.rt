@@ -1,6 +1,6 @@
-// Loads and stores of a stretch. Each function takes the word w, PC being past it (`pc`), and answers
-// pc, or 1,048,576 and has left all alone. Left alone are an odd word access, a store to the device
-// bytes or to the vectors, a load into R7, and an adjustment of R7.
+// Loads and stores of a stretch. Each function takes the word w, PC being past it (`pc`), and
+// answers pc, or 1,048,576 and has left all alone. Left alone are an odd word access, a store to
+// the device bytes or to the vectors, a load into R7, and an adjustment of R7.
 ghost use mathlib.Core.Bool.{true, false, cond};
 ghost use mathlib.Core.Path.{_≡_};
 ghost use Prim.Native.Nat.{ℕ, _/_, _%_, _<_};

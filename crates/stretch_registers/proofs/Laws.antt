@@ -238,7 +238,8 @@ target half a n hh hn =
 
 module _ (l : List ℕ) (p x pc : ℕ) (h : Past pc l) where
   -- r is the target of a branch at PC pc by the offset z
-  pub jumps : (n : ℕ) (z : ℤ) {y r : ℕ} → takenOf n p ≡ true → r % 65536 ≡ moved (getD l 7 0) (doubled z) → r % 2 ≡ 0 → r < 1048576 → y ≡ 0 →
+  pub jumps : (n : ℕ) (z : ℤ) {y r : ℕ} → takenOf n p ≡ true → r % 65536 ≡ moved (getD l 7 0) (doubled z) → r % 2 ≡ 0 → r < 1048576
+      → y ≡ 0 →
       Done (i.Branch n z) l p x l p y r
   unfolding effectOf
   jumps n z {y} {r} t e even lt ey = ((λ q. omega arith), rw (t, e, ey) refl, (λ q. even), (refl, refl), omega arith, (λ q. rw ey refl))

@@ -1,8 +1,8 @@
 // Instructions that touch registers, flags and the CEX state alone. Each function takes the word w,
 // PC being past it (`pc`, as it stands in R7 but not yet wrapped), and answers the next PC, or
-// 1,048,576 and has left all alone: then the step is done in the general way. A MOV of an odd number
-// to PC answers 2,097,152 more than that number. R7 is written by BL, branches and MOV alone; SLP and
-// the priority stay.
+// 1,048,576 and has left all alone: then the step is done in the general way. A MOV of an odd
+// number to PC answers 2,097,152 more than that number. R7 is written by BL, branches and MOV
+// alone; SLP and the priority stay.
 ghost use mathlib.Core.Bool.{true, false};
 ghost use mathlib.Core.List.{List};
 ghost use mathlib.Core.Path.{_≡_};

@@ -2,13 +2,14 @@
 -- w, m the memory, p the PSW, x the CEX state. Assumes nothing.
 use Prim.Native.Nat.{ℕ, zero, suc, _+_, _-_, _*_, _/_, _%_, _<_, _≤_}
 use native.Mathlib.Omega.{arith}
-use mathlib.Core.Bool.{Bool, true, false, cond}
+use mathlib.Core.Bool.{Bool, true, false, cond, _||_}
 use mathlib.Core.List.{List}
 use mathlib.Core.Logic.{inr}
 use mathlib.Core.Path.{_≡_, refl, sym, ap, _∙_}
-use lib.Dec.{eqb}
+use mathlib.Mathlib.Data.Bool.Basic.{or-eq-false-eq-eq-false-and-eq-false}
+use lib.Dec.{eqb, ltb, leb}
 use lib.ListN.{getD}
-use borrow.Author.Tests.{eqb-false, lt-ltb, le-ltb}
+use borrow.Author.Tests.{eqb-false, ltb-false, leb-false, lt-ltb, le-ltb}
 use Rattle.word.proofs.Laws.{bool-cases}
 use Rattle.word.specs.Offset.{signedOf}
 use Rattle.alu.specs.declared.Op.{Op}
@@ -36,7 +37,8 @@ constant-at (suc (suc (suc (suc (suc (suc (suc zero))))))) h = refl
 constant-at (suc (suc (suc (suc (suc (suc (suc (suc k)))))))) h = absurd (omega arith)
 
 -- a word that means n, done by a function of registers
-pub means : (n : Instr) (w : ℕ) (l m k : List ℕ) (p x q y r : ℕ) → decodeOf w ≡ n → Tried n l p x k q y r → Taken (decodeOf w) l p x m k q y m r
+pub means :
+    (n : Instr) (w : ℕ) (l m k : List ℕ) (p x q y r : ℕ) → decodeOf w ≡ n → Tried n l p x k q y r → Taken (decodeOf w) l p x m k q y m r
 means n w l m k p x q y r e t = rw e (tried-taken n l m k p x q y r t)
 
 -- ---- the rows that a match leaves
@@ -47,9 +49,6 @@ Misses n k = n ≡ k → ⊥
 
 step : (n k : ℕ) → n < k + 1 → Misses n k → n < k
 step n k h f = omega arith
-
-climb : (n k : ℕ) → k ≤ n → Misses n k → k + 1 ≤ n
-climb n k h f = omega arith
 
 -- ---- operations
 
@@ -256,20 +255,25 @@ module _ (w : ℕ) where
 -- below 4000 with no branch: BL
 abbrev Unbranched : ℕ → Type 0
 Unbranched n =
-    ((((((((((((((((Unit {0} × Misses n 16) × Misses n 17) × Misses n 18) × Misses n 19) × Misses n 20) × Misses n 21) × Misses n 22) × Misses n 23) × Misses n 24) × Misses n 25) × Misses n 26) × Misses n 27) × Misses n 28) × Misses n 29) × Misses n 30) × Misses n 31)
+    ((((((((((((((((Unit {0} × Misses n 16) × Misses n 17) × Misses n 18) × Misses n 19) × Misses n 20) × Misses n 21) × Misses n 22)
+    × Misses n 23) × Misses n 24) × Misses n 25) × Misses n 26) × Misses n 27) × Misses n 28) × Misses n 29) × Misses n 30) × Misses n 31)
 
 pub low-half : (w : ℕ) → w < 0x4000 → Unbranched (w / 512) → w < 0x2000
 low-half w h f =
-    let k : w / 512 < 16 = (step (w / 512) 16 (step (w / 512) 17 (step (w / 512) 18 (step (w / 512) 19 (step (w / 512) 20 (step (w / 512) 21 (step (w / 512) 22 (step (w / 512) 23 (step (w / 512) 24 (step (w / 512) 25 (step (w / 512) 26 (step (w / 512) 27 (step (w / 512) 28 (step (w / 512) 29 (step (w / 512) 30 (step (w / 512) 31 (omega arith) (f .1)) (f .0 .1)) (f .0 .0 .1)) (f .0 .0 .0 .1)) (f .0 .0 .0 .0 .1)) (f .0 .0 .0 .0 .0 .1)) (f .0 .0 .0 .0 .0 .0 .1)) (f .0 .0 .0 .0 .0 .0 .0 .1)) (f .0 .0 .0 .0 .0 .0 .0 .0 .1)) (f .0 .0 .0 .0 .0 .0 .0 .0 .0 .1)) (f .0 .0 .0 .0 .0 .0 .0 .0 .0 .0 .1)) (f .0 .0 .0 .0 .0 .0 .0 .0 .0 .0 .0 .1)) (f .0 .0 .0 .0 .0 .0 .0 .0 .0 .0 .0 .0 .1)) (f .0 .0 .0 .0 .0 .0 .0 .0 .0 .0 .0 .0 .0 .1)) (f .0 .0 .0 .0 .0 .0 .0 .0 .0 .0 .0 .0 .0 .0 .1)) (f .0 .0 .0 .0 .0 .0 .0 .0 .0 .0 .0 .0 .0 .0 .0 .1)) in
+    let k : w / 512 < 16 = (step (w / 512) 16 (step (w / 512) 17 (step (w / 512) 18 (step (w / 512) 19 (step (w / 512) 20 (step
+    (w / 512) 21 (step (w / 512) 22 (step (w / 512) 23 (step (w / 512) 24 (step (w / 512) 25 (step (w / 512) 26 (step (w / 512) 27 (step
+    (w / 512) 28 (step (w / 512) 29 (step (w / 512) 30 (step (w / 512) 31 (omega arith) (f .1)) (f .0 .1)) (f .0 .0 .1)) (f .0 .0 .0 .1))
+    (f .0 .0 .0 .0 .1)) (f .0 .0 .0 .0 .0 .1)) (f .0 .0 .0 .0 .0 .0 .1)) (f .0 .0 .0 .0 .0 .0 .0 .1)) (f .0 .0 .0 .0 .0 .0 .0 .0 .1))
+    (f .0 .0 .0 .0 .0 .0 .0 .0 .0 .1)) (f .0 .0 .0 .0 .0 .0 .0 .0 .0 .0 .1)) (f .0 .0 .0 .0 .0 .0 .0 .0 .0 .0 .0 .1))
+    (f .0 .0 .0 .0 .0 .0 .0 .0 .0 .0 .0 .0 .1)) (f .0 .0 .0 .0 .0 .0 .0 .0 .0 .0 .0 .0 .0 .1))
+    (f .0 .0 .0 .0 .0 .0 .0 .0 .0 .0 .0 .0 .0 .0 .1)) (f .0 .0 .0 .0 .0 .0 .0 .0 .0 .0 .0 .0 .0 .0 .0 .1)) in
     omega arith
 
--- 306 and 307 of ten leading bits: SWAP
-pub swap-half :
-    (w : ℕ) → 304 ≤ w / 64 → w / 64 < 308 → (((Unit {0} × Misses (w / 64) 304) × Misses (w / 64) 305) × Misses (w / 64) 311) →
-    (0x4C80 ≤ w) × (w < 0x4D00)
-swap-half w h k f =
-    let n : 306 ≤ w / 64 = climb (w / 64) 305 (climb (w / 64) 304 h (f .0 .0 .1)) (f .0 .1) in
-    (omega arith, omega arith)
+-- 4C80 to 4D7F, as the test has it
+pub within : (w : ℕ) → (ltb w 0x4C80 || leb 0x4D80 w) ≡ false → (0x4C80 ≤ w) × (w < 0x4D80)
+within w h =
+    let p = or-eq-false-eq-eq-false-and-eq-false (ltb w 0x4C80) (leb 0x4D80 w) .0 h in
+    (ltb-false w 0x4C80 (p .0), leb-false 0x4D80 w (p .1))
 
 -- bit 6 clear, as the test has it
 pub bit-clear : (w : ℕ) → eqb (w / 64 % 2) 1 ≡ false → w / 64 % 2 ≡ 0

@@ -1,6 +1,7 @@
 // Words by their leading bits: each is done by the function that knows its operation and width, or
-// left alone. `k` holds the constants that a source field can name. Each function but the first takes
-// the words that those before it have no row for.
+// left alone. `k` holds the constants that a source field can name. take_word has the first rows; a
+// word with none goes on to logic_word, and so on up the file. No row here is one of two values:
+// all rows together become one table.
 ghost use mathlib.Core.Path.{_≡_};
 ghost use Prim.Native.Nat.{ℕ, _/_, _%_, _<_, _≤_};
 ghost use lib.ListN.{length, getD};
@@ -88,8 +89,24 @@ fn relative_word(regs: &mut [u16; 8], mem: &mut [u8], pc: usize, w: usize) -> us
     store_relative(regs, mem, pc, w, 0)
 }
 
-// Branches, BL, MOVL to MOVH, LDR, STR. CEX, SETPRI, SVC, the other adjustments of LD and ST and the
-// words of no instruction are left alone.
+// SWAP, and one register.
+fn single_word(regs: &mut [u16; 8], mem: &[u8], psw: &mut u16, pc: usize, w: usize) -> usize
+    requires { ⌜ Ready pc w (now regs) (now mem) constants ⌝ }
+    ensures { λ r. ⌜ ((cex : ℕ) → Taken (decodeOf w)
+        (now (regs .entry)) (now (psw .entry)) cex (now (mem .entry))
+        (now (regs .exit)) (now (psw .exit)) cex (now (mem .entry)) r) ⌝ }
+{
+    if (w < 0x4C80) | (0x4D80 <= w) {
+        return 1048576;
+    }
+    if w < 0x4D00 {
+        return stretch_registers::swap_word(regs, pc, w);
+    }
+    stretch_registers::single_word(regs, psw, pc, w)
+}
+
+// Branches, BL, MOVL to MOVH, LDR, STR, SWAP, one register. CEX, SETPRI, SVC, the other adjustments
+// of LD and ST and the words of no instruction are left alone.
 fn far_word(
     regs: &mut [u16; 8],
     mem: &mut [u8],
@@ -113,7 +130,7 @@ fn far_word(
     if 0x6000 <= w {
         return stretch_registers::immediate_word(regs, pc, w);
     }
-    1048576
+    single_word(regs, mem, psw, pc, w)
 }
 
 // ST: PRPO, DEC, INC and the width by bits 9 to 6.
@@ -176,7 +193,7 @@ fn load_word(
     }
 }
 
-// MOV, SWAP, one register, SETCC and CLRCC.
+// MOV, SETCC and CLRCC.
 fn move_word(
     regs: &mut [u16; 8],
     mem: &mut [u8],
@@ -194,8 +211,6 @@ fn move_word(
     match w / 64 {
         0x130 => stretch_registers::move_word(regs, cex, pc, w, false),
         0x131 => stretch_registers::move_word(regs, cex, pc, w, true),
-        0x132 | 0x133 => stretch_registers::swap_word(regs, pc, w),
-        0x134 | 0x135 => stretch_registers::single_word(regs, psw, pc, w),
         0x137 => stretch_registers::flags_word(psw, pc, w),
         _ => load_word(regs, mem, k, psw, cex, pc, w),
     }

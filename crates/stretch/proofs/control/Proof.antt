@@ -93,7 +93,8 @@ returns-2 c =
     let both = or-eq-false-eq-eq-false-and-eq-false (eqb (r .reg .result % 2) 1) (s .before .skips .result) .0 (s .if1 .left) in
     rw (c .set-reg .ensures) (
       goes-one (a .lines) l m (a .psw) (a .cex) (set l 7 (c .before .wrapping-add-u16 .result)) m (a .psw) _
-          (cex-loaded (a .lines) l m (a .psw) (a .cex) (u .before .fetch .result) (c .before .wrapping-add-u16 .result) (c .before .before .before .loaded-cex .result)
+          (cex-loaded (a .lines) l m (a .psw) (a .cex) (u .before .fetch .result) (c .before .wrapping-add-u16 .result)
+          (c .before .before .before .loaded-cex .result)
           (ap (λ (n : ℕ). n % 2) (sym g) ∙ even) (t .pre .1 .0)
           (sym (s .before .skips .ensures) ∙ both .1) (u .before .fetch .ensures .0 ∙ ap (wordAt m) g) (u .if2 .taken)
           (c .before .wrapping-add-u16 .ensures ∙ ap (λ (n : ℕ). (n + 2) % 65536) g) (c .before .before .before .loaded-cex .ensures)),

@@ -39,7 +39,13 @@ mul-result c = omega (arith, c .shared-slice-known2 .given (c .before .before .a
 
 -- src/lib.rt:32:5
 add-result-2 : tie.Need-add-result-2
-add-result-2 c = omega (arith, c .before .shared-slice-known .given (c .before .before .args .i), c .shared-slice-known2 .given (c .before .before .args .i + 1))
+add-result-2 c =
+    omega (
+      arith,
+      c .before .shared-slice-known .given (c .before .before .args .i),
+      c .shared-slice-known2 .given
+          (c .before .before .args .i + 1),
+    )
 
 -- src/lib.rt:28:1
 returns : tie.Need-returns
@@ -47,8 +53,15 @@ returns c =
     let s = c .before .before in
     let i = s .args .i in
     let m = now (s .args .mem) in
-    let e : i ≡ i / 2 * 2 = omega arith in
-    (ap (λ (j : ℕ). byteAt m j + 256 * byteAt m (j + 1)) (evened i (s .pre .2)), omega (arith, c .before .shared-slice-known .given (c .before .before .args .i), c .shared-slice-known2 .given (c .before .before .args .i + 1)))
+    let e : i ≡ i / 2 * 2 = omega arith in (
+      ap (λ (j : ℕ). byteAt m j + 256 * byteAt m (j + 1)) (evened i (s .pre .2)),
+      omega (
+        arith,
+        c .before .shared-slice-known .given
+            (c .before .before .args .i),
+        c .shared-slice-known2 .given (c .before .before .args .i + 1),
+      ),
+    )
 
 pub fetch-spec : {M : Type 1} → statement M
 fetch-spec =

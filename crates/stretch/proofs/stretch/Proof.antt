@@ -32,8 +32,20 @@ returns-3 c =
     let none = b .before .unasked .ensures (not-false _ (b .if2 .left)) in
     let q = p .result in
     let w = stretch-done (now (a .regs)) (now (a .mem)) (p .last .0) (p .last .1 .0) (a .t) (a .due) (q .psw) (q .cex) (q .steps) in (
-      λ ev u. w ev (f .0) none (omega (arith, p .ensures .1, c .before .before .before .before .before .until .ensures)) (p .ensures .0) u .0,
-      (λ ev u. w ev (f .0) none (omega (arith, p .ensures .1, c .before .before .before .before .before .until .ensures)) (p .ensures .0) u .1, (omega (arith, p .ensures .1, c .before .before .before .before .before .until .ensures), omega (arith, p .ensures .1, c .before .before .before .before .before .until .ensures))),
+      λ ev u. w ev (f .0) none (omega (arith, p .ensures .1, c .before .before .before .before .before .until .ensures))
+          (p .ensures .0) u .0,
+      (
+        λ ev u. w ev (f .0) none (omega (arith, p .ensures .1, c .before .before .before .before .before .until .ensures))
+            (p .ensures .0) u .1,
+        (
+          omega (arith, p .ensures .1, c .before .before .before .before .before .until .ensures),
+          omega (
+            arith,
+            p .ensures .1,
+            c .before .before .before .before .before .until .ensures,
+          ),
+        ),
+      ),
     )
 
 pub stretch-spec : {M : Type 1} → statement M

@@ -79,10 +79,13 @@ same-length c = omega arith
 returns : tie.Need-returns Inv-loop μ-loop
 returns c =
     let l = c .before .before .before .before .before .before .before .before .before .before .before .before .loop in
-    let a = c .before .before .before .before .before .before .before .before .before .before .before .before .before .before .before .before .args in
+    let half6 = c .before .before .before .before .before .before .before .before in
+    let a = half6 .before .before .before .before .before .before .before .before .args in
     let o = c .stop .ensures in
     let w = walked-stop (now (a .regs)) (now (a .mem)) (a .psw) (a .cex) (l .regs) (l .mem) _ _ (l .p) (l .x) _ _ (l .pc) _ (l .steps)
-    (a .n) (l .inv .3) (l .inv .7) (l .inv .6) (c .before .before .before .before .before .before .before .before .before .before .before .loop-test .taken) (c .before .before .before .before .before .take-step .ensures) _ _ (o .0) (o .1 .0) in
+    (a .n) (l .inv .3) (l .inv .7) (l .inv .6)
+    (c .before .before .before .before .before .before .before .before .before .before .before .loop-test .taken)
+    (c .before .before .before .before .before .take-step .ensures) _ _ (o .0) (o .1 .0) in
     (w .0, (omega arith, omega arith, w .1))
 
 -- src/lib.rt:104:9
@@ -99,7 +102,9 @@ loop-again c =
     let l = c .before .before .before .before .before .before .before .before .before .before .loop in
     let a = c .before .before .before .before .before .before .before .before .before .before .before .before .before .before .args in
     let w = walked-on (now (a .regs)) (now (a .mem)) (a .psw) (a .cex) (l .regs) (l .mem) _ _ (l .p) (l .x) _ _ (l .pc) _ (l .steps)
-    (a .n) (l .inv .3) (l .inv .7) (l .inv .6) (c .before .before .before .before .before .before .before .before .before .loop-test .taken) (c .before .before .before .take-step .ensures) (c .if1 .left) in
+    (a .n) (l .inv .3) (l .inv .7) (l .inv .6)
+    (c .before .before .before .before .before .before .before .before .before .loop-test .taken)
+    (c .before .before .before .take-step .ensures) (c .if1 .left) in
     (omega arith, omega arith, l .inv .2, w .0, w .1, c .if1 .left, w .2, w .3)
 
 -- src/lib.rt:106:22

@@ -56,7 +56,13 @@ some-steps-requires c κs =
 
 -- src/lib.rt:207:9
 add-steps : tie.Need-add-steps Inv-loop μ-loop
-add-steps c = omega (arith, c .before .before .before .before .before .before .before .before .before .before .before .loop .inv .0, c .before .before .before .some-steps .ensures .1 .0, c .before .before .before .before .before .before .budget .ensures)
+add-steps c =
+    omega (
+      arith,
+      c .before .before .before .before .before .before .before .before .before .before .before .loop .inv .0,
+      c .before .before .before .some-steps .ensures .1 .0,
+      c .before .before .before .before .before .before .budget .ensures,
+    )
 
 -- src/lib.rt:211:17
 control-requires : tie.Need-control-requires Inv-loop μ-loop
@@ -66,7 +72,17 @@ control-requires c κs =
 
 -- src/lib.rt:215:13
 add-steps-2 : tie.Need-add-steps-2 Inv-loop μ-loop
-add-steps-2 c = omega (arith, c .before .before .before .before .before .before .before .before .before .before .before .before .before .before .before .before .before .before .loop .inv .0, c .before .before .before .before .before .before .before .before .before .before .some-steps .ensures .1 .0, c .before .before .before .before .before .before .before .before .before .before .before .before .before .budget .ensures, c .before .before .before .before .before .if2 .taken, c .before .before .before .before .before .before .before .before .before .before .before .before .before .before .before .before .before .before .before .before .fits)
+add-steps-2 c =
+    omega (
+      arith,
+      c .before .before .before .before .before .before .before .before .before
+          .before .before .before .before .before .before .before .before .before .loop .inv .0,
+      c .before .before .before .before .before .before .before .before .before .before .some-steps .ensures .1 .0,
+      c .before .before .before .before .before .before .before .before .before .before .before .before .before .budget .ensures,
+      c .before .before .before .before .before .if2 .taken,
+      c .before .before .before .before .before .before .before .before .before .before
+          .before .before .before .before .before .before .before .before .before .before .fits,
+    )
 
 -- src/lib.rt:201:5
 loop-less : tie.Need-loop-less Inv-loop μ-loop
@@ -75,15 +91,18 @@ loop-less c = omega arith
 -- src/lib.rt:201:5
 loop-again : tie.Need-loop-again Inv-loop μ-loop
 loop-again c =
-    let l = c .before .before .before .before .before .before .before .before .before .before .before .before .before .before .before .before .before .before .loop in
-    let a = c .before .before .before .before .before .before .before .before .before .before .before .before .before .before .before .before .before .before .before .before .args in
+    let half1 = c .before .before .before .before .before .before .before .before .before in
+    let l = half1 .before .before .before .before .before .before .before .before .before .loop in
+    let half2 = c .before .before .before .before .before .before .before .before .before .before in
+    let a = half2 .before .before .before .before .before .before .before .before .before .before .args in
     let q = c .before .before .before .before .before .before .before .before .before .before in
     let o = c .before .before .control .ensures in
     let one : c .before .before .control .result .steps ≡ 1 = omega (arith, o .1 .0 .0, c .if3 .left) in
     let d = q .some-steps .ensures .1 .0 in
     let t = c .before .before .before .before .before .before .before .before .before .before .before .before .before .budget .ensures in
     let u = c .before .before .before .before .before .if2 .taken in
-    let j = goes-join (a .lines) (now (a .regs)) (now (a .mem)) (a .psw) (a .cex) _ _ _ _ _ _ _ _ _ _ (l .inv .3) (q .some-steps .ensures .0 (a .lines)) in
+    let j = goes-join (a .lines) (now (a .regs)) (now (a .mem)) (a .psw) (a .cex) _ _ _ _ _ _ _ _ _ _ (l .inv .3)
+    (q .some-steps .ensures .0 (a .lines)) in
     let g = goes-join (a .lines) (now (a .regs)) (now (a .mem)) (a .psw) (a .cex) _ _ _ _ _ _ _ _ _ _ j (rw one at (o .0)) in
     (omega (arith, l .inv .0, d, t, u), omega arith, o .1 .0 .1, g)
 
@@ -95,10 +114,21 @@ loop-less-2 c = omega arith
 loop-again-2 : tie.Need-loop-again-2 Inv-loop μ-loop
 loop-again-2 c =
     let l = c .before .before .before .before .before .before .before .before .before .before .before .before .before .loop in
-    let a = c .before .before .before .before .before .before .before .before .before .before .before .before .before .before .before .args in
+    let half3 = c .before .before .before .before .before .before .before in
+    let a = half3 .before .before .before .before .before .before .before .before .args in
     let q = c .before .before .before .before .before in
-    let j = goes-join (a .lines) (now (a .regs)) (now (a .mem)) (a .psw) (a .cex) _ _ _ _ _ _ _ _ _ _ (l .inv .3) (q .some-steps .ensures .0 (a .lines)) in
-    (omega (arith, l .inv .0, q .some-steps .ensures .1 .0, c .before .before .before .before .before .before .before .before .budget .ensures), omega arith, q .some-steps .ensures .1 .2, j)
+    let j = goes-join (a .lines) (now (a .regs)) (now (a .mem)) (a .psw) (a .cex) _ _ _ _ _ _ _ _ _ _ (l .inv .3)
+    (q .some-steps .ensures .0 (a .lines)) in (
+      omega (
+        arith,
+        l .inv .0,
+        q .some-steps .ensures .1 .0,
+        c .before .before .before .before .before .before .before .before .budget .ensures,
+      ),
+      omega arith,
+      q .some-steps .ensures .1 .2,
+      j,
+    )
 
 -- src/lib.rt:192:1
 same-length : tie.Need-same-length Inv-loop μ-loop
@@ -123,13 +153,24 @@ same-length-3 c = omega arith
 -- src/lib.rt:192:1
 returns-3 : tie.Need-returns-3 Inv-loop μ-loop
 returns-3 c =
-    let l = c .before .before .before .before .before .before .before .before .before .before .before .before .before .before .before .before .before .before .loop in
-    let a = c .before .before .before .before .before .before .before .before .before .before .before .before .before .before .before .before .before .before .before .before .args in
+    let half4 = c .before .before .before .before .before .before .before .before .before in
+    let l = half4 .before .before .before .before .before .before .before .before .before .loop in
+    let half5 = c .before .before .before .before .before .before .before .before .before .before in
+    let a = half5 .before .before .before .before .before .before .before .before .before .before .args in
     let q = c .before .before .before .before .before .before .before .before .before .before in
     let o = c .before .before .control .ensures in
-    let j = goes-join (a .lines) (now (a .regs)) (now (a .mem)) (a .psw) (a .cex) _ _ _ _ _ _ _ _ _ _ (l .inv .3) (q .some-steps .ensures .0 (a .lines)) in
+    let j = goes-join (a .lines) (now (a .regs)) (now (a .mem)) (a .psw) (a .cex) _ _ _ _ _ _ _ _ _ _ (l .inv .3)
+    (q .some-steps .ensures .0 (a .lines)) in
     let e = o .1 .1 (c .if3 .taken) in
-    rw e (j, omega (arith, l .inv .0, q .some-steps .ensures .1 .0, c .before .before .before .before .before .before .before .before .before .before .before .before .before .budget .ensures))
+    rw e (
+      j,
+      omega (
+        arith,
+        l .inv .0,
+        q .some-steps .ensures .1 .0,
+        c .before .before .before .before .before .before .before .before .before .before .before .before .before .budget .ensures,
+      ),
+    )
 
 pub walk-spec : {M : Type 1} → statement M
 walk-spec =

@@ -75,7 +75,8 @@ returns-3 c =
     inr
     (served-store _ l _ (now (a .mem)) psw cex (a .pc) (start .pre .1) _ _ _ _
     (store-effect l _ psw cex (a .prpo) (a .dec) (a .inc) (a .wb) (a .w % 8) stays (t .before .before .reg2 .ensures)
-    (t .before .adjusted-by .ensures) (t .address .ensures) (c .adjust .ensures) (a .w / 8 % 8) (t .before .before .before .before .reg .ensures))
+    (t .before .adjusted-by .ensures) (t .address .ensures) (c .adjust .ensures) (a .w / 8 % 8)
+    (t .before .before .before .before .reg .ensures))
     (o .0)
     (o .1)
     (pc-adjusted (moves? (a .dec) (a .inc)) l _ (a .w % 8) _ (omega arith) stays (c .adjust .ensures)))

@@ -41,7 +41,8 @@ returns c =
     let bound = past .2 in
     λ psw.
     links (now (a .regs)) psw _ (a .pc) past _ (c .before .set-reg .ensures)
-    (ap (λ (n : ℕ). n % 65536) (add-zero (a .pc + 2 * a .w)) ∙ link-target _ (a .pc) (a .w) 0 (past .0) (start .pre .1) (rw (lt-ltb _ _ (c .if1 .taken)) refl))
+    (ap (λ (n : ℕ). n % 65536) (add-zero (a .pc + 2 * a .w)) ∙ link-target _ (a .pc) (a .w) 0 (past .0) (start .pre .1) (rw (lt-ltb _ _
+    (c .if1 .taken)) refl))
     (omega (arith, even)) (omega (arith, bound, start .pre .1)) refl
 
 -- src/lib.rt:208:10

@@ -54,7 +54,8 @@ unfolding unaryOp
 returns-3 c =
     let m = c .before .before .before in
     let start = m .before in
-    λ cex. unary-tried (now (start .args .regs)) _ cex _ (start .pre) _ 2 op.Comp (m .match .keys3) (omega arith) refl (c .compute3 .ensures)
+    λ cex. unary-tried (now (start .args .regs)) _ cex _ (start .pre) _ 2 op.Comp (m .match .keys3) (omega arith) refl
+    (c .compute3 .ensures)
 
 -- src/lib.rt:134:1
 returns-4 : tie.Need-returns-4

@@ -1,8 +1,8 @@
-use native.Mathlib.Omega.{arith}
-use denote.Ref.{now}
-use mathlib.Core.Path.{refl}
-use Rattle.stretch_words.proofs.Laws.{means, decode-move, decode-swap, decode-single, decode-control, swap-half}
 use Prim.Native.Nat.{_≤_, _<_, _/_, _%_}
+use Rattle.stretch_words.proofs.Laws.{means, decode-move, decode-swap, decode-single, decode-control}
+use mathlib.Core.Path.{refl}
+use denote.Ref.{now}
+use native.Mathlib.Omega.{arith}
 use borrow.Author.Needs.{needs}
 use Rattle.stretch_words.proofs.move_word.Statement.{statement}
 use Rattle.stretch_words.proofs.move_word.Tie as tie
@@ -10,35 +10,25 @@ use Rattle.stretch_words.proofs.move_word.Reads as reads
 use Rattle.stretch_words.proofs.move_word.Lts as lts
 use Rattle.stretch_registers.proofs.flags_word.Reads as flags-word-reads
 use Rattle.stretch_registers.proofs.move_word.Reads as move-word-reads
-use Rattle.stretch_registers.proofs.single_word.Reads as single-word-reads
-use Rattle.stretch_registers.proofs.swap_word.Reads as swap-word-reads
 use Rattle.stretch_words.proofs.load_word.Reads as load-word-reads
 
--- src/lib.rt:200:18
+-- src/lib.rt:211:18
 move-word-requires : tie.Need-move-word-requires
 move-word-requires c κs = search needs
 
--- src/lib.rt:201:18
+-- src/lib.rt:212:18
 move-word-requires-2 : tie.Need-move-word-requires-2
 move-word-requires-2 c κs = search needs
 
--- src/lib.rt:204:18
+-- src/lib.rt:213:18
 flags-word-requires : tie.Need-flags-word-requires
 flags-word-requires c κs = search needs
 
--- src/lib.rt:202:26
-swap-word-requires : tie.Need-swap-word-requires
-swap-word-requires c κs = search needs
-
--- src/lib.rt:203:26
-single-word-requires : tie.Need-single-word-requires
-single-word-requires c κs = search needs
-
--- src/lib.rt:205:14
+-- src/lib.rt:214:14
 load-word-requires : tie.Need-load-word-requires
 load-word-requires c κs = search needs
 
--- src/lib.rt:185:1
+-- src/lib.rt:196:1
 returns : tie.Need-returns
 returns c =
     let d = c .before .before .before in
@@ -47,7 +37,7 @@ returns c =
     means _ (a .w) (now (a .regs)) (now (a .mem)) _ (now (a .psw)) (now (a .cex)) (now (a .psw)) _ _
     (decode-move (a .w) 0 (omega arith) (d .match .keys1)) (c .move-word .ensures (now (a .psw)) 0 refl)
 
--- src/lib.rt:185:1
+-- src/lib.rt:196:1
 returns-2 : tie.Need-returns-2
 returns-2 c =
     let d = c .before .before .before in
@@ -56,7 +46,7 @@ returns-2 c =
     means _ (a .w) (now (a .regs)) (now (a .mem)) _ (now (a .psw)) (now (a .cex)) (now (a .psw)) _ _
     (decode-move (a .w) 1 (omega arith) (d .match .keys2)) (c .move-word2 .ensures (now (a .psw)) 1 refl)
 
--- src/lib.rt:185:1
+-- src/lib.rt:196:1
 returns-3 : tie.Need-returns-3
 returns-3 c =
     let d = c .before .before in
@@ -66,35 +56,13 @@ returns-3 c =
     means _ (a .w) (now (a .regs)) (now (a .mem)) _ (now (a .psw)) (now (a .cex)) _ (now (a .cex)) _
     (decode-control (a .w) (omega arith) (omega arith)) (c .flags-word .ensures (now (a .regs)) (now (a .cex)) (s .pre .0))
 
--- src/lib.rt:185:1
-returns-4 : tie.Need-returns-4
-returns-4 c =
-    let d = c .before .before in
-    let e = d .before in
-    let s = e .before .before .before in
-    let a = s .args in
-    let h = swap-half (a .w) (e .if1 .left) (d .if2 .taken) (e .before .match .rest) in
-    means _ (a .w) (now (a .regs)) (now (a .mem)) _ (now (a .psw)) (now (a .cex)) (now (a .psw)) (now (a .cex)) _
-    (decode-swap (a .w) (h .0) (h .1)) (c .swap-word .ensures (now (a .psw)) (now (a .cex)) (a .w / 64 % 2))
-
--- src/lib.rt:185:1
-returns-5 : tie.Need-returns-5
-returns-5 c =
-    let d = c .before .before .before in
-    let s = d .before .before .before .before .before in
-    let a = s .args in
-    let h = d .before .if2 .left in
-    let k = d .if3 .taken in
-    means _ (a .w) (now (a .regs)) (now (a .mem)) _ (now (a .psw)) (now (a .cex)) _ (now (a .cex)) _
-    (decode-single (a .w) (omega arith) (omega arith)) (c .single-word .ensures (now (a .cex)))
-
--- src/lib.rt:185:1
+-- src/lib.rt:196:1
 same-length : tie.Need-same-length
 same-length c = search needs
 
--- src/lib.rt:185:1
-returns-6 : tie.Need-returns-6
-returns-6 c = search needs
+-- src/lib.rt:196:1
+returns-4 : tie.Need-returns-4
+returns-4 c = search needs
 
 pub move-word-spec : {M : Type 1} → statement M
 move-word-spec =
@@ -103,13 +71,9 @@ move-word-spec =
     move-word-requires
     move-word-requires-2
     flags-word-requires
-    swap-word-requires
-    single-word-requires
     load-word-requires
     returns
     returns-2
     returns-3
-    returns-4
-    returns-5
     same-length
-    returns-6)
+    returns-4)

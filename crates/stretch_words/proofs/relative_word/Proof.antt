@@ -23,7 +23,8 @@ returns c =
     let d = c .before .before .before .before .before in
     let s = d .before .before .before in
     let a = s .args in
-    λ psw cex. rw (decode-ldr (a .w) (s .pre .1) 1 (eq-of (d .if2 .taken)) (d .before .if1 .taken)) (c .before .before .load-relative .ensures psw cex)
+    λ psw cex. rw (decode-ldr (a .w) (s .pre .1) 1 (eq-of (d .if2 .taken)) (d .before .if1 .taken))
+    (c .before .before .load-relative .ensures psw cex)
 
 -- src/lib.rt:88:9
 load-relative-requires-2 : tie.Need-load-relative-requires-2
@@ -39,7 +40,8 @@ returns-2 c =
     let d = c .before .before .before .before .before in
     let s = d .before .before .before in
     let a = s .args in
-    λ psw cex. rw (decode-ldr (a .w) (s .pre .1) 0 (bit-clear (a .w) (d .if2 .left)) (d .before .if1 .taken)) (c .before .before .load-relative2 .ensures psw cex)
+    λ psw cex. rw (decode-ldr (a .w) (s .pre .1) 0 (bit-clear (a .w) (d .if2 .left)) (d .before .if1 .taken))
+    (c .before .before .load-relative2 .ensures psw cex)
 
 -- src/lib.rt:91:9
 store-relative-requires : tie.Need-store-relative-requires
@@ -55,7 +57,8 @@ returns-3 c =
     let d = c .before .before .before .before .before in
     let s = d .before .before .before in
     let a = s .args in
-    λ psw cex. rw (decode-str (a .w) (s .pre .1) 1 (eq-of (d .if3 .taken)) (d .before .if1 .left)) (c .before .before .store-relative .ensures psw cex)
+    λ psw cex. rw (decode-str (a .w) (s .pre .1) 1 (eq-of (d .if3 .taken)) (d .before .if1 .left))
+    (c .before .before .store-relative .ensures psw cex)
 
 -- src/lib.rt:93:5
 store-relative-requires-2 : tie.Need-store-relative-requires-2
@@ -71,7 +74,8 @@ returns-4 c =
     let d = c .before .before .before .before .before in
     let s = d .before .before .before in
     let a = s .args in
-    λ psw cex. rw (decode-str (a .w) (s .pre .1) 0 (bit-clear (a .w) (d .if3 .left)) (d .before .if1 .left)) (c .before .before .store-relative2 .ensures psw cex)
+    λ psw cex. rw (decode-str (a .w) (s .pre .1) 0 (bit-clear (a .w) (d .if3 .left)) (d .before .if1 .left))
+    (c .before .before .store-relative2 .ensures psw cex)
 
 pub relative-word-spec : {M : Type 1} → statement M
 relative-word-spec =

@@ -1,47 +1,50 @@
--- One step and a stretch of them. Where PC is even, SLP clear, no CEX block open and no line above the priority, a step is its
--- instruction's step; asleep with no line above the priority, nothing changes but the count. Assumes nothing.
-use Prim.Native.Nat.{ℕ, zero, suc, _+_, _-_, _*_, _/_, _%_, _≤_}
+-- One step and a stretch of them. Where PC is even, SLP clear and no line above the priority, a step is its instruction's step or a
+-- skipped one; asleep with no line above the priority, nothing changes but the count. Assumes nothing.
+use Prim.Native.Nat.{ℕ, zero, suc, _+_, _-_, _*_, _/_, _%_, _<_, _≤_}
+use native.Mathlib.Nat.{mod-eq-of-lt}
 use native.Mathlib.Omega.{arith}
 use native.Mathlib.Numerals.{add-one}
-use mathlib.Core.Bool.{Bool, true, false, not, _&&_, _||_, and-false, false≢true}
-use mathlib.Core.List.{List}
-use mathlib.Core.Logic.{inl, inr, ⊎-elim}
+use mathlib.Core.Bool.{Bool, true, false, cond, not, _&&_, _||_, and-false, false≢true}
+use mathlib.Core.List.{List, [], _∷_}
+use mathlib.Core.Logic.{inl, inr, _⊎_, ⊎-elim}
 use mathlib.Core.Path.{_≡_, refl, sym, ap, subst, _∙_}
 use mathlib.Mathlib.Data.Bool.Basic.{or-eq-false-eq-eq-false-and-eq-false}
 use lib.Dec.{eqb, ltb, leb}
-use lib.ListN.{getD, set}
-use lib.Seq.{set-set, set-getD}
-use borrow.Author.Tests.{ne-eqb, not-true, not-false}
+use lib.ListN.{length, getD, set, length-set}
+use lib.Seq.{set-set, set-getD, getD-set-same}
+use borrow.Author.Tests.{eq-eqb, ne-eqb, lt-ltb, le-ltb, eqb-false, ltb-true, ltb-false, not-true, not-false}
 use Rattle.word.specs.Psw.{asleep?, current}
+use Rattle.word.proofs.Laws.{bool-cases}
 use Rattle.isa.specs.declared.Instr.{Instr}
+use Rattle.isa.specs.declared.Instr.the-variants as i
 use Rattle.isa.specs.Decode.{decodeOf}
 use Rattle.machine.specs.declared.Access.{Access}
 use Rattle.machine.specs.declared.Access.the-variants as asks
 use Rattle.machine.specs.declared.Act.the-variants as act
 use Rattle.machine.specs.State.{Core, State, coreOf, pc, wrap}
 use Rattle.machine.specs.Memory.{byteAt, wordAt, firstByte, commit}
+use Rattle.machine.specs.Cex.{skips?, lowered, loadedCex}
 use Rattle.machine.specs.Events.{Event}
 use Rattle.machine.specs.Devices.{deliver}
 use Rattle.machine.specs.Entry.{best, above}
-use Rattle.machine.specs.Effect.{effectOf}
+use Rattle.machine.specs.Effect.{effectOf, plainly}
 use Rattle.machine.specs.Step as step
 use Rattle.machine.specs.Step.{Plan, Interrupt, planned, chosen, returns?, interruptOf, advanced, allowed, granted}
 use Rattle.machine.specs.Step.{executed, instructionOf, planOf, perform, finished}
 use Rattle.machine.specs.Uneventful.{uneventful?, Uneventful}
 use Rattle.machine_laws.proofs.Cases.{and-left, and-right, le-of, lt-of, eq-of, not-lt}
+use Rattle.machine_laws.proofs.Effects.{effect-eight}
 use Rattle.machine_laws.proofs.Plans.{plan-live}
 use Rattle.machine_laws.proofs.Runs.{run-zero, run-turn}
 use Rattle.machine_laws.proofs.Uneventful.{uneventful-none, uneventful-one, uneventful-append}
 use Rattle.machine_laws.proofs.Vectors.{BelowVectors, load-below, store-below, above-kept}
-use Rattle.devices.specs.Cursor.{stateFrom}
 use Rattle.machine.specs.declared.Rest.{Rest}
 use Rattle.machine.specs.Rest.{stateWith}
-use Rattle.stretch_registers.specs.Effected.{unblocked}
-use Rattle.stretch_registers.proofs.Laws.{set-even}
-use Rattle.stretch.proofs.Laws.{ordinary-granted}
-use Rattle.stretch.specs.Ordinary.{aligned?, inside?, ordinary?}
-use Rattle.stretch.specs.Served.{running, carriedOut, Untouched, Served, Taken}
-use Rattle.stretch.specs.Stretch.{Undisturbed, Fetching, NoneAbove, Passes, OneStep, Stepping, Reaches}
+use Rattle.stretch_memory.specs.Ordinary.{aligned?, inside?, ordinary?}
+use Rattle.stretch_memory.specs.Served.{running, carriedOut, Untouched, Served, Taken}
+use Rattle.stretch_memory.proofs.Laws.{ordinary-granted}
+use Rattle.stretch.specs.Stretch.{Undisturbed, Awake, Fetching, NoneAbove, Passes, OneStep, Reaches, Goes, Stepped, Stepping}
+use Rattle.stretch.specs.Stretch.{Walked}
 
 -- ---- an ordinary access
 
@@ -76,104 +79,154 @@ granted-below :
 granted-below c x a l m h =
     subst (λ (p : Plan). BelowVectors (perform (p .act) (p .core) l m .writes)) (ordinary-granted c x a m h) (allowed-below c x a l m h)
 
+-- the registers stay eight
+allowed-eight :
+    (c x : Core) (a : Access) (l : ℕ) (m : List ℕ) → ordinary? a ≡ true →
+    length (perform (allowed c x a m .act) (allowed c x a m .core) l m .core .regs) ≡ length (x .regs)
+unfolding perform
+allowed-eight c x asks.Nothing l m h = refl
+allowed-eight c x (asks.Load byte a d) l m h = length-set (x .regs) d _
+allowed-eight c x (asks.Store byte a v) l m h = refl
+allowed-eight c x (asks.Fault v) l m h = absurd (false≢true h)
+allowed-eight c x (asks.Trap v) l m h = absurd (false≢true h)
+
+granted-eight :
+    (c x : Core) (a : Access) (l : ℕ) (m : List ℕ) → ordinary? a ≡ true →
+    length (perform (granted c x a m .act) (granted c x a m .core) l m .core .regs) ≡ length (x .regs)
+granted-eight c x a l m h =
+    subst (λ (p : Plan). length (perform (p .act) (p .core) l m .core .regs) ≡ length (x .regs)) (ordinary-granted c x a m h)
+    (allowed-eight c x a l m h)
+
 -- ---- one step
 
-module _ (regs m : List ℕ) (psw l : ℕ) (h : Fetching regs psw) (q : NoneAbove m l (current psw)) where
+module _ (regs m :
+    List ℕ) (psw cex l : ℕ) (even : getD regs 7 0 % 2 ≡ 0) (woken : asleep? psw ≡ false) (q : NoneAbove m l (current psw)) where
   -- an even PC is not #FFFF
-  no-return : returns? (unblocked regs psw) ≡ false
+  no-return : returns? (coreOf regs psw cex) ≡ false
   no-return =
-      let p = h .0 in
       let e : eqb (getD regs 7 0) 0xFFFF ≡ false = ne-eqb (getD regs 7 0) 0xFFFF (λ q. omega arith) in
       ap (λ (b : Bool). not (asleep? psw) && b) e ∙ and-false (not (asleep? psw))
 
-  no-interrupt : interruptOf (unblocked regs psw) l m ≡ step.nothing
+  no-interrupt : interruptOf (coreOf regs psw cex) l m ≡ step.nothing
   unfolding interruptOf
   no-interrupt = rw (no-return, q) refl
 
-  fetches :
-      instructionOf (unblocked regs psw) m
-      ≡ executed (unblocked regs psw) (effectOf (advanced (unblocked regs psw)) (decodeOf (wordAt m (getD regs 7 0)))) m
-  unfolding instructionOf
-  fetches =
-      let p = h .0 in
-      let e : eqb (getD regs 7 0 % 2) 1 ≡ false = ne-eqb (getD regs 7 0 % 2) 1 (λ q. omega arith) in
-      rw (h .1, e) refl
-
-  -- a step is the instruction's step
-  step-plan :
-      (n : ℕ) → let c = unblocked regs psw in
-      planOf (running regs psw l n m) ≡ executed c (effectOf (advanced c) (decodeOf (wordAt m (pc c)))) m
+  -- a step is the instruction's
+  step-plan : (n : ℕ) → planOf (running regs psw cex l n m) ≡ instructionOf (coreOf regs psw cex) m
   step-plan n =
-      let c = unblocked regs psw in
-      plan-live (running regs psw l n m) refl
-      ∙ ap (λ (i : Interrupt). chosen i c (instructionOf c m)) no-interrupt
-      ∙ fetches
+      plan-live (running regs psw cex l n m) refl
+      ∙ ap (λ (i : Interrupt). chosen i (coreOf regs psw cex) (instructionOf (coreOf regs psw cex) m)) no-interrupt
 
--- what the code of a step gives: the word left alone and PC put back, or the word served
-module _ (regs m regs₁ m₁ : List ℕ) (psw r : ℕ) where
-  pub step-left :
-      (i : Instr) (x : ℕ) → r ≡ 65536 → Taken i (set regs 7 x) psw m regs₁ r m₁ →
-      Stepping regs psw m (set regs₁ 7 (getD regs 7 0)) r m₁
-  step-left i x e t =
-      let p = getD regs 7 0 in
-      ⊎-elim
-      (λ (u : Untouched (set regs 7 x) m regs₁ r m₁).
-      inl (u .0, ap (λ (l : List ℕ). set l 7 p) (u .1) ∙ set-set regs 7 x p ∙ set-getD regs 7 0, u .2))
-      (λ (v : Served i (set regs 7 x) psw m regs₁ r m₁). let z : ⊥ = omega (arith, v .0) in absurd z)
-      t
+  fetches :
+      skips? cex ≡ false → (n : ℕ) →
+      planOf (running regs psw cex l n m)
+      ≡ executed (coreOf regs psw cex) (effectOf (advanced (coreOf regs psw cex)) (decodeOf (wordAt m (getD regs 7 0)))) m
+  unfolding instructionOf
+  fetches s n =
+      let e : eqb (getD regs 7 0 % 2) 1 ≡ false = ne-eqb (getD regs 7 0 % 2) 1 (λ q. omega arith) in
+      step-plan n ∙ rw (woken, e, s) refl
 
-  module _ (k w x : ℕ) (h : Fetching regs psw) (ek : k ≡ getD regs 7 0 / 2)
-      (ew : w ≡ byteAt m (firstByte k) + 256 * byteAt m (firstByte k + 1)) (ex : x ≡ wrap (getD regs 7 0 + 2))
-      (v : Served (decodeOf w) (set regs 7 x) psw m regs₁ r m₁) where
-    abbrev before : Core
-    before = unblocked regs psw
+  passes-over :
+      skips? cex ≡ true → (n : ℕ) →
+      planOf (running regs psw cex l n m) ≡ planned (advanced (coreOf regs psw cex)) act.Skip
+  unfolding instructionOf
+  passes-over s n =
+      let e : eqb (getD regs 7 0 % 2) 1 ≡ false = ne-eqb (getD regs 7 0 % 2) 1 (λ q. omega arith) in
+      step-plan n ∙ rw (woken, e, s) refl
 
-    -- the plan, from what the code has fetched
-    plan-is :
-        (l n : ℕ) → NoneAbove m l (current psw) →
-        planOf (running regs psw l n m) ≡ executed before (effectOf (unblocked (set regs 7 x) psw) (decodeOf w)) m
-    unfolding advanced
-    plan-is l n q =
-        let y : w ≡ wordAt m (getD regs 7 0) = ew ∙ ap (λ (j : ℕ). byteAt m (firstByte j) + 256 * byteAt m (firstByte j + 1)) ek in
-        step-plan regs m psw l h q n
-        ∙ sym (λ j. executed before (effectOf (unblocked (set regs 7 (ex j)) psw) (decodeOf (y j))) m)
+-- a step that a block skips
+pub skipped :
+    (l : ℕ) (regs m : List ℕ) (psw cex v x : ℕ) → getD regs 7 0 % 2 ≡ 0 → asleep? psw ≡ false → skips? cex ≡ true →
+    v ≡ wrap (getD regs 7 0 + 2) → x ≡ lowered cex → OneStep l regs psw cex m (set regs 7 v) psw x m
+unfolding advanced perform commit
+skipped l regs m psw cex v x even woken s ev ex q = (
+  q,
+  (λ n.
+      (λ i. running (set regs 7 (ev i)) psw (ex i) l (n + 1) m)
+      ∙ ap (λ (p : Plan). carriedOut p l n m) (sym (passes-over regs m psw cex l even woken q s n))),
+  (λ n. ap (λ (p : Plan). uneventful? (p .act)) (passes-over regs m psw cex l even woken q s n)),
+)
 
-    none-above : (l : ℕ) → NoneAbove m l (current psw) → NoneAbove m₁ l (current r)
-    none-above l q =
-        let e = effectOf (unblocked (set regs 7 x) psw) (decodeOf w) in
-        let p = executed before e m in
-        let ws = perform (p .act) (p .core) l m .writes in
-        let f : m₁ ≡ commit ws m = ap (λ (s : State). s .mem) (v .1 before l 0) in
-        (λ i. above (f i) (best l (f i)) (v .2 .2 i))
-        ∙ above-kept ws m l (current psw) (granted-below before (e .core) (e .access) l m (v .3))
-        ∙ q
+-- a word served
+module _ (regs m regs₁ m₁ : List ℕ) (psw cex w x y psw₁ cex₁ r : ℕ) (even : getD regs 7 0 % 2 ≡ 0) (woken : asleep? psw ≡ false)
+    (ew : w ≡ wordAt m (getD regs 7 0)) (ex : x ≡ wrap (getD regs 7 0 + 2)) (s : skips? cex ≡ false) (ey : lowered cex ≡ y)
+    (v : Served (decodeOf w) (set regs 7 x) psw y m regs₁ psw₁ cex₁ m₁ r) where
+  abbrev before : Core
+  before = coreOf regs psw cex
 
-    pub step-served : OneStep regs psw m regs₁ r m₁
-    step-served =
-        let even-pc = h .0 in
-        let even-next : x % 2 ≡ 0 = rw ex (omega arith) in
-        let e = effectOf (unblocked (set regs 7 x) psw) (decodeOf w) in (
-          v .0,
-          (v .2 .0 (set-even regs 7 x even-next), v .2 .1 ∙ h .1),
-          (λ l q. (
-            none-above l q,
-            (λ n. v .1 before l n ∙ ap (λ (p : Plan). carriedOut p l n m) (sym (plan-is l n q))),
-            (λ n. ap (λ (p : Plan). uneventful? (p .act)) (plan-is l n q) ∙ granted-uneventful before (e .core) (e .access) m (v .3)),
-          )),
-        )
+  -- the plan, from what the code has fetched
+  plan-is :
+      (l n : ℕ) → NoneAbove m l (current psw) →
+      planOf (running regs psw cex l n m) ≡ executed before (effectOf (coreOf (set regs 7 x) psw y) (decodeOf w)) m
+  unfolding advanced
+  plan-is l n q =
+      fetches regs m psw cex l even woken q s n
+      ∙ sym (λ j. executed before (effectOf (coreOf (set regs 7 (ex j)) psw (sym ey j)) (decodeOf (ew j))) m)
 
-  pub step-taken :
-      (k w x : ℕ) → Fetching regs psw → k ≡ getD regs 7 0 / 2 →
-      w ≡ byteAt m (firstByte k) + 256 * byteAt m (firstByte k + 1) → x ≡ wrap (getD regs 7 0 + 2) → (r ≡ 65536 → ⊥) →
-      Taken (decodeOf w) (set regs 7 x) psw m regs₁ r m₁ → Stepping regs psw m regs₁ r m₁
-  step-taken k w x h ek ew ex e t = ⊎-elim (λ u. absurd (e (u .0))) (λ v. inr (step-served k w x h ek ew ex v)) t
+  none-above : (l : ℕ) → NoneAbove m l (current psw) → NoneAbove m₁ l (current psw₁)
+  none-above l q =
+      let e = effectOf (coreOf (set regs 7 x) psw y) (decodeOf w) in
+      let p = executed before e m in
+      let ws = perform (p .act) (p .core) l m .writes in
+      let f : m₁ ≡ commit ws m = ap (λ (s : State). s .mem) (v .1 before l 0) in
+      (λ i. above (f i) (best l (f i)) (v .3 .1 i))
+      ∙ above-kept ws m l (current psw) (granted-below before (e .core) (e .access) l m (v .6))
+      ∙ q
 
-  -- the two answers of a step, told apart by their number
-  pub stepping-left : Stepping regs psw m regs₁ r m₁ → r ≡ 65536 → Untouched regs m regs₁ r m₁
-  stepping-left t e = ⊎-elim (λ u. u) (λ v. let z : ⊥ = omega (arith, v .0) in absurd z) t
+  pub step-served : (l : ℕ) → OneStep l regs psw cex m (set regs₁ 7 (r % 65536)) psw₁ cex₁ m₁
+  step-served l q =
+      let e = effectOf (coreOf (set regs 7 x) psw y) (decodeOf w) in (
+        none-above l q,
+        (λ n. v .1 before l n ∙ ap (λ (p : Plan). carriedOut p l n m) (sym (plan-is l n q))),
+        (λ n. ap (λ (p : Plan). uneventful? (p .act)) (plan-is l n q) ∙ granted-uneventful before (e .core) (e .access) m (v .6)),
+      )
 
-  pub stepping-on : Stepping regs psw m regs₁ r m₁ → (r ≡ 65536 → ⊥) → OneStep regs psw m regs₁ r m₁
-  stepping-on t e = ⊎-elim (λ u. absurd (e (u .0))) (λ v. v) t
+-- R7 is there after it
+served-eight :
+    (regs m regs₁ m₁ : List ℕ) (psw w x y psw₁ cex₁ r : ℕ) → Served (decodeOf w) (set regs 7 x) psw y m regs₁ psw₁ cex₁ m₁ r →
+    length regs₁ ≡ length regs
+served-eight regs m regs₁ m₁ psw w x y psw₁ cex₁ r v =
+    let c = coreOf (set regs 7 x) psw y in
+    let e = effectOf c (decodeOf w) in
+    sym (length-set regs₁ 7 (r % 65536))
+    ∙ ap (λ (t : State). length (t .core .regs)) (v .1 c 0 0)
+    ∙ granted-eight c (e .core) (e .access) 0 m (v .6)
+    ∙ effect-eight c (decodeOf w)
+    ∙ length-set regs 7 x
+
+-- what the code of a step gives; k is where the PC in p is, and x past the word
+pub step-taken :
+    (p w x y psw psw₁ cex₁ r : ℕ) (regs m regs₁ m₁ : List ℕ) → Awake regs psw → p % 2 ≡ 0 → w ≡ wordAt m (p % 65536) →
+    x ≡ (p % 65536 + 2) % 65536 → Taken (decodeOf w) (set regs 7 x) psw y m regs₁ psw₁ cex₁ m₁ r →
+    Stepping p regs psw y m regs₁ psw₁ cex₁ m₁ r
+step-taken p w x y psw psw₁ cex₁ r regs m regs₁ m₁ a even ew ex =
+    ⊎-elim
+    (λ u. inl (u .0, (u .1 .0 ∙ ap (set regs 7) ex, u .1 .1, u .1 .2, u .1 .3)))
+    (λ v.
+    let k = p % 65536 in
+    let here = set regs 7 k in
+    let long = a .1 in
+    let at : getD here 7 0 ≡ k = getD-set-same regs 7 k 0 long in
+    let evenly : getD here 7 0 % 2 ≡ 0 = rw at (omega arith) in
+    let word : w ≡ wordAt m (getD here 7 0) = ew ∙ ap (wordAt m) (sym at) in
+    let past : x ≡ wrap (getD here 7 0 + 2) = ex ∙ ap (λ (n : ℕ). wrap (n + 2)) (sym at) in
+    let v′ : Served (decodeOf w) (set here 7 x) psw y m regs₁ psw₁ cex₁ m₁ r =
+    subst (λ (l : List ℕ). Served (decodeOf w) l psw y m regs₁ psw₁ cex₁ m₁ r) (sym (set-set regs 7 k x)) v in
+    inr (
+      v .0,
+      (
+        (λ l c s e. step-served here m regs₁ m₁ psw c w x y psw₁ cex₁ r evenly (a .0) word past s e v′ l),
+        v .2,
+        (
+          v .3 .0 ∙ a .0,
+          subst (λ (n : ℕ). 7 < n)
+              (sym (length-set regs 7 k) ∙ sym (served-eight here m regs₁ m₁ psw w x y psw₁ cex₁ r v′))
+              long,
+        ),
+        v .4,
+        v .5,
+      ),
+    ))
 
 -- ---- uneventful steps one after the other
 
@@ -192,26 +245,27 @@ passes-next ev s₀ s u j f h d e t = (
 
 -- ---- a stretch of instructions
 
-pub reaches-start : (regs m : List ℕ) (psw : ℕ) → Reaches regs psw m regs psw m 0
-reaches-start regs m psw l q = (
+pub reaches-start : (l : ℕ) (regs m : List ℕ) (psw cex : ℕ) → Reaches l regs psw cex m regs psw cex m 0
+reaches-start l regs m psw cex q = (
   q,
   λ ev k u.
       let e : k + 0 ≡ k = omega arith in
-      rw e (passes-none ev (running regs psw l k m)),
+      rw e (passes-none ev (running regs psw cex l k m)),
 )
 
-pub reaches-next :
-    (regs₀ m₀ regs m regs₁ m₁ : List ℕ) (psw₀ psw r j : ℕ) → Reaches regs₀ psw₀ m₀ regs psw m j → OneStep regs psw m regs₁ r m₁ →
-    Reaches regs₀ psw₀ m₀ regs₁ r m₁ (j + 1)
-reaches-next regs₀ m₀ regs m regs₁ m₁ psw₀ psw r j f g l q =
-    let a = f l q in
-    let b = g .2 l (a .0) in (
+reaches-next :
+    (l : ℕ) (regs₀ m₀ regs m regs₁ m₁ : List ℕ) (psw₀ cex₀ psw cex psw₁ cex₁ j : ℕ) →
+    Reaches l regs₀ psw₀ cex₀ m₀ regs psw cex m j → OneStep l regs psw cex m regs₁ psw₁ cex₁ m₁ →
+    Reaches l regs₀ psw₀ cex₀ m₀ regs₁ psw₁ cex₁ m₁ (j + 1)
+reaches-next l regs₀ m₀ regs m regs₁ m₁ psw₀ cex₀ psw cex psw₁ cex₁ j f g q =
+    let a = f q in
+    let b = g (a .0) in (
       b .0,
       λ ev k u.
-          let s = running regs psw l (k + j) m in
+          let s = running regs psw cex l (k + j) m in
           let e : k + (j + 1) ≡ k + j + 1 = omega arith in
           rw e
-          (passes-next ev (running regs₀ psw₀ l k m₀) s (running regs₁ r l (k + j + 1) m₁) j
+          (passes-next ev (running regs₀ psw₀ cex₀ l k m₀) s (running regs₁ psw₁ cex₁ l (k + j + 1) m₁) j
           (a .1 ev k (λ i a b t. u i a (omega arith) t))
           refl
           (u (k + j) (omega arith) (omega arith) s)
@@ -219,10 +273,187 @@ reaches-next regs₀ m₀ regs m regs₁ m₁ psw₀ psw r j f g l q =
           (b .2 (k + j))),
     )
 
-pub reaches-same :
-    (regs₀ m₀ regs m regs₁ m₁ : List ℕ) (psw₀ psw j : ℕ) → Reaches regs₀ psw₀ m₀ regs psw m j → regs₁ ≡ regs → m₁ ≡ m →
-    Reaches regs₀ psw₀ m₀ regs₁ psw m₁ j
-reaches-same regs₀ m₀ regs m regs₁ m₁ psw₀ psw j f e g = rw (e, g) f
+module _ (l : ℕ) (regs m : List ℕ) (psw cex : ℕ) where
+  pub goes-none : Goes l regs psw cex m regs psw cex m 0
+  goes-none r p x o j f = let e : j + 0 ≡ j = omega arith in rw e f
+
+  pub goes-one : (regs₁ m₁ : List ℕ) (psw₁ cex₁ : ℕ) → OneStep l regs psw cex m regs₁ psw₁ cex₁ m₁
+      → Goes l regs psw cex m regs₁ psw₁ cex₁ m₁ 1
+  goes-one regs₁ m₁ psw₁ cex₁ g r p x o j f = reaches-next l r o regs m regs₁ m₁ p x psw cex psw₁ cex₁ j f g
+
+  pub goes-join :
+      (regs₁ m₁ regs₂ m₂ : List ℕ) (psw₁ cex₁ psw₂ cex₂ a b : ℕ) → Goes l regs psw cex m regs₁ psw₁ cex₁ m₁ a →
+      Goes l regs₁ psw₁ cex₁ m₁ regs₂ psw₂ cex₂ m₂ b → Goes l regs psw cex m regs₂ psw₂ cex₂ m₂ (a + b)
+  goes-join regs₁ m₁ regs₂ m₂ psw₁ cex₁ psw₂ cex₂ a b f g r p x o j h =
+      let e : j + (a + b) ≡ j + a + b = omega arith in
+      rw e (g r p x o (j + a) (f r p x o j h))
+
+-- ---- the steps of a loop
+
+-- a CEX state with no count left skips nothing and stays
+open-none : (x : ℕ) → x % 64 ≡ 0 → (skips? x ≡ false) × (lowered x ≡ x)
+open-none x h =
+    let a : x / 8 % 8 ≡ 0 = omega arith in
+    let b : x % 8 ≡ 0 = omega arith in
+    (rw (a, b) refl, rw (a, b) refl)
+
+module _ (regs₀ m₀ : List ℕ) (psw₀ x₀ : ℕ) where
+  -- what has been walked, and one step more
+  pub walked-next :
+      (regs m regs₁ m₁ : List ℕ) (psw cex psw₁ cex₁ p r j n : ℕ) →
+      Walked regs₀ psw₀ x₀ m₀ (set regs 7 (p % 65536)) psw cex m j → (cex % 64 ≡ 0) ⊎ (n ≤ 1) → j < n →
+      Stepped p regs psw cex m regs₁ psw₁ cex₁ m₁ r →
+      Walked regs₀ psw₀ x₀ m₀ (set regs₁ 7 (r % 65536)) psw₁ cex₁ m₁ (j + 1)
+  walked-next regs m regs₁ m₁ psw cex psw₁ cex₁ p r j n f b lt g =
+      inr (
+        omega arith,
+        (λ l c s e.
+            ⊎-elim
+            (λ u.
+            let e₁ : j + 1 ≡ 1 = ap (λ (k : ℕ). k + 1) (u .0) in
+            rw e₁
+            (goes-one l regs₀ m₀ psw₀ c (set regs₁ 7 (r % 65536)) m₁ psw₁ cex₁
+            (subst (λ (k : List ℕ). OneStep l k psw₀ c m₀ (set regs₁ 7 (r % 65536)) psw₁ cex₁ m₁) (u .1 .0)
+            (subst (λ (k : ℕ). OneStep l (set regs 7 (p % 65536)) k c m₀ (set regs₁ 7 (r % 65536)) psw₁ cex₁ m₁) (u .1 .1)
+            (subst (λ (k : List ℕ). OneStep l (set regs 7 (p % 65536)) psw c k (set regs₁ 7 (r % 65536)) psw₁ cex₁ m₁) (u .1 .3)
+            (g .0 l c s (e ∙ sym (u .1 .2))))))))
+            (λ v.
+            let pos = v .0 in
+            let h = shut (v .0) in
+            let o = open-none cex h in
+            goes-join l regs₀ m₀ psw₀ c (set regs 7 (p % 65536)) m (set regs₁ 7 (r % 65536)) m₁ psw cex psw₁ cex₁ j 1 (v .1 l c s e)
+            (goes-one l (set regs 7 (p % 65536)) m psw cex (set regs₁ 7 (r % 65536)) m₁ psw₁ cex₁ (g .0 l cex (o .0) (o .1))))
+            f),
+      )
+    where
+      shut : 0 < j → cex % 64 ≡ 0
+      shut h = ⊎-elim (λ z. z) (λ z. absurd (omega arith)) b
+
+  pub walked-start : (regs : List ℕ) (pc : ℕ) → regs ≡ regs₀ → pc ≡ getD regs₀ 7 0 → pc < 65536 →
+      Walked regs₀ psw₀ x₀ m₀ (set regs 7 (pc % 65536)) psw₀ x₀ m₀ 0
+  walked-start regs pc e f lt =
+      let k : pc % 65536 ≡ getD regs₀ 7 0 = mod-eq-of-lt lt ∙ f in
+      inl (refl, ((λ i. set (e i) 7 (k i)) ∙ set-getD regs₀ 7 0, refl, refl, refl))
+
+-- a register file stays as long
+pub awake-set : (regs : List ℕ) (psw v : ℕ) → Awake regs psw → Awake (set regs 7 v) psw
+awake-set regs psw v a = (a .0, subst (λ (n : ℕ). 7 < n) (sym (length-set regs 7 v)) (a .1))
+
+-- PC put back before a word that was left alone
+back : (regs : List ℕ) (p : ℕ) → 7 < length regs →
+    set (set regs 7 ((p % 65536 + 2) % 65536)) 7 ((getD (set regs 7 ((p % 65536 + 2) % 65536)) 7 0 + 65534) % 65536) ≡ set regs 7
+    (p % 65536)
+back regs p h =
+    let y = (p % 65536 + 2) % 65536 in
+    let e : (y + 65534) % 65536 ≡ p % 65536 = near (p % 65536) (omega arith) in
+    set-set regs 7 y ((getD (set regs 7 y) 7 0 + 65534) % 65536)
+    ∙ ap (λ (n : ℕ). set regs 7 ((n + 65534) % 65536)) (getD-set-same regs 7 y 0 h)
+    ∙ ap (set regs 7) e
+  where
+    near : (k : ℕ) → k < 65536 → ((k + 2) % 65536 + 65534) % 65536 ≡ k
+    near k lt = omega arith
+
+-- R7 is there after a step, taken or not
+pub long :
+    (regs m regs₁ m₁ : List ℕ) (psw cex psw₁ cex₁ p r : ℕ) → Awake regs psw → Stepping p regs psw cex m regs₁ psw₁ cex₁ m₁ r
+    → 7 < length regs₁
+long regs m regs₁ m₁ psw cex psw₁ cex₁ p r a g =
+    ⊎-elim
+    (λ u. rw (u .1 .0) (awake-set regs psw ((p % 65536 + 2) % 65536) a .1))
+    (λ v. v .1 .2 .1)
+    g
+
+module _ (regs₀ m₀ : List ℕ) (psw₀ x₀ : ℕ) (regs m regs₁ m₁ : List ℕ) (psw cex psw₁ cex₁ p r j n : ℕ) (a : Awake regs psw)
+    (f : Walked regs₀ psw₀ x₀ m₀ (set regs 7 (p % 65536)) psw cex m j) (b : (cex % 64 ≡ 0) ⊎ (n ≤ 1)) (lt : j < n)
+    (g : Stepping p regs psw cex m regs₁ psw₁ cex₁ m₁ r) where
+  -- the loop goes on
+  pub walked-on :
+      r < 1048576 →
+      Awake regs₁ psw₁ × (r % 2 ≡ 0) × ((cex₁ % 64 ≡ 0) ⊎ (n ≤ 1)) × Walked regs₀ psw₀ x₀ m₀ (set regs₁ 7 (r % 65536)) psw₁ cex₁ m₁ (j + 1)
+  walked-on h =
+      ⊎-elim
+      (λ u. let e = u .0 in absurd (omega arith))
+      (λ v. (
+        v .1 .2,
+        v .1 .1 h,
+        ⊎-elim (λ z. inl (v .1 .4 z)) (λ z. inr z) b,
+        walked-next regs₀ m₀ psw₀ x₀ regs m regs₁ m₁ psw cex psw₁ cex₁ p r j n f b lt (v .1),
+      ))
+      g
+
+  -- or ends
+  pub walked-stop :
+      (regs₂ : List ℕ) (s : ℕ) → (r ≡ 1048576 → (s ≡ 0) × (regs₂ ≡ set regs₁ 7 ((getD regs₁ 7 0 + 65534) % 65536))) →
+      ((r ≡ 1048576 → ⊥) → (s ≡ 1) × (regs₂ ≡ set regs₁ 7 (r % 65536))) →
+      Walked regs₀ psw₀ x₀ m₀ regs₂ psw₁ cex₁ m₁ (j + s) × Awake regs₂ psw₁
+  walked-stop regs₂ s k o =
+      ⊎-elim
+      (λ u.
+      let t = k (u .0) in
+      let y = (p % 65536 + 2) % 65536 in
+      let e : regs₂ ≡ set regs 7 (p % 65536) =
+      t .1 ∙ ap (λ (q : List ℕ). set q 7 ((getD q 7 0 + 65534) % 65536)) (u .1 .0) ∙ back regs p (a .1) in
+      let z : j + s ≡ j = ap (λ (q : ℕ). j + q) (t .0) ∙ none j in
+      rw (e, u .1 .1, u .1 .2, u .1 .3, z) (f, awake-set regs psw (p % 65536) a))
+      (λ v.
+      let t = o (v .0) in
+      rw (t .0, t .1)
+      (walked-next regs₀ m₀ psw₀ x₀ regs m regs₁ m₁ psw cex psw₁ cex₁ p r j n f b lt (v .1), awake-set regs₁ psw₁ (r % 65536) (v .1 .2)))
+      g
+    where
+      none : (q : ℕ) → q + 0 ≡ q
+      none q = omega arith
+
+-- ---- what was walked, from the CEX state before the count was lowered
+
+module _ (regs m regs₁ m₁ : List ℕ) (psw x psw₁ cex₁ j : ℕ) (f : Walked regs psw x m regs₁ psw₁ cex₁ m₁ j) (l : ℕ) where
+  -- in no block
+  pub walked-shut : x % 64 ≡ 0 → Goes l regs psw x m regs₁ psw₁ cex₁ m₁ j
+  walked-shut h =
+      let o = open-none x h in
+      ⊎-elim (λ u. rw (u .0, u .1 .0, u .1 .1, u .1 .2, u .1 .3) (goes-none l regs m psw x)) (λ v. v .1 l x (o .0) (o .1)) f
+
+  -- one step that a block covers, or none
+  pub walked-one : (c : ℕ) → skips? c ≡ false → lowered c ≡ x → (j ≡ 0 → ⊥) → Goes l regs psw c m regs₁ psw₁ cex₁ m₁ j
+  walked-one c s e n = ⊎-elim (λ u. absurd (n (u .0))) (λ v. v .1 l c s e) f
+
+  pub walked-left : j ≡ 0 → Untouched regs psw x m regs₁ psw₁ cex₁ m₁
+  walked-left e = ⊎-elim (λ u. u .1) (λ v. let h = v .0 in absurd (omega arith)) f
+
+  pub walked-none : (c : ℕ) → j ≡ 0 → Goes l regs psw c m regs₁ psw c m₁ 0
+  walked-none c e =
+      ⊎-elim (λ u. rw (u .1 .0, u .1 .3) (goes-none l regs m psw c)) (λ v. let h = v .0 in absurd (omega arith)) f
+
+-- ---- CEX
+
+decode-cex : (w : ℕ) → w / 1024 ≡ 20 → decodeOf w ≡ i.Cex (w / 64 % 16) (w / 8 % 8) (w % 8)
+unfolding decodeOf
+decode-cex w h =
+    simp (
+      le-ltb w 0x2000 (omega arith),
+      le-ltb w 0x4000 (omega arith),
+      le-ltb w 0x4C00 (omega arith),
+      le-ltb w 0x5000 (omega arith),
+      lt-ltb w 0x6000 (omega arith),
+      lt-ltb w 0x5400 (omega arith),
+    )
+
+pub cex-loaded :
+    (l : ℕ) (regs m : List ℕ) (psw cex w v x : ℕ) → getD regs 7 0 % 2 ≡ 0 → asleep? psw ≡ false → skips? cex ≡ false →
+    w ≡ wordAt m (getD regs 7 0) → w / 1024 ≡ 20 → v ≡ wrap (getD regs 7 0 + 2) → x ≡ loadedCex (w / 64 % 16) (w / 8 % 8) (w % 8) psw →
+    OneStep l regs psw cex m (set regs 7 v) psw x m
+unfolding advanced effectOf granted perform commit
+cex-loaded l regs m psw cex w v x even woken s ew h ev ex q =
+    let plan : (n : ℕ) → planOf (running regs psw cex l n m)
+    ≡ planned (coreOf (set regs 7 (wrap (getD regs 7 0 + 2))) psw (loadedCex (w / 64 % 16) (w / 8 % 8) (w % 8) psw)) act.Plain =
+    λ n.
+    fetches regs m psw cex l even woken q s n
+    ∙ ap (λ (u : ℕ). executed (coreOf regs psw cex) (effectOf (advanced (coreOf regs psw cex)) (decodeOf u)) m) (sym ew)
+    ∙ ap (λ (u : Instr). executed (coreOf regs psw cex) (effectOf (advanced (coreOf regs psw cex)) u) m) (decode-cex w h) in (
+      q,
+      (λ n. (λ j. running (set regs 7 (ev j)) psw (ex j) l (n + 1) m) ∙ ap (λ (p : Plan). carriedOut p l n m) (sym (plan n))),
+      (λ n. ap (λ (p : Plan). uneventful? (p .act)) (plan n)),
+    )
 
 -- ---- sleep
 
@@ -289,27 +520,48 @@ stretch-asleep ev s due j a h u =
 
 -- the machine as its loop has it
 pub stretch-done :
-    (regs m regs₁ m₁ : List ℕ) (t : Rest) (due psw j : ℕ) (ev : List Event) → t .halted ≡ false → t .cex ≡ 0 →
-    NoneAbove m (t .lines) (current (t .psw)) → j ≤ due - t .count → Reaches regs (t .psw) m regs₁ psw m₁ j →
-    Undisturbed ev (t .count) due →
-    Passes ev (stateWith regs t m) (running regs₁ psw (t .lines) (t .count + j) m₁) (t .count + j - t .count)
-stretch-done regs m regs₁ m₁ t due psw j ev eh ec q h f u =
+    (regs m regs₁ m₁ : List ℕ) (t : Rest) (due psw cex j : ℕ) (ev : List Event) → t .halted ≡ false →
+    NoneAbove m (t .lines) (current (t .psw)) → j ≤ due - t .count →
+    Goes (t .lines) regs (t .psw) (t .cex) m regs₁ psw cex m₁ j → Undisturbed ev (t .count) due →
+    Passes ev (stateWith regs t m) (running regs₁ psw cex (t .lines) (t .count + j) m₁) (t .count + j - t .count)
+stretch-done regs m regs₁ m₁ t due psw cex j ev eh q h f u =
     let n = t .count in
+    let l = t .lines in
     let e : n + j - n ≡ j = omega arith in
-    let s : running regs (t .psw) (t .lines) n m ≡ stateWith regs t m =
-    λ i. stateFrom (coreOf regs (t .psw) (sym ec i)) (t .lines) (sym eh i) n m in
+    let s : running regs (t .psw) (t .cex) l n m ≡ stateWith regs t m =
+    λ i. record { core = coreOf regs (t .psw) (t .cex); lines = l; halted = sym eh i; count = n; mem = m } in
     rw e
-    (subst (λ (x : State). Passes ev x (running regs₁ psw (t .lines) (n + j) m₁) j) s
-    (f (t .lines) q .1 ev n (λ i a b. u i a (omega arith))))
+    (subst (λ (x : State). Passes ev x (running regs₁ psw cex l (n + j) m₁) j) s
+    (reached q .1 ev n (λ i a b. u i a (omega arith))))
+  where
+    reached : Reaches (t .lines) regs (t .psw) (t .cex) m regs₁ psw cex m₁ j
+    reached =
+        let z : 0 + j ≡ j = omega arith in
+        subst (λ (k : ℕ). Reaches (t .lines) regs (t .psw) (t .cex) m regs₁ psw cex m₁ k) z
+        (f regs (t .psw) (t .cex) m 0 (reaches-start (t .lines) regs m (t .psw) (t .cex)))
+
+-- PC is even where the test for an odd one fails
+pub even-of : (v : ℕ) (b : Bool) → (eqb (v % 2) 1 || b) ≡ false → v % 2 ≡ 0
+even-of v b h =
+    let n = eqb-false (v % 2) 1 (or-eq-false-eq-eq-false-and-eq-false _ _ .0 h .0) in
+    omega arith
 
 -- what the tests say; a is the code's answer of whether SLP is set
+getD-past : (l : List ℕ) (k : ℕ) → length l ≤ k → getD l k 0 ≡ 0
+getD-past [] k h = refl
+getD-past (x ∷ l) zero h = absurd (omega arith)
+getD-past (x ∷ l) (suc k) h = getD-past l k (omega arith)
+
 pub tests-fetching :
-    (regs : List ℕ) (t : Rest) {a : Bool} → a ≡ asleep? (t .psw) → t .halted || not (eqb (t .cex) 0) ≡ false →
-    eqb (getD regs 7 0 % 2) 0 && not a ≡ true → (t .halted ≡ false) × (t .cex ≡ 0) × Fetching regs (t .psw)
-tests-fetching regs t {a} h e f =
+    (regs : List ℕ) (t : Rest) {a : Bool} {v : ℕ} → a ≡ asleep? (t .psw) → t .halted || a ≡ false → v ≡ getD regs 7 0 →
+    not (eqb v 0) ≡ true → (t .halted ≡ false) × Awake regs (t .psw)
+tests-fetching regs t {a} {v} h e f g =
     let p = or-eq-false-eq-eq-false-and-eq-false _ _ .0 e in
-    let even = eqb (getD regs 7 0 % 2) 0 in
-    (p .0, eq-of (not-false _ (p .1)), (eq-of (and-left even (not a) f), sym h ∙ not-true _ (and-right even (not a) f)))
+    (p .0, (sym h ∙ p .1, there regs v f (eqb-false v 0 (not-true _ g))))
+  where
+    there : (l : List ℕ) (v : ℕ) → v ≡ getD l 7 0 → (v ≡ 0 → ⊥) → 7 < length l
+    there l v e n = bool-cases (ltb 7 (length l)) (λ b. ltb-true 7 (length l) b) (λ b. absurd (n (e ∙ getD-past l 7 (ltb-false 7
+        (length l) b))))
 
 pub tests-asleep :
     (regs m : List ℕ) (t : Rest) {a : Bool} → a ≡ asleep? (t .psw) → t .halted || not a ≡ false →

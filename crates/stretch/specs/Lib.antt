@@ -1,3 +1,1 @@
-pub mod Ordinary
-pub mod Served
 pub mod Stretch

@@ -1,230 +1,289 @@
--- What an instruction that touches registers and flags alone leaves of a machine in no CEX block. l is the registers, p the
--- PSW before it, m and r those after it. Assumes nothing.
-use Prim.Native.Nat.{ℕ, zero, suc, _%_, _<_}
+-- What an instruction that touches registers, flags and the CEX state alone leaves. l is the registers, p the PSW and x the CEX
+-- state before it; pc is PC past it. Assumes nothing.
+use Prim.Native.Nat.{ℕ, suc, _+_, _-_, _*_, _/_, _%_, _^_, _<_, _≤_}
 use mathlib.Core.Bool.{Bool, true, false, cond}
 use mathlib.Core.List.{List, [], _∷_}
+use mathlib.Core.Logic.{inl, inr, ⊎-elim}
 use mathlib.Core.Path.{_≡_, refl, sym, ap, _∙_}
 use native.Mathlib.Nat.{mod-eq-of-lt}
 use native.Mathlib.Omega.{arith}
-use lib.Bits.{bitAnd, bitOr, bitXor}
-use lib.Dec.{eqb}
+use borrow.Author.Tests.{ne-eqb}
+use borrow.Author.Tests.{lt-ltb, le-ltb, ltb-true, ltb-false}
+use lib.Bits.{bitAnd, bitOr, or-shr, or-mod, or-lt, or-zero-r, and-shr, and-mod, and-lt, and-mask}
+use lib.Dec.{eqb, ltb}
 use lib.IntN.{ℤ, pos, negsuc}
 use lib.ListN.{getD, set}
-use lib.Seq.{getD-set-other}
-use Rattle.word.specs.Width.{widthOf, low, withLow, turned}
+use lib.Seq.{getD-set-other, set-getD, set-set}
+use Rattle.word.proofs.Laws.{bool-cases}
 use Rattle.word.specs.Psw.{asleep?, current}
 use Rattle.alu.specs.declared.Op.{Op}
-use Rattle.alu.specs.declared.Op.the-variants.{And, Or, Xor, Cmp, Bit}
+use Rattle.alu.specs.declared.Op.the-variants.{Swpb, Sxt}
 use Rattle.alu.specs.declared.Computed.{Computed}
-use Rattle.alu.specs.Alu.{aluOf, logical, summed, tested}
-use Rattle.alu.proofs.Laws.{alu-asleep, alu-current, alu-psw-word}
+use Rattle.alu.proofs.Laws.{alu-asleep, alu-current}
+use Rattle.word.specs.Width.{widthOf, low, withLow}
+use Rattle.word.specs.Offset.{signedOf}
 use Rattle.isa.specs.declared.Instr.{Instr}
 use Rattle.isa.specs.declared.Instr.the-variants as i
-use Rattle.machine.specs.State.{Core, moved, doubled, withPsw, put}
-use Rattle.machine.specs.Effect.{Effect, effectOf, plainly, operated, operand, binaryOp, flagsOnly?, branched, takenOf}
-use Rattle.execute.specs.declared.Executed.{Executed}
-use Rattle.execute.specs.Executed.{effectWith}
-use Rattle.stretch_registers.specs.Effected.{unblocked, Keeps, Effected}
+use Rattle.isa.specs.Decode.{unaryOf}
+use Rattle.machine.specs.State.{Core, coreOf, moved, doubled, withPsw, put}
+use Rattle.machine.specs.Effect.{effectOf, plainly, operated, unaryOp, immediateOf, takenOf, setFlags, clearFlags}
+use Rattle.stretch_registers.specs.Effected.{Past, Keeps, Done, Tried, Computes, outcome}
 
--- ---- a core in no CEX block, which has kept what it must
+-- a write to another register leaves PC
+pub pc-set : (l : List ℕ) (i v : ℕ) → i < 7 → getD (set l i v) 7 0 ≡ getD l 7 0
+pc-set l i v h = getD-set-other l i 7 v 0 (λ e. omega arith)
 
-abbrev Kept : List ℕ → ℕ → Core → Type 0
-Kept l p c = (c .cex ≡ 0) × Keeps l p (c .regs) (c .psw)
+-- CEX stays where another register is written
+pub cex-set : (i x : ℕ) → i < 7 → cond (eqb i 7) 0 x ≡ x
+cex-set i x h = rw (ne-eqb i 7 (λ e. omega arith)) refl
 
-cleared : (b : Bool) → _≡_ {A = ℕ} (cond b 0 0) 0
-cleared true = refl
-cleared false = refl
+-- PC put back where it stands changes nothing
+pub pc-back : (l k : List ℕ) (pc : ℕ) → Past pc l → getD k 7 0 ≡ getD l 7 0 → k ≡ set k 7 (pc % 65536)
+pc-back l k pc h e = sym (ap (set k 7) (h .0 ∙ sym e) ∙ set-getD k 7 0)
 
-pub set-even : (l : List ℕ) (n v : ℕ) → v % 2 ≡ 0 → getD (set l n v) n 0 % 2 ≡ 0
-set-even [] n v h = refl
-set-even (x ∷ l) zero v h = h
-set-even (x ∷ l) (suc n) v h = set-even l n v h
+module _ (n : Instr) (l : List ℕ) (p x pc : ℕ) (h : Past pc l) where
+  -- an instruction that leaves PC and the CEX state
+  pub plain-done :
+      (k : List ℕ) (q : ℕ) → effectOf (coreOf l p x) n ≡ plainly (coreOf k q x) → getD k 7 0 ≡ getD l 7 0 → Keeps p q →
+      Done n l p x k q x pc
+  plain-done k q e f s = (
+    (λ z. omega (arith, h .2)),
+    e ∙ ap (λ (j : List ℕ). plainly (coreOf j q x)) (pc-back l k pc h f),
+    (λ z. h .1),
+    s,
+    omega (arith, h .2),
+    (λ z. z),
+  )
 
-module _ (l : List ℕ) (p : ℕ) where
-  same : Kept l p (unblocked l p)
-  same = (refl, ((λ s. s), refl, refl))
+  -- an operation on one register, and one that tests alone
+  pub computes-tried :
+      (op : Op) (byte : Bool) (s w : ℕ) (k : List ℕ) (q r : ℕ) →
+      effectOf (coreOf l p x) n ≡ plainly (operated (coreOf l p x) (w % 8) (outcome op byte s w l p)) →
+      Computes op byte s w pc l p k q r → Tried n l p x k q x r
+  computes-tried op byte s w k q r e =
+      ⊎-elim (λ u. inl (u .0, u .1, u .2, refl))
+      (λ v.
+      let o = outcome op byte s w l p in
+      let f : operated (coreOf l p x) (w % 8) o ≡ coreOf k q x =
+      λ j. record { regs = sym (v .2) j; psw = sym (v .3) j; cex = cex-set (w % 8) x (v .0) j } in
+      rw (v .1)
+      (inr (plain-done k q (e ∙ ap plainly f) (ap (λ (j : List ℕ). getD j 7 0) (v .2) ∙ pc-set l (w % 8) (o .value) (v .0))
+      (rw (v .3) (alu-asleep op (widthOf byte) (getD l (w % 8) 0) s p, alu-current op (widthOf byte) (getD l (w % 8) 0) s p)))))
 
-  either : (b : Bool) (c d : Core) → Kept l p c → Kept l p d → Kept l p (cond b c d)
-  either true c d h k = h
-  either false c d h k = k
-
-  -- a write to a register below R7, and flags
-  written :
-      (n v q : ℕ) → n < 7 → asleep? q ≡ asleep? p → current q ≡ current p → Kept l p (withPsw (put (unblocked l p) n v) q)
-  written n v q h e f =
-      let k : getD (set l n v) 7 0 ≡ getD l 7 0 = getD-set-other l n 7 v 0 (λ q. omega arith) in
-      (cleared (eqb n 7), ((λ s. ap (λ (x : ℕ). x % 2) k ∙ s), e, f))
-
-  -- one more register below R7
-  written-too : (c : Core) (n v : ℕ) → n < 7 → Kept l p c → Kept l p (put c n v)
-  written-too c n v h k =
-      let f : getD (set (c .regs) n v) 7 0 ≡ getD (c .regs) 7 0 = getD-set-other (c .regs) n 7 v 0 (λ q. omega arith) in
-      (ap (cond (eqb n 7) 0) (k .0) ∙ cleared (eqb n 7), ((λ s. ap (λ (x : ℕ). x % 2) f ∙ k .1 .0 s), k .1 .1, k .1 .2))
-
-  -- an even number written to R7
-  directed : (n v : ℕ) → n ≡ 7 → v % 2 ≡ 0 → Kept l p (put (unblocked l p) n v)
-  directed n v h e = (cleared (eqb n 7), ((λ s. rw h (set-even l 7 v e)), refl, refl))
-
-  -- an instruction that leaves such a core is executed
-  settled : (x : Instr) (m : List ℕ) (r : ℕ) (c : Core) → effectOf (unblocked l p) x ≡ plainly c → Kept l p c
-      → m ≡ c .regs → r ≡ c .psw → r < 65536 → Effected x l p m r
-  settled x m r c e k hm hr h =
-      let f : unblocked m r ≡ c = λ j. record { regs = hm j; psw = hr j; cex = sym (k .0) j } in
-      (h, e ∙ ap plainly (sym f), rw (hm, hr) (k .1))
-
--- the registers that its code leaves
-left : {m : List ℕ} {d : Executed} {c : Core} → effectWith m d ≡ plainly c → m ≡ c .regs
-left h = ap (λ (e : Effect). e .core .regs) h
+  pub tests-done :
+      (op : Op) (byte : Bool) (s w q r : ℕ) →
+      effectOf (coreOf l p x) n ≡ plainly (withPsw (coreOf l p x) (outcome op byte s w l p .psw)) →
+      (r ≡ pc) × (q ≡ outcome op byte s w l p .psw) → Done n l p x l q x r
+  tests-done op byte s w q r e v =
+      rw (v .0)
+      (plain-done l q (e ∙ ap (λ (j : ℕ). plainly (coreOf l j x)) (sym (v .1))) refl
+      (rw (v .1) (alu-asleep op (widthOf byte) (getD l (w % 8) 0) s p, alu-current op (widthOf byte) (getD l (w % 8) 0) s p)))
 
 -- ---- one register
 
--- low bits come with their parity
-copied-even : (byte : Bool) (x v : ℕ) → v % 2 ≡ 0 → withLow (widthOf byte) x (low (widthOf byte) v) % 2 ≡ 0
-unfolding widthOf
-copied-even true x v h = omega arith
-copied-even false x v h = omega arith
+-- a register written that is not R7
+put-below : (l : List ℕ) (p x d v : ℕ) → d < 7 → put (coreOf l p x) d v ≡ coreOf (set l d v) p x
+put-below l p x d v h = λ j. record { regs = set l d v; psw = p; cex = cex-set d x h j }
 
-module _ (l m : List ℕ) (p : ℕ) {d : Executed} (hp : p < 65536) where
-  pub moving : (wb src dst : ℕ) → dst < 7 → effectWith m d ≡ effectOf (unblocked l p) (i.Mov wb src dst)
-      → Effected (i.Mov wb src dst) l p m p
+module _ (l : List ℕ) (p x pc : ℕ) (h : Past pc l) where
+  pub writes-done :
+      (n : Instr) (k : List ℕ) (d v : ℕ) → effectOf (coreOf l p x) n ≡ plainly (put (coreOf l p x) d v) → d < 7 → k ≡ set l d v →
+      Done n l p x k p x pc
+  writes-done n k d v e f g =
+      plain-done n l p x pc h k p (e ∙ ap plainly (put-below l p x d v f) ∙ ap (λ (j : List ℕ). plainly (coreOf j p x)) (sym g))
+      (ap (λ (j : List ℕ). getD j 7 0) g ∙ pc-set l d v f) (refl, refl)
+
+  pub moves-byte :
+      (op b d : ℕ) {k : List ℕ} {v y : ℕ} → d < 7 → y ≡ getD l d 0 → v ≡ immediateOf op b y → k ≡ set l d v →
+      Done (i.MovImm op b d) l p x k p x pc
   unfolding effectOf
-  moving wb src dst h e = settled l p (i.Mov wb src dst) m p _ refl (written l p dst _ p h refl refl) (left e) refl hp
+  moves-byte op b d {k} {v} {y} f ey ev g =
+      writes-done (i.MovImm op b d) k d (immediateOf op b (getD l d 0)) refl f
+      (g ∙ ap (set l d) (ev ∙ ap (immediateOf op b) ey))
 
-  pub moving-to-pc : (wb src dst : ℕ) → dst ≡ 7 → getD l src 0 % 2 ≡ 0 → effectWith m d ≡ effectOf (unblocked l p) (i.Mov wb src dst)
-      → Effected (i.Mov wb src dst) l p m p
+  pub moves :
+      (byte : Bool) (wb src d : ℕ) {k : List ℕ} {v y u z : ℕ} → byte ≡ eqb wb 1 → d < 7 → v ≡ getD l src 0 → y ≡ getD l d 0 →
+      u ≡ low (widthOf byte) v → z ≡ withLow (widthOf byte) y u → k ≡ set l d z → Done (i.Mov wb src d) l p x k p x pc
   unfolding effectOf
-  moving-to-pc wb src dst h v e =
-      settled l p (i.Mov wb src dst) m p _ refl
-      (directed l p dst _ h (copied-even (eqb wb 1) (getD l dst 0) (getD l src 0) v)) (left e) refl hp
+  moves byte wb src d {k} {v} {y} {u} {z} eb f ev ey eu ez g =
+      let w = widthOf (eqb wb 1) in
+      let e : z ≡ withLow w (getD l d 0) (low w (getD l src 0)) = rw (ez, eu, ev, ey, eb) refl in
+      writes-done (i.Mov wb src d) k d (withLow w (getD l d 0) (low w (getD l src 0))) refl f (g ∙ ap (set l d) e)
 
-  pub moving-byte : (op b dst : ℕ) → dst < 7 → effectWith m d ≡ effectOf (unblocked l p) (i.MovImm op b dst)
-      → Effected (i.MovImm op b dst) l p m p
+  pub swaps :
+      (src d b : ℕ) {k k′ : List ℕ} {s t : ℕ} → src < 7 → d < 7 → s ≡ getD l src 0 → t ≡ getD l d 0 → k ≡ set l src t →
+      k′ ≡ set k d s → Done (i.Swap src d b) l p x k′ p x pc
   unfolding effectOf
-  moving-byte op b dst h e = settled l p (i.MovImm op b dst) m p _ refl (written l p dst _ p h refl refl) (left e) refl hp
+  swaps src d b {k} {k′} {s} {t} f f′ es et e e′ =
+      let g : k′ ≡ set (set l src (getD l d 0)) d (getD l src 0) =
+      e′ ∙ ap (λ (j : List ℕ). set j d s) (e ∙ ap (set l src) et) ∙ ap (set (set l src (getD l d 0)) d) es in
+      plain-done (i.Swap src d b) l p x pc h k′ p
+      (ap (λ (c : Core). plainly (put c d (getD l src 0))) (put-below l p x src (getD l d 0) f)
+      ∙ ap plainly (put-below (set l src (getD l d 0)) p x d (getD l src 0) f′)
+      ∙ ap (λ (j : List ℕ). plainly (coreOf j p x)) (sym g))
+      (ap (λ (j : List ℕ). getD j 7 0) g ∙ pc-set (set l src (getD l d 0)) d (getD l src 0) f′ ∙ pc-set l src (getD l d 0) f)
+      (refl, refl)
 
-  pub swapping : (src dst b : ℕ) → src < 7 → dst < 7 → effectWith m d ≡ effectOf (unblocked l p) (i.Swap src dst b)
-      → Effected (i.Swap src dst b) l p m p
-  unfolding effectOf
-  swapping src dst b h k e =
-      settled l p (i.Swap src dst b) m p _ refl
-      (written-too l p (put (unblocked l p) src (getD l dst 0)) dst (getD l src 0) k (written l p src (getD l dst 0) p h refl refl))
-      (left e) refl hp
+  -- R7 written by MOV of a word
+  pub moves-to-pc :
+      (wb src d : ℕ) {v r y : ℕ} → false ≡ eqb wb 1 → d ≡ 7 → v < 65536 → v ≡ getD l src 0 →
+      (r % 65536 ≡ v) × (r ≡ 1048576 → ⊥) × (r < 1048576 → r % 2 ≡ 0) × (r < 4194304) × (y ≡ 0) →
+      Done (i.Mov wb src d) l p x l p y r
+  unfolding effectOf widthOf
+  moves-to-pc wb src d {v} {r} {y} eb ed hv ev q =
+      let a = getD l 7 0 in
+      let past = h .0 in
+      let e : withLow 16 a (low 16 v) ≡ v = omega arith in (
+        q .1,
+        rw (sym eb, ed, sym ev, e, q .0, q .4) refl,
+        q .2,
+        (refl, refl),
+        q .3,
+        (λ z. rw (q .4) refl),
+      )
 
--- an operation b on one register, which is what the instruction x means
-module _ (l : List ℕ) (p : ℕ) (x : Instr) (b : Op) (w dst : ℕ) where
-  abbrev altered : Computed
-  altered = aluOf b w (getD l dst 0) 0 p
-
-  pub operating-on-one : (m : List ℕ) {d : Executed} → effectOf (unblocked l p) x ≡ plainly (operated (unblocked l p) dst altered) → dst < 7
-      → d .psw < 65536 → effectWith m d ≡ plainly (operated (unblocked l p) dst altered) → Effected x l p m (d .psw)
-  operating-on-one m {d} hx h f e =
-      settled l p x m (d .psw) _ hx
-      (written l p dst (altered .value) (altered .psw) h (alu-asleep b w (getD l dst 0) 0 p) (alu-current b w (getD l dst 0) 0 p))
-      (left e) (ap (λ (y : Effect). y .core .psw) e) f
-
--- ---- operations
-
-module _ (l : List ℕ) (p op rc wb src dst : ℕ) where
-  abbrev outcome : Computed
-  outcome = aluOf (binaryOp op) (widthOf (eqb wb 1)) (getD l dst 0) (operand (unblocked l p) rc src) p
-
-  awake : asleep? (outcome .psw) ≡ asleep? p
-  awake = alu-asleep (binaryOp op) (widthOf (eqb wb 1)) (getD l dst 0) (operand (unblocked l p) rc src) p
-
-  level : current (outcome .psw) ≡ current p
-  level = alu-current (binaryOp op) (widthOf (eqb wb 1)) (getD l dst 0) (operand (unblocked l p) rc src) p
-
-  flagged-kept : Kept l p (withPsw (unblocked l p) (outcome .psw))
-  flagged-kept = (refl, ((λ s. s), awake, level))
-
-  -- by the general code
-  pub operating : (m : List ℕ) {d : Executed} → dst < 7 → d .psw < 65536
-      → effectWith m d ≡ effectOf (unblocked l p) (i.Alu op rc wb src dst) → Effected (i.Alu op rc wb src dst) l p m (d .psw)
-  unfolding effectOf
-  operating m {d} h f e =
-      settled l p (i.Alu op rc wb src dst) m (d .psw) _ refl
-      (either l p (flagsOnly? op) _ _ flagged-kept (written l p dst (outcome .value) (outcome .psw) h awake level))
-      (left e) (ap (λ (x : Effect). x .core .psw) e) f
-
-  -- by the code of the operation b, number n, on words
-  module _ (b : Op) (n : ℕ) {v s : ℕ} {o : Computed} (hp : p < 65536) (hn : op ≡ n) (hb : b ≡ binaryOp n) (hw : wb ≡ 0)
-      (hv : v ≡ getD l dst 0) (hs : s ≡ operand (unblocked l p) rc src) (ho : o ≡ aluOf b (widthOf false) v s p) where
-    result : o ≡ outcome
-    result =
-        let k : eqb wb 1 ≡ false = rw hw refl in
-        rw (ho, hb, hn, k, hv, hs)
-
-    fits : o .psw < 65536
-    fits = rw result (alu-psw-word (binaryOp op) (widthOf (eqb wb 1)) (getD l dst 0) (operand (unblocked l p) rc src) p hp)
-
-    pub computing : flagsOnly? n ≡ false → dst < 7 → (m : List ℕ) {r : ℕ} → (r ≡ o .psw) × (m ≡ set l dst (o .value))
-        → Effected (i.Alu op rc wb src dst) l p m r
+  -- one operand, by bits 5 to 3 of the word
+  module _ (w : ℕ) {k : List ℕ} {q r : ℕ} where
+    pub unary-tried :
+        (n : ℕ) (op : Op) → w / 8 % 8 ≡ n → n < 3 → unaryOp n ≡ op → Computes op (eqb (w / 64 % 2) 1) 0 w pc l p k q r →
+        Tried (unaryOf w) l p x k q x r
     unfolding effectOf
-    computing t h m {r} w =
-        settled l p (i.Alu op rc wb src dst) m r (operated (unblocked l p) dst outcome) (rw (hn, t) refl)
-        (written l p dst (outcome .value) (outcome .psw) h awake level)
-        (w .1 ∙ ap (λ (x : Computed). set l dst (x .value)) result) (w .0 ∙ ap (λ (x : Computed). x .psw) result) (rw (w .0) fits)
+    unary-tried n op e f g t =
+        rw (lt-ltb (w / 8 % 8) 3 (omega arith))
+        (computes-tried (i.Unary (w / 8 % 8) (w / 64 % 2) (w % 8)) l p x pc h op (eqb (w / 64 % 2) 1) 0 w k q r
+        (ap (λ (o : Op). plainly (operated (coreOf l p x) (w % 8) (outcome o (eqb (w / 64 % 2) 1) 0 w l p))) (ap unaryOp e ∙ g)) t)
 
-    pub testing : flagsOnly? n ≡ true → Effected (i.Alu op rc wb src dst) l p l (o .psw)
-    unfolding effectOf
-    testing t =
-        settled l p (i.Alu op rc wb src dst) l (o .psw) (withPsw (unblocked l p) (outcome .psw)) (rw (hn, t) refl) flagged-kept refl
-        (ap (λ (x : Computed). x .psw) result) fits
+    pub swpb-tried : w / 8 % 8 ≡ 3 → Computes Swpb false 0 w pc l p k q r → Tried (unaryOf w) l p x k q x r
+    unfolding effectOf widthOf
+    swpb-tried e t =
+        rw (le-ltb (w / 8 % 8) 3 (omega arith), lt-ltb (w / 8 % 8) 4 (omega arith))
+        (computes-tried (i.Swpb (w % 8) (w / 64 % 2)) l p x pc h Swpb false 0 w k q r refl t)
 
--- ---- logic on words
+    pub sxt-tried : w / 8 % 8 ≡ 4 → Computes Sxt false 0 w pc l p k q r → Tried (unaryOf w) l p x k q x r
+    unfolding effectOf widthOf
+    sxt-tried e t =
+        rw (le-ltb (w / 8 % 8) 3 (omega arith), le-ltb (w / 8 % 8) 4 (omega arith), lt-ltb (w / 8 % 8) 5 (omega arith))
+        (computes-tried (i.Sxt (w % 8) (w / 64 % 2)) l p x pc h Sxt false 0 w k q r refl t)
 
--- a word is its own low bits
-low-word : (x : ℕ) → x < 65536 → low (widthOf false) x ≡ x
-unfolding widthOf
-low-word x h = mod-eq-of-lt h
+-- ---- flags
 
-module _ (d s p : ℕ) {o : Computed} (hd : d < 65536) (hs : s < 65536) where
-  pub and-words : o ≡ logical (widthOf false) d p (bitAnd d s) → o ≡ aluOf And (widthOf false) d s p
-  unfolding aluOf
-  and-words h = rw (low-word d hd, low-word s hs) h
+-- bit 3 above a multiple of 32
+low-five : (q b : ℕ) → (q * 32 + b) / 8 % 2 ≡ b / 8 % 2
+low-five q b =
+    let e : (q * 32 + b) / 8 ≡ q * 4 + b / 8 = omega arith in
+    ap (λ (n : ℕ). n % 2) e ∙ more (b / 8)
+  where
+    more : (y : ℕ) → (q * 4 + y) % 2 ≡ y % 2
+    more y = omega arith
 
-  pub or-words : o ≡ logical (widthOf false) d p (bitOr d s) → o ≡ aluOf Or (widthOf false) d s p
-  unfolding aluOf
-  or-words h = rw (low-word d hd, low-word s hs) h
+low-kept : (p b : ℕ) → b < 32 → b / 8 % 2 ≡ p % 32 / 8 % 2 → Keeps p (p / 32 * 32 + b)
+low-kept p b lt h =
+    let e : p / 32 * 32 + p % 32 ≡ p = omega arith in
+    let l : (p / 32 * 32 + b) / 32 % 8 ≡ p / 32 % 8 = ap (λ (n : ℕ). n % 8) (above (p / 32)) in (
+      ap (λ (n : ℕ). eqb n 1) (low-five (p / 32) b ∙ h ∙ sym (low-five (p / 32) (p % 32)) ∙ ap (λ (n : ℕ). n / 8 % 2) e),
+      l,
+    )
+  where
+    above : (q : ℕ) → (q * 32 + b) / 32 ≡ q
+    above q = omega arith
 
-  pub xor-words : o ≡ logical (widthOf false) d p (bitXor d s) → o ≡ aluOf Xor (widthOf false) d s p
-  unfolding aluOf
-  xor-words h = rw (low-word d hd, low-word s hs) h
+-- SLP and the priority where the other flags are set or cleared
+set-keeps : (p f : ℕ) → f < 32 → f / 8 % 2 ≡ 0 → Keeps p (setFlags p f)
+set-keeps p f hf h =
+    let b = bitOr (p % 32) f in
+    let lt : b < 32 = or-lt 5 (p % 32) f (omega arith) hf in
+    let z : b / 8 % 2 ≡ p % 32 / 8 % 2 =
+    ap (λ (n : ℕ). n % 2) (or-shr (p % 32) f 3) ∙ or-mod (p % 32 / 8) (f / 8) 1 ∙ ap (bitOr (p % 32 / 8 % 2)) h
+    ∙ or-zero-r (p % 32 / 8 % 2) in
+    low-kept p b lt z
 
-  pub bit-words : o ≡ logical (widthOf false) d p (bitAnd d s) → tested d o ≡ aluOf Bit (widthOf false) d s p
-  unfolding aluOf
-  bit-words h = rw (low-word d hd, low-word s hs) (ap (tested d) h)
+clear-keeps : (p f : ℕ) → f < 32 → f / 8 % 2 ≡ 0 → Keeps p (clearFlags p f)
+clear-keeps p f hf h =
+    let b = bitAnd (p % 32) (31 - f) in
+    let lt : b < 32 = and-lt 5 (p % 32) (31 - f) (omega arith) (omega arith) in
+    let one : (31 - f) / 8 % 2 ≡ 1 = omega arith in
+    let z : b / 8 % 2 ≡ p % 32 / 8 % 2 =
+    ap (λ (n : ℕ). n % 2) (and-shr (p % 32) (31 - f) 3) ∙ and-mod (p % 32 / 8) ((31 - f) / 8) 1
+    ∙ ap (bitAnd (p % 32 / 8 % 2)) one ∙ and-mask (p % 32 / 8 % 2) 1 ∙ omega arith in
+    low-kept p b lt z
 
-pub cmp-words : (d s p : ℕ) {o : Computed} → o ≡ summed (widthOf false) d (turned (widthOf false) s) 1 p
-    → tested d o ≡ aluOf Cmp (widthOf false) d s p
-unfolding aluOf
-cmp-words d s p h = ap (tested d) h
+-- SETCC of other flags than SLP may set all that it names
+all-allowed : (b : Bool) (f : ℕ) → f < 32 → f / 8 % 2 ≡ 0 → cond b (f / 16 * 16 + f % 8) f ≡ f
+all-allowed true f hf h = omega arith
+all-allowed false f hf h = refl
+
+module _ (l : List ℕ) (p x pc f : ℕ) (h : Past pc l) (hf : f < 32) (hs : f / 8 % 2 ≡ 0) where
+  pub sets-flags : {q : ℕ} → q ≡ setFlags p f → Done (i.SetCc f) l p x l q x pc
+  unfolding effectOf
+  sets-flags {q} e =
+      plain-done (i.SetCc f) l p x pc h l q
+      (ap (λ (g : ℕ). plainly (coreOf l (setFlags p g) x)) (all-allowed (eqb (current p) 7) f hf hs)
+      ∙ ap (λ (g : ℕ). plainly (coreOf l g x)) (sym e))
+      refl (rw e (set-keeps p f hf hs))
+
+  pub clears-flags : {q : ℕ} → q ≡ clearFlags p f → Done (i.ClrCc f) l p x l q x pc
+  unfolding effectOf
+  clears-flags {q} e =
+      plain-done (i.ClrCc f) l p x pc h l q (ap (λ (g : ℕ). plainly (coreOf l g x)) (sym e)) refl (rw e (clear-keeps p f hf hs))
 
 -- ---- branches
 
--- from an even PC to an even target
-moved-even : (a : ℕ) (z : ℤ) → a % 2 ≡ 0 → moved a (doubled z) % 2 ≡ 0
-moved-even a (pos n) h = omega arith
-moved-even a (negsuc n) h = omega arith
+-- the offset with the bits n, doubled and added to a: from half on, as if half + half were taken from n
+target : (half a n : ℕ) → half ≤ 4096 → n < half + half →
+    moved a (doubled (signedOf half n)) ≡ (a + 2 * n + cond (ltb n half) 0 (65536 - 4 * half)) % 65536
+target half a n hh hn =
+    bool-cases (ltb n half)
+    (λ e. rw e (omega arith))
+    (λ e. rw e (let g = ltb-false n half e in omega arith))
 
-module _ (l : List ℕ) (p : ℕ) where
-  branched-kept : (c : Core) (off : ℤ) → Kept l p c → Kept l p (branched c off)
-  branched-kept c off k =
-      (refl, ((λ s. set-even (c .regs) 7 _ (moved-even (getD (c .regs) 7 0) off (k .1 .0 s))), k .1 .1, k .1 .2))
-
-module _ (l m : List ℕ) (p : ℕ) {d : Executed} (hp : p < 65536) where
-  pub linking : (off : ℤ) → effectWith m d ≡ effectOf (unblocked l p) (i.Bl off) → Effected (i.Bl off) l p m p
+module _ (l : List ℕ) (p x pc : ℕ) (h : Past pc l) where
+  -- r is the target of a branch at PC pc by the offset z
+  pub jumps : (n : ℕ) (z : ℤ) {y r : ℕ} → takenOf n p ≡ true → r % 65536 ≡ moved (getD l 7 0) (doubled z) → r % 2 ≡ 0 → r < 1048576
+      → y ≡ 0 →
+      Done (i.Branch n z) l p x l p y r
   unfolding effectOf
-  linking off e =
-      settled l p (i.Bl off) m p _ refl
-      (branched-kept l p (put (unblocked l p) 5 (getD l 7 0)) off (written l p 5 (getD l 7 0) p (omega arith) refl refl)) (left e) refl hp
+  jumps n z {y} {r} t e even lt ey = ((λ q. omega arith), rw (t, e, ey) refl, (λ q. even), (refl, refl), omega arith, (λ q. rw ey refl))
 
-  pub branching : (n : ℕ) (off : ℤ) → effectWith m d ≡ effectOf (unblocked l p) (i.Branch n off) → Effected (i.Branch n off) l p m p
+  pub stays : (n : ℕ) (z : ℤ) {y r : ℕ} → takenOf n p ≡ false → r ≡ pc → y ≡ x → Done (i.Branch n z) l p x l p y r
   unfolding effectOf
-  branching n off e =
-      settled l p (i.Branch n off) m p _ refl
-      (either l p (takenOf n p) _ _ (branched-kept l p (unblocked l p) off (same l p)) (same l p)) (left e) (kept (takenOf n p)) hp
-    where
-      kept : (b : Bool) → p ≡ cond b (branched (unblocked l p) off) (unblocked l p) .psw
-      kept true = refl
-      kept false = refl
+  stays n z {y} {r} t e ey = rw (e, ey) (plain-done (i.Branch n z) l p x pc h l p (rw t refl) refl (refl, refl))
+
+  pub links : (z : ℤ) {k : List ℕ} {y r : ℕ} → k ≡ set l 5 (pc % 65536) → r % 65536 ≡ moved (getD l 7 0) (doubled z) → r % 2 ≡ 0 →
+      r < 1048576 → y ≡ 0 → Done (i.Bl z) l p x k p y r
+  unfolding effectOf
+  links z {k} {y} {r} ek e even lt ey =
+      let f : getD (set l 5 (getD l 7 0)) 7 0 ≡ getD l 7 0 = pc-set l 5 (getD l 7 0) (omega arith) in
+      ((λ q. omega arith), rw (f, ek, h .0, e, ey) refl, (λ q. even), (refl, refl), omega arith, (λ q. rw ey refl))
+
+-- what the code of a branch and of BL answers
+pub branch-target : (a pc w n s : ℕ) → pc % 65536 ≡ a → n < 8 → s < 2 → w / 512 ≡ 16 + n * 2 + s →
+    (pc + 2 * w + (49152 - 2048 * n - 2048 * s)) % 65536 ≡ moved a (doubled (signedOf 512 (w % 1024)))
+branch-target a pc w n s h hn hs e =
+    let x = w % 1024 in
+    let ex : w ≡ 1024 * (8 + n) + x = omega arith in
+    let es : s ≡ x / 512 = omega arith in
+    let sum : pc + 2 * w + (49152 - 2048 * n - 2048 * s) ≡ pc + (2 * x + (65536 - 2048 * s)) = aim x ex in
+    ap (λ (m : ℕ). m % 65536) sum
+    ∙ wrapped pc a (2 * x + (65536 - 2048 * s)) h
+    ∙ sides x es (omega arith)
+  where
+    aim : (x : ℕ) → w ≡ 1024 * (8 + n) + x → pc + 2 * w + (49152 - 2048 * n - 2048 * s) ≡ pc + (2 * x + (65536 - 2048 * s))
+    aim x ex = omega arith
+
+    wrapped : (pc a y : ℕ) → pc % 65536 ≡ a → (pc + y) % 65536 ≡ (a + y) % 65536
+    wrapped pc a y h = omega arith
+
+    sides : (x : ℕ) → s ≡ x / 512 → x < 1024 →
+        (a + (2 * x + (65536 - 2048 * s))) % 65536 ≡ moved a (doubled (signedOf 512 x))
+    sides x es hx =
+        rw (target 512 a x (omega arith) hx)
+        (bool-cases (ltb x 512)
+        (λ b. let g = ltb-true x 512 b in rw b (let z : s ≡ 0 = omega arith in rw z (omega arith)))
+        (λ b. let g = ltb-false x 512 b in rw b (let z : s ≡ 1 = omega arith in rw z (omega arith))))
+
+pub link-target : (a pc w k : ℕ) → pc % 65536 ≡ a → w < 8192 → k ≡ cond (ltb w 4096) 0 49152 →
+    (pc + 2 * w + k) % 65536 ≡ moved a (doubled (signedOf 4096 (w % 8192)))
+link-target a pc w k h hw e =
+    let m : w % 8192 ≡ w = mod-eq-of-lt hw in
+    rw (m, target 4096 a w (omega arith) (omega arith), e)
+    (bool-cases (ltb w 4096) (λ b. rw b (omega arith)) (λ b. rw b (omega arith)))

@@ -1,51 +1,52 @@
--- What is said of one word that is done at once, outside a CEX block: it was declined, or it is an instruction that
--- touches registers and flags alone and has been executed.
+-- What is said of one word that is done at once and touches registers, flags and the CEX state alone. Its answer r is
+-- 1,048,576 where it was left alone, and so was everything; any other has the next PC for its low sixteen bits, and is
+-- above 1,048,576 where that PC may be odd.
 -- Assumes nothing.
-use Prim.Native.Nat.{ℕ, _<_, _≤_, _/_, _%_}
+use Prim.Native.Nat.{ℕ, _<_, _+_, _*_, _/_, _%_}
+use mathlib.Core.Bool.{Bool}
 use mathlib.Core.List.{List}
 use mathlib.Core.Logic.{_⊎_}
 use mathlib.Core.Path.{_≡_}
-use lib.ListN.{getD}
+use lib.ListN.{getD, set}
+use Rattle.word.specs.Width.{widthOf}
 use Rattle.word.specs.Psw.{asleep?, current}
+use Rattle.alu.specs.declared.Op.{Op}
+use Rattle.alu.specs.declared.Computed.{Computed}
+use Rattle.alu.specs.Alu.{aluOf}
 use Rattle.isa.specs.declared.Instr.{Instr}
 use Rattle.isa.specs.declared.Instr.the-variants as i
-use Rattle.machine.specs.State.{Core, coreOf}
-use Rattle.machine.specs.Effect.{effectOf, plainly, operand}
+use Rattle.machine.specs.State.{coreOf}
+use Rattle.machine.specs.Effect.{effectOf, plainly}
 
--- the core of a machine in no CEX block. [01 CEX]
-abbrev pub unblocked : List ℕ → (psw : ℕ) → Core
-unblocked regs psw = coreOf regs psw 0
+-- pc is PC past the instruction, even and not yet wrapped. [01 State and memory]
+abbrev pub Past : (pc : ℕ) → List ℕ → Type 0
+Past pc regs = (pc % 65536 ≡ getD regs 7 0) × (pc % 2 ≡ 0) × (pc < 65540)
 
--- The answer 65,536: the word was left alone, and so were the registers.
-abbrev pub Declined : (regs regs′ : List ℕ) (r : ℕ) → Type 0
-Declined regs regs′ r = (r ≡ 65536) × (regs′ ≡ regs)
+-- SLP and the current priority stay. [01 One step, in order, 3, 4]
+abbrev pub Keeps : (psw psw′ : ℕ) → Type 0
+Keeps psw psw′ = (asleep? psw′ ≡ asleep? psw) × (current psw′ ≡ current psw)
 
--- An even PC stays even; SLP and the current priority stay. So the next step is no return, no sleep and no fault 9, and
--- a line below the priority goes on waiting. [01 One step, in order, 2 to 5]
-abbrev pub Keeps : (regs : List ℕ) (psw : ℕ) (regs′ : List ℕ) (psw′ : ℕ) → Type 0
-Keeps regs psw regs′ psw′ =
-    (getD regs 7 0 % 2 ≡ 0 → getD regs′ 7 0 % 2 ≡ 0)
-    × (asleep? psw′ ≡ asleep? psw)
-    × (current psw′ ≡ current psw)
+-- The instruction is executed, asks for no memory, and opens no CEX block. [01 One step, in order, 7; 01 CEX]
+abbrev pub Done : Instr → (regs : List ℕ) (psw cex : ℕ) (regs′ : List ℕ) (psw′ cex′ r : ℕ) → Type 0
+Done x regs psw cex regs′ psw′ cex′ r =
+    (r ≡ 1048576 → ⊥)
+    × (effectOf (coreOf regs psw cex) x ≡ plainly (coreOf (set regs′ 7 (r % 65536)) psw′ cex′))
+    × (r < 1048576 → r % 2 ≡ 0)
+    × Keeps psw psw′
+    × (r < 4194304)
+    × (cex % 64 ≡ 0 → cex′ % 64 ≡ 0)
 
--- Any other answer is the PSW that the instruction leaves; it asks for no memory. [01 One step, in order, 7]
-abbrev pub Effected : Instr → (regs : List ℕ) (psw : ℕ) (regs′ : List ℕ) (r : ℕ) → Type 0
-Effected x regs psw regs′ r =
-    (r < 65536)
-    × (effectOf (unblocked regs psw) x ≡ plainly (unblocked regs′ r))
-    × Keeps regs psw regs′ r
+abbrev pub Tried : Instr → (regs : List ℕ) (psw cex : ℕ) (regs′ : List ℕ) (psw′ cex′ r : ℕ) → Type 0
+Tried x regs psw cex regs′ psw′ cex′ r =
+    ((r ≡ 1048576) × (regs′ ≡ regs) × (psw′ ≡ psw) × (cex′ ≡ cex)) ⊎ Done x regs psw cex regs′ psw′ cex′ r
 
-abbrev pub Tried : Instr → (regs : List ℕ) (psw : ℕ) (regs′ : List ℕ) (r : ℕ) → Type 0
-Tried x regs psw regs′ r = Declined regs regs′ r ⊎ Effected x regs psw regs′ r
+-- An operation on the register of the word's low three bits, which is not R7. [01 Arithmetic]
+abbrev pub outcome : Op → (byte : Bool) → (s w : ℕ) (regs : List ℕ) (psw : ℕ) → Computed
+outcome op byte s w regs psw = aluOf op (widthOf byte) (getD regs (w % 8) 0) s psw
 
--- The fields of the words from 4000 to 4BFF. [003 14]
-abbrev pub operation : ℕ → Instr
-operation w = i.Alu (w / 256 % 16) (w / 128 % 2) (w / 64 % 2) (w / 8 % 8) (w % 8)
-
--- w is operation op on words. [003 14]
-abbrev pub Words : (op w : ℕ) → Type 0
-Words op w = (0x4000 ≤ w) × (w < 0x4C00) × (w / 256 % 16 ≡ op) × (w / 64 % 2 ≡ 0)
-
--- the operand that an operation's word names. [003 14]
-abbrev pub named : List ℕ → (psw w : ℕ) → ℕ
-named regs psw w = operand (unblocked regs psw) (w / 128 % 2) (w / 8 % 8)
+abbrev pub Computes :
+    Op → (byte : Bool) → (s w pc : ℕ) (regs : List ℕ) (psw : ℕ) (regs′ : List ℕ) (psw′ r : ℕ) → Type 0
+Computes op byte s w pc regs psw regs′ psw′ r =
+    ((r ≡ 1048576) × (regs′ ≡ regs) × (psw′ ≡ psw))
+    ⊎ ((w % 8 < 7) × (r ≡ pc) × (regs′ ≡ set regs (w % 8) (outcome op byte s w regs psw .value))
+    × (psw′ ≡ outcome op byte s w regs psw .psw))

@@ -1,256 +1,203 @@
-// Instructions that touch registers and flags alone, of a machine in no CEX block. Each function
-// takes the word w, PC being past it, and gives the PSW after it, or 65,536 and has left all alone:
-// then the step is done in the general way. R7 is written by BL, branches and a MOV of an even
-// number alone, so PC stays even; SETPRI, SETCC and CLRCC are left alone, so SLP and the priority
-// stay.
+// Instructions that touch registers, flags and the CEX state alone. Each function takes the word w,
+// PC being past it (`pc`, as it stands in R7 but not yet wrapped), and answers the next PC, or
+// 1,048,576 and has left all alone: then the step is done in the general way. A MOV of an odd
+// number to PC answers 2,097,152 more than that number. R7 is written by BL, branches and MOV
+// alone; SLP and the priority stay.
+ghost use mathlib.Core.Bool.{true, false};
+ghost use mathlib.Core.List.{List};
 ghost use mathlib.Core.Path.{_≡_};
-ghost use Prim.Native.Nat.{_/_, _%_, _<_, _≤_};
-ghost use lib.ListN.{set};
+ghost use Prim.Native.Nat.{ℕ, _+_, _*_, _/_, _%_, _<_, _≤_};
+ghost use lib.Dec.{eqb};
+ghost use lib.ListN.{getD, set};
 ghost use Rattle.isa.specs.declared.Instr.the-variants as Instr;
-ghost use Rattle.isa.specs.Decode.{unaryOf, decodeOf};
-ghost use Rattle.stretch_registers.specs.Effected.{Effected, Tried, Words, operation, named};
-use alu::Computed;
+ghost use Rattle.isa.specs.Decode.{unaryOf, controlOf};
+ghost use Rattle.machine.specs.Effect.{takenOf};
+ghost use Rattle.word.specs.Offset.{signedOf};
+ghost use Rattle.stretch_registers.specs.Effected.{Past, Done, Tried, Computes, outcome};
 use alu::Op;
-use operands::get;
-use operands::put;
-use word::signed;
 
-// The result of an operation written to a register that is not R7: its PSW.
-fn write(regs: &mut [u16; 8], dst: u8, o: Computed) -> u32
-    requires { ⌜ dst < 7 ⌝ }
-    ensures { λ r. ⌜
-        (r ≡ o .psw) × (now (regs .exit) ≡ set (now (regs .entry)) dst (o .value))
-        ⌝ }
+// A register's value, and a register written.
+pub fn reg(regs: &[u16; 8], i: usize) -> u16
+    requires { ⌜ i < 8 ⌝ }
+    ensures { λ r. ⌜ r ≡ getD (now (regs .entry)) i 0 ⌝ }
 {
-    put(regs, 0, dst, o.value);
-    o.psw as u32
+    regs[i]
 }
 
-// ADD to BIS, any of them at any width.
-fn operate(regs: &mut [u16; 8], psw: u16, w: u16) -> u32
-    requires { ⌜ (0x4000 ≤ w) × (w < 0x4C00) × (w % 8 < 7) ⌝ }
-    ensures { λ r. ⌜ Effected (operation w) (now (regs .entry)) psw (now (regs .exit)) r ⌝ }
+pub fn set_reg(regs: &mut [u16; 8], i: usize, v: u16)
+    requires { ⌜ i < 8 ⌝ }
+    ensures { λ r. ⌜ now (regs .exit) ≡ set (now (regs .entry)) i v ⌝ }
 {
-    let op = (w / 256 % 16) as u8;
-    let rc = (w / 128 % 2) as u8;
-    let wb = (w / 64 % 2) as u8;
-    let d = execute::arithmetic(regs, psw, 0, op, rc, wb, (w / 8 % 8) as u8, (w % 8) as u8);
-    d.psw as u32
+    regs[i] = v;
 }
 
-// The operations that programs use most, on words, so that the compiler knows operation and width.
-// s is the operand that the word names, a register or a constant.
-pub fn add_words(regs: &mut [u16; 8], psw: u16, w: u16, s: u16) -> u32
-    requires { ⌜ Words 0 w × (s ≡ named (now regs) psw w) ⌝ }
-    ensures { λ r. ⌜ Tried (operation w) (now (regs .entry)) psw (now (regs .exit)) r ⌝ }
+// An operation whose result is written, to any register but R7.
+pub fn compute(
+    regs: &mut [u16; 8],
+    psw: &mut u16,
+    pc: usize,
+    w: usize,
+    op: Op,
+    byte: bool,
+    s: u16,
+) -> usize
+    ensures { λ r. ⌜ Computes op byte s w pc
+        (now (regs .entry)) (now (psw .entry)) (now (regs .exit)) (now (psw .exit)) r ⌝ }
 {
-    let dst = (w % 8) as u8;
+    let dst = w % 8;
     if dst == 7 {
-        return 65536;
+        return 1048576;
     }
-    let d = get(regs, dst);
-    write(regs, dst, alu::add_into(false, d, s, 0, psw))
+    let o = alu::alu(op, byte, reg(regs, dst), s, *psw);
+    set_reg(regs, dst, o.value);
+    *psw = o.psw;
+    pc
 }
 
-pub fn subtract_words(regs: &mut [u16; 8], psw: u16, w: u16, s: u16) -> u32
-    requires { ⌜ Words 2 w × (s ≡ named (now regs) psw w) ⌝ }
-    ensures { λ r. ⌜ Tried (operation w) (now (regs .entry)) psw (now (regs .exit)) r ⌝ }
+// CMP and BIT: the flags alone.
+pub fn test(
+    regs: &[u16; 8],
+    psw: &mut u16,
+    pc: usize,
+    w: usize,
+    op: Op,
+    byte: bool,
+    s: u16,
+) -> usize
+    ensures { λ r. ⌜ (r ≡ pc)
+        × (now (psw .exit) ≡ outcome op byte s w (now (regs .entry)) (now (psw .entry)) .psw) ⌝ }
 {
-    let dst = (w % 8) as u8;
+    let o = alu::alu(op, byte, reg(regs, w % 8), s, *psw);
+    *psw = o.psw;
+    pc
+}
+
+// MOV of v to PC: the new PC, odd or not.
+fn move_to_pc(cex: &mut u16, v: u16) -> usize
+    ensures { λ r. ⌜ (r % 65536 ≡ v) × (r ≡ 1048576 → ⊥) × (r < 1048576 → r % 2 ≡ 0)
+        × (r < 4194304) × (now (cex .exit) ≡ 0) ⌝ }
+{
+    *cex = 0;
+    if v % 2 == 1 {
+        return 2097152 + v as usize;
+    }
+    v as usize
+}
+
+// 4C00 to 4C7F: MOV. A byte is not moved to PC here.
+pub fn move_word(regs: &mut [u16; 8], cex: &mut u16, pc: usize, w: usize, byte: bool) -> usize
+    requires { ⌜ Past pc (now regs) ⌝ }
+    ensures { λ r. ⌜ ((psw wb : ℕ) → byte ≡ eqb wb 1 → Tried (Instr.Mov wb (w / 8 % 8) (w % 8))
+        (now (regs .entry)) psw (now (cex .entry)) (now (regs .exit)) psw (now (cex .exit)) r) ⌝ }
+{
+    let v = reg(regs, w / 8 % 8);
+    let dst = w % 8;
     if dst == 7 {
-        return 65536;
-    }
-    let d = get(regs, dst);
-    write(regs, dst, alu::subtract_into(false, d, s, 1, psw))
-}
-
-pub fn compare_words(regs: &[u16; 8], psw: u16, w: u16, s: u16) -> u32
-    requires { ⌜ Words 5 w × (s ≡ named (now regs) psw w) ⌝ }
-    ensures { λ r. ⌜ Effected (operation w) (now (regs .entry)) psw (now (regs .entry)) r ⌝ }
-{
-    let d = get(regs, (w % 8) as u8);
-    let o = alu::subtract_into(false, d, s, 1, psw);
-    o.psw as u32
-}
-
-pub fn xor_words(regs: &mut [u16; 8], psw: u16, w: u16, s: u16) -> u32
-    requires { ⌜ Words 6 w × (s ≡ named (now regs) psw w) ⌝ }
-    ensures { λ r. ⌜ Tried (operation w) (now (regs .entry)) psw (now (regs .exit)) r ⌝ }
-{
-    let dst = (w % 8) as u8;
-    if dst == 7 {
-        return 65536;
-    }
-    let d = get(regs, dst);
-    write(regs, dst, alu::logic_into(false, d, d ^ s, psw))
-}
-
-pub fn and_words(regs: &mut [u16; 8], psw: u16, w: u16, s: u16) -> u32
-    requires { ⌜ Words 7 w × (s ≡ named (now regs) psw w) ⌝ }
-    ensures { λ r. ⌜ Tried (operation w) (now (regs .entry)) psw (now (regs .exit)) r ⌝ }
-{
-    let dst = (w % 8) as u8;
-    if dst == 7 {
-        return 65536;
-    }
-    let d = get(regs, dst);
-    write(regs, dst, alu::logic_into(false, d, d & s, psw))
-}
-
-pub fn or_words(regs: &mut [u16; 8], psw: u16, w: u16, s: u16) -> u32
-    requires { ⌜ Words 8 w × (s ≡ named (now regs) psw w) ⌝ }
-    ensures { λ r. ⌜ Tried (operation w) (now (regs .entry)) psw (now (regs .exit)) r ⌝ }
-{
-    let dst = (w % 8) as u8;
-    if dst == 7 {
-        return 65536;
-    }
-    let d = get(regs, dst);
-    write(regs, dst, alu::logic_into(false, d, d | s, psw))
-}
-
-pub fn bit_words(regs: &[u16; 8], psw: u16, w: u16, s: u16) -> u32
-    requires { ⌜ Words 9 w × (s ≡ named (now regs) psw w) ⌝ }
-    ensures { λ r. ⌜ Effected (operation w) (now (regs .entry)) psw (now (regs .entry)) r ⌝ }
-{
-    let d = get(regs, (w % 8) as u8);
-    let o = alu::logic_into(false, d, d & s, psw);
-    o.psw as u32
-}
-
-// 4000 to 4BFF: ADD to BIS.
-fn operation_word(regs: &mut [u16; 8], psw: u16, w: u16) -> u32
-    requires { ⌜ (0x4000 ≤ w) × (w < 0x4C00) ⌝ }
-    ensures { λ r. ⌜ Tried (operation w) (now (regs .entry)) psw (now (regs .exit)) r ⌝ }
-{
-    if w % 8 == 7 {
-        return 65536;
-    }
-    operate(regs, psw, w)
-}
-
-// 4C00 to 4C7F: MOV. The low bit of the source is that of the new PC, in the byte form too.
-fn move_word(regs: &mut [u16; 8], psw: u16, w: u16) -> u32
-    ensures { λ r. ⌜
-        Tried
-        (Instr.Mov (w / 64 % 2) (w / 8 % 8) (w % 8))
-        (now (regs .entry))
-        psw
-        (now (regs .exit))
-        r
-        ⌝ }
-{
-    let src = (w / 8 % 8) as u8;
-    let dst = (w % 8) as u8;
-    if dst == 7 {
-        if get(regs, src) % 2 == 1 {
-            return 65536;
+        if byte {
+            return 1048576;
         }
+        return move_to_pc(cex, v);
     }
-    execute::mov(regs, psw, 0, (w / 64 % 2) as u8, src, dst);
-    psw as u32
+    let r = word::with_low(byte, reg(regs, dst), word::low_bits(byte, v));
+    set_reg(regs, dst, r);
+    pc
 }
 
 // 4C80 to 4CFF: SWAP.
-fn swap_word(regs: &mut [u16; 8], psw: u16, w: u16) -> u32
-    ensures { λ r. ⌜
-        Tried
-        (Instr.Swap (w / 8 % 8) (w % 8) (w / 64 % 2))
-        (now (regs .entry))
-        psw
-        (now (regs .exit))
-        r
-        ⌝ }
+pub fn swap_word(regs: &mut [u16; 8], pc: usize, w: usize) -> usize
+    requires { ⌜ Past pc (now regs) ⌝ }
+    ensures { λ r. ⌜ ((psw cex b : ℕ) → Tried (Instr.Swap (w / 8 % 8) (w % 8) b)
+        (now (regs .entry)) psw cex (now (regs .exit)) psw cex r) ⌝ }
 {
-    let src = (w / 8 % 8) as u8;
-    let dst = (w % 8) as u8;
+    let src = w / 8 % 8;
+    let dst = w % 8;
     if src == 7 {
-        return 65536;
+        return 1048576;
     }
     if dst == 7 {
-        return 65536;
+        return 1048576;
     }
-    execute::swap(regs, psw, 0, src, dst);
-    psw as u32
+    let s = reg(regs, src);
+    let d = reg(regs, dst);
+    set_reg(regs, src, d);
+    set_reg(regs, dst, s);
+    pc
 }
 
 // 4D00 to 4D7F: SRA, RRC, COMP, SWPB, SXT, by bits 5 to 3. Those of no instruction are left alone.
-fn single_word(regs: &mut [u16; 8], psw: u16, w: u16) -> u32
-    ensures { λ r. ⌜ Tried (unaryOf w) (now (regs .entry)) psw (now (regs .exit)) r ⌝ }
+pub fn single_word(regs: &mut [u16; 8], psw: &mut u16, pc: usize, w: usize) -> usize
+    requires { ⌜ Past pc (now regs) ⌝ }
+    ensures { λ r. ⌜ ((cex : ℕ) → Tried (unaryOf w) (now (regs .entry)) (now (psw .entry)) cex
+        (now (regs .exit)) (now (psw .exit)) cex r) ⌝ }
 {
-    let op = w / 8 % 8;
-    let dst = (w % 8) as u8;
-    if dst == 7 {
-        return 65536;
+    let byte = w / 64 % 2 == 1;
+    match w / 8 % 8 {
+        0 => compute(regs, psw, pc, w, Op::Sra, byte, 0),
+        1 => compute(regs, psw, pc, w, Op::Rrc, byte, 0),
+        2 => compute(regs, psw, pc, w, Op::Comp, byte, 0),
+        3 => compute(regs, psw, pc, w, Op::Swpb, false, 0),
+        4 => compute(regs, psw, pc, w, Op::Sxt, false, 0),
+        _ => 1048576,
     }
-    if op < 3 {
-        let o = operands::unary(op as u8);
-        let d = execute::one_operand(regs, psw, 0, o, w / 64 % 2 == 1, dst);
-        return d.psw as u32;
+}
+
+// 4DC0 to 4DFF: SETCC and CLRCC of other flags than SLP.
+pub fn flags_word(psw: &mut u16, pc: usize, w: usize) -> usize
+    requires { ⌜ (0x4DC0 ≤ w) × (w < 0x4E00) ⌝ }
+    ensures { λ r. ⌜ ((regs : List ℕ) (cex : ℕ) → Past pc regs → Tried (controlOf w)
+        regs (now (psw .entry)) cex regs (now (psw .exit)) cex r) ⌝ }
+{
+    if w / 8 % 2 == 1 {
+        return 1048576;
     }
-    if op < 4 {
-        let d = execute::one_operand(regs, psw, 0, Op::Swpb, false, dst);
-        return d.psw as u32;
+    let f = (w % 32) as u16;
+    if w < 0x4DE0 {
+        *psw = operands::flags_set(*psw, f);
+        return pc;
     }
-    if op < 5 {
-        let d = execute::one_operand(regs, psw, 0, Op::Sxt, false, dst);
-        return d.psw as u32;
-    }
-    65536
+    *psw = operands::flags_cleared(*psw, f);
+    pc
 }
 
 // 6000 to 7FFF: MOVL, MOVLZ, MOVLS, MOVH.
-pub fn immediate_word(regs: &mut [u16; 8], psw: u16, w: u16) -> u32
-    ensures { λ r. ⌜
-        Tried
-        (Instr.MovImm (w / 2048 % 4) (w / 8 % 256) (w % 8))
-        (now (regs .entry))
-        psw
-        (now (regs .exit))
-        r
-        ⌝ }
+pub fn immediate_word(regs: &mut [u16; 8], pc: usize, w: usize) -> usize
+    requires { ⌜ Past pc (now regs) ⌝ }
+    ensures { λ r. ⌜ ((psw cex : ℕ) → Tried (Instr.MovImm (w / 2048 % 4) (w / 8 % 256) (w % 8))
+        (now (regs .entry)) psw cex (now (regs .exit)) psw cex r) ⌝ }
 {
-    let dst = (w % 8) as u8;
+    let dst = w % 8;
     if dst == 7 {
-        return 65536;
+        return 1048576;
     }
-    let byte = (w / 8 % 256) as u8;
-    execute::move_immediate(regs, psw, 0, (w / 2048 % 4) as u8, byte, dst);
-    psw as u32
+    let op = (w / 2048 % 4) as u8;
+    let v = operands::immediate(op, (w / 8 % 256) as u8, reg(regs, dst));
+    set_reg(regs, dst, v);
+    pc
 }
 
-// 0000 to 3FFF: BL and the branches. Their targets are even where PC is.
-fn branch_word(regs: &mut [u16; 8], psw: u16, w: u16) -> u32
-    requires { ⌜ w < 0x4000 ⌝ }
-    ensures { λ r. ⌜ Effected (decodeOf w) (now (regs .entry)) psw (now (regs .exit)) r ⌝ }
+// A branch, taken or not. k makes its offset, a part of w, count from 0.
+pub fn branch(cex: &mut u16, pc: usize, w: usize, taken: bool, k: usize) -> usize
+    requires { ⌜ (pc < 65540) × (w < 65536) × (k < 65536) ⌝ }
+    ensures { λ r. ⌜ (taken ≡ true → (r ≡ pc + 2 * w + k) × (now (cex .exit) ≡ 0)) ⌝ }
+    ensures { λ r. ⌜ (taken ≡ false → (r ≡ pc) × (now (cex .exit) ≡ now (cex .entry))) ⌝ }
 {
-    if w < 0x2000 {
-        execute::bl(regs, psw, 0, signed(4096, w % 8192));
-        return psw as u32;
+    if taken {
+        *cex = 0;
+        return pc + 2 * w + k;
     }
-    execute::branch(regs, psw, 0, (w / 1024 % 8) as u8, signed(512, w % 1024));
-    psw as u32
+    pc
 }
 
-// 0000 to 57FF. Control, CEX and the words of no instruction are left alone.
-pub fn register_word(regs: &mut [u16; 8], psw: u16, w: u16) -> u32
-    requires { ⌜ w < 0x5800 ⌝ }
-    ensures { λ r. ⌜ Tried (decodeOf w) (now (regs .entry)) psw (now (regs .exit)) r ⌝ }
+// 0000 to 1FFF: BL.
+pub fn link_word(regs: &mut [u16; 8], cex: &mut u16, pc: usize, w: usize) -> usize
+    requires { ⌜ Past pc (now regs) × (w < 0x2000) ⌝ }
+    ensures { λ r. ⌜ ((psw : ℕ) → Done (Instr.Bl (signedOf 4096 (w % 8192)))
+        (now (regs .entry)) psw (now (cex .entry)) (now (regs .exit)) psw (now (cex .exit)) r) ⌝ }
 {
-    if w < 0x4000 {
-        return branch_word(regs, psw, w);
+    set_reg(regs, 5, (pc % 65536) as u16);
+    *cex = 0;
+    if w < 4096 {
+        return pc + 2 * w;
     }
-    if w < 0x4C00 {
-        return operation_word(regs, psw, w);
-    }
-    if w < 0x4C80 {
-        return move_word(regs, psw, w);
-    }
-    if w < 0x4D00 {
-        return swap_word(regs, psw, w);
-    }
-    if w < 0x4D80 {
-        return single_word(regs, psw, w);
-    }
-    65536
+    pc + 2 * w + 49152
 }

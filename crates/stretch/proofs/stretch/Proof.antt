@@ -18,22 +18,34 @@ returns-2 c =
     let s = stateWith (now (a .regs)) (a .t) (now (a .mem)) in
     (λ ev u. stretch-none ev s (a .t .count) .0, (λ ev u. stretch-none ev s (a .t .count) .1, (omega arith, omega arith)))
 
-take-steps-requires : tie.Need-take-steps-requires
-take-steps-requires c κs =
-    let b = c .before .before .before .before .before .before in (omega arith, b .before .fetching .ensures (not-false _ (b .if1 .left)) .2)
+walk-requires : tie.Need-walk-requires
+walk-requires c κs =
+    let b = c .before .before .before .before .before .before in (omega arith, b .before .fetching .ensures (not-false _ (b .if1 .left)) .1)
 
 returns-3 : tie.Need-returns-3
 returns-3 c =
-    let p = c .before .before .before .before .take-steps in
+    let p = c .before .before .before .before .walk in
     let b = c .before .before .before .before .before .before .before .before in
     let d = b .before .before .before in
     let a = d .before .before .before .before .args in
     let f = d .before .fetching .ensures (not-false _ (d .if1 .left)) in
     let none = b .before .unasked .ensures (not-false _ (b .if2 .left)) in
     let q = p .result in
-    let w = stretch-done (now (a .regs)) (now (a .mem)) (p .last .0) (p .last .1 .0) (a .t) (a .due) (q .psw) (q .steps) in (
-      λ ev u. w ev (f .0) (f .1) none (omega arith) (p .ensures .0) u .0,
-      (λ ev u. w ev (f .0) (f .1) none (omega arith) (p .ensures .0) u .1, (omega arith, omega arith)),
+    let w = stretch-done (now (a .regs)) (now (a .mem)) (p .last .0) (p .last .1 .0) (a .t) (a .due) (q .psw) (q .cex) (q .steps) in (
+      λ ev u. w ev (f .0) none (omega (arith, p .ensures .1, c .before .before .before .before .before .until .ensures))
+          (p .ensures .0) u .0,
+      (
+        λ ev u. w ev (f .0) none (omega (arith, p .ensures .1, c .before .before .before .before .before .until .ensures))
+            (p .ensures .0) u .1,
+        (
+          omega (arith, p .ensures .1, c .before .before .before .before .before .until .ensures),
+          omega (
+            arith,
+            p .ensures .1,
+            c .before .before .before .before .before .until .ensures,
+          ),
+        ),
+      ),
     )
 
 pub stretch-spec : {M : Type 1} → statement M
@@ -48,7 +60,7 @@ stretch-spec =
     (λ c. search needs)
     returns-2
     (λ c κs. search needs)
-    take-steps-requires
+    walk-requires
     (λ c. search needs)
     (λ c. search needs)
     returns-3)

@@ -1,40 +1,73 @@
-use borrow.Author.Needs.{needs}
+use Rattle.stretch.proofs.Steps.{step-taken}
+use lib.Seq.{getD-set-same}
+use lib.ListN.{getD}
+use mathlib.Core.List.{List}
+use Prim.Native.Nat.{ℕ}
+use mathlib.Core.Path.{_≡_, refl, sym, ap, _∙_}
 use denote.Ref.{now}
-use Rattle.stretch.proofs.Steps.{step-left, step-taken}
+use native.Mathlib.Omega.{arith}
+use borrow.Author.Needs.{needs}
 use Rattle.stretch.proofs.take_step.Statement.{statement}
 use Rattle.stretch.proofs.take_step.Tie as tie
+use Rattle.stretch.proofs.take_step.Reads as reads
+use Rattle.stretch.proofs.take_step.Lts as lts
+use Rattle.stretch.proofs.fetch.Reads as fetch-reads
+use Rattle.stretch_registers.proofs.set_reg.Reads as set-reg-reads
+use Rattle.stretch_words.proofs.take_word.Reads as take-word-reads
 
+-- src/lib.rt:52:9
+fetch-requires : tie.Need-fetch-requires
+fetch-requires c κs = search needs
+
+-- src/lib.rt:53:24
+add-set-reg : tie.Need-add-set-reg
+add-set-reg c = search needs
+
+-- src/lib.rt:53:22
+cast-set-reg : tie.Need-cast-set-reg
+cast-set-reg c = search needs
+
+-- src/lib.rt:53:5
+set-reg-requires : tie.Need-set-reg-requires
+set-reg-requires c κs = search needs
+
+-- src/lib.rt:54:54
+add-take-word : tie.Need-add-take-word
+add-take-word c = search needs
+
+-- src/lib.rt:54:5
+take-word-requires : tie.Need-take-word-requires
+take-word-requires c κs =
+    let s = c .before .before .before .before in
+    let t = s .before .before .before .before .before in
+    let l = now (t .args .regs) in
+    let e = ap (λ (k : List ℕ). getD k 7 0) (s .set-reg .ensures) ∙ getD-set-same l 7 _ 0 (t .pre .3 .1) in
+    let even = t .pre .2 in
+    ((sym e, omega arith, omega arith), s .before .before .fetch .ensures .1, omega arith, t .pre .1)
+
+-- src/lib.rt:37:1
+same-length : tie.Need-same-length
+same-length c = search needs
+
+-- src/lib.rt:37:1
 returns : tie.Need-returns
 returns c =
-    let q = c .before .before .before .take-word in
-    let a = c .before .before .before .before .before .before .before .before .before .before .before .before .args in
-    step-left (now (a .regs)) (now (a .mem)) (q .last .0) (q .last .1 .0) (a .psw) (q .result) _ _ (c .if1 .taken) (q .ensures)
-
-returns-2 : tie.Need-returns-2
-returns-2 c =
-    let q = c .before .before .before .take-word in
-    let b = c .before .before .before .before .before .before in
-    let s = b .before .before .before .before .before .before in
-    let a = s .args in
-    step-taken (now (a .regs)) (now (a .mem)) (q .last .0) (q .last .1 .0) (a .psw) (q .result) _ _ _ (s .pre .1)
-    (b .before .before .word-of .ensures .0)
-    (b .before .read-word .ensures)
-    (b .wrapping-add-u16 .ensures)
-    (c .if1 .left)
-    (q .ensures)
+    let w = c .before .before in
+    let s = w .before .before .before .before .before in
+    let t = s .before .before .before .before .before in
+    let a = t .args in
+    step-taken (a .pc) _ _ (now (a .cex)) (now (a .psw)) _ _ _ (now (a .regs)) (now (a .mem)) _ _ (t .pre .3) (t .pre .2)
+    (s .before .before .fetch .ensures .0) refl (rw (s .set-reg .ensures) at (w .take-word .ensures))
 
 pub take-step-spec : {M : Type 1} → statement M
 take-step-spec =
     tie.close
     (tie.spec
-    (λ c. search needs)
-    (λ c κs. search needs)
-    (λ c κs. search needs)
-    (λ c κs. search needs)
-    (λ c. search needs)
-    (λ c κs. search needs)
-    (λ c. search needs)
-    (λ c. search needs)
-    returns
-    (λ c. search needs)
-    returns-2)
+    fetch-requires
+    add-set-reg
+    cast-set-reg
+    set-reg-requires
+    add-take-word
+    take-word-requires
+    same-length
+    returns)

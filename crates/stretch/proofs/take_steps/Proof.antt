@@ -1,62 +1,129 @@
--- The loop's invariant: PC is even and SLP clear, and the steps done are a run in which no event is due. Assumes nothing.
-use Prim.Native.Nat.{_-_, _≤_}
-use mathlib.Core.Path.{_≡_, refl}
+use Rattle.stretch.proofs.Steps.{awake-set, long, walked-start, walked-on, walked-stop}
+use Rattle.stretch.specs.Stretch.{Awake, Walked}
+use Rattle.stretch_words.specs.Ready.{constants}
+use lib.ListN.{length, set}
+use mathlib.Core.Logic.{_⊎_}
+use Prim.Native.Nat.{_-_, _%_, _<_, _≤_}
+use mathlib.Core.Path.{_≡_, refl, sym, ap, _∙_}
+use denote.Ref.{now}
 use native.Mathlib.Omega.{arith}
-use lib.ListN.{length}
-use Rattle.stretch.specs.Stretch.{Fetching, Reaches}
-use Rattle.stretch.proofs.Steps.{stepping-left, stepping-on, reaches-start, reaches-next, reaches-same}
 use Rattle.stretch.proofs.take_steps.Statement.{statement}
 use Rattle.stretch.proofs.take_steps.Tie as tie
+use Rattle.stretch.proofs.take_steps.Reads as reads
+use Rattle.stretch.proofs.take_steps.Lts as lts
+use Rattle.stretch.proofs.stop.Reads as stop-reads
+use Rattle.stretch.proofs.take_step.Reads as take-step-reads
+use Rattle.stretch_registers.proofs.reg.Reads as reg-reads
+use Rattle.stretch_registers.proofs.set_reg.Reads as set-reg-reads
 
 abbrev Inv-loop : tie.InvT-loop
-Inv-loop regs₀ mem₀ psw n p₀ steps₀ regs mem p steps =
+Inv-loop regs₀ mem₀ psw cex n k p₀ x₀ pc₀ steps₀ regs mem p x pc steps =
     (steps ≤ n)
     × (length mem ≡ length mem₀)
-    × Fetching regs p
-    × Reaches regs₀ p₀ mem₀ regs p mem steps
+    × (k ≡ constants)
+    × Awake regs p
+    × (pc % 2 ≡ 0)
+    × (pc < 1048576)
+    × ((x % 64 ≡ 0) ⊎ (n ≤ 1))
+    × Walked regs₀ psw cex mem₀ (set regs 7 (pc % 65536)) p x mem steps
 
 abbrev μ-loop : tie.MeasureT-loop
-μ-loop regs₀ mem₀ psw n p₀ steps₀ regs mem p steps = n - steps
+μ-loop regs₀ mem₀ psw cex n k p₀ x₀ pc₀ steps₀ regs mem p x pc steps = n - steps
 
+-- src/lib.rt:95:18
+reg-requires : tie.Need-reg-requires Inv-loop μ-loop
+reg-requires c κs = omega arith
+
+-- src/lib.rt:95:18
+cast-pc : tie.Need-cast-pc Inv-loop μ-loop
+cast-pc c = omega arith
+
+-- src/lib.rt:97:5
 loop-holds : tie.Need-loop-holds Inv-loop μ-loop
-loop-holds c = (omega arith, refl, c .before .pre .1, reaches-start _ _ _)
+loop-holds c =
+    let s = c .before .before .before in
+    let a = s .args in
+    let e = c .reg .ensures in
+    let even = s .pre .1 .0 in (
+      omega arith,
+      refl,
+      refl,
+      s .pre .1 .1,
+      omega arith,
+      omega arith,
+      s .pre .2,
+      walked-start (now (a .regs)) (now (a .mem)) (a .psw) (a .cex) (now (a .regs)) _ refl e (omega arith),
+    )
 
+-- src/lib.rt:98:13
 take-step-requires : tie.Need-take-step-requires Inv-loop μ-loop
-take-step-requires c κs = (omega arith, c .before .before .before .loop .inv .2)
+take-step-requires c κs =
+    let l = c .before .before .before .before .before .before .loop in
+    (omega arith, l .inv .2, l .inv .4, l .inv .3)
 
-cast-p : tie.Need-cast-p Inv-loop μ-loop
-cast-p c =
-    let w = stepping-on _ _ _ _ _ _ (c .before .before .before .take-step .ensures) (c .if1 .left) in
-    omega (arith, w .0)
+-- src/lib.rt:100:17
+stop-requires : tie.Need-stop-requires Inv-loop μ-loop
+stop-requires c κs =
+    let l = c .before .before .before .before .before .before .before .before .before .before .before .loop in
+    long (l .regs) (l .mem) _ _ (l .p) (l .x) _ _ (l .pc) _ (l .inv .3) (c .before .before .before .before .take-step .ensures)
 
-add-steps : tie.Need-add-steps Inv-loop μ-loop
-add-steps c = omega arith
+-- src/lib.rt:101:54
+add-t25 : tie.Need-add-t25 Inv-loop μ-loop
+add-t25 c = omega arith
 
-loop-less : tie.Need-loop-less Inv-loop μ-loop
-loop-less c = omega arith
-
-loop-again : tie.Need-loop-again Inv-loop μ-loop
-loop-again c =
-    let q = c .before .before .before .take-step in
-    let l = c .before .before .before .before .before .before .before .loop in
-    let w = stepping-on _ _ _ _ _ _ (q .ensures) (c .if1 .left) in
-    (omega arith, omega arith, w .1, reaches-next _ _ _ _ _ _ _ _ _ _ (l .inv .3) w)
-
+-- src/lib.rt:101:13
 same-length : tie.Need-same-length Inv-loop μ-loop
 same-length c = omega arith
 
+-- src/lib.rt:101:13
 returns : tie.Need-returns Inv-loop μ-loop
-returns c = (c .before .loop .inv .3, c .before .loop .inv .0)
+returns c =
+    let l = c .before .before .before .before .before .before .before .before .before .before .before .before .loop in
+    let half6 = c .before .before .before .before .before .before .before .before in
+    let a = half6 .before .before .before .before .before .before .before .before .args in
+    let o = c .stop .ensures in
+    let w = walked-stop (now (a .regs)) (now (a .mem)) (a .psw) (a .cex) (l .regs) (l .mem) _ _ (l .p) (l .x) _ _ (l .pc) _ (l .steps)
+    (a .n) (l .inv .3) (l .inv .7) (l .inv .6)
+    (c .before .before .before .before .before .before .before .before .before .before .before .loop-test .taken)
+    (c .before .before .before .before .before .take-step .ensures) _ _ (o .0) (o .1 .0) in
+    (w .0, (omega arith, omega arith, w .1))
 
+-- src/lib.rt:104:9
+add-steps : tie.Need-add-steps Inv-loop μ-loop
+add-steps c = omega arith
+
+-- src/lib.rt:97:5
+loop-less : tie.Need-loop-less Inv-loop μ-loop
+loop-less c = omega arith
+
+-- src/lib.rt:97:5
+loop-again : tie.Need-loop-again Inv-loop μ-loop
+loop-again c =
+    let l = c .before .before .before .before .before .before .before .before .before .before .loop in
+    let a = c .before .before .before .before .before .before .before .before .before .before .before .before .before .before .args in
+    let w = walked-on (now (a .regs)) (now (a .mem)) (a .psw) (a .cex) (l .regs) (l .mem) _ _ (l .p) (l .x) _ _ (l .pc) _ (l .steps)
+    (a .n) (l .inv .3) (l .inv .7) (l .inv .6)
+    (c .before .before .before .before .before .before .before .before .before .loop-test .taken)
+    (c .before .before .before .take-step .ensures) (c .if1 .left) in
+    (omega arith, omega arith, l .inv .2, w .0, w .1, c .if1 .left, w .2, w .3)
+
+-- src/lib.rt:106:22
+cast-set-reg : tie.Need-cast-set-reg Inv-loop μ-loop
+cast-set-reg c = omega arith
+
+-- src/lib.rt:106:5
+set-reg-requires : tie.Need-set-reg-requires Inv-loop μ-loop
+set-reg-requires c κs = omega arith
+
+-- src/lib.rt:84:1
 same-length-2 : tie.Need-same-length-2 Inv-loop μ-loop
 same-length-2 c = omega arith
 
+-- src/lib.rt:84:1
 returns-2 : tie.Need-returns-2 Inv-loop μ-loop
 returns-2 c =
-    let q = c .before .before .before .take-step in
-    let l = c .before .before .before .before .before .before .before .loop in
-    let u = stepping-left _ _ _ _ _ _ (q .ensures) (c .if1 .taken) in
-    (reaches-same _ _ _ _ _ _ _ _ _ (l .inv .3) (u .1) (u .2), l .inv .0)
+    let l = c .before .before .before .loop in
+    rw (c .set-reg .ensures) (l .inv .7, (l .inv .0, omega arith, awake-set (l .regs) (l .p) (l .pc % 65536) (l .inv .3)))
 
 pub take-steps-spec : {M : Type 1} → statement M
 take-steps-spec =
@@ -64,13 +131,18 @@ take-steps-spec =
     (tie.spec
     Inv-loop
     μ-loop
+    reg-requires
+    cast-pc
     loop-holds
     take-step-requires
-    cast-p
+    stop-requires
+    add-t25
+    same-length
+    returns
     add-steps
     loop-less
     loop-again
-    same-length
-    returns
+    cast-set-reg
+    set-reg-requires
     same-length-2
     returns-2)

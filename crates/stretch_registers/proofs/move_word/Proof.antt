@@ -1,33 +1,81 @@
--- `stretch_registers::move_word` meets its contract. Assumes nothing.
 use mathlib.Core.Path.{refl}
-use mathlib.Core.Logic.{inl, inr, ⊎-elim}
+use mathlib.Core.Logic.{inl, inr}
 use denote.Ref.{now}
 use native.Mathlib.Omega.{arith}
-use Rattle.stretch_registers.proofs.Laws.{moving, moving-to-pc}
+use mathlib.Core.Path.{sym, _∙_}
+use Rattle.stretch_registers.proofs.Laws.{moves, moves-to-pc}
 use borrow.Author.Needs.{needs}
 use Rattle.stretch_registers.proofs.move_word.Statement.{statement}
 use Rattle.stretch_registers.proofs.move_word.Tie as tie
+use Rattle.stretch_registers.proofs.move_word.Reads as reads
+use Rattle.stretch_registers.proofs.move_word.Lts as lts
+use Rattle.stretch_registers.proofs.move_to_pc.Reads as move-to-pc-reads
+use Rattle.stretch_registers.proofs.reg.Reads as reg-reads
+use Rattle.stretch_registers.proofs.set_reg.Reads as set-reg-reads
+use Rattle.word.proofs.low_bits.Reads as low-bits-reads
+use Rattle.word.proofs.with_low.Reads as with-low-reads
 
+-- src/lib.rt:99:9
+reg-requires : tie.Need-reg-requires
+reg-requires c κs = search needs
+
+-- src/lib.rt:103:13
 returns : tie.Need-returns
-returns c = inl (refl, refl)
+returns c = λ psw wb e. inl (refl, refl, refl, refl)
 
+-- src/lib.rt:105:9
+move-to-pc-requires : tie.Need-move-to-pc-requires
+move-to-pc-requires c κs = search needs
+
+-- src/lib.rt:105:9
 returns-2 : tie.Need-returns-2
 returns-2 c =
-    let start = c .before .before .before in
-    inr (⊎-elim
-    (λ t. moving-to-pc (now (start .args .regs)) _ _ (omega arith) _ _ _ (t .0 .taken) (omega (arith, t .2 .ensures, t .3 .left))
-    (c .mov .ensures))
-    (λ t. moving (now (start .args .regs)) _ _ (omega arith) _ _ _ (omega (arith, t .left)) (c .mov .ensures))
-    (c .before .before .if1 .came))
+    let b = c .before .before in
+    let t = b .before in
+    let start = t .before .before .before in
+    λ psw wb e.
+    inr
+    (moves-to-pc (now (start .args .regs)) psw _ _ (start .pre) wb _ _ (sym (b .if2 .left) ∙ e) (t .if1 .taken) (omega arith)
+    (t .before .reg .ensures) (c .move-to-pc .ensures))
+
+-- src/lib.rt:107:34
+reg-requires-2 : tie.Need-reg-requires-2
+reg-requires-2 c κs = search needs
+
+-- src/lib.rt:107:50
+low-bits-requires : tie.Need-low-bits-requires
+low-bits-requires c κs = search needs
+
+-- src/lib.rt:107:9
+with-low-requires : tie.Need-with-low-requires
+with-low-requires c κs = search needs
+
+-- src/lib.rt:108:5
+set-reg-requires : tie.Need-set-reg-requires
+set-reg-requires c κs = search needs
+
+-- src/lib.rt:88:1
+returns-3 : tie.Need-returns-3
+returns-3 c =
+    let l = c .before .before in
+    let b = l .before .before in
+    let d = b .before .before .before in
+    let start = d .before .before in
+    λ psw wb e.
+    inr
+    (moves (now (start .args .regs)) psw _ _ (start .pre) (start .args .byte) wb _ _ e (omega arith) (d .reg .ensures)
+    (b .reg2 .ensures) (l .before .low-bits .ensures .0) (l .with-low .ensures) (c .set-reg .ensures))
 
 pub move-word-spec : {M : Type 1} → statement M
 move-word-spec =
     tie.close
     (tie.spec
-    (λ c. search needs)
-    (λ c. search needs)
-    (λ c κs. search needs)
+    reg-requires
     returns
-    (λ c. search needs)
-    (λ c κs. search needs)
-    returns-2)
+    move-to-pc-requires
+    returns-2
+    reg-requires-2
+    low-bits-requires
+    with-low-requires
+    set-reg-requires
+    returns-3)

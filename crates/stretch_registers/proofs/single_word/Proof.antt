@@ -1,70 +1,92 @@
--- `stretch_registers::single_word` meets its contract. Assumes nothing.
-use Prim.Native.Nat.{_/_, _%_}
 use mathlib.Core.Path.{refl}
 use mathlib.Core.Logic.{inl, inr}
 use denote.Ref.{now}
 use native.Mathlib.Omega.{arith}
-use borrow.Author.Tests.{lt-ltb, le-ltb}
-use Rattle.word.specs.Width.{widthOf}
+use Rattle.machine.specs.Effect.{unaryOp}
 use Rattle.alu.specs.declared.Op.the-variants as op
-use Rattle.isa.specs.declared.Instr.the-variants as i
-use Rattle.machine.specs.Effect.{effectOf}
-use Rattle.stretch_registers.proofs.Laws.{operating-on-one}
+use Rattle.stretch_registers.proofs.Laws.{unary-tried, swpb-tried, sxt-tried}
 use borrow.Author.Needs.{needs}
 use Rattle.stretch_registers.proofs.single_word.Statement.{statement}
 use Rattle.stretch_registers.proofs.single_word.Tie as tie
+use Rattle.stretch_registers.proofs.single_word.Reads as reads
+use Rattle.stretch_registers.proofs.single_word.Lts as lts
+use Rattle.stretch_registers.proofs.compute.Reads as compute-reads
 
+-- src/lib.rt:141:14
+compute-requires : tie.Need-compute-requires
+compute-requires c κs = search needs
+
+-- src/lib.rt:142:14
+compute-requires-2 : tie.Need-compute-requires-2
+compute-requires-2 c κs = search needs
+
+-- src/lib.rt:143:14
+compute-requires-3 : tie.Need-compute-requires-3
+compute-requires-3 c κs = search needs
+
+-- src/lib.rt:144:14
+compute-requires-4 : tie.Need-compute-requires-4
+compute-requires-4 c κs = search needs
+
+-- src/lib.rt:145:14
+compute-requires-5 : tie.Need-compute-requires-5
+compute-requires-5 c κs = search needs
+
+-- src/lib.rt:134:1
 returns : tie.Need-returns
-returns c = inl (refl, refl)
+unfolding unaryOp
+returns c =
+    let m = c .before .before .before in
+    let start = m .before in
+    λ cex. unary-tried (now (start .args .regs)) _ cex _ (start .pre) _ 0 op.Sra (m .match .keys1) (omega arith) refl (c .compute .ensures)
 
+-- src/lib.rt:134:1
 returns-2 : tie.Need-returns-2
-unfolding effectOf
+unfolding unaryOp
 returns-2 c =
-    let d = c .before .before .before in
-    let start = d .before .before .before in
-    let w = start .args .w in
-    rw (lt-ltb _ _ (d .before .if2 .taken))
-    (inr (operating-on-one (now (start .args .regs)) (start .args .psw) (i.Unary (w / 8 % 8) (w / 64 % 2) (w % 8)) _ _ (w % 8) _ refl
-    (omega arith) (omega arith) (rw (d .unary .ensures) at (c .before .one-operand .ensures))))
+    let m = c .before .before .before in
+    let start = m .before in
+    λ cex. unary-tried (now (start .args .regs)) _ cex _ (start .pre) _ 1 op.Rrc (m .match .keys2) (omega arith) refl (c .compute2 .ensures)
 
+-- src/lib.rt:134:1
 returns-3 : tie.Need-returns-3
-unfolding effectOf widthOf
+unfolding unaryOp
 returns-3 c =
-    let d = c .before .before .before in
-    let start = d .before .before .before in
-    let w = start .args .w in
-    rw (le-ltb _ _ (d .before .if2 .left), lt-ltb _ _ (d .if3 .taken))
-    (inr (operating-on-one (now (start .args .regs)) (start .args .psw) (i.Swpb (w % 8) (w / 64 % 2)) op.Swpb 16 (w % 8) _ refl
-    (omega arith) (omega arith) (c .before .one-operand2 .ensures)))
+    let m = c .before .before .before in
+    let start = m .before in
+    λ cex. unary-tried (now (start .args .regs)) _ cex _ (start .pre) _ 2 op.Comp (m .match .keys3) (omega arith) refl
+    (c .compute3 .ensures)
 
+-- src/lib.rt:134:1
 returns-4 : tie.Need-returns-4
-unfolding effectOf widthOf
 returns-4 c =
-    let d = c .before .before .before in
-    let start = d .before .before .before .before in
-    let w = start .args .w in
-    rw (le-ltb _ _ (d .before .before .if2 .left), le-ltb _ _ (d .before .if3 .left), lt-ltb _ _ (d .if4 .taken))
-    (inr (operating-on-one (now (start .args .regs)) (start .args .psw) (i.Sxt (w % 8) (w / 64 % 2)) op.Sxt 16 (w % 8) _ refl
-    (omega arith) (omega arith) (c .before .one-operand3 .ensures)))
+    let m = c .before .before .before in
+    let start = m .before in
+    λ cex. swpb-tried (now (start .args .regs)) _ cex _ (start .pre) _ (m .match .keys4) (c .compute4 .ensures)
 
+-- src/lib.rt:134:1
 returns-5 : tie.Need-returns-5
-returns-5 c = inl (refl, refl)
+returns-5 c =
+    let m = c .before .before .before in
+    let start = m .before in
+    λ cex. sxt-tried (now (start .args .regs)) _ cex _ (start .pre) _ (m .match .keys5) (c .compute5 .ensures)
+
+-- src/lib.rt:134:1
+returns-6 : tie.Need-returns-6
+returns-6 c = λ cex. inl (refl, refl, refl, refl)
 
 pub single-word-spec : {M : Type 1} → statement M
 single-word-spec =
     tie.close
     (tie.spec
-    (λ c. search needs)
+    compute-requires
+    compute-requires-2
+    compute-requires-3
+    compute-requires-4
+    compute-requires-5
     returns
-    (λ c. search needs)
-    (λ c κs. search needs)
-    (λ c κs. search needs)
-    (λ c. search needs)
     returns-2
-    (λ c κs. search needs)
-    (λ c. search needs)
     returns-3
-    (λ c κs. search needs)
-    (λ c. search needs)
     returns-4
-    returns-5)
+    returns-5
+    returns-6)

@@ -1,31 +1,60 @@
--- `stretch_registers::swap_word` meets its contract. Assumes nothing.
 use mathlib.Core.Path.{refl}
 use mathlib.Core.Logic.{inl, inr}
 use denote.Ref.{now}
 use native.Mathlib.Omega.{arith}
-use Rattle.stretch_registers.proofs.Laws.{swapping}
+use Rattle.stretch_registers.proofs.Laws.{swaps}
 use borrow.Author.Needs.{needs}
 use Rattle.stretch_registers.proofs.swap_word.Statement.{statement}
 use Rattle.stretch_registers.proofs.swap_word.Tie as tie
+use Rattle.stretch_registers.proofs.swap_word.Reads as reads
+use Rattle.stretch_registers.proofs.swap_word.Lts as lts
+use Rattle.stretch_registers.proofs.reg.Reads as reg-reads
+use Rattle.stretch_registers.proofs.set_reg.Reads as set-reg-reads
 
+-- src/lib.rt:121:9
 returns : tie.Need-returns
-returns c = inl (refl, refl)
+returns c = λ psw cex b. inl (refl, refl, refl, refl)
 
+-- src/lib.rt:124:9
 returns-2 : tie.Need-returns-2
-returns-2 c = inl (refl, refl)
+returns-2 c = λ psw cex b. inl (refl, refl, refl, refl)
 
+-- src/lib.rt:126:9
+reg-requires : tie.Need-reg-requires
+reg-requires c κs = search needs
+
+-- src/lib.rt:127:9
+reg-requires-2 : tie.Need-reg-requires-2
+reg-requires-2 c κs = search needs
+
+-- src/lib.rt:128:5
+set-reg-requires : tie.Need-set-reg-requires
+set-reg-requires c κs = search needs
+
+-- src/lib.rt:129:5
+set-reg-requires-2 : tie.Need-set-reg-requires-2
+set-reg-requires-2 c κs = search needs
+
+-- src/lib.rt:113:1
 returns-3 : tie.Need-returns-3
 returns-3 c =
-    let start = c .before .before .before .before in
-    inr (swapping (now (start .args .regs)) _ _ (omega arith) _ _ _ (omega arith) (omega arith) (c .swap .ensures _))
+    let s = c .before .before in
+    let t = s .before .before in
+    let u = t .before .before in
+    let start = u .before .before .before .before in
+    λ psw cex b.
+    inr
+    (swaps (now (start .args .regs)) psw cex _ (start .pre) _ _ b (omega arith) (omega arith) (u .reg .ensures) (t .reg2 .ensures)
+    (s .set-reg .ensures) (c .set-reg2 .ensures))
 
 pub swap-word-spec : {M : Type 1} → statement M
 swap-word-spec =
     tie.close
     (tie.spec
-    (λ c. search needs)
-    (λ c. search needs)
     returns
     returns-2
-    (λ c κs. search needs)
+    reg-requires
+    reg-requires-2
+    set-reg-requires
+    set-reg-requires-2
     returns-3)

@@ -1,0 +1,77 @@
+use Rattle.machine.specs.Memory.{byteAt}
+use Rattle.machine.specs.Memory.{byteAt, even}
+use Prim.Native.Nat.{ℕ, _+_, _*_, _/_, _%_}
+use mathlib.Core.Path.{_≡_, refl, sym, ap, _∙_}
+use denote.Ref.{now}
+use native.Mathlib.Omega.{arith}
+use borrow.Author.Needs.{needs}
+use Rattle.stretch.proofs.fetch.Statement.{statement}
+use Rattle.stretch.proofs.fetch.Tie as tie
+use Rattle.stretch.proofs.fetch.Reads as reads
+use Rattle.stretch.proofs.fetch.Lts as lts
+
+evened : (i : ℕ) → i % 2 ≡ 0 → i ≡ even i
+evened i h = omega arith
+
+-- src/lib.rt:32:5
+shared-slice-read-result : tie.Need-shared-slice-read-result
+shared-slice-read-result c = search needs
+
+-- src/lib.rt:32:5
+cast-result : tie.Need-cast-result
+cast-result c = omega (arith, c .shared-slice-known .given (c .before .args .i))
+
+-- src/lib.rt:32:33
+add-result : tie.Need-add-result
+add-result c = search needs
+
+-- src/lib.rt:32:29
+shared-slice-read-result-2 : tie.Need-shared-slice-read-result-2
+shared-slice-read-result-2 c = search needs
+
+-- src/lib.rt:32:29
+cast-result-2 : tie.Need-cast-result-2
+cast-result-2 c = omega (arith, c .shared-slice-known2 .given (c .before .before .args .i + 1))
+
+-- src/lib.rt:32:23
+mul-result : tie.Need-mul-result
+mul-result c = omega (arith, c .shared-slice-known2 .given (c .before .before .args .i + 1))
+
+-- src/lib.rt:32:5
+add-result-2 : tie.Need-add-result-2
+add-result-2 c =
+    omega (
+      arith,
+      c .before .shared-slice-known .given (c .before .before .args .i),
+      c .shared-slice-known2 .given
+          (c .before .before .args .i + 1),
+    )
+
+-- src/lib.rt:28:1
+returns : tie.Need-returns
+returns c =
+    let s = c .before .before in
+    let i = s .args .i in
+    let m = now (s .args .mem) in
+    let e : i ≡ i / 2 * 2 = omega arith in (
+      ap (λ (j : ℕ). byteAt m j + 256 * byteAt m (j + 1)) (evened i (s .pre .2)),
+      omega (
+        arith,
+        c .before .shared-slice-known .given
+            (c .before .before .args .i),
+        c .shared-slice-known2 .given (c .before .before .args .i + 1),
+      ),
+    )
+
+pub fetch-spec : {M : Type 1} → statement M
+fetch-spec =
+    tie.close
+    (tie.spec
+    shared-slice-read-result
+    cast-result
+    add-result
+    shared-slice-read-result-2
+    cast-result-2
+    mul-result
+    add-result-2
+    returns)

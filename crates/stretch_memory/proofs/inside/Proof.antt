@@ -1,0 +1,10 @@
+-- `stretch_memory::inside` meets its contract. Assumes nothing.
+use mathlib.Core.Path.{refl}
+use Rattle.stretch_memory.proofs.inside.Statement.{statement}
+use Rattle.stretch_memory.proofs.inside.Tie as tie
+
+returns : tie.Need-returns
+returns c = refl
+
+pub inside-spec : {M : Type 1} → statement M
+inside-spec = tie.close (tie.spec returns)

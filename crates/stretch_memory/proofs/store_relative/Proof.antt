@@ -1,0 +1,76 @@
+use mathlib.Core.Path.{refl, sym, ap, _∙_}
+use mathlib.Core.Logic.{inl, inr}
+use denote.Ref.{now}
+use native.Mathlib.Omega.{arith}
+use Prim.Native.Nat.{ℕ, _/_, _%_}
+use borrow.Author.Tests.{not-true, not-false}
+use Rattle.stretch_memory.proofs.Laws.{served-store, store-relative-effect}
+use borrow.Author.Needs.{needs}
+use Rattle.stretch_memory.proofs.store_relative.Statement.{statement}
+use Rattle.stretch_memory.proofs.store_relative.Tie as tie
+use Rattle.stretch_memory.proofs.store_relative.Reads as reads
+use Rattle.stretch_memory.proofs.store_relative.Lts as lts
+use Rattle.stretch_memory.proofs.relative.Reads as relative-reads
+use Rattle.stretch_memory.proofs.store.Reads as store-reads
+use Rattle.stretch_registers.proofs.reg.Reads as reg-reads
+
+-- src/lib.rt:185:23
+reg-requires : tie.Need-reg-requires
+reg-requires c κs = search needs
+
+-- src/lib.rt:185:9
+relative-requires : tie.Need-relative-requires
+relative-requires c κs = search needs
+
+-- src/lib.rt:186:9
+reg-requires-2 : tie.Need-reg-requires-2
+reg-requires-2 c κs = search needs
+
+-- src/lib.rt:187:9
+store-requires : tie.Need-store-requires
+store-requires c κs = search needs
+
+-- src/lib.rt:188:9
+same-length : tie.Need-same-length
+same-length c = search needs
+
+-- src/lib.rt:188:9
+returns : tie.Need-returns
+returns c =
+    let same = c .before .before .before .store .ensures .0 (not-true _ (c .if1 .taken)) in
+    λ psw cex. inl (refl, (refl, refl, refl, same))
+
+-- src/lib.rt:178:1
+same-length-2 : tie.Need-same-length-2
+same-length-2 c = search needs
+
+-- src/lib.rt:178:1
+returns-2 : tie.Need-returns-2
+returns-2 c =
+    let s = c .before .before .before in
+    let t = s .before .before in
+    let start = t .before .before .before .before in
+    let a = start .args in
+    let l = now (a .regs) in
+    let o = s .store .ensures .1 (not-false _ (c .if1 .left)) in
+    λ psw cex.
+    inr
+    (served-store _ l l (now (a .mem)) psw cex (a .pc) (start .pre .1) _ _ _ _
+    (store-relative-effect l psw cex (a .wb) (a .w % 8) _ (t .before .before .reg .ensures) (t .before .relative .ensures)
+    (a .w / 8 % 8) (t .reg2 .ensures))
+    (o .0)
+    (o .1)
+    refl)
+
+pub store-relative-spec : {M : Type 1} → statement M
+store-relative-spec =
+    tie.close
+    (tie.spec
+    reg-requires
+    relative-requires
+    reg-requires-2
+    store-requires
+    same-length
+    returns
+    same-length-2
+    returns-2)

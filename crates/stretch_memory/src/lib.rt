@@ -1,0 +1,191 @@
+// Loads and stores of a stretch. Each function takes the word w, PC being past it (`pc`), and
+// answers pc, or 1,048,576 and has left all alone. Left alone are an odd word access, a store to
+// the device bytes or to the vectors, a load into R7, and an adjustment of R7.
+ghost use mathlib.Core.Bool.{true, false, cond};
+ghost use mathlib.Core.Path.{_≡_};
+ghost use Prim.Native.Nat.{ℕ, _/_, _%_, _<_};
+ghost use lib.Dec.{eqb};
+ghost use lib.ListN.{length, getD, set};
+ghost use Rattle.word.specs.Offset.{signedOf};
+ghost use Rattle.isa.specs.declared.Instr.the-variants as Instr;
+ghost use Rattle.machine.specs.State.{coreOf, moved};
+ghost use Rattle.machine.specs.Memory.{commit, valueAt};
+ghost use Rattle.machine.specs.Devices.{loadWrites, storeWrites};
+ghost use Rattle.machine.specs.Effect.{loaded, moves?};
+ghost use Rattle.stretch_registers.specs.Effected.{Past};
+ghost use Rattle.stretch_memory.specs.Ordinary.{aligned?, inside?, storable?};
+ghost use Rattle.stretch_memory.specs.Served.{Taken};
+use machine::ByteAddr;
+use stretch_registers::reg;
+use stretch_registers::set_reg;
+
+// Is an access of this width at this address aligned: any byte, or a word at an even address?
+fn aligned(byte: bool, at: u16) -> bool
+    ensures { λ r. ⌜ r ≡ aligned? byte at ⌝ }
+{
+    byte | (at % 2 == 0)
+}
+
+// Is the address past the device bytes and below the vectors?
+fn inside(at: u16) -> bool
+    ensures { λ r. ⌜ r ≡ inside? at ⌝ }
+{
+    (0x10 <= at) & (at < 0xFFC0)
+}
+
+// A store, if it is one that a stretch takes; else memory is as it was.
+fn store(mem: &mut [u8], byte: bool, at: u16, v: u16) -> bool
+    requires { ⌜ length (now mem) ≡ 65536 ⌝ }
+    ensures declined { λ r. ⌜ (r ≡ false → now (mem .exit) ≡ now (mem .entry)) ⌝ }
+    ensures stored { λ r. ⌜ (r ≡ true → (storable? byte at ≡ true) × (now (mem .exit) ≡
+        commit (storeWrites byte (now (mem .entry)) at v) (now (mem .entry)))) ⌝ }
+{
+    if !inside(at) {
+        return false;
+    }
+    if byte {
+        memory::store(mem, true, ByteAddr(at), v);
+        return true;
+    }
+    if at % 2 == 1 {
+        return false;
+    }
+    memory::store(mem, false, ByteAddr(at), v);
+    true
+}
+
+// A load into a register that is not R7.
+fn load(regs: &mut [u16; 8], mem: &mut [u8], byte: bool, at: u16, dst: usize)
+    requires { ⌜ (length (now mem) ≡ 65536) × (dst < 7) ⌝ }
+    ensures core { λ r. ⌜ ((psw cex : ℕ) → coreOf (now (regs .exit)) psw cex ≡ loaded
+        (coreOf (now (regs .entry)) psw cex) byte dst (valueAt byte (now (mem .entry)) at)) ⌝ }
+    ensures memory { λ r. ⌜ now (mem .exit) ≡
+        commit (loadWrites byte (now (mem .entry)) at) (now (mem .entry)) ⌝ }
+    ensures pc { λ r. ⌜ getD (now (regs .exit)) 7 0 ≡ getD (now (regs .entry)) 7 0 ⌝ }
+{
+    let v = memory::load(mem, byte, ByteAddr(at));
+    let w = word::with_low(byte, reg(regs, dst), v);
+    set_reg(regs, dst, w);
+}
+
+// The adjustment of LD and ST, written where it moves.
+fn adjust(regs: &mut [u16; 8], i: usize, dec: u8, inc: u8, to: u16)
+    requires { ⌜ i < 8 ⌝ }
+    ensures { λ r. ⌜ now (regs .exit)
+        ≡ cond (moves? dec inc) (set (now (regs .entry)) i to) (now (regs .entry)) ⌝ }
+{
+    if dec == inc {
+        return;
+    }
+    set_reg(regs, i, to);
+}
+
+// LD, its four bits known.
+pub fn load_indexed(
+    regs: &mut [u16; 8],
+    mem: &mut [u8],
+    pc: usize,
+    w: usize,
+    prpo: u8,
+    dec: u8,
+    inc: u8,
+    wb: u8,
+) -> usize
+    requires { ⌜ (length (now mem) ≡ 65536) × Past pc (now regs) ⌝ }
+    ensures { λ r. ⌜ ((psw cex : ℕ) → Taken (Instr.Ld prpo dec inc wb (w / 8 % 8) (w % 8))
+        (now (regs .entry)) psw cex (now (mem .entry))
+        (now (regs .exit)) psw cex (now (mem .exit)) r) ⌝ }
+{
+    let src = w / 8 % 8;
+    let dst = w % 8;
+    if dst == 7 {
+        return 1048576;
+    }
+    if (dec != inc) & (src == 7) {
+        return 1048576;
+    }
+    let a = reg(regs, src);
+    let b = operands::adjusted_by(a, dec, inc, wb);
+    let at = operands::address(prpo, a, b);
+    if !aligned(wb == 1, at) {
+        return 1048576;
+    }
+    adjust(regs, src, dec, inc, b);
+    load(regs, mem, wb == 1, at, dst);
+    pc
+}
+
+// ST, its four bits known.
+pub fn store_indexed(
+    regs: &mut [u16; 8],
+    mem: &mut [u8],
+    pc: usize,
+    w: usize,
+    prpo: u8,
+    dec: u8,
+    inc: u8,
+    wb: u8,
+) -> usize
+    requires { ⌜ (length (now mem) ≡ 65536) × Past pc (now regs) ⌝ }
+    ensures { λ r. ⌜ ((psw cex : ℕ) → Taken (Instr.St prpo dec inc wb (w / 8 % 8) (w % 8))
+        (now (regs .entry)) psw cex (now (mem .entry))
+        (now (regs .exit)) psw cex (now (mem .exit)) r) ⌝ }
+{
+    let dst = w % 8;
+    if (dec != inc) & (dst == 7) {
+        return 1048576;
+    }
+    let value = reg(regs, w / 8 % 8);
+    let a = reg(regs, dst);
+    let b = operands::adjusted_by(a, dec, inc, wb);
+    let at = operands::address(prpo, a, b);
+    if !store(mem, wb == 1, at, value) {
+        return 1048576;
+    }
+    adjust(regs, dst, dec, inc, b);
+    pc
+}
+
+// The address of LDR and STR, by the signed offset in bits 13 to 7.
+fn relative(base: u16, w: usize) -> u16
+    ensures { λ r. ⌜ r ≡ moved base (signedOf 64 (w / 128 % 128)) ⌝ }
+{
+    let off = (w / 128 % 128 + 64) % 128;
+    ((base as usize + off + 65472) % 65536) as u16
+}
+
+// 8000 to BFFF: LDR, its width known.
+pub fn load_relative(regs: &mut [u16; 8], mem: &mut [u8], pc: usize, w: usize, wb: u8) -> usize
+    requires { ⌜ (length (now mem) ≡ 65536) × Past pc (now regs) ⌝ }
+    ensures { λ r. ⌜ ((psw cex : ℕ) → Taken
+        (Instr.Ldr (signedOf 64 (w / 128 % 128)) wb (w / 8 % 8) (w % 8))
+        (now (regs .entry)) psw cex (now (mem .entry))
+        (now (regs .exit)) psw cex (now (mem .exit)) r) ⌝ }
+{
+    let dst = w % 8;
+    if dst == 7 {
+        return 1048576;
+    }
+    let at = relative(reg(regs, w / 8 % 8), w);
+    if !aligned(wb == 1, at) {
+        return 1048576;
+    }
+    load(regs, mem, wb == 1, at, dst);
+    pc
+}
+
+// C000 to FFFF: STR, its width known.
+pub fn store_relative(regs: &[u16; 8], mem: &mut [u8], pc: usize, w: usize, wb: u8) -> usize
+    requires { ⌜ (length (now mem) ≡ 65536) × Past pc (now regs) ⌝ }
+    ensures { λ r. ⌜ ((psw cex : ℕ) → Taken
+        (Instr.Str (signedOf 64 (w / 128 % 128)) wb (w / 8 % 8) (w % 8))
+        (now (regs .entry)) psw cex (now (mem .entry))
+        (now (regs .entry)) psw cex (now (mem .exit)) r) ⌝ }
+{
+    let at = relative(reg(regs, w % 8), w);
+    let v = reg(regs, w / 8 % 8);
+    if !store(mem, wb == 1, at, v) {
+        return 1048576;
+    }
+    pc
+}

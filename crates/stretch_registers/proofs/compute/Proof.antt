@@ -1,0 +1,50 @@
+use mathlib.Core.Path.{refl, ap, _∙_}
+use mathlib.Core.Logic.{inl, inr}
+use denote.Ref.{now}
+use native.Mathlib.Omega.{arith}
+use lib.ListN.{set}
+use Prim.Native.Nat.{ℕ, _%_}
+use Rattle.word.specs.Width.{widthOf}
+use Rattle.alu.specs.declared.Computed.{Computed}
+use Rattle.alu.specs.Alu.{aluOf}
+use borrow.Author.Needs.{needs}
+use Rattle.stretch_registers.proofs.compute.Statement.{statement}
+use Rattle.stretch_registers.proofs.compute.Tie as tie
+use Rattle.stretch_registers.proofs.compute.Reads as reads
+use Rattle.stretch_registers.proofs.compute.Lts as lts
+use Rattle.alu.proofs.alu.Reads as alu-reads
+use Rattle.stretch_registers.proofs.reg.Reads as reg-reads
+use Rattle.stretch_registers.proofs.set_reg.Reads as set-reg-reads
+
+-- src/lib.rt:49:9
+returns : tie.Need-returns
+returns c = inl (refl, refl, refl)
+
+-- src/lib.rt:51:32
+reg-requires : tie.Need-reg-requires
+reg-requires c κs = search needs
+
+-- src/lib.rt:51:9
+alu-requires : tie.Need-alu-requires
+alu-requires c κs = search needs
+
+-- src/lib.rt:52:5
+set-reg-requires : tie.Need-set-reg-requires
+set-reg-requires c κs = search needs
+
+-- src/lib.rt:35:1
+returns-2 : tie.Need-returns-2
+returns-2 c =
+    let b = c .before .before in
+    let a = b .before .before .before .before .before .args in
+    let e =
+    b .alu .ensures ∙ ap (λ (d : ℕ). aluOf (a .op) (widthOf (a .byte)) d (a .s) (now (a .psw))) (b .before .before .reg .ensures) in
+    inr (
+      omega arith,
+      refl,
+      c .set-reg .ensures ∙ ap (λ (o : Computed). set (now (a .regs)) (a .w % 8) (o .value)) e,
+      ap (λ (o : Computed). o .psw) e,
+    )
+
+pub compute-spec : {M : Type 1} → statement M
+compute-spec = tie.close (tie.spec returns reg-requires alu-requires set-reg-requires returns-2)

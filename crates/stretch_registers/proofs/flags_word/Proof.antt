@@ -1,0 +1,69 @@
+use mathlib.Core.Path.{refl}
+use mathlib.Core.Logic.{inl, inr}
+use native.Mathlib.Omega.{arith}
+use Prim.Native.Nat.{_%_, _/_}
+use mathlib.Core.Path.{_≡_}
+use borrow.Author.Tests.{lt-ltb, le-ltb}
+use Rattle.stretch_registers.proofs.Laws.{sets-flags, clears-flags}
+use borrow.Author.Needs.{needs}
+use Rattle.stretch_registers.proofs.flags_word.Statement.{statement}
+use Rattle.stretch_registers.proofs.flags_word.Tie as tie
+use Rattle.stretch_registers.proofs.flags_word.Reads as reads
+use Rattle.stretch_registers.proofs.flags_word.Lts as lts
+use Rattle.operands.proofs.flags_cleared.Reads as flags-cleared-reads
+use Rattle.operands.proofs.flags_set.Reads as flags-set-reads
+
+-- src/lib.rt:157:9
+returns : tie.Need-returns
+returns c = λ regs cex past. inl (refl, refl, refl, refl)
+
+-- src/lib.rt:159:13
+cast-f : tie.Need-cast-f
+cast-f c = search needs
+
+-- src/lib.rt:161:16
+flags-set-requires : tie.Need-flags-set-requires
+flags-set-requires c κs = search needs
+
+-- src/lib.rt:162:9
+returns-2 : tie.Need-returns-2
+returns-2 c =
+    let b = c .before .before in
+    let start = b .before .before in
+    let w = start .args .w in
+    let slp : w % 32 / 8 % 2 ≡ 0 = omega (arith, b .before .if1 .left) in
+    λ l x past.
+    rw (
+      le-ltb w 0x4D88 (omega (arith, start .pre .0)),
+      le-ltb w 0x4DA0 (omega (arith, start .pre .0)),
+      le-ltb w 0x4DB0 (omega (arith, start .pre .0)),
+      le-ltb w 0x4DC0 (start .pre .0),
+      lt-ltb w 0x4DE0 (b .if2 .taken),
+    )
+    (inr (sets-flags l _ x _ (w % 32) past (omega arith) slp (c .flags-set .ensures)))
+
+-- src/lib.rt:164:12
+flags-cleared-requires : tie.Need-flags-cleared-requires
+flags-cleared-requires c κs = search needs
+
+-- src/lib.rt:151:1
+returns-3 : tie.Need-returns-3
+returns-3 c =
+    let b = c .before .before in
+    let start = b .before .before in
+    let w = start .args .w in
+    let slp : w % 32 / 8 % 2 ≡ 0 = omega (arith, b .before .if1 .left) in
+    λ l x past.
+    rw (
+      le-ltb w 0x4D88 (omega (arith, start .pre .0)),
+      le-ltb w 0x4DA0 (omega (arith, start .pre .0)),
+      le-ltb w 0x4DB0 (omega (arith, start .pre .0)),
+      le-ltb w 0x4DC0 (start .pre .0),
+      le-ltb w 0x4DE0 (b .if2 .left),
+    )
+    (inr (clears-flags l _ x _ (w % 32) past (omega arith) slp (c .flags-cleared .ensures)))
+
+pub flags-word-spec : {M : Type 1} → statement M
+flags-word-spec =
+    tie.close
+    (tie.spec returns cast-f flags-set-requires returns-2 flags-cleared-requires returns-3)

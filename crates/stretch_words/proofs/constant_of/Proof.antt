@@ -1,0 +1,26 @@
+use native.Mathlib.Omega.{arith}
+use denote.Ref.{now}
+use Prim.Native.Nat.{ℕ, _/_, _%_}
+use mathlib.Core.List.{List}
+use mathlib.Core.Path.{ap, _∙_}
+use lib.ListN.{getD}
+use Rattle.stretch_words.proofs.Laws.{constant-at}
+use borrow.Author.Needs.{needs}
+use Rattle.stretch_words.proofs.constant_of.Statement.{statement}
+use Rattle.stretch_words.proofs.constant_of.Tie as tie
+use Rattle.stretch_words.proofs.constant_of.Reads as reads
+use Rattle.stretch_words.proofs.constant_of.Lts as lts
+use Rattle.stretch_registers.proofs.reg.Reads as reg-reads
+
+-- src/lib.rt:32:5
+reg-requires : tie.Need-reg-requires
+reg-requires c κs = search needs
+
+-- src/lib.rt:28:1
+returns : tie.Need-returns
+returns c =
+    let a = c .before .args in
+    c .reg .ensures ∙ ap (λ (k : List ℕ). getD k (a .w / 8 % 8) 0) (c .before .pre) ∙ constant-at (a .w / 8 % 8) (omega arith)
+
+pub constant-of-spec : {M : Type 1} → statement M
+constant-of-spec = tie.close (tie.spec reg-requires returns)

@@ -119,6 +119,20 @@ module _ (b : List ℕ) (a : ℕ) where
       (there x6 p6 (suc (suc (suc (suc (suc (suc a)))))) e6 (omega arith))
       (there x7 p7 (suc (suc (suc (suc (suc (suc (suc a))))))) e7 (omega arith))
 
+-- the first eight device bytes are those from address 0 on
+pub eight-first : (b d m : List ℕ) → Before b d m
+    → (byteAt d 0 ∷ byteAt d 1 ∷ byteAt d 2 ∷ byteAt d 3 ∷ byteAt d 4 ∷ byteAt d 5 ∷ byteAt d 6 ∷ byteAt d 7 ∷ []) ≡ bytesFrom b 0 8
+eight-first b d m w =
+    listed b 0 _ _ _ _ _ _ _ _
+    (there b 0 _ 0 0 (device-byte b d m w 0 (omega arith)) (omega arith))
+    (there b 0 _ 1 1 (device-byte b d m w 1 (omega arith)) (omega arith))
+    (there b 0 _ 2 2 (device-byte b d m w 2 (omega arith)) (omega arith))
+    (there b 0 _ 3 3 (device-byte b d m w 3 (omega arith)) (omega arith))
+    (there b 0 _ 4 4 (device-byte b d m w 4 (omega arith)) (omega arith))
+    (there b 0 _ 5 5 (device-byte b d m w 5 (omega arith)) (omega arith))
+    (there b 0 _ 6 6 (device-byte b d m w 6 (omega arith)) (omega arith))
+    (there b 0 _ 7 7 (device-byte b d m w 7 (omega arith)) (omega arith))
+
 -- bytes of a list in their place are those from its address on
 part-is : (b : List ℕ) (n k : ℕ) → k + n ≤ length b → k + n ≤ 65536 → take n (drop k b) ≡ bytesFrom b k n
 unfolding bytesFrom

@@ -92,6 +92,23 @@ fn eight_at(mem: &[u8], a: u16) -> [u8; 8]
     ]
 }
 
+// The first eight device bytes: those at address 0, which a step that writes nothing else has.
+fn first_eight(devices: &[u8; 16]) -> [u8; 8]
+    ensures { λ r. ⌜ ((m : List ℕ) (b : List ℕ) → Before m (now (devices .entry)) b
+        → r ≡ bytesFrom m 0 8) ⌝ }
+{
+    [
+        devices[0],
+        devices[1],
+        devices[2],
+        devices[3],
+        devices[4],
+        devices[5],
+        devices[6],
+        devices[7],
+    ]
+}
+
 // The eight bytes from any address on before the events, addresses wrapping.
 fn eight_before(devices: &[u8; 16], mem: &[u8], a: u16) -> [u8; 8]
     requires { ⌜ length (now mem) ≡ 65536 ⌝ }
@@ -100,6 +117,9 @@ fn eight_before(devices: &[u8; 16], mem: &[u8], a: u16) -> [u8; 8]
 {
     if (16 <= a) & (a <= 65528) {
         return eight_at(mem, a);
+    }
+    if a == 0 {
+        return first_eight(devices);
     }
     [
         byte_before(devices, mem, a),

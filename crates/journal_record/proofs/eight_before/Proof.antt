@@ -1,3 +1,5 @@
+use mathlib.Core.Path.{_≡_, sym, subst}
+use Rattle.journal.specs.Record.{bytesFrom}
 use Rattle.journal_record.proofs.Laws.{between}
 use native.Mathlib.Omega.{arith}
 use Rattle.journal_record.proofs.Laws.{eight-wrapped}
@@ -17,6 +19,12 @@ eight-at-requires c κs = let b = between (c .before .before .args .a) (c .if1 .
 -- src/lib.rt:102:9
 returns : tie.Need-returns
 returns c b w = c .eight-at .ensures b _ w
+
+first-eight-requires : tie.Need-first-eight-requires
+first-eight-requires c κs = search needs
+
+returns-2 : tie.Need-returns-2
+returns-2 c b w = subst (λ z. c .first-eight .result ≡ bytesFrom b z 8) (sym (c .before .if2 .taken)) (c .first-eight .ensures b _ w)
 
 -- src/lib.rt:105:9
 byte-before-requires : tie.Need-byte-before-requires
@@ -79,10 +87,10 @@ byte-before-requires-8 : tie.Need-byte-before-requires-8
 byte-before-requires-8 c κs = search needs
 
 -- src/lib.rt:96:1
-returns-2 : tie.Need-returns-2
-returns-2 c b w =
+returns-3 : tie.Need-returns-3
+returns-3 c b w =
     let s = c .before .before .before .before .before .before .before .before .before .before .before .before .before .before .before
-    .before .before in
+    .before .before .before in
     eight-wrapped b (s .args .a) _ _ _ _ _ _ _ _ _ _ _ _ _ _ _ (omega arith)
     (c .before .before .before .before .before .before .before .before .before .before .before .before .before .before .byte-before
     .ensures b w)
@@ -107,6 +115,8 @@ eight-before-spec =
     (tie.spec
     eight-at-requires
     returns
+    first-eight-requires
+    returns-2
     byte-before-requires
     wrapping-add-u16-requires
     byte-before-requires-2
@@ -122,4 +132,4 @@ eight-before-spec =
     byte-before-requires-7
     wrapping-add-u16-requires-7
     byte-before-requires-8
-    returns-2)
+    returns-3)

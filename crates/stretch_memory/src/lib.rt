@@ -166,11 +166,12 @@ pub fn load_relative(regs: &mut [u16; 8], mem: &mut [u8], pc: usize, w: usize, w
     if dst == 7 {
         return 1048576;
     }
-    let at = relative(reg(regs, w / 8 % 8), w);
-    if !aligned(wb == 1, at) {
+    let base = reg(regs, w / 8 % 8);
+    let from = relative(base, w);
+    if !aligned(wb == 1, from) {
         return 1048576;
     }
-    load(regs, mem, wb == 1, at, dst);
+    load(regs, mem, wb == 1, from, dst);
     pc
 }
 

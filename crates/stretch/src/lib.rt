@@ -311,6 +311,9 @@ pub fn stretch(regs: &mut [u16; 8], mem: &mut [u8], t: Rest, due: u64, left: u32
         (r .count - t .count)) ⌝ }
     ensures count { λ r. ⌜ (t .count ≤ r .count) × (r .count ≤ t .count + left) ⌝ }
 {
+    if left == 0 {
+        return t;
+    }
     if !fetching(regs, t) {
         return sleep_on(mem, t, due, left);
     }

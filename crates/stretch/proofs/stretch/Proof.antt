@@ -1,4 +1,4 @@
--- The three ways through the call: a sleeping machine or none of these, a line above the priority, steps. Assumes nothing.
+-- The ways through the call: nothing left, a sleeping machine or none of these, a line above the priority, steps. Assumes nothing.
 use native.Mathlib.Omega.{arith}
 use denote.Ref.{now}
 use borrow.Author.Tests.{not-false}
@@ -10,26 +10,32 @@ use Rattle.stretch.proofs.stretch.Tie as tie
 
 returns : tie.Need-returns
 returns c =
-    let o = c .sleep-on .ensures in (λ ev u. o .0 _ ev u .0, (λ ev u. o .0 _ ev u .1, o .1))
+    let a = c .before .before .args in
+    let s = stateWith (now (a .regs)) (a .t) (now (a .mem)) in
+    (λ ev u. stretch-none ev s (a .t .count) .0, (λ ev u. stretch-none ev s (a .t .count) .1, (omega arith, omega arith)))
 
 returns-2 : tie.Need-returns-2
 returns-2 c =
-    let a = c .before .before .before .before .before .before .before .args in
+    let o = c .sleep-on .ensures in (λ ev u. o .0 _ ev u .0, (λ ev u. o .0 _ ev u .1, o .1))
+
+returns-3 : tie.Need-returns-3
+returns-3 c =
+    let a = c .before .before .before .before .before .before .before .before .args in
     let s = stateWith (now (a .regs)) (a .t) (now (a .mem)) in
     (λ ev u. stretch-none ev s (a .t .count) .0, (λ ev u. stretch-none ev s (a .t .count) .1, (omega arith, omega arith)))
 
 walk-requires : tie.Need-walk-requires
 walk-requires c κs =
-    let b = c .before .before .before .before .before .before in (omega arith, b .before .fetching .ensures (not-false _ (b .if1 .left)) .1)
+    let b = c .before .before .before .before .before .before in (omega arith, b .before .fetching .ensures (not-false _ (b .if2 .left)) .1)
 
-returns-3 : tie.Need-returns-3
-returns-3 c =
+returns-4 : tie.Need-returns-4
+returns-4 c =
     let p = c .before .before .before .before .walk in
     let b = c .before .before .before .before .before .before .before .before in
     let d = b .before .before .before in
-    let a = d .before .before .before .before .args in
-    let f = d .before .fetching .ensures (not-false _ (d .if1 .left)) in
-    let none = b .before .unasked .ensures (not-false _ (b .if2 .left)) in
+    let a = d .before .before .before .before .before .args in
+    let f = d .before .fetching .ensures (not-false _ (d .if2 .left)) in
+    let none = b .before .unasked .ensures (not-false _ (b .if3 .left)) in
     let q = p .result in
     let w = stretch-done (now (a .regs)) (now (a .mem)) (p .last .0) (p .last .1 .0) (a .t) (a .due) (q .psw) (q .cex) (q .steps) in (
       λ ev u. w ev (f .0) none (omega (arith, p .ensures .1, c .before .before .before .before .before .until .ensures))
@@ -52,15 +58,16 @@ pub stretch-spec : {M : Type 1} → statement M
 stretch-spec =
     tie.close
     (tie.spec
-    (λ c κs. search needs)
-    (λ c κs. search needs)
-    (λ c. search needs)
     returns
+    (λ c κs. search needs)
     (λ c κs. search needs)
     (λ c. search needs)
     returns-2
     (λ c κs. search needs)
+    (λ c. search needs)
+    returns-3
+    (λ c κs. search needs)
     walk-requires
     (λ c. search needs)
     (λ c. search needs)
-    returns-3)
+    returns-4)

@@ -405,7 +405,8 @@ uint64_t xm23_next(uint32_t operation, uint32_t word);
  * memory, memory_len in-out: the machine's memory, XM23_MEMORY_SIZE bytes.
  * record, record_len in-out: its state record, XM23_RECORD_SIZE bytes.
  * events, events_len in: event records, in the order of their steps, at most one of a device on a step; those of one
- *                    step are applied in list order. No bytes are an empty list.
+ *                    step are applied in list order. No bytes are an empty list. Each call judges the whole list,
+ *                    about 30 host instructions a record, so a host that steps lends the rest of its list.
  * log, log_len       in-out: room for log records, a multiple of XM23_LOG_SIZE bytes, 0 among them. Bytes past the
  *                    last record stay.
  * deepest            out: how deep this run went, 0 to the steps done. Frames are counted from 0 at its start: an

@@ -1,9 +1,10 @@
 // Arithmetic and logic of the XM-23 machine: one call, `alu`, for every instruction of both groups.
 // `byte` chooses the width: 8 bits, else 16. A byte form keeps the high byte of its destination.
 ghost use mathlib.Core.Path.{_≡_};
-ghost use Prim.Native.Nat.{_+_, _/_, _%_, _^_, _<_, _≤_};
+ghost use mathlib.Core.Bool.{not, Bool·beq};
+ghost use Prim.Native.Nat.{_+_, _-_, _/_, _%_, _^_, _<_, _≤_};
 ghost use Rattle.word.specs.Width.{widthOf, low, turned};
-ghost use Rattle.alu.specs.Sums.{addWithCarry, overflowOf};
+ghost use Rattle.alu.specs.Sums.{addWithCarry, negative};
 ghost use Rattle.alu.specs.Decimal.{decimalSum, digitOf, digitCarry};
 ghost use Rattle.alu.specs.Alu.{aluOf, logical, allFlags, summed, decimal, shifted, tested};
 ghost use Rattle.alu.specs.Alu.{maskOf, cleared, raised, extended};
@@ -60,13 +61,26 @@ fn add_with_carry(byte: bool, a: u16, b: u16, carry: u16) -> Sum
     }
 }
 
-// Both addends have one sign and the result the other.
-fn overflows(byte: bool, a: u16, b: u16, result: u16) -> bool
-    ensures { λ r. ⌜ r ≡ overflowOf (widthOf byte) a b result ⌝ }
+// a - b, with the carry of a + not b + 1: nothing was borrowed.
+fn difference(byte: bool, a: u16, b: u16) -> Sum
+    requires { ⌜ b < 2 ^ widthOf byte ⌝ }
+    ensures { λ r. ⌜ r ≡ addWithCarry (widthOf byte) a (2 ^ widthOf byte - 1 - b) 1 ⌝ }
+    ensures { λ r. ⌜ r .value < 2 ^ widthOf byte ⌝ }
+{
+    let mask = word::ones(byte) as u32;
+    let d = a as u32 + (mask + 1) - b as u32;
+    Sum {
+        value: (d & mask) as u16,
+        carry: b <= a,
+    }
+}
+
+// Has one of the numbers its top bit set and the other not?
+fn signs_differ(byte: bool, x: u16, y: u16) -> bool
+    ensures { λ r. ⌜ r ≡ not (Bool·beq (negative (widthOf byte) x) (negative (widthOf byte) y)) ⌝ }
 {
     let sign = word::top(byte);
-    let negative = sign <= a;
-    (negative == (sign <= b)) & (negative != (sign <= result))
+    (sign <= x) != (sign <= y)
 }
 
 // A logical result written to the destination, with Z and N.
@@ -101,7 +115,8 @@ pub fn add_into(byte: bool, dst: u16, src: u16, carry: u16, psw: u16) -> Compute
     let a = word::low_bits(byte, dst);
     let b = word::low_bits(byte, src);
     let sum = add_with_carry(byte, a, b, carry);
-    sum_into(byte, dst, sum, overflows(byte, a, b, sum.value), psw)
+    let overflow = signs_differ(byte, sum.value, a) & signs_differ(byte, sum.value, b);
+    sum_into(byte, dst, sum, overflow, psw)
 }
 
 // dst + not src + carry written to the destination, with all four flags.
@@ -112,7 +127,19 @@ pub fn subtract_into(byte: bool, dst: u16, src: u16, carry: u16, psw: u16) -> Co
     let a = word::low_bits(byte, dst);
     let t = word::turned_bits(byte, src);
     let sum = add_with_carry(byte, a, t, carry);
-    sum_into(byte, dst, sum, overflows(byte, a, t, sum.value), psw)
+    let overflow = !signs_differ(byte, a, t) & signs_differ(byte, a, sum.value);
+    sum_into(byte, dst, sum, overflow, psw)
+}
+
+// dst - src written to the destination, with all four flags: those of dst + not src + 1.
+fn difference_into(byte: bool, dst: u16, src: u16, psw: u16) -> Computed
+    ensures { λ r. ⌜ r ≡ summed (widthOf byte) dst (turned (widthOf byte) src) 1 psw ⌝ }
+{
+    let a = word::low_bits(byte, dst);
+    let b = word::low_bits(byte, src);
+    let sum = difference(byte, a, b);
+    let overflow = signs_differ(byte, a, b) & signs_differ(byte, a, sum.value);
+    sum_into(byte, dst, sum, overflow, psw)
 }
 
 // The low bits moved down by one below the given top bit, with C, Z and N.
@@ -255,9 +282,9 @@ pub fn alu(op: Op, byte: bool, dst: u16, src: u16, psw: u16) -> Computed
     match op {
         Op::Add => add_into(byte, dst, src, 0, psw),
         Op::Addc => add_into(byte, dst, src, psw % 2, psw),
-        Op::Sub => subtract_into(byte, dst, src, 1, psw),
+        Op::Sub => difference_into(byte, dst, src, psw),
         Op::Subc => subtract_into(byte, dst, src, psw % 2, psw),
-        Op::Cmp => tested_only(dst, subtract_into(byte, dst, src, 1, psw)),
+        Op::Cmp => tested_only(dst, difference_into(byte, dst, src, psw)),
         Op::Dadd => decimal_into(byte, dst, src, psw),
         Op::And => logic_into(byte, dst, d & s, psw),
         Op::Or => logic_into(byte, dst, d | s, psw),

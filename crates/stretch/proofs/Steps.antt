@@ -27,7 +27,7 @@ use Rattle.machine.specs.Cex.{skips?, lowered, loadedCex}
 use Rattle.machine.specs.Events.{Event}
 use Rattle.machine.specs.Devices.{deliver}
 use Rattle.machine.specs.Entry.{best, above}
-use Rattle.machine.specs.Effect.{effectOf, plainly}
+use Rattle.machine.specs.Effect.{Effect, effectOf, plainly, putCurrent}
 use Rattle.machine.specs.Step as step
 use Rattle.machine.specs.Step.{Plan, Interrupt, planned, chosen, returns?, interruptOf, advanced, allowed, granted}
 use Rattle.machine.specs.Step.{executed, instructionOf, planOf, perform, finished}
@@ -38,6 +38,7 @@ use Rattle.machine_laws.proofs.Plans.{plan-live}
 use Rattle.machine_laws.proofs.Runs.{run-zero, run-turn}
 use Rattle.machine_laws.proofs.Uneventful.{uneventful-none, uneventful-one, uneventful-append}
 use Rattle.machine_laws.proofs.Vectors.{BelowVectors, load-below, store-below, above-kept}
+use Rattle.entry.proofs.Lines.{line-no-lines, line-isnt}
 use Rattle.machine.specs.declared.Rest.{Rest}
 use Rattle.machine.specs.Rest.{stateWith}
 use Rattle.stretch_memory.specs.Ordinary.{aligned?, inside?, ordinary?}
@@ -454,6 +455,58 @@ cex-loaded l regs m psw cex w v x even woken s ew h ev ex q =
       (λ n. (λ j. running (set regs 7 (ev j)) psw (ex j) l (n + 1) m) ∙ ap (λ (p : Plan). carriedOut p l n m) (sym (plan n))),
       (λ n. ap (λ (p : Plan). uneventful? (p .act)) (plan n)),
     )
+
+-- ---- SETPRI
+
+decode-priority : (w : ℕ) → w / 8 ≡ 0x9B0 → decodeOf w ≡ i.SetPri (w % 8)
+unfolding decodeOf
+decode-priority w h =
+    simp (
+      le-ltb w 0x2000 (omega arith),
+      le-ltb w 0x4000 (omega arith),
+      le-ltb w 0x4C00 (omega arith),
+      lt-ltb w 0x5000 (omega arith),
+      le-ltb w 0x4C80 (omega arith),
+      le-ltb w 0x4D00 (omega arith),
+      le-ltb w 0x4D80 (omega arith),
+      lt-ltb w 0x4E00 (omega arith),
+      lt-ltb w 0x4D88 (omega arith),
+    )
+
+-- where no line waits, none is above any priority
+none-waits : (l p : ℕ) (m : List ℕ) → l ≡ 0 → NoneAbove m l p
+none-waits l p m e = line-isnt m l p 8 (line-no-lines m l p e) (omega arith)
+
+-- the priority lowered, or left, while no line waits
+pub priority-lowered :
+    (l : ℕ) (regs m : List ℕ) (psw cex w v x p : ℕ) → getD regs 7 0 % 2 ≡ 0 → asleep? psw ≡ false → skips? cex ≡ false →
+    w ≡ wordAt m (getD regs 7 0) → w / 8 ≡ 0x9B0 → l ≡ 0 → w % 8 ≤ current psw → v ≡ wrap (getD regs 7 0 + 2) → x ≡ lowered cex →
+    p ≡ putCurrent psw (w % 8) → OneStep l regs psw cex m (set regs 7 v) p x m
+unfolding advanced effectOf granted perform commit
+priority-lowered l regs m psw cex w v x p even woken s ew h el hp ev ex ep q =
+    let c = coreOf (set regs 7 (wrap (getD regs 7 0 + 2))) psw (lowered cex) in
+    let d = coreOf (set regs 7 (wrap (getD regs 7 0 + 2))) (putCurrent psw (w % 8)) (lowered cex) in
+    let fits : effectOf c (i.SetPri (w % 8)) ≡ plainly d = rw (le-ltb (current psw) (w % 8) hp) refl in
+    let plan : (n : ℕ) → planOf (running regs psw cex l n m) ≡ planned d act.Plain =
+    λ n.
+    fetches regs m psw cex l even woken q s n
+    ∙ ap (λ (u : ℕ). executed (coreOf regs psw cex) (effectOf (advanced (coreOf regs psw cex)) (decodeOf u)) m) (sym ew)
+    ∙ ap (λ (u : Instr). executed (coreOf regs psw cex) (effectOf (advanced (coreOf regs psw cex)) u) m) (decode-priority w h)
+    ∙ ap (λ (e : Effect). executed (coreOf regs psw cex) e m) fits in (
+      none-waits l (current p) m el,
+      (λ n. (λ j. running (set regs 7 (ev j)) (ep j) (ex j) l (n + 1) m) ∙ ap (λ (p : Plan). carriedOut p l n m) (sym (plan n))),
+      (λ n. ap (λ (p : Plan). uneventful? (p .act)) (plan n)),
+    )
+
+-- SLP stays
+pub awake-lowered : (regs : List ℕ) (psw level v p : ℕ) → p ≡ putCurrent psw level → Awake regs psw → Awake (set regs 7 v) p
+awake-lowered regs psw level v p e a = (rw e (slp ∙ a .0), awake-set regs psw v a .1)
+  where
+    same : (psw / 256 * 256 + level * 32 + psw % 32) / 8 % 2 ≡ psw / 8 % 2
+    same = omega arith
+
+    slp : asleep? (putCurrent psw level) ≡ asleep? psw
+    slp = ap (λ (n : ℕ). eqb n 1) same
 
 -- ---- sleep
 

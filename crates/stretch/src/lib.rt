@@ -1,8 +1,8 @@
 // A stretch of steps done at once, looking at nothing but their instructions and how many are left:
 // awake, PC even, no line waiting above the priority, no event due. Every step of it is uneventful.
-// A word that could end any of this is left to the general way: SETPRI, SVC, SLP, an odd word
-// access, a store to the device bytes or to the vectors, a write to R7 other than BL, branches and
-// MOV. Where a CEX block is open, the steps are taken one by one.
+// A word that could end any of this is left to the general way: SETPRI upwards or while a line
+// waits, SVC, SLP, an odd word access, a store to the device bytes or to the vectors, a write to R7
+// other than BL, branches and MOV. Where a CEX block is open, the steps are taken one by one.
 ghost use mathlib.Core.Bool.{true, false};
 ghost use mathlib.Core.List.{List};
 ghost use mathlib.Core.Logic.{_⊎_};
@@ -54,11 +54,11 @@ fn take_step(
     stretch_words::take_word(regs, mem, k, psw, cex, i + 2, w)
 }
 
-// The PSW and the CEX state after some steps, and how many they are.
+// The PSW and the CEX state after some steps, and how many are left of those that might be taken.
 struct Progress {
     psw: u16,
     cex: u16,
-    steps: u32,
+    left: u32,
 }
 
 // R7 where a step ends the loop: back before a word that was left alone, or the odd PC. Gives the
@@ -86,33 +86,33 @@ fn take_steps(regs: &mut [u16; 8], mem: &mut [u8], psw: u16, cex: u16, n: u32) -
     requires { ⌜ (length (now mem) ≡ 65536) × Fetching (now regs) psw
         × ((cex % 64 ≡ 0) ⊎ (n ≤ 1)) ⌝ }
     ensures walked { λ r. ⌜ Walked (now (regs .entry)) psw cex (now (mem .entry))
-        (now (regs .exit)) (r .psw) (r .cex) (now (mem .exit)) (r .steps) ⌝ }
-    ensures steps { λ r. ⌜ (r .steps ≤ n) × (length (now (mem .exit)) ≡ 65536)
+        (now (regs .exit)) (r .psw) (r .cex) (now (mem .exit)) (n - r .left) ⌝ }
+    ensures left { λ r. ⌜ (r .left ≤ n) × (length (now (mem .exit)) ≡ 65536)
         × Awake (now (regs .exit)) (r .psw) ⌝ }
 {
     let k: [u16; 8] = [0, 1, 2, 4, 8, 16, 32, 0xFFFF];
     let mut p = psw;
     let mut x = cex;
     let mut pc = reg(regs, 7) as usize;
-    let mut steps: u32 = 0;
-    while steps < n {
+    let mut left = n;
+    while 0 < left {
         let r = take_step(regs, mem, &k, &mut p, &mut x, pc);
         if 1048576 <= r {
             let last = stop(regs, r);
             return Progress {
                 psw: p,
                 cex: x,
-                steps: steps + last,
+                left: left - last,
             };
         }
         pc = r;
-        steps += 1;
+        left -= 1;
     }
     set_reg(regs, 7, (pc % 65536) as u16);
     Progress {
         psw: p,
         cex: x,
-        steps,
+        left: 0,
     }
 }
 
@@ -139,105 +139,111 @@ fn lower(x: u16) -> u16
     x
 }
 
-// Up to n steps: one that the open block skips, or one that it covers; in no block as many as can
-// be.
-fn some_steps(regs: &mut [u16; 8], mem: &mut [u8], psw: u16, cex: u16, n: u32) -> Progress
-    requires { ⌜ (length (now mem) ≡ 65536) × Fetching (now regs) psw × (1 ≤ n) ⌝ }
+// One step, which the open block skips or covers, or none.
+fn block_step(regs: &mut [u16; 8], mem: &mut [u8], psw: u16, cex: u16) -> Progress
+    requires { ⌜ (length (now mem) ≡ 65536) × Fetching (now regs) psw ⌝ }
     ensures goes { λ r. ⌜ ((l : ℕ) → Goes l (now (regs .entry)) psw cex (now (mem .entry))
-        (now (regs .exit)) (r .psw) (r .cex) (now (mem .exit)) (r .steps)) ⌝ }
-    ensures steps { λ r. ⌜ (r .steps ≤ n) × (length (now (mem .exit)) ≡ 65536)
+        (now (regs .exit)) (r .psw) (r .cex) (now (mem .exit)) (1 - r .left)) ⌝ }
+    ensures left { λ r. ⌜ (r .left ≤ 1) × (length (now (mem .exit)) ≡ 65536)
         × Awake (now (regs .exit)) (r .psw) ⌝ }
 {
-    if cex % 64 == 0 {
-        return take_steps(regs, mem, psw, cex, n);
-    }
     if skips(cex) {
         let pc = reg(regs, 7);
         set_reg(regs, 7, std::num::wrapping_add_u16(pc, 2));
         return Progress {
             psw,
             cex: lower(cex),
-            steps: 1,
+            left: 0,
         };
     }
     let p = take_steps(regs, mem, psw, lower(cex), 1);
-    if p.steps == 0 {
-        return Progress { psw, cex, steps: 0 };
+    if p.left == 1 {
+        return Progress { psw, cex, left: 1 };
     }
     p
 }
 
-// CEX: one step, or none.
+// CEX, and SETPRI that is no fault while no line waits: one step, or none.
 fn control(regs: &mut [u16; 8], mem: &[u8], psw: u16, cex: u16, lines: Lines) -> Progress
     requires { ⌜ (length (now mem) ≡ 65536) × Awake (now regs) psw ⌝ }
     ensures goes { λ r. ⌜ Goes lines (now (regs .entry)) psw cex (now (mem .entry))
-        (now (regs .exit)) (r .psw) (r .cex) (now (mem .entry)) (r .steps) ⌝ }
-    ensures steps { λ r. ⌜ (r .steps ≤ 1) × Awake (now (regs .exit)) (r .psw) ⌝ }
-    ensures none { λ r. ⌜ (r .steps ≡ 0 → now (regs .exit) ≡ now (regs .entry)) ⌝ }
+        (now (regs .exit)) (r .psw) (r .cex) (now (mem .entry)) (1 - r .left) ⌝ }
+    ensures left { λ r. ⌜ (r .left ≤ 1) × Awake (now (regs .exit)) (r .psw) ⌝ }
 {
     let pc = reg(regs, 7);
-    let none = Progress { psw, cex, steps: 0 };
+    let none = Progress { psw, cex, left: 1 };
     if (pc % 2 == 1) | skips(cex) {
         return none;
     }
     let w = fetch(mem, pc as usize) as u16;
+    let next = std::num::wrapping_add_u16(pc, 2);
     if w / 1024 == 20 {
         let n = (w / 64 % 16) as u8;
         let x = operands::loaded_cex(n, (w / 8 % 8) as u8, (w % 8) as u8, psw);
-        set_reg(regs, 7, std::num::wrapping_add_u16(pc, 2));
+        set_reg(regs, 7, next);
         return Progress {
             psw,
             cex: x,
-            steps: 1,
+            left: 0,
         };
     }
-    none
-}
-
-// How many steps may be taken at once: one where a block is open.
-fn budget(x: u16, left: u32) -> u32
-    requires { ⌜ 1 ≤ left ⌝ }
-    ensures { λ r. ⌜ (1 ≤ r) × (r ≤ left) ⌝ }
-{
-    if x % 64 == 0 {
-        return left;
+    if (w / 8 != 0x9B0) | (lines != 0) {
+        return none;
     }
-    1
+    if word::current_priority(psw) < w % 8 {
+        return none;
+    }
+    set_reg(regs, 7, next);
+    Progress {
+        psw: operands::priority_put(psw, w % 8),
+        cex: lower(cex),
+        left: 0,
+    }
 }
 
 // Up to n steps, fewer where a word is for the general way.
 fn walk(regs: &mut [u16; 8], mem: &mut [u8], psw: u16, cex: u16, lines: Lines, n: u32) -> Progress
     requires { ⌜ (length (now mem) ≡ 65536) × Awake (now regs) psw ⌝ }
     ensures goes { λ r. ⌜ Goes lines (now (regs .entry)) psw cex (now (mem .entry))
-        (now (regs .exit)) (r .psw) (r .cex) (now (mem .exit)) (r .steps) ⌝ }
-    ensures steps { λ r. ⌜ r .steps ≤ n ⌝ }
+        (now (regs .exit)) (r .psw) (r .cex) (now (mem .exit)) (n - r .left) ⌝ }
+    ensures left { λ r. ⌜ r .left ≤ n ⌝ }
 {
     let mut p = psw;
     let mut x = cex;
-    let mut steps: u32 = 0;
-    while steps < n {
+    let mut left = n;
+    while 0 < left {
         if reg(regs, 7) % 2 == 1 {
             break;
         }
-        let b = budget(x, n - steps);
-        let a = some_steps(regs, mem, p, x, b);
-        steps += a.steps;
-        p = a.psw;
-        x = a.cex;
-        if a.steps != b {
-            let c = control(regs, mem, p, x, lines);
-            if c.steps == 0 {
+        if x % 64 != 0 {
+            let a = block_step(regs, mem, p, x);
+            p = a.psw;
+            x = a.cex;
+            if a.left == 1 {
                 break;
             }
-            steps += 1;
+            left -= 1;
+        } else {
+            let a = take_steps(regs, mem, p, x, left);
+            p = a.psw;
+            x = a.cex;
+            left = a.left;
+            if left == 0 {
+                break;
+            }
+            let c = control(regs, mem, p, x, lines);
             p = c.psw;
             x = c.cex;
+            if c.left == 1 {
+                break;
+            }
+            left -= 1;
         }
     }
     Progress {
         psw: p,
         cex: x,
-        steps,
+        left,
     }
 }
 
@@ -320,12 +326,13 @@ pub fn stretch(regs: &mut [u16; 8], mem: &mut [u8], t: Rest, due: u64, left: u32
     if !unasked(mem, t.lines, t.psw) {
         return t;
     }
-    let p = walk(regs, mem, t.psw, t.cex, t.lines, until(t.count, due, left));
+    let n = until(t.count, due, left);
+    let p = walk(regs, mem, t.psw, t.cex, t.lines, n);
     Rest {
         psw: p.psw,
         cex: p.cex,
         lines: t.lines,
         halted: false,
-        count: t.count + p.steps,
+        count: t.count + (n - p.left),
     }
 }

@@ -252,21 +252,21 @@ module _ (w : ℕ) where
       (omega arith) (omega arith) (q .1))
       (λ g. stays l p x pc past n _ (sym et ∙ g) (f .1 g .0) (f .1 g .1))))
 
--- below 4000 with no branch: BL
+-- below 3E00 with no branch: BL
 abbrev Unbranched : ℕ → Type 0
 Unbranched n =
-    ((((((((((((((((Unit {0} × Misses n 16) × Misses n 17) × Misses n 18) × Misses n 19) × Misses n 20) × Misses n 21) × Misses n 22)
-    × Misses n 23) × Misses n 24) × Misses n 25) × Misses n 26) × Misses n 27) × Misses n 28) × Misses n 29) × Misses n 30) × Misses n 31)
+    ((((((((((((((Unit {0} × Misses n 16) × Misses n 17) × Misses n 18) × Misses n 19) × Misses n 20) × Misses n 21) × Misses n
+    22) × Misses n 23) × Misses n 24) × Misses n 25) × Misses n 26) × Misses n 27) × Misses n 28) × Misses n 29) × Misses n 30
 
-pub low-half : (w : ℕ) → w < 0x4000 → Unbranched (w / 512) → w < 0x2000
+pub low-half : (w : ℕ) → w < 0x3E00 → Unbranched (w / 512) → w < 0x2000
 low-half w h f =
-    let k : w / 512 < 16 = (step (w / 512) 16 (step (w / 512) 17 (step (w / 512) 18 (step (w / 512) 19 (step (w / 512) 20 (step
-    (w / 512) 21 (step (w / 512) 22 (step (w / 512) 23 (step (w / 512) 24 (step (w / 512) 25 (step (w / 512) 26 (step (w / 512) 27 (step
-    (w / 512) 28 (step (w / 512) 29 (step (w / 512) 30 (step (w / 512) 31 (omega arith) (f .1)) (f .0 .1)) (f .0 .0 .1)) (f .0 .0 .0 .1))
-    (f .0 .0 .0 .0 .1)) (f .0 .0 .0 .0 .0 .1)) (f .0 .0 .0 .0 .0 .0 .1)) (f .0 .0 .0 .0 .0 .0 .0 .1)) (f .0 .0 .0 .0 .0 .0 .0 .0 .1))
-    (f .0 .0 .0 .0 .0 .0 .0 .0 .0 .1)) (f .0 .0 .0 .0 .0 .0 .0 .0 .0 .0 .1)) (f .0 .0 .0 .0 .0 .0 .0 .0 .0 .0 .0 .1))
-    (f .0 .0 .0 .0 .0 .0 .0 .0 .0 .0 .0 .0 .1)) (f .0 .0 .0 .0 .0 .0 .0 .0 .0 .0 .0 .0 .0 .1))
-    (f .0 .0 .0 .0 .0 .0 .0 .0 .0 .0 .0 .0 .0 .0 .1)) (f .0 .0 .0 .0 .0 .0 .0 .0 .0 .0 .0 .0 .0 .0 .0 .1)) in
+    let k : w / 512 < 16 =
+    step (w / 512) 16 (step (w / 512) 17 (step (w / 512) 18 (step (w / 512) 19 (step (w / 512) 20 (step (w / 512) 21 (step (w / 512)
+    22 (step (w / 512) 23 (step (w / 512) 24 (step (w / 512) 25 (step (w / 512) 26 (step (w / 512) 27 (step (w / 512) 28 (step (w
+    / 512) 29 (step (w / 512) 30 (omega arith) (f .1)) (f .0 .1)) (f .0 .0 .1)) (f .0 .0 .0 .1)) (f .0 .0 .0 .0 .1)) (f .0 .0 .0
+    .0 .0 .1)) (f .0 .0 .0 .0 .0 .0 .1)) (f .0 .0 .0 .0 .0 .0 .0 .1)) (f .0 .0 .0 .0 .0 .0 .0 .0 .1)) (f .0 .0 .0 .0 .0 .0 .0 .0
+    .0 .1)) (f .0 .0 .0 .0 .0 .0 .0 .0 .0 .0 .1)) (f .0 .0 .0 .0 .0 .0 .0 .0 .0 .0 .0 .1)) (f .0 .0 .0 .0 .0 .0 .0 .0 .0 .0 .0 .0
+    .1)) (f .0 .0 .0 .0 .0 .0 .0 .0 .0 .0 .0 .0 .0 .1)) (f .0 .0 .0 .0 .0 .0 .0 .0 .0 .0 .0 .0 .0 .0 .1) in
     omega arith
 
 -- 4C80 to 4D7F, as the test has it

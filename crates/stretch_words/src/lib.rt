@@ -33,7 +33,8 @@ fn constant_of(k: &[u16; 8], w: usize) -> u16
     reg(k, w / 8 % 8)
 }
 
-// 2000 to 3FFF: the branches, by the sign of their offset too. 0000 to 1FFF: BL.
+// 2000 to 3FFF: the branches, by the sign of their offset too; BRA backwards, which closes a loop,
+// first. 0000 to 1FFF: BL.
 fn jump_word(
     regs: &mut [u16; 8],
     mem: &[u8],
@@ -48,6 +49,9 @@ fn jump_word(
         (now (regs .entry)) (now (psw .entry)) (now (cex .entry)) (now (mem .entry))
         (now (regs .exit)) (now (psw .entry)) (now (cex .exit)) (now (mem .entry)) r ⌝ }
 {
+    if 0x3E00 <= w {
+        return branch(cex, pc, w, true, 32768);
+    }
     match w / 512 {
         16 => branch(cex, pc, w, operands::taken(0, *psw), 49152),
         17 => branch(cex, pc, w, operands::taken(0, *psw), 47104),
@@ -64,7 +68,6 @@ fn jump_word(
         28 => branch(cex, pc, w, operands::taken(6, *psw), 36864),
         29 => branch(cex, pc, w, operands::taken(6, *psw), 34816),
         30 => branch(cex, pc, w, true, 34816),
-        31 => branch(cex, pc, w, true, 32768),
         _ => stretch_registers::link_word(regs, cex, pc, w),
     }
 }

@@ -27,20 +27,20 @@ add-into-requires-2 c κs = search needs
 enum-told-3 : tie.Need-enum-told-3
 enum-told-3 c = search needs
 
-subtract-into-requires : tie.Need-subtract-into-requires
-subtract-into-requires c κs = search needs
+difference-into-requires : tie.Need-difference-into-requires
+difference-into-requires c κs = search needs
 
 enum-told-4 : tie.Need-enum-told-4
 enum-told-4 c = search needs
 
-subtract-into-requires-2 : tie.Need-subtract-into-requires-2
-subtract-into-requires-2 c κs = search needs
+subtract-into-requires : tie.Need-subtract-into-requires
+subtract-into-requires c κs = search needs
 
 enum-told-5 : tie.Need-enum-told-5
 enum-told-5 c = search needs
 
-subtract-into-requires-3 : tie.Need-subtract-into-requires-3
-subtract-into-requires-3 c κs = search needs
+difference-into-requires-2 : tie.Need-difference-into-requires-2
+difference-into-requires-2 c κs = search needs
 
 tested-only-requires : tie.Need-tested-only-requires
 tested-only-requires c κs = search needs
@@ -148,15 +148,15 @@ returns-2 c = simp (c .before .enum-told2 .given .1, c .add-into2 .ensures)
 
 returns-3 : tie.Need-returns-3
 unfolding aluOf
-returns-3 c = simp (c .before .enum-told3 .given .1, c .subtract-into .ensures)
+returns-3 c = simp (c .before .enum-told3 .given .1, c .difference-into .ensures)
 
 returns-4 : tie.Need-returns-4
 unfolding aluOf
-returns-4 c = simp (c .before .enum-told4 .given .1, c .subtract-into2 .ensures)
+returns-4 c = simp (c .before .enum-told4 .given .1, c .subtract-into .ensures)
 
 returns-5 : tie.Need-returns-5
 unfolding aluOf
-returns-5 c = simp (c .before .before .enum-told5 .given .1, c .tested-only .ensures, c .before .subtract-into3 .ensures)
+returns-5 c = simp (c .before .before .enum-told5 .given .1, c .tested-only .ensures, c .before .difference-into2 .ensures)
 
 returns-6 : tie.Need-returns-6
 unfolding aluOf
@@ -229,11 +229,11 @@ alu-spec =
     enum-told-2
     add-into-requires-2
     enum-told-3
-    subtract-into-requires
+    difference-into-requires
     enum-told-4
-    subtract-into-requires-2
+    subtract-into-requires
     enum-told-5
-    subtract-into-requires-3
+    difference-into-requires-2
     tested-only-requires
     enum-told-6
     decimal-into-requires

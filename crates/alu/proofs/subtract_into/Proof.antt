@@ -1,4 +1,6 @@
 -- `alu::subtract_into` meets its contract. Assumes nothing.
+use Rattle.alu.specs.Sums.{overflowOf}
+use mathlib.Core.Bool.{Bool·not-not}
 use borrow.Author.Needs.{needs}
 use Rattle.alu.proofs.subtract_into.Statement.{statement}
 use Rattle.alu.proofs.subtract_into.Tie as tie
@@ -12,17 +14,29 @@ turned-bits-requires c κs = search needs
 add-with-carry-requires : tie.Need-add-with-carry-requires
 add-with-carry-requires c κs = search needs
 
-overflows-requires : tie.Need-overflows-requires
-overflows-requires c κs = search needs
+signs-differ-requires : tie.Need-signs-differ-requires
+signs-differ-requires c κs = search needs
+
+signs-differ-requires-2 : tie.Need-signs-differ-requires-2
+signs-differ-requires-2 c κs = search needs
 
 sum-into-requires : tie.Need-sum-into-requires
 sum-into-requires c κs = search needs
 
 returns : tie.Need-returns
+unfolding overflowOf
 returns c =
-    let b = c .before .before .before in
-    let s = b .before .low-bits .ensures .0 in
-    simp (c .sum-into .ensures, c .before .overflows .ensures, c .before .before .add-with-carry .ensures .0, b .turned-bits .ensures .0, s)
+    let s = c .before .before in
+    let b = s .before .before in
+    simp (
+      c .sum-into .ensures,
+      c .before .signs-differ2 .ensures,
+      s .signs-differ .ensures,
+      Bool·not-not,
+      s .before .add-with-carry .ensures .0,
+      b .turned-bits .ensures .0,
+      b .before .low-bits .ensures .0,
+    )
 
 pub subtract-into-spec : {M : Type 1} → statement M
 subtract-into-spec =
@@ -31,6 +45,7 @@ subtract-into-spec =
     low-bits-requires
     turned-bits-requires
     add-with-carry-requires
-    overflows-requires
+    signs-differ-requires
+    signs-differ-requires-2
     sum-into-requires
     returns)

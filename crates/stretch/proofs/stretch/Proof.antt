@@ -1,6 +1,7 @@
 -- The ways through the call: nothing left, a sleeping machine or none of these, a line above the priority, steps. Assumes nothing.
 use native.Mathlib.Omega.{arith}
 use denote.Ref.{now}
+use Prim.Native.Nat.{_-_}
 use borrow.Author.Tests.{not-false}
 use Rattle.machine.specs.Rest.{stateWith}
 use Rattle.stretch.proofs.Steps.{stretch-none, stretch-done}
@@ -31,26 +32,19 @@ walk-requires c κs =
 returns-4 : tie.Need-returns-4
 returns-4 c =
     let p = c .before .before .before .before .walk in
+    let n = c .before .before .before .before .before .before .before .until in
     let b = c .before .before .before .before .before .before .before .before in
     let d = b .before .before .before in
     let a = d .before .before .before .before .before .args in
     let f = d .before .fetching .ensures (not-false _ (d .if2 .left)) in
     let none = b .before .unasked .ensures (not-false _ (b .if3 .left)) in
     let q = p .result in
-    let w = stretch-done (now (a .regs)) (now (a .mem)) (p .last .0) (p .last .1 .0) (a .t) (a .due) (q .psw) (q .cex) (q .steps) in (
-      λ ev u. w ev (f .0) none (omega (arith, p .ensures .1, c .before .before .before .before .before .until .ensures))
-          (p .ensures .0) u .0,
+    let j = n .result - q .left in
+    let w = stretch-done (now (a .regs)) (now (a .mem)) (p .last .0) (p .last .1 .0) (a .t) (a .due) (q .psw) (q .cex) j in (
+      λ ev u. w ev (f .0) none (omega (arith, n .ensures)) (p .ensures .0) u .0,
       (
-        λ ev u. w ev (f .0) none (omega (arith, p .ensures .1, c .before .before .before .before .before .until .ensures))
-            (p .ensures .0) u .1,
-        (
-          omega (arith, p .ensures .1, c .before .before .before .before .before .until .ensures),
-          omega (
-            arith,
-            p .ensures .1,
-            c .before .before .before .before .before .until .ensures,
-          ),
-        ),
+        λ ev u. w ev (f .0) none (omega (arith, n .ensures)) (p .ensures .0) u .1,
+        (omega (arith, p .ensures .1, n .ensures), omega (arith, p .ensures .1, n .ensures)),
       ),
     )
 
@@ -68,6 +62,7 @@ stretch-spec =
     returns-3
     (λ c κs. search needs)
     walk-requires
+    (λ c. search needs)
     (λ c. search needs)
     (λ c. search needs)
     returns-4)

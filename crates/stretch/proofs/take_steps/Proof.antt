@@ -3,7 +3,7 @@ use Rattle.stretch.specs.Stretch.{Awake, Walked}
 use Rattle.stretch_words.specs.Ready.{constants}
 use lib.ListN.{length, set}
 use mathlib.Core.Logic.{_⊎_}
-use Prim.Native.Nat.{_-_, _%_, _<_, _≤_}
+use Prim.Native.Nat.{ℕ, _+_, _-_, _%_, _<_, _≤_}
 use mathlib.Core.Path.{_≡_, refl, sym, ap, _∙_}
 use denote.Ref.{now}
 use native.Mathlib.Omega.{arith}
@@ -17,18 +17,22 @@ use Rattle.stretch_registers.proofs.reg.Reads as reg-reads
 use Rattle.stretch_registers.proofs.set_reg.Reads as set-reg-reads
 
 abbrev Inv-loop : tie.InvT-loop
-Inv-loop regs₀ mem₀ psw cex n k p₀ x₀ pc₀ steps₀ regs mem p x pc steps =
-    (steps ≤ n)
+Inv-loop regs₀ mem₀ psw cex n k p₀ x₀ pc₀ left₀ regs mem p x pc left =
+    (left ≤ n)
     × (length mem ≡ length mem₀)
     × (k ≡ constants)
     × Awake regs p
     × (pc % 2 ≡ 0)
     × (pc < 1048576)
     × ((x % 64 ≡ 0) ⊎ (n ≤ 1))
-    × Walked regs₀ psw cex mem₀ (set regs 7 (pc % 65536)) p x mem steps
+    × Walked regs₀ psw cex mem₀ (set regs 7 (pc % 65536)) p x mem (n - left)
 
 abbrev μ-loop : tie.MeasureT-loop
-μ-loop regs₀ mem₀ psw cex n k p₀ x₀ pc₀ steps₀ regs mem p x pc steps = n - steps
+μ-loop regs₀ mem₀ psw cex n k p₀ x₀ pc₀ left₀ regs mem p x pc left = left
+
+-- of k that were left, s are taken
+more : (n k s : ℕ) → s ≤ k → k ≤ n → n - (k - s) ≡ n - k + s
+more n k s h g = omega arith
 
 -- src/lib.rt:95:18
 reg-requires : tie.Need-reg-requires Inv-loop μ-loop
@@ -44,7 +48,8 @@ loop-holds c =
     let s = c .before .before .before in
     let a = s .args in
     let e = c .reg .ensures in
-    let even = s .pre .1 .0 in (
+    let even = s .pre .1 .0 in
+    let none : a .n - a .n ≡ 0 = omega arith in (
       omega arith,
       refl,
       refl,
@@ -52,7 +57,7 @@ loop-holds c =
       omega arith,
       omega arith,
       s .pre .2,
-      walked-start (now (a .regs)) (now (a .mem)) (a .psw) (a .cex) (now (a .regs)) _ refl e (omega arith),
+      rw none (walked-start (now (a .regs)) (now (a .mem)) (a .psw) (a .cex) (now (a .regs)) _ refl e (omega arith)),
     )
 
 -- src/lib.rt:98:13
@@ -68,8 +73,8 @@ stop-requires c κs =
     long (l .regs) (l .mem) _ _ (l .p) (l .x) _ _ (l .pc) _ (l .inv .3) (c .before .before .before .before .take-step .ensures)
 
 -- src/lib.rt:101:54
-add-t25 : tie.Need-add-t25 Inv-loop μ-loop
-add-t25 c = omega arith
+sub-t25 : tie.Need-sub-t25 Inv-loop μ-loop
+sub-t25 c = omega arith
 
 -- src/lib.rt:101:13
 same-length : tie.Need-same-length Inv-loop μ-loop
@@ -82,15 +87,16 @@ returns c =
     let half6 = c .before .before .before .before .before .before .before .before in
     let a = half6 .before .before .before .before .before .before .before .before .args in
     let o = c .stop .ensures in
-    let w = walked-stop (now (a .regs)) (now (a .mem)) (a .psw) (a .cex) (l .regs) (l .mem) _ _ (l .p) (l .x) _ _ (l .pc) _ (l .steps)
-    (a .n) (l .inv .3) (l .inv .7) (l .inv .6)
-    (c .before .before .before .before .before .before .before .before .before .before .before .loop-test .taken)
+    let t = c .before .before .before .before .before .before .before .before .before .before .before .loop-test .taken in
+    let some = l .inv .0 in
+    let w = walked-stop (now (a .regs)) (now (a .mem)) (a .psw) (a .cex) (l .regs) (l .mem) _ _ (l .p) (l .x) _ _ (l .pc) _ (a .n - l .left)
+    (a .n) (l .inv .3) (l .inv .7) (l .inv .6) (omega arith)
     (c .before .before .before .before .before .take-step .ensures) _ _ (o .0) (o .1 .0) in
-    (w .0, (omega arith, omega arith, w .1))
+    (rw (more (a .n) (l .left) (c .stop .result) (omega (arith, o .1 .1)) some) (w .0), (omega arith, omega arith, w .1))
 
 -- src/lib.rt:104:9
-add-steps : tie.Need-add-steps Inv-loop μ-loop
-add-steps c = omega arith
+sub-left : tie.Need-sub-left Inv-loop μ-loop
+sub-left c = omega arith
 
 -- src/lib.rt:97:5
 loop-less : tie.Need-loop-less Inv-loop μ-loop
@@ -101,11 +107,11 @@ loop-again : tie.Need-loop-again Inv-loop μ-loop
 loop-again c =
     let l = c .before .before .before .before .before .before .before .before .before .before .loop in
     let a = c .before .before .before .before .before .before .before .before .before .before .before .before .before .before .args in
-    let w = walked-on (now (a .regs)) (now (a .mem)) (a .psw) (a .cex) (l .regs) (l .mem) _ _ (l .p) (l .x) _ _ (l .pc) _ (l .steps)
-    (a .n) (l .inv .3) (l .inv .7) (l .inv .6)
-    (c .before .before .before .before .before .before .before .before .before .loop-test .taken)
-    (c .before .before .before .take-step .ensures) (c .if1 .left) in
-    (omega arith, omega arith, l .inv .2, w .0, w .1, c .if1 .left, w .2, w .3)
+    let t = c .before .before .before .before .before .before .before .before .before .loop-test .taken in
+    let some = l .inv .0 in
+    let w = walked-on (now (a .regs)) (now (a .mem)) (a .psw) (a .cex) (l .regs) (l .mem) _ _ (l .p) (l .x) _ _ (l .pc) _ (a .n - l .left)
+    (a .n) (l .inv .3) (l .inv .7) (l .inv .6) (omega arith) (c .before .before .before .take-step .ensures) (c .if1 .left) in
+    (omega arith, omega arith, l .inv .2, w .0, w .1, c .if1 .left, w .2, rw (more (a .n) (l .left) 1 (omega arith) some) (w .3))
 
 -- src/lib.rt:106:22
 cast-set-reg : tie.Need-cast-set-reg Inv-loop μ-loop
@@ -123,7 +129,9 @@ same-length-2 c = omega arith
 returns-2 : tie.Need-returns-2 Inv-loop μ-loop
 returns-2 c =
     let l = c .before .before .before .loop in
-    rw (c .set-reg .ensures) (l .inv .7, (l .inv .0, omega arith, awake-set (l .regs) (l .p) (l .pc % 65536) (l .inv .3)))
+    let a = c .before .before .before .before .before .before .before .args in
+    let e : a .n - 0 ≡ a .n - l .left = omega arith in
+    rw (c .set-reg .ensures, e) (l .inv .7, (omega arith, omega arith, awake-set (l .regs) (l .p) (l .pc % 65536) (l .inv .3)))
 
 pub take-steps-spec : {M : Type 1} → statement M
 take-steps-spec =
@@ -136,10 +144,10 @@ take-steps-spec =
     loop-holds
     take-step-requires
     stop-requires
-    add-t25
+    sub-t25
     same-length
     returns
-    add-steps
+    sub-left
     loop-less
     loop-again
     cast-set-reg

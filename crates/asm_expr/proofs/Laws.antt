@@ -14,7 +14,7 @@ use Rattle.word.proofs.Laws.{bool-cases}
 use Rattle.asm_value.specs.declared.Value.{Value}
 use Rattle.asm_value.specs.declared.Value.the-variants.{Known, Unknown, Outside}
 use Rattle.asm_value.specs.Value.{fitted, withSign, joined}
-use Rattle.asm_text.proofs.Laws.{place-cases, byte-in, kind-in, after-more, after-stop, after-le, name-zero}
+use Rattle.asm_text.proofs.Laws.{place-cases, byte-in, kind-in, after-more, after-stop, after-le, name-zero, no-digit}
 use Rattle.asm_text.specs.Text.{byteAt, blank?, letter?, nameByte?, digit?, digitOf, span, after, numeral, word}
 use Rattle.asm_words.specs.Words.{wordNumber}
 use Rattle.asm_expr.specs.Grammar.{Expr, number, name, binary, Parse, parsed, malformed, follow, digitsAt, nameAt, plainAt}
@@ -59,13 +59,9 @@ pub reach-follow : (s : List ℕ) (i : ℕ) (x : Parse) (g : Expr → ℕ → Pa
 reach-follow s i malformed g r f = tt
 reach-follow s i (parsed e j) g r f = f e j (r .0) (r .1)
 
-digit-zero : (base : ℕ) → base ≤ 16 → digit? base 0 ≡ false
-unfolding digit? digitOf
-digit-zero base h = le-ltb 16 base h
-
 reach-digits : (m : Bool) (base : ℕ) → base ≤ 16 → (s : List ℕ) (i : ℕ) → Reach s i (digitsAt m base s i)
 unfolding digitsAt
-reach-digits m base h s i = reach-cond s i (digit? base (byteAt s i)) _ _ (λ q. after-ahead (digit? base) (digit-zero base h) s i q)
+reach-digits m base h s i = reach-cond s i (digit? base (byteAt s i)) _ _ (λ q. after-ahead (digit? base) (no-digit base h) s i q)
     (λ q. tt)
 
 -- a letter is a byte of a name

@@ -7,15 +7,12 @@ use native.Mathlib.Omega.{arith}
 use lib.Dec.{ltb, eqb}
 use lib.IntN.{ℤ, pos, negsuc}
 use borrow.Author.Tests.{lt-ltb, le-ltb, eq-eqb, ne-eqb, ltb-true, ltb-false, eqb-true, eqb-false}
+use Rattle.word.proofs.Laws.{bool-cases}
 use Rattle.asm_value.specs.declared.Value.{Value}
 use Rattle.asm_value.specs.declared.Value.the-variants as v
 use Rattle.asm_fits.specs.declared.Fit.{Fit}
 use Rattle.asm_fits.specs.declared.Fit.the-variants.{Number, Unknown, Outside}
 use Rattle.asm_fits.specs.Fits.{residueOf, withinOf, fitOf, mapFit, Below, wordFit, constantNumber, wayOf, stepsOf, branchTo}
-
-pub bool-cases : {X : Type 0} (b : Bool) → (b ≡ true → X) → (b ≡ false → X) → X
-bool-cases true f g = f refl
-bool-cases false f g = g refl
 
 -- ---- a value in a range
 module _ (b l : ℕ) (x : Value) where

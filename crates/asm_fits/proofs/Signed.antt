@@ -1,6 +1,6 @@
 -- Numbers with a sign in 32 bits: what the code's casts, `!` and tests give is what the definitions say. Assumes nothing.
 use mathlib.Core.Path.{_≡_, refl, sym, ap, _∙_}
-use mathlib.Core.Bool.{Bool, true, false, cond}
+use mathlib.Core.Bool.{true, false}
 use Prim.Native.Nat.{ℕ, suc, _+_, _-_, _%_, _<_, _≤_}
 use native.Mathlib.Nat.{not-suc-le-zero}
 use native.Mathlib.Omega.{arith}
@@ -11,6 +11,7 @@ use mir.Syntax.{w32}
 use mir.Val.{toZ, ofZ, Fits, SFits}
 use mir.ValLaws.{toZ-pos, toZ-ofZ}
 use borrow.Author.Tests.{ltb-true}
+use Rattle.asm_value.proofs.Signed.{kept}
 use Rattle.asm_fits.specs.declared.Fit.{Fit}
 use Rattle.asm_fits.specs.declared.Fit.the-variants.{Number, Outside}
 use Rattle.asm_fits.specs.Fits.{residueOf, withinOf, constantNumber}
@@ -33,10 +34,6 @@ minus : (z : ℤ) → ltZ z (pos 0) ≡ true → z ≡ negsuc (mag z)
 minus (pos n) e = let k : n < 0 = ltb-true n 0 e in absurd (not-suc-le-zero k)
 minus (negsuc n) e = refl
 
-plus : (z : ℤ) → ltZ z (pos 0) ≡ false → z ≡ pos (mag z)
-plus (pos n) e = refl
-plus (negsuc n) e = let z : _≡_ {A = Bool} true false = e in cc
-
 -- a number that is `pos m` may be cast
 cast : (z : ℤ) (m : ℕ) → z ≡ pos m → m < 2147483648 → T (nonNeg z) × Fits w32 (natAbs z)
 cast z m e h = rw e (tt, record { fits = omega arith })
@@ -52,21 +49,21 @@ module _ (z : ℤ) (f : SFits w32 z) where
 
   pub up-cast : ltZ (toZ w32 (ofZ w32 z)) (pos 0) ≡ false
       → T (nonNeg (toZ w32 (ofZ w32 z))) × Fits w32 (natAbs (toZ w32 (ofZ w32 z)))
-  up-cast e = cast _ (mag z) (toZ-ofZ w32 z f ∙ plus z (above z f e)) (f .sfits)
+  up-cast e = cast _ (mag z) (toZ-ofZ w32 z f ∙ kept z (above z f e)) (f .sfits)
 
   pub up-mag : ltZ (toZ w32 (ofZ w32 z)) (pos 0) ≡ false → natAbs (toZ w32 (ofZ w32 z)) ≡ mag z
-  up-mag e = ap natAbs (toZ-ofZ w32 z f ∙ plus z (above z f e))
+  up-mag e = ap natAbs (toZ-ofZ w32 z f ∙ kept z (above z f e))
 
   -- a number below zero, and one from zero on, where its magnitude is n
   pub is-minus : (n : ℕ) → n ≡ mag (toZ w32 (ofZ w32 z)) → ltZ (toZ w32 (ofZ w32 z)) (pos 0) ≡ true → z ≡ negsuc n
   is-minus n e h = minus z (below z f h) ∙ ap negsuc (sym (e ∙ ap mag (toZ-ofZ w32 z f)))
 
   pub is-plus : (n : ℕ) → n ≡ mag (toZ w32 (ofZ w32 z)) → ltZ (toZ w32 (ofZ w32 z)) (pos 0) ≡ false → z ≡ pos n
-  is-plus n e h = plus z (above z f h) ∙ ap pos (sym (e ∙ ap mag (toZ-ofZ w32 z f)))
+  is-plus n e h = kept z (above z f h) ∙ ap pos (sym (e ∙ ap mag (toZ-ofZ w32 z f)))
 
   -- the same, by the cast
   pub from-plus : ltZ (toZ w32 (ofZ w32 z)) (pos 0) ≡ false → z ≡ pos (natAbs (toZ w32 (ofZ w32 z)))
-  from-plus e = plus z (above z f e) ∙ ap pos (sym (up-mag e))
+  from-plus e = kept z (above z f e) ∙ ap pos (sym (up-mag e))
 
   pub from-minus : ltZ (toZ w32 (ofZ w32 z)) (pos 0) ≡ true → z ≡ negsuc (mag z)
   from-minus e = minus z (below z f e)

@@ -10,10 +10,11 @@ use lib.ListN.{length, drop, set}
 use lib.Seq.{sets}
 use borrow.Author.Tests.{eq-eqb, ne-eqb, lt-ltb, ltb-true, ltb-false}
 use Rattle.lines.specs.Lines.{linesOf, LineAt}
+use Rattle.lines.proofs.Laws.{lines-end}
 use Rattle.asm_value.specs.declared.Value.{Value}
 use Rattle.asm_fits.specs.declared.Fit.{Fit}
 use Rattle.asm_fits.specs.declared.Fit.the-variants.{Number, Unknown, Outside}
-use Rattle.asm_fits.proofs.Laws.{bool-cases}
+use Rattle.word.proofs.Laws.{bool-cases}
 use Rattle.asm_line.specs.declared.Statement.{Statement}
 use Rattle.asm_line.specs.declared.Reading.{Reading}
 use Rattle.asm_line.specs.declared.Reading.the-variants.{Line, Fault}
@@ -24,7 +25,6 @@ use Rattle.asm_write.specs.Written.{layoutOf, nextOf, sizeOf, numberOf, misplac
 use Rattle.asm_sweeps.specs.Form.{end?}
 use Rattle.asm_sweeps.specs.Held.{lineAt}
 use Rattle.asm_sweeps.specs.Uses.{placeAfter}
-use Rattle.asm_sweeps.proofs.Laws.{lines-end}
 use Rattle.asm_image.specs.Image.{Placed, statementsAt, placeOn, placedFrom, imageOf}
 
 -- ---- the image of a list

@@ -12,7 +12,7 @@ use Rattle.lines.specs.Lines.{linesOf}
 use Rattle.asm_value.specs.declared.Value.{Value}
 use Rattle.asm_value.specs.declared.Value.the-variants.{Known, Unknown, Outside}
 use Rattle.asm_text.specs.Text.{word, same, lookUp}
-use Rattle.asm_fits.proofs.Laws.{bool-cases}
+use Rattle.word.proofs.Laws.{bool-cases}
 use Rattle.asm_line.specs.declared.Statement.{Statement}
 use Rattle.asm_line.specs.declared.Reading.{Reading}
 use Rattle.asm_line.specs.declared.Reading.the-variants.{Line, Fault}
@@ -24,29 +24,15 @@ use Rattle.asm_write.specs.declared.Next.the-variants as next
 use Rattle.asm_write.specs.Written.{layoutOf, nextOf, nameValue, orgNext, bssNext, roomFor}
 use Rattle.asm_sweeps.specs.declared.Tally.{Tally}
 use Rattle.asm_sweeps.specs.Form.{stops?, end?, formOf}
-use Rattle.asm_sweeps.specs.Places.{Table, table, firstOf, noteUnknown, noteOutside, placedAt, noteValue, nextLine, nextOn, noTally}
+use Rattle.asm_sweeps.specs.Places.{Table, table, noteUnknown, noteOutside, placedAt, noteValue, nextLine, nextOn, noTally}
 use Rattle.asm_sweeps.specs.Places.{known?, storedOf, oneMore, namedOf, lineAfter, readAbove, tableFrom, tableOf}
 use Rattle.asm_sweeps.specs.Uses.{usesOf, namesOf, placeAfter, verdictFor, verdictOf, verdict, leastOf}
+use Rattle.asm_sweeps.proofs.Laws.{Clean, first-noted, placed-line}
 use Rattle.asm_image.specs.Image.{placeOn}
 use Rattle.asm_labels.specs.Labels.{Given, given, givenAt, givenFrom, givenOf, Valued, AllValued, NamesPlaced}
-use Rattle.asm_labels.proofs.Alike.{Up, Onto, AlikeLines, line-up}
+use Rattle.asm_labels.proofs.Alike.{Up, sure, Onto, AlikeLines, line-up}
 
--- ---- a tally that notes no fault
-abbrev pub Clean : Tally → Type 0
-Clean t = (t .unknown ≡ 0) × (t .outside ≡ 0)
-
-first-none : {X : Type 0} (f k : ℕ) → 0 < k → firstOf f k ≡ 0 → X
-unfolding firstOf
-first-none f k h e =
-    bool-cases (eqb f 0)
-    (λ q. let z : k ≡ 0 = ap (λ (b : Bool). cond b k f) (sym q) ∙ e in absurd (omega arith))
-    (λ q. let z : f ≡ 0 = ap (λ (b : Bool). cond b k f) (sym q) ∙ e in absurd (eqb-false f 0 q z))
-
-abbrev sure : Value → ℕ
-sure (Known z) = 1
-sure Unknown = 0
-sure Outside = 0
-
+-- ---- what cannot be
 unknown-known : {X : Type 0} (z : ℤ) → Unknown ≡ Known z → X
 unknown-known z e = let k : _≡_ {A = ℕ} 0 1 = ap sure e in absurd (omega arith)
 
@@ -148,12 +134,13 @@ either-false false y e = refl
 
 note-clean : (t : Tally) (v : Value) → 0 < t .line → Clean (noteValue t v) → (z : ℤ) × (v ≡ Known z) × Clean t
 note-clean t (Known z) h c = (z, refl, c)
-note-clean t Unknown h c = first-none (t .unknown) (t .line) h (c .0)
-note-clean t Outside h c = first-none (t .outside) (t .line) h (c .1)
+note-clean t Unknown h c = absurd (first-noted (t .unknown) (t .line) h (c .0))
+note-clean t Outside h c = absurd (first-noted (t .outside) (t .line) h (c .1))
 
 named-clean : (n : List ℕ) (v : Value) (b : Table) → Even b → 0 < b .tally .line → Clean (namedOf n v b .tally) → Added n v b
 named-clean n v b ev h c = bool-cases (told n v b)
-    (λ q. first-none (b .tally .unknown) (b .tally .line) h (subst (λ (x : Table). Clean (x .tally)) (named-is n v b true q) c .0))
+    (λ q. absurd (first-noted (b .tally .unknown) (b .tally .line) h
+    (subst (λ (x : Table). Clean (x .tally)) (named-is n v b true q) c .0)))
     (λ q. let k = note-clean (b .tally) v h (subst (λ (x : Table). Clean (x .tally)) (named-is n v b false q) c) in
     record {
       value = k .0;
@@ -165,15 +152,10 @@ named-clean n v b ev h c = bool-cases (told n v b)
     })
 
 -- ---- the place after a statement
-placed-line : (t : Tally) (n : Next) → placedAt t n .line ≡ t .line
-placed-line t (next.Place p) = refl
-placed-line t next.Unknown = refl
-placed-line t next.Outside = refl
-
 placed-clean : (t : Tally) (n : Next) → 0 < t .line → Clean (placedAt t n) → (p : ℕ) × (n ≡ next.Place p) × Clean t
 placed-clean t (next.Place p) h c = (p, refl, c)
-placed-clean t next.Unknown h c = first-none (t .unknown) (t .line) h (c .0)
-placed-clean t next.Outside h c = first-none (t .outside) (t .line) h (c .1)
+placed-clean t next.Unknown h c = absurd (first-noted (t .unknown) (t .line) h (c .0))
+placed-clean t next.Outside h c = absurd (first-noted (t .outside) (t .line) h (c .1))
 
 abbrev goes : Next → ℕ
 goes (next.Place p) = 1

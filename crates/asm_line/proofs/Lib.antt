@@ -1,4 +1,5 @@
 pub mod Laws
 pub mod Lawful
+pub mod Alike
 pub mod Form
 pub mod Examples

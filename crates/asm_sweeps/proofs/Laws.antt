@@ -7,9 +7,10 @@ use native.Mathlib.Nat.{min-eq-left, min-eq-right}
 use native.Mathlib.Omega.{arith}
 use lib.Dec.{eqb}
 use lib.IntN.{ℤ}
-use lib.ListN.{length, take, drop, getD, drop-of-length-le}
-use borrow.Author.Tests.{eq-eqb, ne-eqb}
+use lib.ListN.{length, take, drop, getD}
+use borrow.Author.Tests.{eq-eqb, ne-eqb, eqb-false}
 use Rattle.lines.specs.Lines.{linesOf, LineAt}
+use Rattle.lines.proofs.Laws.{lines-end}
 use Rattle.asm_value.specs.declared.Value.{Value}
 use Rattle.asm_value.specs.declared.Value.the-variants.{Unknown}
 use Rattle.asm_text.specs.Text.{lookUpAt}
@@ -19,6 +20,7 @@ use Rattle.asm_line.specs.Line.{lineOf}
 use Rattle.asm_sweeps.proofs.Named.{line-named}
 use Rattle.asm_fits.specs.declared.Fit.{Fit}
 use Rattle.asm_fits.specs.declared.Fit.the-variants as fit
+use Rattle.word.proofs.Laws.{bool-cases}
 use Rattle.asm_line.specs.declared.Statement.{Statement}
 use Rattle.asm_write.specs.declared.Layout.{Layout}
 use Rattle.asm_write.specs.declared.Next.{Next}
@@ -34,10 +36,16 @@ use Rattle.asm_sweeps.specs.Uses.{noteUse, placeAfter, atPlace, useAfter
 use Rattle.asm_sweeps.specs.Held.{tableAt, Holds, lineAt, Apart}
 use Rattle.asm_sweeps.proofs.Names.{look-held, holds-as, line-word}
 
--- no line is left at the end
-pub lines-end : (t : List ℕ) (at : ℕ) → length t ≤ at → linesOf (drop at t) ≡ []
-unfolding linesOf
-lines-end t at h = ap linesOf (drop-of-length-le t {i = at} h)
+-- ---- a tally that notes no fault
+abbrev pub Clean : Tally → Type 0
+Clean t = (t .unknown ≡ 0) × (t .outside ≡ 0)
+
+pub first-noted : (f k : ℕ) → 0 < k → firstOf f k ≡ 0 → ⊥
+unfolding firstOf
+first-noted f k h e =
+    bool-cases (eqb f 0)
+    (λ q. let z : k ≡ 0 = ap (λ (b : Bool). cond b k f) (sym q) ∙ e in omega arith)
+    (λ q. let z : f ≡ 0 = ap (λ (b : Bool). cond b k f) (sym q) ∙ e in eqb-false f 0 q z)
 
 -- a table without a name
 pub no-names : (s ks : List ℕ) (vs : List ℤ) → lookUpAt s [] ks vs ≡ noNames
@@ -171,7 +179,7 @@ placed-count t (next.Place p) = refl
 placed-count t next.Unknown = refl
 placed-count t next.Outside = refl
 
-placed-line : (t : Tally) (n : Next) → placedAt t n .line ≡ t .line
+pub placed-line : (t : Tally) (n : Next) → placedAt t n .line ≡ t .line
 placed-line t (next.Place p) = refl
 placed-line t next.Unknown = refl
 placed-line t next.Outside = refl
@@ -232,7 +240,7 @@ module _ (s ps ks : List ℕ) (vs : List ℤ) (t : Tally) (h : Holds s ps ks vs 
           ∙ ap (λ (y : Bool). cond y (namedOf (word (drop q l)) (nameValue (t .place) (layoutOf x)) on) on) k)
 
 -- ---- a line of the third sweep
-use-count-line : (t : Tally) (f : Fit) → noteUse t f .line ≡ t .line
+pub use-count-line : (t : Tally) (f : Fit) → noteUse t f .line ≡ t .line
 use-count-line t (fit.Number n) = refl
 use-count-line t fit.Unknown = refl
 use-count-line t fit.Outside = refl

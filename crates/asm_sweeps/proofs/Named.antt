@@ -18,7 +18,7 @@ use Rattle.asm_line.specs.declared.Stated.the-variants.{Fits, Misfit}
 use Rattle.asm_line.specs.declared.Reading.{Reading}
 use Rattle.asm_line.specs.declared.Reading.the-variants.{Line, Fault}
 use Rattle.asm_line.specs.Line.{ended, statementAt, afterName, lineFrom, lineOf}
-use Rattle.asm_fits.proofs.Laws.{bool-cases}
+use Rattle.word.proofs.Laws.{bool-cases}
 
 -- a name, where there is one, stands below the line's end
 abbrev InLine : List ℕ → Reading → Type 0

@@ -17,7 +17,7 @@ use Rattle.asm_value.specs.declared.Value.{Value}
 use Rattle.asm_value.specs.declared.Value.the-variants.{Known, Unknown, Outside}
 use Rattle.asm_text.specs.Text.{word, keyOf, nameByte?, namesAt, lookUp, lookUpAt}
 use Rattle.asm_text.proofs.Laws.{look-up-at, name-zero}
-use Rattle.asm_fits.proofs.Laws.{bool-cases}
+use Rattle.word.proofs.Laws.{bool-cases}
 use Rattle.asm_sweeps.specs.declared.Tally.{Tally}
 use Rattle.asm_sweeps.specs.Places.{Table, table, noteUnknown, noteOutside, noteValue, oneMore, known?, storedOf, namedOf}
 use Rattle.asm_sweeps.specs.Held.{tableAt, Holds, lineAt, Apart}

@@ -80,7 +80,7 @@ sat-numeral base hb n (b ∷ l) = bool-cases (digit? base b)
     (λ q. rw q (rw (cut base n (digitOf b) hb) (sat-numeral base hb (n * base + digitOf b) l)))
     (λ q. rw q)
 
-no-digit : (base : ℕ) → base ≤ 16 → digit? base 0 ≡ false
+pub no-digit : (base : ℕ) → base ≤ 16 → digit? base 0 ≡ false
 unfolding digit? digitOf
 no-digit base h = le-ltb 16 base h
 
@@ -172,7 +172,7 @@ module _ (t : List ℕ) (i : ℕ) (s : List ℕ) (j : ℕ) where
   unfolding same
   same-more h k e = rw (word-more t i h, word-more s j k, eq-eqb (byteAt t i) (byteAt s j) e)
 
-and-parts : (a b : Bool) → a && b ≡ true → (a ≡ true) × (b ≡ true)
+pub and-parts : (a b : Bool) → a && b ≡ true → (a ≡ true) × (b ≡ true)
 and-parts true b e = (refl, e)
 and-parts false b e = clash e refl
 

@@ -10,7 +10,7 @@ use borrow.Author.Tests.{eqb-true, eqb-false, eq-eqb, not-false}
 use Rattle.asm_value.specs.declared.Value.{Value}
 use Rattle.asm_fits.specs.declared.Fit.{Fit}
 use Rattle.asm_fits.specs.declared.Fit.the-variants.{Number, Unknown, Outside}
-use Rattle.asm_fits.proofs.Laws.{bool-cases}
+use Rattle.word.proofs.Laws.{bool-cases}
 use Rattle.asm_line.specs.declared.Reading.{Reading}
 use Rattle.asm_line.specs.declared.Reading.the-variants.{Line, Fault}
 use Rattle.asm_line.specs.Line.{lineOf}
@@ -19,8 +19,9 @@ use Rattle.asm_write.specs.Written.{usedOf}
 use Rattle.asm_sweeps.specs.declared.Tally.{Tally}
 use Rattle.asm_sweeps.specs.declared.Verdict.{Verdict}
 use Rattle.asm_sweeps.specs.Form.{end?, formOf}
-use Rattle.asm_sweeps.specs.Places.{firstOf, nextLine, noTally, tableOf}
+use Rattle.asm_sweeps.specs.Places.{nextLine, noTally, tableOf}
 use Rattle.asm_sweeps.specs.Uses.{noteUse, useAfter, usesFrom, usesOf, namesOf, leastOf, verdict, verdictFor, verdictOf}
+use Rattle.asm_sweeps.proofs.Laws.{Clean, first-noted, use-count-line}
 use Rattle.asm_image.specs.Image.{Placed, statementsAt, placeOn, placedFrom, placedOf, imageOf}
 use Rattle.asm_call.specs.Call.{assembled, assembleReply, assembleVerdict, assembleCallOf}
 use Rattle.asm_theorems.specs.Theorems.{Accepted, CallKeeps, CallLength, RefusedKeeps, Assembles}
@@ -45,21 +46,11 @@ good-among [] ys x a = a .0
 good-among (y ∷ xs) ys x a = good-among xs ys x (a .1)
 
 -- ---- a tally that notes no fault
-first-none : (f k : ℕ) → 0 < k → firstOf f k ≡ 0 → ⊥
-unfolding firstOf
-first-none f k h e =
-    bool-cases (eqb f 0)
-    (λ q. let z : k ≡ 0 = ap (λ (b : Bool). cond b k f) (sym q) ∙ e in omega arith)
-    (λ q. let z : f ≡ 0 = ap (λ (b : Bool). cond b k f) (sym q) ∙ e in eqb-false f 0 q z)
-
--- no fault is noted after t, and none by t
-abbrev Clean : Tally → Type 0
-Clean t = (t .unknown ≡ 0) × (t .outside ≡ 0)
 
 use-clean : (t : Tally) (f : Fit) → 0 < t .line → Clean (noteUse t f) → Clean t × ((n : ℕ) × (f ≡ Number n))
 use-clean t (Number n) h c = (c, (n, refl))
-use-clean t Unknown h c = absurd (first-none (t .unknown) (t .line) h (c .0))
-use-clean t Outside h c = absurd (first-none (t .outside) (t .line) h (c .1))
+use-clean t Unknown h c = absurd (first-noted (t .unknown) (t .line) h (c .0))
+use-clean t Outside h c = absurd (first-noted (t .outside) (t .line) h (c .1))
 
 line-clean : (r : Reading) (t : Tally) → LawfulLine r → 0 < t .line → Clean (useAfter r t)
     → Clean t × AllGood (statementsAt (t .place) r)
@@ -68,14 +59,9 @@ line-clean (Line named q x) t w h c =
     let u = use-clean t (usedOf (t .place) x) h c in
     (u .0, ((w, u .1), tt))
 
-use-line : (t : Tally) (f : Fit) → noteUse t f .line ≡ t .line
-use-line t (Number n) = refl
-use-line t Unknown = refl
-use-line t Outside = refl
-
 line-on : (r : Reading) (t : Tally) → useAfter r t .line ≡ t .line
 line-on Fault t = refl
-line-on (Line named q x) t = use-line t (usedOf (t .place) x)
+line-on (Line named q x) t = use-count-line t (usedOf (t .place) x)
 
 place-on : (r : Reading) (t : Tally) → useAfter r t .place ≡ placeOn (t .place) r
 place-on Fault t = refl

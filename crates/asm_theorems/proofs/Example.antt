@@ -23,7 +23,7 @@ use Rattle.asm_expr.specs.Grammar.{digitsAt, nameAt, plainAt, closed, plus?, ti
 use Rattle.asm_expr.specs.Meaning.{valueOf, answerOf}
 use Rattle.asm_operands.specs.Operands.{over?, wordBelow, registerAt, widthAt, valueAt, number?, comma?, commaRegister}
 use Rattle.asm_fits.specs.Fits.{residueOf, withinOf, fitOf, wayOf, stepsOf}
-use Rattle.asm_fits.proofs.Laws.{bool-cases}
+use Rattle.word.proofs.Laws.{bool-cases}
 use Rattle.asm_line.specs.declared.Statement.the-variants.{Org, End, Branch, MovImm}
 use Rattle.asm_line.specs.Statement.{withValue, oneValue, moveByte, onMemory, directiveOf, statementOf}
 use Rattle.asm_line.specs.Line.{statementAt, afterName, lineFrom, lineOf}

@@ -10,7 +10,7 @@ use lib.Seq.{sets, length-sets, getD-set-same, getD-set-other}
 use borrow.Author.Tests.{eqb-true, eqb-false}
 use Rattle.asm_fits.specs.declared.Fit.{Fit}
 use Rattle.asm_fits.specs.declared.Fit.the-variants.{Number, Unknown, Outside}
-use Rattle.asm_fits.proofs.Laws.{bool-cases}
+use Rattle.word.proofs.Laws.{bool-cases}
 use Rattle.asm_write.specs.Written.{layoutOf, sizeOf, usedOf, bytesFor, bytesWith, bytesOf}
 use Rattle.asm_image.specs.Image.{Placed, imageOf}
 use Rattle.asm_image.proofs.Laws.{image-append, used-room}

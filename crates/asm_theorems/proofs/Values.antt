@@ -16,7 +16,8 @@ use Rattle.asm_fits.specs.declared.Fit.{Fit}
 use Rattle.asm_fits.specs.declared.Fit.the-variants.{Number, Unknown, Outside}
 use Rattle.asm_fits.specs.Fits.{residueOf, withinOf, fitOf, mapFit, wordFit, byteFit, countFit, offsetFit, immediateFit}
 use Rattle.asm_fits.specs.Fits.{constantNumber, constantFit, wayOf, stepsOf, branchTo, branchFit}
-use Rattle.asm_fits.proofs.Laws.{bool-cases, number-below, word-below}
+use Rattle.word.proofs.Laws.{bool-cases}
+use Rattle.asm_fits.proofs.Laws.{number-below, word-below}
 use Rattle.asm_theorems.specs.Theorems.{Leads, byteTaken, constants}
 
 -- ---- fits

@@ -30,7 +30,7 @@ flipped (negsuc n) f e =
     let k : 18446744073709551615 - (18446744073709551616 - suc n) ≡ n = omega arith in
     ap (toZ w64) k ∙ toZ-pos w64 n h
 
-kept : (z : ℤ) → ltZ z (pos 0) ≡ false → z ≡ pos (mag z)
+pub kept : (z : ℤ) → ltZ z (pos 0) ≡ false → z ≡ pos (mag z)
 kept (pos n) e = refl
 kept (negsuc n) e = let z : _≡_ {A = Bool} true false = e in cc
 

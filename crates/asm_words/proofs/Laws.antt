@@ -1,6 +1,6 @@
 -- Laws of the words: a table row by row; the words in groups are the words; flags letter by letter. Assumes nothing.
 use mathlib.Core.Path.{_≡_, refl, sym, ap, _∙_}
-use mathlib.Core.Bool.{Bool, true, false, cond, _&&_, false≢true}
+use mathlib.Core.Bool.{Bool, true, false, cond, _&&_}
 use mathlib.Core.List.{List, [], _∷_}
 use Prim.Native.Nat.{ℕ, zero, suc, _+_, _-_, _*_, _/_, _%_, _^_, _<_, _≤_}
 use native.Mathlib.Numerals.{add-one}
@@ -13,7 +13,7 @@ use lib.Seq.{drop-cons}
 use borrow.Author.Tests.{eq-eqb, ne-eqb, eqb-true, leb-true}
 use Rattle.word.proofs.Laws.{bool-cases}
 use Rattle.asm_text.specs.Text.{byteAt, nameByte?, word, spelled}
-use Rattle.asm_text.proofs.Laws.{word-more, word-stop}
+use Rattle.asm_text.proofs.Laws.{word-more, word-stop, and-parts}
 use Rattle.asm_words.specs.Words.{numberIn, words, directives, mnemonics, registers, conditionWords, emulated}
 use Rattle.asm_words.specs.Words.{wordNumber, registerNumber, registerOf, conditions, conditionOf, addFlag, flagsFrom, flagsOf}
 
@@ -36,20 +36,16 @@ abbrev every : (ℕ → Bool) → List ℕ → Bool
 every q [] = true
 every q (r ∷ rs) = q r && every q rs
 
-both : (a b : Bool) → a && b ≡ true → (a ≡ true) × (b ≡ true)
-both true b e = (refl, e)
-both false b e = absurd (false≢true e)
-
 every-drop : (q : ℕ → Bool) (n : ℕ) (rs : List ℕ) → every q rs ≡ true → every q (drop n rs) ≡ true
 every-drop q zero rs e = e
 every-drop q (suc n) [] e = refl
-every-drop q (suc n) (r ∷ rs) e = every-drop q n rs (both (q r) (every q rs) e .1)
+every-drop q (suc n) (r ∷ rs) e = every-drop q n rs (and-parts (q r) (every q rs) e .1)
 
 every-take : (q : ℕ → Bool) (n : ℕ) (rs : List ℕ) → every q rs ≡ true → every q (take n rs) ≡ true
 every-take q zero rs e = refl
 every-take q (suc n) [] e = refl
 every-take q (suc n) (r ∷ rs) e =
-    let h = both (q r) (every q rs) e in
+    let h = and-parts (q r) (every q rs) e in
     rw (h .0, every-take q n rs (h .1))
 
 -- the first row for p, and what a test says of it
@@ -64,7 +60,7 @@ found : {X : Type 0} (q : ℕ → Bool) (rs : List ℕ) (p : ℕ) → every q rs
 unfolding numberIn
 found q [] p e f g = g refl
 found q (r ∷ rs) p e f g =
-    let h = both (q r) (every q rs) e in
+    let h = and-parts (q r) (every q rs) e in
     bool-cases (eqb (r / 256) p)
     (λ t. f (record { row = r; is = eqb-true (r / 256) p t; says = rw t; tested = h .0 }))
     (λ t. found q rs p (h .1)
@@ -106,14 +102,14 @@ order-at : (l : List ℕ) → ordered l ≡ true → (h : ℕ) → suc h < lengt
 unfolding ordered
 order-at [] e h k = absurd (omega arith)
 order-at (x ∷ []) e h k = absurd (omega arith)
-order-at (x ∷ y ∷ l) e zero k = leb-true x y (both (leb x y) (ordered (y ∷ l)) e .0)
-order-at (x ∷ y ∷ l) e (suc h) k = order-at (y ∷ l) (both (leb x y) (ordered (y ∷ l)) e .1) h (omega arith)
+order-at (x ∷ y ∷ l) e zero k = leb-true x y (and-parts (leb x y) (ordered (y ∷ l)) e .0)
+order-at (x ∷ y ∷ l) e (suc h) k = order-at (y ∷ l) (and-parts (leb x y) (ordered (y ∷ l)) e .1) h (omega arith)
 
 bound-at : (l : List ℕ) (n : ℕ) → every (λ x. leb x n) l ≡ true → (h : ℕ) → getD l h 0 ≤ n
 bound-at [] n e zero = omega arith
 bound-at [] n e (suc h) = omega arith
-bound-at (x ∷ l) n e zero = leb-true x n (both (leb x n) (every (λ x. leb x n) l) e .0)
-bound-at (x ∷ l) n e (suc h) = bound-at l n (both (leb x n) (every (λ x. leb x n) l) e .1) h
+bound-at (x ∷ l) n e zero = leb-true x n (and-parts (leb x n) (every (λ x. leb x n) l) e .0)
+bound-at (x ∷ l) n e (suc h) = bound-at l n (and-parts (leb x n) (every (λ x. leb x n) l) e .1) h
 
 starts-ordered : ordered starts ≡ true
 unfolding ordered starts

@@ -38,46 +38,46 @@ z = lentAfter session x
 
 -- the run halts after two steps; both are kept and the place has gone from 1 to 0 and to 1
 pub numbers : (y .journal .kept ≡ 2) × (y .journal .place ≡ 1) × (byteAt (y .state) 21 ≡ 1) × (twoAt (y .state) 22 ≡ 2)
-unfolding lentAfter runJournalOf journalVerdict recordFits eventsFitBelow inOrderBelow twinsBelow eventsFrom journalFits runLogged loggedNext
-    runOf stepOf deliverAt planOf interruptOf bestFrom instructionOf perform pushes vectored enteredPsw commit stateIn recordOf journalAfter
-    keep journalRecord addressOf fieldsOf bytesFrom
+unfolding lentAfter runJournalOf journalVerdict recordFits eventsFitBelow inOrderBelow twinsBelow eventsFrom journalFits runLogged
+    loggedNext runOf stepOf deliverAt planOf interruptOf bestFrom instructionOf perform pushes vectored enteredPsw commit stateIn recordOf
+    journalAfter keep journalRecord addressOf fieldsOf bytesFrom
 numbers = (refl, refl, refl, refl)
 
 -- the first step's record is at place 1: its address is that of the last word pushed, and its eight bytes, as they were before the
 -- step, are #FFFC to #FFFF and then 0 to 3
 pub first-record : (twoAt (recordAt (y .journal .bytes) 1) 48 ≡ 0xFFFC)
     × (take 8 (drop 50 (recordAt (y .journal .bytes) 1)) ≡ 0 ∷ 7 ∷ 0 ∷ 0 ∷ 0 ∷ 9 ∷ 0 ∷ 0 ∷ [])
-unfolding lentAfter runJournalOf journalVerdict recordFits eventsFitBelow inOrderBelow twinsBelow eventsFrom journalFits runLogged loggedNext
-    runOf stepOf deliverAt planOf interruptOf bestFrom instructionOf perform pushes vectored enteredPsw commit stateIn recordOf journalAfter
-    keep journalRecord addressOf fieldsOf bytesFrom
+unfolding lentAfter runJournalOf journalVerdict recordFits eventsFitBelow inOrderBelow twinsBelow eventsFrom journalFits runLogged
+    loggedNext runOf stepOf deliverAt planOf interruptOf bestFrom instructionOf perform pushes vectored enteredPsw commit stateIn recordOf
+    journalAfter keep journalRecord addressOf fieldsOf bytesFrom
 first-record = (refl, refl)
 
 -- the frame stands there now: CEX state and PSW, LR, PC, all zero but the PC, 1
 pub frame : take 4 (drop 0xFFFC (y .memory)) ≡ 0 ∷ 0 ∷ 0 ∷ 0 ∷ []
-unfolding lentAfter runJournalOf journalVerdict recordFits eventsFitBelow inOrderBelow twinsBelow eventsFrom journalFits runLogged loggedNext
-    runOf stepOf deliverAt planOf interruptOf bestFrom instructionOf perform pushes vectored enteredPsw commit stateIn recordOf journalAfter
-    keep journalRecord addressOf fieldsOf bytesFrom
+unfolding lentAfter runJournalOf journalVerdict recordFits eventsFitBelow inOrderBelow twinsBelow eventsFrom journalFits runLogged
+    loggedNext runOf stepOf deliverAt planOf interruptOf bestFrom instructionOf perform pushes vectored enteredPsw commit stateIn recordOf
+    journalAfter keep journalRecord addressOf fieldsOf bytesFrom
 frame = refl
 
 pub frame-wrapped : take 4 (y .memory) ≡ 0 ∷ 0 ∷ 1 ∷ 0 ∷ []
-unfolding lentAfter runJournalOf journalVerdict recordFits eventsFitBelow inOrderBelow twinsBelow eventsFrom journalFits runLogged loggedNext
-    runOf stepOf deliverAt planOf interruptOf bestFrom instructionOf perform pushes vectored enteredPsw commit stateIn recordOf journalAfter
-    keep journalRecord addressOf fieldsOf bytesFrom
+unfolding lentAfter runJournalOf journalVerdict recordFits eventsFitBelow inOrderBelow twinsBelow eventsFrom journalFits runLogged
+    loggedNext runOf stepOf deliverAt planOf interruptOf bestFrom instructionOf perform pushes vectored enteredPsw commit stateIn recordOf
+    journalAfter keep journalRecord addressOf fieldsOf bytesFrom
 frame-wrapped = refl
 
 -- the second step's record is at place 0; the state before it has PC 1, SP #FFFC and count 1
 pub second-record : (twoAt (recordAt (y .journal .bytes) 0) 48 ≡ 0) × (twoAt (recordAt (y .journal .bytes) 0) 12 ≡ 0xFFFC)
     × (twoAt (recordAt (y .journal .bytes) 0) 22 ≡ 1)
-unfolding lentAfter runJournalOf journalVerdict recordFits eventsFitBelow inOrderBelow twinsBelow eventsFrom journalFits runLogged loggedNext
-    runOf stepOf deliverAt planOf interruptOf bestFrom instructionOf perform pushes vectored enteredPsw commit stateIn recordOf journalAfter
-    keep journalRecord addressOf fieldsOf bytesFrom
+unfolding lentAfter runJournalOf journalVerdict recordFits eventsFitBelow inOrderBelow twinsBelow eventsFrom journalFits runLogged
+    loggedNext runOf stepOf deliverAt planOf interruptOf bestFrom instructionOf perform pushes vectored enteredPsw commit stateIn recordOf
+    journalAfter keep journalRecord addressOf fieldsOf bytesFrom
 second-record = (refl, refl, refl)
 
 -- going back 2 gives every byte of memory and of the record as it was, nothing kept, the place 1 again
 pub back : (z .memory ≡ memory) × (z .state ≡ r) × (z .journal .kept ≡ 0) × (z .journal .place ≡ 1)
-unfolding lentAfter runJournalOf journalVerdict recordFits eventsFitBelow inOrderBelow twinsBelow eventsFrom journalFits runLogged loggedNext
-    runOf stepOf deliverAt planOf interruptOf bestFrom instructionOf perform pushes vectored enteredPsw commit stateIn recordOf journalAfter
-    keep journalRecord addressOf fieldsOf bytesFrom backCallOf backVerdict backOf oneBack memoryOut placed
+unfolding lentAfter runJournalOf journalVerdict recordFits eventsFitBelow inOrderBelow twinsBelow eventsFrom journalFits runLogged
+    loggedNext runOf stepOf deliverAt planOf interruptOf bestFrom instructionOf perform pushes vectored enteredPsw commit stateIn recordOf
+    journalAfter keep journalRecord addressOf fieldsOf bytesFrom backCallOf backVerdict backOf oneBack memoryOut placed
 back = (refl, refl, refl, refl)
 
 -- ---- the premises of the promises

@@ -1,6 +1,6 @@
 -- A session on a journal of two records that begins at its last place (document 02, §8). The PC is odd and SP is 4: the
--- first step is fault 9, whose frame is pushed at #FFFC and wraps into the device bytes; its record goes to place 1. The
--- vector's entry point is odd too, so the second step halts; its record goes to place 0. Going back 2 wraps again.
+-- first step is fault 9, whose frame is pushed at #FFFC and wraps into the device bytes; its record goes to place 1.
+-- The vector's entry point is odd too, so the second step halts; its record goes to place 0. Going back 2 wraps again.
 -- Assumes nothing.
 use Prim.Native.Nat.{ℕ}
 use mathlib.Core.List.{List, [], _∷_}

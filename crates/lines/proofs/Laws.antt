@@ -134,6 +134,10 @@ scan-end t at i h k e =
 
 -- ---- no line is left exactly where no byte is left
 
+pub lines-end : (t : List ℕ) (at : ℕ) → length t ≤ at → linesOf (drop at t) ≡ []
+unfolding linesOf
+lines-end t at h = ap linesOf (drop-of-length-le t {i = at} h)
+
 onto-none : (b : ℕ) (ls : List (List ℕ)) → none (onto b ls) ≡ false
 onto-none b [] = refl
 onto-none b (l ∷ ls) = refl

@@ -33,13 +33,13 @@ use Rattle.resume.proofs.Depth as frame
 greater-left : (a b : ℕ) → b ≤ a → greater a b ≡ a
 greater-left a b h = ap (λ t. cond t b a) (not-lt h)
 
-greater-ge-left : (a b : ℕ) → a ≤ greater a b
+pub greater-ge-left : (a b : ℕ) → a ≤ greater a b
 greater-ge-left a b = bool-cases (ltb a b) (λ q. let h : a < b = lt-of q in rw q (omega arith)) (λ q. rw q (omega arith))
 
-greater-ge-right : (a b : ℕ) → b ≤ greater a b
+pub greater-ge-right : (a b : ℕ) → b ≤ greater a b
 greater-ge-right a b = bool-cases (ltb a b) (λ q. rw q (omega arith)) (λ q. let h : b ≤ a = ge-of q in rw q (omega arith))
 
-greater-le : (a b c : ℕ) → a ≤ c → b ≤ c → greater a b ≤ c
+pub greater-le : (a b c : ℕ) → a ≤ c → b ≤ c → greater a b ≤ c
 greater-le a b c h k = bool-cases (ltb a b) (λ q. rw q k) (λ q. rw q h)
 
 -- ---- one step

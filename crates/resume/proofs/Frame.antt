@@ -167,7 +167,7 @@ psw-back p h k e =
     let f : p ≡ p / 8 * 8 + p % 8 = omega arith in
     psw-sum p (p / 8) (p / 16) (p / 512) (p / 8192) (p % 8) (p / 16 % 32) (p / 8192 % 8) f (rw z at a) b (rw k at c) g
 
-sp-back : (x : ℕ) → x < 65536 → wrap (down x 8 + 8) ≡ x
+pub sp-back : (x : ℕ) → x < 65536 → wrap (down x 8 + 8) ≡ x
 sp-back x h = omega arith
 
 cex-back : (x : ℕ) → x < 128 → x % 128 ≡ x

@@ -10,7 +10,7 @@ use lib.ListN.{length, getD, take, drop, set, length-drop, drop-of-length-le}
 use lib.Seq.{sets, drop-cons, getD-drop, getD-take, length-take-le}
 use borrow.Author.Tests.{eq-eqb, ne-eqb}
 use Rattle.lines.specs.Lines.{linesOf, none, LineAt}
-use Rattle.lines.proofs.Laws.{lines-none}
+use Rattle.lines.proofs.Laws.{lines-end, lines-none}
 use Rattle.srec.specs.Digits.{isDigit, allDigits}
 use Rattle.srec.specs.declared.Refusal.{Refusal}
 use Rattle.srec.specs.declared.Refusal.the-variants.{Accepted, Form, Checksum, Room}
@@ -111,11 +111,6 @@ module _ (t : List ℕ) (at stop next : ℕ) (here : LineAt t at stop next) wher
   pub pc-here : (pc : ℕ) → pcAfter (linesOf (drop next t)) (pcAt (lineFrom t at stop) pc) ≡ pcAfter (linesOf (drop at t)) pc
   unfolding pcAfter
   pc-here pc = sym (ap (λ (ls : List (List ℕ)). pcAfter ls pc) (here .split))
-
--- no line is left at the end
-pub lines-end : (t : List ℕ) (at : ℕ) → length t ≤ at → linesOf (drop at t) ≡ []
-unfolding linesOf
-lines-end t at h = ap linesOf (drop-of-length-le t {i = at} h)
 
 -- ---- a line's shape and fault, test by test
 

@@ -10,7 +10,8 @@ use lib.Dec.{eqb, ltb}
 use lib.ListN.{length}
 use Rattle.machine.specs.Record.{twoAt}
 use Rattle.machine_laws.proofs.Cases.{bool-cases, eq-of, neq-of, ge-of}
-use Rattle.stack_need.specs.Need.{greater, given?, levelOf, costOf, dearest, sumAbove, usesFit, needRefused?, needOf, needReply}
+use Rattle.machine.specs.Depth.{greater}
+use Rattle.stack_need.specs.Need.{given?, levelOf, costOf, dearest, sumAbove, usesFit, needRefused?, needOf, needReply}
 use Rattle.stack_need.proofs.Need.{need-is, top-small, sum-small}
 
 module _ (vectors : List ℕ) (devices : ℕ) (uses : List ℕ) where

@@ -11,19 +11,9 @@ use Rattle.machine.specs.Record.{twoAt}
 use Rattle.machine_laws.specs.Bounds.{Each}
 use Rattle.machine_laws.proofs.Cases.{bool-cases, eq-of, neq-of, lt-of, ge-of, is-eq, not-eq, is-lt, not-lt, eq-self, and-left, and-right}
 use Rattle.machine_laws.proofs.Cases.{and-both}
-use Rattle.stack_need.specs.Need.{greater, given?, levelOf, useOf, costOf, total, free?, choices, allowed?, largest, needOf, dearest}
+use Rattle.resume.proofs.Deepest.{greater-ge-left, greater-ge-right, greater-le}
+use Rattle.stack_need.specs.Need.{given?, levelOf, useOf, costOf, total, free?, choices, allowed?, largest, needOf, dearest}
 use Rattle.stack_need.specs.Need.{sumAbove, Rises, usesFit}
-
--- ---- the greater of two
-
-pub greater-left : (a b : ℕ) → a ≤ greater a b
-greater-left a b = bool-cases (ltb a b) (λ q. let h : a < b = lt-of q in rw q (omega arith)) (λ q. rw q (omega arith))
-
-pub greater-right : (a b : ℕ) → b ≤ greater a b
-greater-right a b = bool-cases (ltb a b) (λ q. rw q (omega arith)) (λ q. let h : b ≤ a = ge-of q in rw q h)
-
-greater-most : (a b x : ℕ) → a ≤ x → b ≤ x → greater a b ≤ x
-greater-most a b x h k = bool-cases (ltb a b) (λ q. rw q k) (λ q. rw q h)
 
 -- four tests at once
 four : (a b c d : Bool) → a && b && c && d ≡ true → (a ≡ true) × (b ≡ true) × (c ≡ true) × (d ≡ true)
@@ -55,12 +45,12 @@ module _ (vectors : List ℕ) (devices : ℕ) (uses : List ℕ) where
   unfolding dearest
   top-step d l =
       bool-cases (given? devices d && eqb (level d) l)
-      (λ q. rw q (greater-left (top d l) (cost d)))
+      (λ q. rw q (greater-ge-left (top d l) (cost d)))
       (λ q. rw q (omega arith))
 
   top-here : (d : ℕ) → given? devices d ≡ true → cost d ≤ top (suc d) (level d)
   unfolding dearest
-  top-here d g = rw (g, eq-self (level d)) (greater-right (top d (level d)) (cost d))
+  top-here d g = rw (g, eq-self (level d)) (greater-ge-right (top d (level d)) (cost d))
 
   top-above : (n d : ℕ) → d < n → given? devices d ≡ true → cost d ≤ top n (level d)
   top-above zero d h g = absurd (omega arith)
@@ -235,16 +225,16 @@ module _ (vectors : List ℕ) (devices : ℕ) (uses : List ℕ) where
   unfolding largest
   append-most p x [] ys h k = k
   append-most p x (c ∷ xs) ys h k =
-      let a = greater-left (worth p c) (most p xs) in
-      let b = greater-right (worth p c) (most p xs) in
-      greater-most (worth p c) (most p (xs ++ ys)) x (omega arith) (append-most p x xs ys (omega arith) k)
+      let a = greater-ge-left (worth p c) (most p xs) in
+      let b = greater-ge-right (worth p c) (most p xs) in
+      greater-le (worth p c) (most p (xs ++ ys)) x (omega arith) (append-most p x xs ys (omega arith) k)
 
   append-right : (p : ℕ) (xs ys : List (List ℕ)) → most p ys ≤ most p (xs ++ ys)
   unfolding largest
   append-right p [] ys = omega arith
   append-right p (c ∷ xs) ys =
       let a = append-right p xs ys in
-      let b = greater-right (worth p c) (most p (xs ++ ys)) in
+      let b = greater-ge-right (worth p c) (most p (xs ++ ys)) in
       omega arith
 
   append-left : (p : ℕ) (xs ys : List (List ℕ)) → most p xs ≤ most p (xs ++ ys)
@@ -252,15 +242,15 @@ module _ (vectors : List ℕ) (devices : ℕ) (uses : List ℕ) where
   append-left p [] ys = omega arith
   append-left p (c ∷ xs) ys =
       let a = append-left p xs ys in
-      let b = greater-right (worth p c) (most p (xs ++ ys)) in
-      greater-most (worth p c) (most p xs) _ (greater-left (worth p c) (most p (xs ++ ys))) (omega arith)
+      let b = greater-ge-right (worth p c) (most p (xs ++ ys)) in
+      greater-le (worth p c) (most p xs) _ (greater-ge-left (worth p c) (most p (xs ++ ys))) (omega arith)
 
   worth-below : (p : ℕ) (c : List ℕ) → Each (λ d. d < 8) c → worth p c ≤ sum 7 p
   worth-below p c h = bool-cases (allowed p c) (λ q. rw q (total-below p c h q)) (λ q. rw q (omega arith))
 
   choices-below : (p n : ℕ) (c : List ℕ) → n ≤ 8 → Each (λ d. d < 8) c → most p (choices n c) ≤ sum 7 p
   unfolding choices largest
-  choices-below p zero c h e = greater-most (worth p c) 0 (sum 7 p) (worth-below p c e) (omega arith)
+  choices-below p zero c h e = greater-le (worth p c) 0 (sum 7 p) (worth-below p c e) (omega arith)
   choices-below p (suc d) c h e =
       let k : d < 8 = omega arith in
       append-most p (sum 7 p) (choices d c) (choices d (d ∷ c)) (choices-below p d c (omega arith) e)
@@ -330,7 +320,7 @@ module _ (vectors : List ℕ) (devices : ℕ) (uses : List ℕ) where
 
   pick-worth : (p n : ℕ) (c : List ℕ) → worth p (pick p n c) ≤ most p (choices n c)
   unfolding pick choices largest
-  pick-worth p zero c = greater-left (worth p c) 0
+  pick-worth p zero c = greater-ge-left (worth p c) 0
   pick-worth p (suc d) c =
       bool-cases (picked? p d)
       (λ q.
@@ -554,7 +544,7 @@ module _ (vectors : List ℕ) (devices : ℕ) (uses : List ℕ) where
       let i = top-small f n l (omega arith) in
       let k = use-small 8 n f h in
       bool-cases (given? devices n && eqb (level n) l)
-      (λ q. rw q (greater-most (top n l) (cost n) 1032 i (omega arith)))
+      (λ q. rw q (greater-le (top n l) (cost n) 1032 i (omega arith)))
       (λ q. rw q i)
 
   pub sum-small : usesFit uses 8 ≡ true → (n p : ℕ) → sum n p ≤ n * 1032

@@ -26,7 +26,7 @@ use Rattle.machine_laws.proofs.Steps.{deliver-tidy, deliver-core, deliver-halte
 use Rattle.machine_laws.proofs.Writes.{fits-devices, deliver-bytes, perform-writes}
 use Rattle.resume.specs.Frames.{Frame, Calm, svc?, none?, framesAfter, after, due, act, frames}
 use Rattle.resume.specs.Depth.{lowest, levelsAfter, newest, Rising, levels}
-use Rattle.resume.proofs.Frame.{three, Saved, saves}
+use Rattle.resume.proofs.Frame.{three, Saved, saves, sp-back}
 use Rattle.resume.proofs.Steady.{Faultless, Steady, calm-faultless, plan-core, plan-moves}
 use Rattle.resume.proofs.Depth.{priorities-rise}
 use Rattle.stack_need.specs.Need.{given?, levelOf, useOf, costOf, needOf, sumAbove}
@@ -52,9 +52,6 @@ below-eight b h = omega arith
 
 below-pushed : (x i : ℕ) → x < 65536 → x % 2 ≡ 0 → i < 8 → below x (wrap (even (down x 8) + i)) ≤ 8
 below-pushed x i h e l = omega arith
-
-down-back : (x : ℕ) → x < 65536 → wrap (down x 8 + 8) ≡ x
-down-back x h = omega arith
 
 below-self : (b : ℕ) → b < 65536 → below b b ≡ 0
 below-self b h = omega arith
@@ -290,7 +287,7 @@ module _ (memory r events vectors : List ℕ) (devices : ℕ) (uses : List ℕ) 
           let x = sp (due ev s k .core) in
           let small = due-tidy k .core .words 6 in
           let e : sp (after ev s (suc k) .core) ≡ down x 8 = entry-saves k l live d q .stack in
-          let b : x ≡ wrap (sp (after ev s (suc k) .core) + 8) = sym (ap (λ y. wrap (y + 8)) e ∙ down-back x small) in
+          let b : x ≡ wrap (sp (after ev s (suc k) .core) + 8) = sym (ap (λ y. wrap (y + 8)) e ∙ sp-back x small) in
           let z = entered-kept (sp (after ev s (suc k) .core)) refl in
           (omega arith, (after-tidy (suc k) .core .words 6, subst (λ y. HeldIn y hs) b (kept-due hs g), kept-nested hs g))
       then acts.Sleep q fs c hs g = works-kept acts.Sleep q refl hs g

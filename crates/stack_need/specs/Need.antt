@@ -9,10 +9,7 @@ use lib.Dec.{eqb, ltb}
 use lib.ListN.{length}
 use Rattle.word.specs.Psw.{bitOf, current}
 use Rattle.machine.specs.Record.{twoAt}
-
--- The greater of two numbers. [02 §9]
-abbrev pub greater : ℕ → ℕ → ℕ
-greater a b = cond (ltb a b) b a
+use Rattle.machine.specs.Depth.{greater}
 
 -- "bit d = device d". [02 §9]
 abbrev pub given? : (devices d : ℕ) → Bool

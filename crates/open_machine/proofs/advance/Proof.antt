@@ -1,6 +1,6 @@
 -- A walk of the function's MIR. The borrow of the machine is opened and the machine copied out; the memory's slice, the log's and
--- the figure's borrow are passed on for good, and the events' slice in a copy; the machine that comes back is stored whole, and the borrow is closed at it.
--- Of `advance_by_value` only its contract is used. Assumes nothing.
+-- the figure's borrow are passed on for good, and the events' slice in a copy; the machine that comes back is stored whole, and
+-- the borrow is closed at it. Of `advance_by_value` only its contract is used. Assumes nothing.
 use mathlib.Core.Path.{_≡_, refl, ap}
 use Prim.Native.Nat.{ℕ, _<_, _^_}
 use mathlib.Core.List.{[], _∷_, List}
@@ -87,7 +87,8 @@ module _
     {M : Type 1} (𝓤 : URA M) (H : Heap 𝓤) (A : Atoms 𝓤) (W : Given 𝓤 H A) (at-mem : Memory → SProp 𝓤) (run : Routine → Fun 𝓤)
     (κ κ′ κ″ κ‴ κ⁗ : Lft) (bounds : AllOutlive 5 (advance.signature .outlives) (κ, (κ′, (κ″, (κ‴, (κ⁗, tt)))))) (q q′ q″ q‴ q⁗ : Share)
     (b o : ℕ) (γ : GName) (h : Machine) (b′ o′ : ℕ) (γ′ : GName) (ys : List ℕ) (y : RefT (List ℕ))
-    (b″ o″ : ℕ) (γ″ : GName) (ls : List ℕ) (b‴ o‴ : ℕ) (γ‴ : GName) (f : ℕ) (n : ℕ) (n-fits : n < 2 ^ 64) (room : Room u8 (length ys)) (room′ : Room u8 (length ls)) where
+    (b″ o″ : ℕ) (γ″ : GName) (ls : List ℕ) (b‴ o‴ : ℕ) (γ‴ : GName) (f : ℕ) (n : ℕ) (n-fits : n < 2 ^ 64)
+    (room : Room u8 (length ys)) (room′ : Room u8 (length ls)) where
   abbrev R : RattleType
   R = T.the-row
 

@@ -28,17 +28,22 @@ returns c =
 
 cast-run : tie.Need-cast-run
 cast-run c =
-    let p = call-passed _ _ _ _ _ _ _ (c .before .before .before .before .call-verdict .ensures) (c .before .before .before .refusal-number .ensures .0) (c .before .before .if1 .left) in
+    let v = c .before .before .before .before .call-verdict .ensures in
+    let k = c .before .before .before .refusal-number .ensures .0 in
+    let p = call-passed _ _ _ _ _ _ _ v k (c .before .before .if1 .left) in
     let few = p .few-steps in
     omega arith
 
 run-requires : tie.Need-run-requires
 run-requires c κs =
-    let g = c .before .before .before .before .before .before .before .before .before .before .before .before .before .before in
-    let p = call-passed _ _ _ _ _ _ _ (c .before .before .before .before .call-verdict .ensures) (c .before .before .before .refusal-number .ensures .0) (c .before .before .if1 .left) in
-    let k = LL.owed T.the-type T′.the-laws (g .args .m) _ (g .good .0) .1 .1 .1 .1 .1 .0 .1 in (
+    let a-write = c .before .before .before .before .before .before .before .before .before in
+    let g = a-write .before .before .before .before .before in
+    let v = c .before .before .before .before .call-verdict .ensures in
+    let k = c .before .before .before .refusal-number .ensures .0 in
+    let p = call-passed _ _ _ _ _ _ _ v k (c .before .before .if1 .left) in
+    let o = LL.owed T.the-type T′.the-laws (g .args .m) _ (g .good .0) .1 .1 .1 .1 .1 .0 .1 in (
       p .memory-size,
-      count-fits (stateOf (g .args .m) []) _ _ _ _ p (c .before .before .before .before .before .before .before .before .before .write-record .ensures []) k,
+      count-fits (stateOf (g .args .m) []) _ _ _ _ p (a-write .write-record .ensures []) o,
       events-ordered _ _ _ _ p,
       events-fit _ _ _ _ p,
       behind-none _ _,
@@ -47,12 +52,18 @@ run-requires c κs =
 
 reply-of-requires : tie.Need-reply-of-requires
 reply-of-requires c κs =
-    let r = c .before .before .before .before .before .run .ensures in
-    let a = c .before .before .before .before .before .before .before .before .before .before .before .before .before .before .before .before .before .before .before .before .args in
+    let a-run = c .before .before .before .before .before in
+    let r = a-run .run .ensures in
+    let i = a-run .before .before .before .if1 .left in
+    let k = a-run .before .before .before .before .refusal-number .ensures .0 in
+    let a-verdict = a-run .before .before .before .before .before in
+    let v = a-verdict .call-verdict .ensures in
+    let a-write = a-verdict .before .before .before .before .before in
+    let a = a-write .before .before .before .before .before .args in
     let s = stateOf (a .m) (now (a .memory)) in
-    let w = c .before .before .before .before .before .before .before .before .before .before .before .before .before .before .before .write-record .ensures (now (a .memory)) in (
-      subst (λ j. j ≤ 1000000) (sym (r .1 .1 .0)) (few-steps s _ _ _ _ _ _ w (c .before .before .before .before .before .before .before .before .before .before .call-verdict .ensures) (c .before .before .before .before .before .before .before .before .before .refusal-number .ensures .0) (c .before .before .before .before .before .before .before .before .if1 .left)),
-      subst (λ j. j ≤ 1000000) (sym (r .1 .1 .1 .0)) (few-records s _ _ _ _ _ _ w (c .before .before .before .before .before .before .before .before .before .before .call-verdict .ensures) (c .before .before .before .before .before .before .before .before .before .refusal-number .ensures .0) (c .before .before .before .before .before .before .before .before .if1 .left)),
+    let w = a-write .write-record .ensures (now (a .memory)) in (
+      subst (λ j. j ≤ 1000000) (sym (r .1 .1 .0)) (few-steps s _ _ _ _ _ _ w v k i),
+      subst (λ j. j ≤ 1000000) (sym (r .1 .1 .1 .0)) (few-records s _ _ _ _ _ _ w v k i),
     )
 
 returns-2 : tie.Need-returns-2

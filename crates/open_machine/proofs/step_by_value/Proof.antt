@@ -73,14 +73,16 @@ cast-reply-2 c = search needs
 
 mul-reply-2 : tie.Need-mul-reply-2
 mul-reply-2 c =
-    let s = c .before .before .before .before .before .before .before .before .before .before .before .before .before .before .before .before .before in
+    let a-step = c .before .before .before .before .before in
+    let s = a-step .before .before .before .before .before .before .before .before .before .before .before .before in
     let h = bit-le (not (s .args .m .halted)) in
     omega arith
 
 add-reply : tie.Need-add-reply
 add-reply c =
-    let h = bit-le (c .before .before .before .before .before .step .result .machine .halted) in
-    let s = c .before .before .before .before .before .before .before .before .before .before .before .before .before .before .before .before .before in
+    let a-step = c .before .before .before .before .before in
+    let h = bit-le (a-step .step .result .machine .halted) in
+    let s = a-step .before .before .before .before .before .before .before .before .before .before .before .before in
     let k = bit-le (not (s .args .m .halted)) in
     omega arith
 

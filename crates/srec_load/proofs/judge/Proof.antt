@@ -5,10 +5,11 @@ use lib.ListN.{length, drop}
 use borrow.Author.Needs.{needs}
 use borrow.Author.Tests.{not-true, not-false}
 use Rattle.lines.specs.Lines.{linesOf}
+use Rattle.lines.proofs.Laws.{lines-end}
 use Rattle.srec.specs.Record.{isAccepted}
 use Rattle.srec.specs.Load.{verdictFrom, verdictOf}
 use Rattle.srec.proofs.Laws.{verdict-missing, fault-none}
-use Rattle.srec_load.proofs.Laws.{judge-fault, judge-end, judge-more, lines-end}
+use Rattle.srec_load.proofs.Laws.{judge-fault, judge-end, judge-more}
 use Rattle.srec_load.proofs.judge.Statement.{statement}
 use Rattle.srec_load.proofs.judge.Tie as tie
 

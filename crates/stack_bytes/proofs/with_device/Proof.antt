@@ -3,7 +3,8 @@ use mathlib.Core.Path.{_≡_, sym, ap, _∙_}
 use denote.Ref.{now}
 use borrow.Author.Needs.{needs}
 use borrow.Author.Tests.{not-true, not-false}
-use Rattle.stack_need.specs.Need.{greater, costOf}
+use Rattle.machine.specs.Depth.{greater}
+use Rattle.stack_need.specs.Need.{costOf}
 use Rattle.stack_bytes.proofs.with_device.Statement.{statement}
 use Rattle.stack_bytes.proofs.with_device.Tie as tie
 

@@ -16,7 +16,8 @@ returns c =
     let memory = e .1 .0 in
     let state = e .1 .1 .0 in
     let resumes = call-resumes (now (a .memory)) (now (a .state)) (now (a .events)) (now (a .log)) (a .n) _ _ memory state in
-    let figure = e .1 .1 .1 .1 ∙ call-carried (now (a .memory)) (now (a .state)) (now (a .events)) (now (a .log)) (a .n) (now (a .deepest)) in
+    let carried = call-carried (now (a .memory)) (now (a .state)) (now (a .events)) (now (a .log)) (a .n) (now (a .deepest)) in
+    let figure = e .1 .1 .1 .1 ∙ carried in
     (e .0, (memory, (state, (e .1 .1 .1 .0, (figure, resumes)))))
 
 pub xm23-run-spec : {M : Type 1} → statement M

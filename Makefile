@@ -80,7 +80,7 @@ replay: $(if $(FOUND),$(ARCHIVE))
 	@[ -n $(call quoted,$(FOUND)) ] || { echo 'make replay: FOUND=build/fuzz/.. is missing: a saved difference' >&2; exit 2; }
 	@scripts/oracle.sh fuzz replay $(call quoted,$(FOUND))
 
-bench: $(ARCHIVE) target/staticlib/libprobe.a build/libxm23_fast.a build/srec build/xm23
+bench: $(ARCHIVE) target/staticlib/libprobe.a build/libxm23_fast.a build/layouts/libxm23_layouts.a build/srec build/xm23
 	@cargo bench $(ORACLE) --bench decode
 	@cargo bench $(ORACLE) --bench operations
 	@cargo bench $(ORACLE) --bench run
@@ -110,6 +110,10 @@ build/libxm23_fast.a: bench/xm23_fast.c
 	@mkdir -p build
 	@gcc -std=gnu11 -O2 -Wall -Wextra -Werror -c -o build/xm23_fast.o $<
 	@ar rcs $@ build/xm23_fast.o
+
+# Both of them in two code layouts, where objcopy is here.
+build/layouts/libxm23_layouts.a: $(ARCHIVE) build/libxm23_fast.a scripts/layouts.sh
+	@scripts/layouts.sh
 
 # What a crate is made of: its files and those of the crates that it stands on, which crates.txt has above it. Where one
 # is newer, has come or has gone, rt is asked, and proves what has changed.

@@ -1,6 +1,7 @@
 //! Time of assembling 65,536 bytes of source in 3,000 lines with 1,024 names: the proved library beside the oracle, in
-//! this process, and xm23 asm as a program. Every outcome is compared before it is timed. Last, instructions
-//! of the host per byte of source, where valgrind is here. The run fails where the library takes 10 ms or more.
+//! this process, and xm23 asm as a program; and of 65,536 lines that use a name each. Every outcome is compared before
+//! it is timed. Last, instructions of the host per byte of the first source, where valgrind is here. The run fails where
+//! the library takes 10 ms or more for it.
 //!
 //! `assemble once` makes one call, for `valgrind --tool=callgrind --toggle-collect=xm23_assemble`.
 
@@ -60,6 +61,13 @@ fn program() -> Vec<u8> {
     lines.join("\n").into_bytes().into_iter().chain([b'\n']).collect()
 }
 
+/// 65,536 lines: 1,024 names, each with a value of a byte, and a byte by name in every other line.
+fn long_program() -> Vec<u8> {
+    let names = (0..NAMES).map(|i| format!("NAME{i} EQU #{}\n", i % 128));
+    let bytes = (0..MEMORY - NAMES - 1).map(|i| format!(" BYTE NAME{}\n", i % NAMES));
+    names.chain(bytes).chain([" END\n".to_string()]).collect::<String>().into_bytes()
+}
+
 /// The best time of some, in milliseconds.
 fn best(mut run: impl FnMut()) -> f64 {
     let time = |_| {
@@ -70,13 +78,13 @@ fn best(mut run: impl FnMut()) -> f64 {
     (0..TURNS).map(time).fold(f64::INFINITY, f64::min)
 }
 
-fn input() -> Input {
-    Input { memory: vec![0; MEMORY], source: program() }
+fn input(source: Vec<u8>) -> Input {
+    Input { memory: vec![0; MEMORY], source }
 }
 
 /// A call on the same input each time, which does again what is done; and the memory that it leaves.
-fn time(call: Assembler) -> (f64, Vec<u8>) {
-    let mut input = input();
+fn time(call: Assembler, source: &[u8]) -> (f64, Vec<u8>) {
+    let mut input = input(source.to_vec());
     assert_eq!(call(&mut input), 0);
     let memory = input.memory.clone();
     let best = best(|| {
@@ -115,15 +123,20 @@ fn instructions() -> Option<f64> {
 
 fn main() {
     if env::args().any(|word| word == "once") {
-        black_box(library::assemble(&mut input()));
+        black_box(library::assemble(&mut input(program())));
         return;
     }
     let source = program();
     assert_eq!((source.len(), source.iter().filter(|&&b| b == b'\n').count()), (MEMORY, LINES));
-    let ((ours, memory), (oracle, right)) = (time(library::assemble), time(oracle_assemble));
-    assert!(memory == right, "another image");
     println!("{:34} {:>10} {:>10} {:>8}", "assemble, ms", "Rattle", "oracle", "ratio");
-    println!("{:34} {ours:10.3} {oracle:10.3} {:8.2}", "65,536 bytes in 3,000 lines", ours / oracle);
+    let row = |name: &str, source: &[u8]| {
+        let ((ours, memory), (oracle, right)) = (time(library::assemble, source), time(oracle_assemble, source));
+        assert!(memory == right, "another image");
+        println!("{name:34} {ours:10.3} {oracle:10.3} {:8.2}", ours / oracle);
+        ours
+    };
+    let ours = row("65,536 bytes in 3,000 lines", &source);
+    row("65,536 lines, a name in each", &long_program());
     match as_program() {
         Some(time) => println!("{:34} {time:10.3}", "as a program, xm23 asm"),
         None => println!("{:34} {:>10}", "as a program, xm23 asm", "not here"),

@@ -1,17 +1,20 @@
-//! Steps per second of the run call: the proved library, the C interpreter of bench/ and the oracle, on the same inputs
-//! in one run. Every workload's outcome is compared before it is timed, and the C interpreter is held against the oracle
-//! on random inputs first.
+//! Speed of the run call: the proved library, the C interpreter of bench/ and the oracle, on the same inputs in one
+//! run. Every workload's outcome is compared before it is timed, and the C interpreter is held against the oracle on
+//! random inputs first. A time of the first two is the best of two code layouts (engines/mod.rs).
 //!
-//! Last, instructions of the host per step, where valgrind is here; `run counts` prints these alone, and `run WORKLOAD
-//! rattle` (or c, oracle, journal, back) runs one workload once, for such a count. A run with a journal of 1,024 records,
-//! and going back by all of them, stand beside the plain run.
+//! Beside the times, instructions of the host per step, where valgrind is here. `run counts` prints the rows that have
+//! them and no more, `run times` all without them, and `run WORKLOAD rattle` (or c, oracle, journal, back) runs one
+//! workload once, for such a count. A run with a journal of 1,024 records, and going back by all of them, stand beside
+//! the plain run.
 
 mod callgrind;
+mod engines;
 #[path = "../tests/library/journal.rs"]
 mod library_journal;
 mod rows;
 
 use callgrind::instructions;
+use engines::{layouts, Engine, C, LAYOUTS, RATTLE};
 use library_journal::LIBRARY;
 use oracle::assemble::assemble;
 use oracle::inputs::{input, Input, KINDS};
@@ -19,74 +22,23 @@ use oracle::journal::{Held, Journal, MAX_JOURNAL};
 use oracle::journal_compare::ORACLE;
 use oracle::machine::{self, event_record, Event, Machine};
 use oracle::random::Random;
-use std::time::Instant;
+use std::fmt::Display;
+use std::time::{Duration, Instant};
 
-/// How often the fast engines are timed.
-const TURNS: usize = 15;
+/// The rows are timed one after the other, and that so often, since a machine has slow minutes; the best time counts.
+const PASSES: usize = 5;
+/// How often a row's fast engines are timed in a pass at least, and for how long.
+const TURNS: usize = 5;
+const WHILE: Duration = Duration::from_millis(60);
 
-type Call =
-    unsafe extern "C" fn(*mut u8, usize, *mut u8, usize, *const u8, usize, *mut u8, usize, *mut u32, u64) -> u64;
-
-#[link(name = "xm23", kind = "static")]
-extern "C" {
-    fn xm23_run(
-        m: *mut u8,
-        ml: usize,
-        r: *mut u8,
-        rl: usize,
-        e: *const u8,
-        el: usize,
-        l: *mut u8,
-        ll: usize,
-        d: *mut u32,
-        n: u64,
-    ) -> u64;
-}
-
-#[link(name = "xm23_fast", kind = "static")]
-extern "C" {
-    fn xm23_fast_run(
-        m: *mut u8,
-        ml: usize,
-        r: *mut u8,
-        rl: usize,
-        e: *const u8,
-        el: usize,
-        l: *mut u8,
-        ll: usize,
-        d: *mut u32,
-        n: u64,
-    ) -> u64;
-}
-
-#[derive(Clone, Copy)]
-enum Engine {
-    C(Call),
-    Oracle,
-}
-
-const ENGINES: [(&str, Engine); 3] =
-    [("rattle", Engine::C(xm23_run)), ("c", Engine::C(xm23_fast_run)), ("oracle", Engine::Oracle)];
-
-impl Engine {
-    /// Runs an input in place.
-    fn run(self, i: &mut Input) -> u64 {
-        match self {
-            Engine::Oracle => i.replied(),
-            // Four buffers, each lent for its own length, and a number.
-            Engine::C(call) => unsafe {
-                let Input { memory, record, events, log, deepest, n } = i;
-                let (m, r, l) = (memory.as_mut_ptr(), record.as_mut_ptr(), log.as_mut_ptr());
-                call(m, memory.len(), r, record.len(), events.as_ptr(), events.len(), l, log.len(), deepest, *n)
-            },
-        }
-    }
-}
-
+/// Machines, and how many calls run each of them on.
 struct Workload {
     name: &'static str,
     inputs: Vec<Input>,
+    calls: usize,
 }
+
+type Group = fn() -> Vec<Workload>;
 
 /// The loop of every application here: R1 is kept in memory, R2 points at it.
 const MIXED: &str = "
@@ -217,10 +169,22 @@ fn machines() -> Vec<Input> {
 }
 
 fn one(name: &'static str, input: Input) -> Workload {
-    Workload { name, inputs: vec![input] }
+    Workload { name, inputs: vec![input], calls: 1 }
 }
 
-/// What is timed and counted.
+/// What is only timed.
+fn timed() -> Vec<Workload> {
+    vec![
+        Workload { name: "640 machines", inputs: machines(), calls: 1 },
+        one("mixed, n 10,000", mixed(0, 10_000)),
+        one("mixed, n 100,000", mixed(0, 100_000)),
+        one("mixed, 256 events", mixed(256, 1_000_000)),
+        one("mixed, 1,024 events", mixed(1_024, 1_000_000)),
+        one("mixed, 4,096 events", mixed(4_096, 1_000_000)),
+    ]
+}
+
+/// What is timed and counted: long runs first.
 fn loops() -> Vec<Workload> {
     vec![
         one("tight loop", start(TIGHT, 1_000_000)),
@@ -229,19 +193,6 @@ fn loops() -> Vec<Workload> {
         one("screen, logged", screen(true, 1_000_000)),
         one("screen, ENA clear", screen(false, 1_000_000)),
     ]
-}
-
-/// What is timed.
-fn workloads() -> Vec<Workload> {
-    let more = [
-        Workload { name: "640 machines", inputs: machines() },
-        one("mixed, n 10,000", mixed(0, 10_000)),
-        one("mixed, n 100,000", mixed(0, 100_000)),
-        one("mixed, 256 events", mixed(256, 1_000_000)),
-        one("mixed, 1,024 events", mixed(1_024, 1_000_000)),
-        one("mixed, 4,096 events", mixed(4_096, 1_000_000)),
-    ];
-    loops().into_iter().chain(more).collect()
 }
 
 /// A line that waits, of a priority that is not above the program's.
@@ -258,24 +209,29 @@ fn asleep(n: u64) -> Input {
     Input { events: bursts(120, n), ..start(&source, n) }
 }
 
-/// A workload cut into calls of so many steps each.
-fn calls(name: &'static str, each: u64) -> Workload {
-    Workload { name, inputs: vec![mixed(0, each); 1_000] }
+/// And short ones.
+fn kinds() -> Vec<Workload> {
+    let row = |(name, source)| one(name, start(&format!(" ORG $1000\n{source}\n"), 100_000));
+    let all = [one("a line waiting", waiting(100_000)), one("sleep", asleep(100_000))];
+    all.into_iter().chain(rows::ROWS.map(row)).collect()
 }
 
-/// What is only counted.
-fn counted() -> Vec<Workload> {
-    let row = |(name, source)| one(name, start(&format!(" ORG $1000\n{source}\n"), 100_000));
-    let mut all = vec![one("a line waiting", waiting(100_000)), one("sleep", asleep(100_000))];
-    all.extend([("calls of 1 step", 1), ("calls of 10", 10), ("calls of 100", 100)].map(|(name, n)| calls(name, n)));
-    all.extend(rows::ROWS.map(row));
+/// And calls of few steps: with a long list of events lent each time; slices of the run of one machine; and of 1,000
+/// machines one each, whose memories are too many for a cache.
+fn cut() -> Vec<Workload> {
+    let calls = |(name, n)| Workload { name, inputs: vec![mixed(0, n); 1_000], calls: 1 };
+    let slices = |(name, n)| Workload { calls: 1_000, ..one(name, mixed(0, n)) };
+    let lent = Input { n: 1, ..mixed(4_096, 1_000_000) };
+    let mut all = vec![Workload { calls: 100, ..one("1 step, 4,096 events lent", lent) }];
+    all.extend([("slices of 1 step", 1), ("slices of 10", 10), ("slices of 100", 100)].map(slices));
+    all.extend([("calls of 1 step", 1), ("calls of 10", 10), ("calls of 100", 100)].map(calls));
     all
 }
 
 /// Calls of no steps, with a long list of events and with none.
 fn lists() -> Vec<Workload> {
     let list = |name, events| one(name, Input { n: 0, ..mixed(events, 1_000_000) });
-    vec![list("no list", 0), list("list", 4_096), one("one step", Input { n: 1, ..mixed(4_096, 1_000_000) })]
+    vec![list("no list", 0), list("list", 4_096)]
 }
 
 // ---- with a journal
@@ -313,52 +269,135 @@ fn once_kept(inputs: &[Input], back: bool) -> (f64, u64) {
     (time, steps)
 }
 
-/// Host instructions a step, by callgrind, with how many times faster the proved library is, and what a record of an
-/// event list costs. The counts do not depend on where the linker lays the code; the times do, by up to a fifth.
-fn print_counts() {
+// ---- the table
+
+/// Rows that should reach so much of the C interpreter's speed, LEAST of it.
+const BOUND: [&str; 11] = [
+    "tight loop",
+    "mixed loop",
+    "a line waiting",
+    "bytes",
+    "calls",
+    "branches",
+    "polling",
+    "LD, ST with increment",
+    "LDR, STR",
+    "SETCC, CLRCC, SETPRI",
+    "CEX",
+];
+const LEAST: f64 = 0.8;
+
+/// Prints a line of the table; the last two columns are left out where there is one layout.
+fn print_line<T: Display>(name: &str, cells: impl IntoIterator<Item = T>) {
+    print!("{name:26}");
+    let columns = if LAYOUTS.len() == 1 { 7 } else { 9 };
+    cells.into_iter().take(columns).zip([11, 9, 11, 9, 8, 9, 9, 9, 8]).for_each(|(cell, wide)| print!("{cell:>wide$}"));
+    println!();
+}
+
+fn print_heading() {
+    println!("Rattle: the proved library; C: the interpreter of bench/. Speed is Rattle's, that of the other being 1.");
+    println!("{}", layouts());
+    print!("{:26}{:>20}{:>28}{:>18}", "", "host instructions", "million steps a second", "speed beside");
+    println!("{}", if LAYOUTS.len() == 1 { "" } else { "      beside C in" });
+    print_line("a step of", ["Rattle", "C", "Rattle", "C", "oracle", "C", "oracle", "layout a", "b"]);
+}
+
+/// A number with the digits that tell something.
+fn short(x: f64) -> String {
+    format!("{x:.*}", if x < 1.0 { 4 } else { 1 })
+}
+
+/// A row of the table: a workload, its steps, host instructions a step of Rattle and C, and the best times so far.
+struct Row {
+    workload: Workload,
+    steps: f64,
+    counts: [String; 2],
+    laid: [[f64; 2]; LAYOUTS.len()],
+    oracle: f64,
+}
+
+impl Row {
+    fn new(workload: Workload, counted: bool) -> Row {
+        let steps = compare(&workload) as f64;
+        let of = |(function, engine)| counted.then(|| instructions(function, &[workload.name, engine])).flatten();
+        let count = |of: Option<f64>| of.map_or("-".into(), |count| short(count / steps));
+        let counts = [("xm23_run", "rattle"), ("xm23_fast_run", "c")].map(of).map(count);
+        Row { workload, steps, counts, laid: [[f64::INFINITY; 2]; LAYOUTS.len()], oracle: f64::INFINITY }
+    }
+
+    /// A pass: the oracle once, then the others by turns.
+    fn time(&mut self) {
+        self.oracle = self.oracle.min(once(Engine::Oracle, &self.workload).0);
+        let began = Instant::now();
+        for _ in (0..).take_while(|&turn| turn < TURNS || began.elapsed() < WHILE) {
+            for (time, engine) in self.laid.iter_mut().flatten().zip(LAYOUTS.into_iter().flatten()) {
+                *time = time.min(once(engine, &self.workload).0);
+            }
+        }
+    }
+
+    /// The best time of the proved library and of the C interpreter.
+    fn best(&self) -> [f64; 2] {
+        [0, 1].map(|engine| self.laid.iter().map(|times| times[engine]).fold(f64::INFINITY, f64::min))
+    }
+
+    /// The proved library's speed beside the C interpreter's.
+    fn speed(&self) -> f64 {
+        let [ours, c] = self.best();
+        c / ours
+    }
+
+    fn print(&self) {
+        let [ours, c] = self.best();
+        let per_second = [ours, c, self.oracle].map(|time| short(self.steps / 1e6 / time));
+        let beside = [c / ours, self.oracle / ours].into_iter().chain(self.laid.map(|[ours, c]| c / ours));
+        let cells = self.counts.iter().cloned().chain(per_second).chain(beside.map(|speed| format!("{speed:.2}")));
+        print_line(self.workload.name, cells);
+    }
+}
+
+/// The table of some groups, and of each whether its host instructions are counted.
+fn print_table(groups: &[(Group, bool)]) {
+    print_heading();
+    let mut rows: Vec<Row> =
+        groups.iter().flat_map(|&(group, counted)| group().into_iter().map(move |w| Row::new(w, counted))).collect();
+    (0..PASSES).for_each(|_| rows.iter_mut().for_each(Row::time));
+    rows.iter().for_each(Row::print);
+    let behind = rows.iter().filter(|row| BOUND.contains(&row.workload.name) && row.speed() < LEAST);
+    let behind: Vec<String> = behind.map(|row| format!("{} {:.2}", row.workload.name, row.speed())).collect();
+    let behind = if behind.is_empty() { "none".into() } else { behind.join("; ") };
+    println!("of the {} rows that should have {LEAST} of the speed of C, below it: {behind}", BOUND.len());
+}
+
+/// What a record of an event list costs, and a journal, in instructions of the host.
+fn print_costs() {
     let of = |name: &str| instructions("xm23_run", &[name, "rattle"]);
     let Some((none, list)) = of("no list").zip(of("list")) else {
-        return println!("host instructions a step: valgrind is not here");
+        return println!("host instructions: valgrind is not here");
     };
-    println!("{:28} {:>9} {:>9} {:>10} {:>12}", "host instructions a step", "Rattle", "C", "than C", "than oracle");
-    for workload in loops().iter().chain(&counted()) {
-        let steps = compare(workload) as f64;
-        let count = |(function, engine)| instructions(function, &[workload.name, engine]).unwrap_or(f64::NAN) / steps;
-        let [ours, c] = [("xm23_run", "rattle"), ("xm23_fast_run", "c")].map(count);
-        let [time, of_c, of_oracle] = best(&workload.inputs);
-        println!("{:28} {ours:9.1} {c:9.1} {:10.2} {:12.2}", workload.name, of_c / time, of_oracle / time);
-    }
     println!("a record of a list of 4,096, n 0: {:.1} host instructions", (list - none) / 4_096.0);
-    let step = of("one step").unwrap_or(f64::NAN);
-    println!("a call of one step with 4,096 events lent: {step:.0} host instructions");
     print_journal();
 }
 
 /// Runs a workload once, and gives the seconds, the steps and what the runs left.
-fn once(engine: Engine, inputs: &[Input]) -> (f64, u64, Vec<Input>) {
-    let mut work = inputs.to_vec();
+fn once(engine: Engine, workload: &Workload) -> (f64, u64, Vec<Input>) {
+    let (mut work, mut steps) = (workload.inputs.clone(), 0);
     let clock = Instant::now();
-    let steps = work.iter_mut().map(|i| machine::steps_of(engine.run(i))).sum();
-    (clock.elapsed().as_secs_f64(), steps, work)
-}
-
-/// The best time of each engine, turn by turn; the oracle sits out after its third.
-fn best(inputs: &[Input]) -> [f64; 3] {
-    let mut best = [f64::INFINITY; 3];
-    for turn in 0..TURNS {
-        for (i, (_, engine)) in ENGINES.into_iter().enumerate().filter(|&(i, _)| i < 2 || turn < 3) {
-            best[i] = best[i].min(once(engine, inputs).0);
+    for i in &mut work {
+        for _ in 0..workload.calls {
+            steps += machine::steps_of(engine.run(i));
         }
     }
-    best
+    (clock.elapsed().as_secs_f64(), steps, work)
 }
 
 /// How many times longer the proved library takes for one input than for another.
 fn ratio(inputs: [Input; 2]) -> f64 {
-    let mut best = [f64::INFINITY; 2];
-    for _ in 0..2 * TURNS {
-        for (time, input) in best.iter_mut().zip(&inputs) {
-            *time = time.min(once(ENGINES[0].1, std::slice::from_ref(input)).0);
+    let (workloads, mut best) = (inputs.map(|input| one("", input)), [f64::INFINITY; 2]);
+    for [engine, _] in [LAYOUTS; PASSES * TURNS].into_iter().flatten() {
+        for (time, workload) in best.iter_mut().zip(&workloads) {
+            *time = time.min(once(engine, workload).0);
         }
     }
     best[0] / best[1]
@@ -370,50 +409,52 @@ fn hold_to_the_oracle() {
         for seed in 1..=5_000 {
             let mut theirs = input(kind, seed);
             let mut ours = theirs.clone();
-            let replies = [Engine::C(xm23_fast_run).run(&mut ours), Engine::Oracle.run(&mut theirs)];
+            let replies = [C.run(&mut ours), Engine::Oracle.run(&mut theirs)];
             assert!(replies[0] == replies[1] && ours == theirs, "{kind:?} {seed}: the C interpreter differs");
         }
     }
 }
 
-/// Compares the outcomes of a workload, and gives its steps.
+/// Compares the outcomes of a workload, of every engine in every layout, and gives its steps.
 fn compare(workload: &Workload) -> u64 {
-    let [ours, c, oracle] = ENGINES.map(|(_, engine)| once(engine, &workload.inputs));
-    assert!(ours.2 == oracle.2 && ours.1 == oracle.1, "{}: the proved library differs", workload.name);
-    assert!(c.2 == oracle.2 && c.1 == oracle.1, "{}: the C interpreter differs", workload.name);
-    oracle.1
+    let (_, steps, left) = once(Engine::Oracle, workload);
+    for engines in [[RATTLE, C]].into_iter().chain(LAYOUTS) {
+        for (engine, name) in engines.into_iter().zip(["the proved library", "the C interpreter"]) {
+            let ours = once(engine, workload);
+            assert!(ours.1 == steps && ours.2 == left, "{}: {name} differs", workload.name);
+        }
+    }
+    steps
 }
 
 fn main() {
     let words: Vec<String> = std::env::args().skip(1).filter(|word| !word.starts_with('-')).collect();
     if let [name, engine] = &words[..] {
         // One after the other: a workload that is not asked for is not made.
-        let groups: [fn() -> Vec<Workload>; 4] = [loops, counted, lists, workloads];
+        let groups: [Group; 5] = [loops, kinds, lists, cut, timed];
         let workload = groups.iter().flat_map(|group| group()).find(|w| w.name == name).expect("a workload");
         if ["journal", "back"].contains(&engine.as_str()) {
             return println!("{} steps", once_kept(&workload.inputs, engine == "back").1);
         }
-        let engine = ENGINES.iter().find(|e| e.0 == engine).expect("an engine").1;
-        println!("{} steps", once(engine, &workload.inputs).1);
+        let engines = [("rattle", RATTLE), ("c", C), ("oracle", Engine::Oracle)];
+        let engine = engines.iter().find(|e| e.0 == engine).expect("an engine").1;
+        println!("{} steps", once(engine, &workload).1);
         return;
     }
     if words == ["counts"] {
-        return print_counts();
+        print_table(&[(loops, true), (kinds, true), (cut, true)]);
+        return print_costs();
+    }
+    if words == ["times"] {
+        return print_table(&[(loops, false), (kinds, false), (cut, false), (timed, false)]);
     }
     hold_to_the_oracle();
-    let all = workloads();
-    println!("millions of steps a second, and how many times faster the proved library is");
-    println!("{:20} {:>9} {:>9} {:>9} {:>10} {:>12}", "", "Rattle", "C", "oracle", "than C", "than oracle");
-    for workload in &all {
-        let steps = compare(workload) as f64 / 1e6;
-        let [ours, c, oracle] = best(&workload.inputs).map(|time| steps / time);
-        println!("{:20} {ours:9.1} {c:9.1} {oracle:9.1} {:10.2} {:12.2}", workload.name, ours / c, ours / oracle);
-    }
+    print_table(&[(loops, true), (kinds, true), (cut, true), (timed, false)]);
     let events = ratio([mixed(4_096, 1_000_000), mixed(0, 1_000_000)]);
     println!("a million steps with 4,096 events take {events:.2} times those with none");
     let screen = ratio([screen(true, 1_000_000), screen(false, 1_000_000)]);
     println!("a character every 10th step, logged, takes {screen:.2} times the same with ENA clear");
-    let kept = (0..TURNS).map(|_| once_kept(&[mixed(0, 1_000_000)], false).0).fold(f64::INFINITY, f64::min);
+    let kept = (0..PASSES * TURNS).map(|_| once_kept(&[mixed(0, 1_000_000)], false).0).fold(f64::INFINITY, f64::min);
     println!("mixed loop with a journal: {:.1} million steps a second", 1.0 / kept);
-    print_counts();
+    print_costs();
 }

@@ -12,7 +12,8 @@ pub const ROWS: [(&str, &str); 13] = [
     ),
     (
         "self-modifying",
-        " MOVL $0E,R3\n MOVH $10,R3\n LD R3,R0\nLOOP ST R0,R3\n ADD #1,R1\n XOR R1,R4\n BRA LOOP\n ADD #2,R1\n BRA LOOP",
+        " MOVL $0E,R3\n MOVH $10,R3\n LD R3,R0\nLOOP ST R0,R3\n ADD #1,R1\n XOR R1,R4\n BRA LOOP
+         ADD #2,R1\n BRA LOOP",
     ),
     ("LD, ST with increment", "LOOP LD R2+,R0\n ST R0,-R2\n LD +R2,R0\n ST R0,R2-\n BRA LOOP"),
     ("LDR, STR", "LOOP LDR R2,#4,R0\n ADD R0,R1\n STR R1,R2,#6\n BRA LOOP"),

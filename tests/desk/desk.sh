@@ -1,6 +1,6 @@
 #!/usr/bin/env bash
-# xm23 as people use it and misuse it: desk.sh [PROGRAM], build/xm23 if none is named. Every subcommand, each status, bad
-# papers, programs, names, folders and disks; a marking that is killed and goes on. Pages and results to the byte.
+# xm23 as people use it and misuse it: desk.sh [PROGRAM], build/xm23 if none is named. Every subcommand, each status,
+# bad papers, programs, names, folders and disks; a marking that is killed and goes on. Pages and results to the byte.
 set -u
 cd "$(dirname "$0")/../.."
 . tests/shell/expect.sh
@@ -26,10 +26,12 @@ expect 'help to a full disk' 3 '' 'standard output: cannot be written: No space 
 
 # ---- completion
 complete_words() { # WORD..
-    bash -c '. desk/completion.bash; COMP_WORDS=("$@"); COMP_CWORD=$(($# - 1)); _xm23; echo "${COMPREPLY[*]}"' - "$@" 2> /dev/null
+    bash -c '. desk/completion.bash; COMP_WORDS=("$@"); COMP_CWORD=$(($# - 1)); _xm23; echo "${COMPREPLY[*]}"' - "$@" \
+        2> /dev/null
 }
 same 'subcommands' "$(complete_words xm23 '')" 'run mark report back asm dis stack card --help --version'
-same 'every subcommand is completed' "$("$xm23" --help | sed -n 's/^  \([a-z]*\) .*/\1/p' | tr '\n' ' ')" 'run mark report back asm dis stack card '
+same 'every subcommand is completed' "$("$xm23" --help | sed -n 's/^  \([a-z]*\) .*/\1/p' | tr '\n' ' ')" \
+    'run mark report back asm dis stack card '
 same 'options' "$(complete_words xm23 mark -)" '-j -o -0 --help'
 same 'files' "$(complete_words xm23 run examples/sitting/sum)" 'examples/sitting/sum.paper'
 same 'folders' "$(complete_words xm23 mark -o examples/sit)" 'examples/sitting'
@@ -38,14 +40,16 @@ same 'folders' "$(complete_words xm23 mark -o examples/sit)" 'examples/sitting'
 expect 'run' 0 "$line" '' "$xm23" run "$paper" "$sound"
 expect 'run -l' 0 "$line.*reason +0 +all steps are done.*PSW +0003 +priority 0, previous 0, flags: Z C.*" '' \
     "$xm23" run -l "$paper" "$sound"
-same 'the legend is that of legend.py' "$("$xm23" run -l "$paper" "$sound")" "$(echo "$line" | python3 -B scripts/legend.py)"
+same 'the legend is that of legend.py' "$("$xm23" run -l "$paper" "$sound")" \
+    "$(echo "$line" | python3 -B scripts/legend.py)"
 same 'a legend on a terminal' "$(python3 -B tests/desk/terminal.py "$xm23" run "$paper" "$sound" | tr -d '\r')" \
     "$(echo "$line" | python3 -B scripts/legend.py)"
 same 'the screen' "$("$xm23" run -l "$paper" "${sound%/*}/screen.asm" 2> /dev/null | tail -1)" '  screen  SUM'
 expect 'no screen without -l' 1 '0 120 004D 0005 .*0 1' '.*another line.*' "$xm23" run "$paper" "${sound%/*}/screen.asm"
 expect 'another line' 1 '0 120 0019 .*' "$paper:21: another line was expected: $line" \
     "$xm23" run "$paper" "${sound%/*}/unsound.s19"
-expect 'a refused program' 1 'R11' ".*refused.s19:2: R11: a line's checksum differs.*" "$xm23" run "$paper" "${sound%/*}/refused.s19"
+expect 'a refused program' 1 'R11' ".*refused.s19:2: R11: a line's checksum differs.*" \
+    "$xm23" run "$paper" "${sound%/*}/refused.s19"
 expect 'run with one word' 2 '' "$(usage run)" "$xm23" run "$paper"
 expect 'run with three words' 2 '' "$(usage run)" "$xm23" run "$paper" "$sound" "$sound"
 expect 'no such paper' 3 '' 'no/paper: No such file.*' "$xm23" run no/paper "$sound"
@@ -134,7 +138,7 @@ wrong '3:' "R7: an event's step is below.*" 'steps 5\n2 1 3\n1 1 3\n'
 wrong '4:' 'R13: two events share step and device: lines 2 and 4' 'steps 5\n1 1 3\n1 2 3\n1 1 4\n'
 { echo 'steps 5'; for i in $(seq 4097); do echo "$i 0 0"; done; } > "$room/p.paper"
 expect 'too many events' 1 '' "$room/p.paper:4098: R5: .*" "$xm23" run "$room/p.paper" "$sound"
-head -c 300000 /dev/urandom > "$room/p.paper"
+noise 300000 > "$room/p.paper"
 expect 'random bytes' 1 '' "$room/p.paper:[0-9]+: .*" "$xm23" run "$room/p.paper" "$sound"
 right 'the least paper' '0 0 0000 0000 0000 0000 0000 0000 0000 1000 0000 00 00000000 0' 'steps 0'
 right 'CR LF, blanks, comments' '0 0 0005 0000 0000 0000 0000 0000 0000 1000 0000 00 00000000 0' \
@@ -156,7 +160,8 @@ expect 'run of a source' 0 "$line" '' "$xm23" run "$paper" "$source"
 cp "$source" "$room/CAPITAL.ASM"
 expect 'run of a source in capitals' 0 "$line" '' "$xm23" run "$paper" "$room/CAPITAL.ASM"
 cp "$source" "$room/source.txt"
-expect 'a source that has not its name' 1 'R10' ".*source.txt:1: R10: .* \(a source's name ends in .asm\).*" "$xm23" run "$paper" "$room/source.txt"
+expect 'a source that has not its name' 1 'R10' ".*source.txt:1: R10: .* \(a source's name ends in .asm\).*" \
+    "$xm23" run "$paper" "$room/source.txt"
 cp "$sound" "$room/records.asm"
 expect 'S-records that have its name' 1 'R17' '.*records.asm:4: R17: .*' "$xm23" run "$paper" "$room/records.asm"
 printf ' ORG $1000\n ADD R0,R1\n BRA X\nEND\n' > "$room/name.asm"
@@ -168,7 +173,8 @@ expect 'vectors of a source' 0 '.*0       5         0.*8 bytes' '' "$xm23" stack
 # A start: the place of the first instruction, wherever data, names and later lines are.
 started() { # PC SOURCE
     printf '%b' "$2" > "$room/a.asm"
-    same "starts at $1" "$("$xm23" dis "$room/a.asm" | tail -1) $("$xm23" asm "$room/a.asm" | tail -1 | cut -c 5-8)" "start $1 $1"
+    same "starts at $1" "$("$xm23" dis "$room/a.asm" | tail -1) $("$xm23" asm "$room/a.asm" | tail -1 | cut -c 5-8)" \
+        "start $1 $1"
 }
 started 0000 'END'
 started 0000 ' BYTE #1\nEND'
@@ -207,11 +213,14 @@ assembled 1 '' 'xm23: -s : R17: .*' 'END' -s ''
 assembled 1 '' 'xm23: -s 1236: R17: .*' 'END' -s 1236
 assembled 1 '' 'xm23: -s #1\\x0AEND: R17: .*' 'END' -s $'#1\nEND'
 assembled 1 '' 'xm23: -s #70000: R19: .*' 'END' -s '#70000'
-assembled 0 $'S1050000AB024D\nS10500100140A9\nS9030010EC' '' ' WORD $1234\n ORG #0\n BYTE $AB\n BYTE #2\n BSS #4\n ORG $10\n ADD R0,R1\nEND\n'
+assembled 0 $'S1050000AB024D\nS10500100140A9\nS9030010EC' '' \
+    ' WORD $1234\n ORG #0\n BYTE $AB\n BYTE #2\n BSS #4\n ORG $10\n ADD R0,R1\nEND\n'
 assembled 0 $'S104FFFFEE0F\nS9030000FC' '' ' ORG $FFFF\n BYTE $EE\nEND\n'
-assembled 0 $'               1\\.   ORG #1\n0001  EE       2\\.   BYTE \\$EE\n               3\\.  END\nstart 0000' '' ' ORG #1\r\n BYTE $EE\r\nEND\r\n' -l
-assembled 0 $'0000  1234     1\\.   WORD \\$1234\n               2\\.   ORG #1\n0001  AB       3\\.   BYTE \\$AB\n               4\\.  END\nstart 0000' '' \
-    ' WORD $1234\r\n ORG #1\n BYTE $AB\nEND\nnot read' -l
+assembled 0 $'               1\\.   ORG #1\n0001  EE       2\\.   BYTE \\$EE\n               3\\.  END\nstart 0000' '' \
+    ' ORG #1\r\n BYTE $EE\r\nEND\r\n' -l
+listing=$'0000  1234     1\\.   WORD \\$1234\n               2\\.   ORG #1\n'
+listing+=$'0001  AB       3\\.   BYTE \\$AB\n               4\\.  END\nstart 0000'
+assembled 0 "$listing" '' ' WORD $1234\r\n ORG #1\n BYTE $AB\nEND\nnot read' -l
 assembled 0 $'.*0000  70  .*' '' ' ORG #70000\nA BSS #0\n ORG #0\n BYTE (A-$11100)\nEND' -l
 { for i in $(seq 32768); do echo 'WORD #7'; done; echo END; } > "$room/all.asm"
 expect 'all of memory' 0 'S113[^Z]*S113FFF0[0-9A-F]*'$'\n''S9030000FC' '' "$xm23" asm "$room/all.asm"
@@ -228,7 +237,7 @@ expect 'asm of no file' 3 '' 'no/such: No such .*' "$xm23" asm no/such
 expect 'asm of a folder' 3 '' '/: is a folder' "$xm23" asm /
 expect 'asm of an endless file' 3 '' '/dev/zero: is longer than 16777216 bytes' "$xm23" asm /dev/zero
 expect 'asm to a full disk' 3 '' '/dev/full: cannot be written: .*' "$xm23" asm -o /dev/full "$source"
-head -c 100000 /dev/urandom > "$room/noise.asm"
+noise 100000 > "$room/noise.asm"
 expect 'asm of random bytes' 1 '' "$room/noise.asm:[0-9]+: R17: .*" "$xm23" asm "$room/noise.asm"
 
 # ---- report and back
@@ -236,10 +245,13 @@ cd examples/sitting || exit 1
 "$xm23" mark -o "$room/two" sum.paper programs/sound.s19 programs/unsound.s19
 expect 'report' 0 '' '' "$xm23" report -o "$room/report.html" sum.paper programs/sound.s19
 same 'the page of mark' "$(cat "$room/report.html")" "$(cat "$room"/two/pages/*-sound*)"
-expect 'report of another line' 1 '' "sum.paper:21: another line was expected: $line" "$xm23" report -o "$room/report.html" sum.paper programs/unsound.s19
+expect 'report of another line' 1 '' "sum.paper:21: another line was expected: $line" \
+    "$xm23" report -o "$room/report.html" sum.paper programs/unsound.s19
 same 'to standard output' "$("$xm23" report sum.paper programs/unsound.s19 2> /dev/null)" "$(cat "$room/report.html")"
-same 'with its steps' "$(grep -c '^<tr><td class="n">[0-9]*</td><td class="n">1016</td><td class="n">3FFF</td>' "$room/report.html")" 32
-expect 'report of a refused program' 1 '' "programs/refused.s19: R11: line 2: a line's checksum differs" "$xm23" report -o "$room/report.html" sum.paper programs/refused.s19
+same 'with its steps' \
+    "$(grep -c '^<tr><td class="n">[0-9]*</td><td class="n">1016</td><td class="n">3FFF</td>' "$room/report.html")" 32
+expect 'report of a refused program' 1 '' "programs/refused.s19: R11: line 2: a line's checksum differs" \
+    "$xm23" report -o "$room/report.html" sum.paper programs/refused.s19
 same 'says so' "$(grep -c '>Refused: not the expected line<' "$room/report.html")" 1
 same 'and has no walk' "$(grep -c 'id="walk"' "$room/report.html")" 0
 rm "$room/report.html"
@@ -247,34 +259,43 @@ expect 'report of no program' 3 '' 'no/such: No such .*' "$xm23" report -o "$roo
 expect 'report of a folder' 3 '' '/: is a folder' "$xm23" report -o "$room/report.html" sum.paper /
 expect 'report of no paper' 3 '' 'no/such: No such .*' "$xm23" report -o "$room/report.html" no/such programs/sound.s19
 same 'then there is no page' "$(ls "$room" | grep report)" ''
-expect 'report to a full disk' 3 '' '/dev/full: cannot be written: .*' "$xm23" report -o /dev/full sum.paper programs/sound.s19
-expect 'report into no folder' 3 '' 'no/such/x: cannot be written: .*' "$xm23" report -o no/such/x sum.paper programs/sound.s19
+expect 'report to a full disk' 3 '' '/dev/full: cannot be written: .*' \
+    "$xm23" report -o /dev/full sum.paper programs/sound.s19
+expect 'report into no folder' 3 '' 'no/such/x: cannot be written: .*' \
+    "$xm23" report -o no/such/x sum.paper programs/sound.s19
 expect 'report of one word' 2 '' "$(usage report)" "$xm23" report sum.paper
 expect 'report of three words' 2 '' "$(usage report)" "$xm23" report sum.paper a b
 reported() { # WHAT PAPER LINE
     printf '%b' "$2" > "$room/p.paper"
-    same "$1" "$("$xm23" report "$room/p.paper" programs/sound.s19 | sed -n 's/.*<pre class="line">\(.*\)<\/pre>.*/\1/p')" "$3"
+    same "$1" "$("$xm23" report "$room/p.paper" programs/sound.s19 |
+        sed -n 's/.*<pre class="line">\(.*\)<\/pre>.*/\1/p')" "$3"
 }
 reported 'a run of no step' 'steps 0' '0 0 0000 0000 0000 0000 0000 0000 0000 1000 0000 00 00000000 0'
 reported 'a halted machine' 'steps 9\nstart HALTED=1' '1 0 0000 0000 0000 0000 0000 0000 0000 1000 0000 00 00000000 0'
 same 'has no walk' "$("$xm23" report "$room/p.paper" programs/sound.s19 | grep -c 'id="walk"')" 0
 back='step        PC    word  instruction               what it left'
-expect 'back' 0 "$back"$'\n''119 .*BRA     \$1016.*'$'\n''104 .*before step 104: R0 001F R1 0120 .* SP 0800 PC 1016 PSW 0003 CEX 00 lines 00000000' '' \
+before='before step 104: R0 001F R1 0120 .* SP 0800 PC 1016 PSW 0003 CEX 00 lines 00000000'
+expect 'back' 0 "$back"$'\n''119 .*BRA     \$1016.*'$'\n'"104 .*$before" '' \
     "$xm23" back sum.paper programs/sound.s19
 same 'sixteen steps' "$("$xm23" back sum.paper programs/sound.s19 | wc -l)" 18
-expect 'back -n' 0 "$back"$'\n''119 .*'$'\n''118 .*'$'\n''before step 118: .*' '' "$xm23" back -n 2 sum.paper programs/sound.s19
+expect 'back -n' 0 "$back"$'\n''119 .*'$'\n''118 .*'$'\n''before step 118: .*' '' \
+    "$xm23" back -n 2 sum.paper programs/sound.s19
 same 'to the start' "$("$xm23" back -n 1024 sum.paper programs/sound.s19 | tail -1)" \
     'before step 0: R0 0000 R1 0000 R2 0000 R3 0000 R4 0000 LR FFFF SP 0800 PC 1000 PSW 0000 CEX 00 lines 00000000'
 same 'back -w' "$("$xm23" back -w 120 sum.paper programs/sound.s19 | tail -2 | head -1)" \
     '50          1014  5C01  ST      R0,R1             0120: 1F 00'
-same 'back -w, of a frame' "$("$xm23" back -w '$07FE' sum.paper programs/sound.s19 | tail -2 | head -1)" \
-    '65          1016        line of device 1 accepted  SP 07F8, PSW 0060, 07F8: 00 00 03 00 FF FF 16 10, device 1 status 1D'
+entry='65          1016        line of device 1 accepted  '
+entry+='SP 07F8, PSW 0060, 07F8: 00 00 03 00 FF FF 16 10, device 1 status 1D'
+same 'back -w, of a frame' "$("$xm23" back -w '$07FE' sum.paper programs/sound.s19 | tail -2 | head -1)" "$entry"
 same 'back -w, of a device' "$("$xm23" back -w 5 sum.paper programs/screen.asm | tail -2 | head -1)" \
     '6           100C  5C41  ST.B    R0,R1             device 2 data 4D'
-expect 'back to nobody' 1 '' '.*sound.s19: none of the last 120 steps wrote \$4321' "$xm23" back -w 4321 sum.paper programs/sound.s19
-expect 'back to nobody so near' 1 '' '.*sound.s19: none of the last 5 steps wrote \$0120' "$xm23" back -n 5 -w 120 sum.paper programs/sound.s19
+expect 'back to nobody' 1 '' '.*sound.s19: none of the last 120 steps wrote \$4321' \
+    "$xm23" back -w 4321 sum.paper programs/sound.s19
+expect 'back to nobody so near' 1 '' '.*sound.s19: none of the last 5 steps wrote \$0120' \
+    "$xm23" back -n 5 -w 120 sum.paper programs/sound.s19
 expect 'back of a refused program' 1 '' '.*refused.s19:2: R11: .*' "$xm23" back sum.paper programs/refused.s19
-expect 'back of a halt' 0 "$back"$'\n''4 .*illegal; halt: fault 8, illegal word, with FLT set'$'\n''3 .*illegal; fault 8, illegal word .*' '' \
+halt='4 .*illegal; halt: fault 8, illegal word, with FLT set'
+expect 'back of a halt' 0 "$back"$'\n'"$halt"$'\n''3 .*illegal; fault 8, illegal word .*' '' \
     "$xm23" back -n 2 sum.paper programs/halting.s19
 printf 'steps 0' > "$room/p.paper"
 expect 'back from nowhere' 1 '' '.*: no step was taken' "$xm23" back "$room/p.paper" programs/sound.s19
@@ -284,7 +305,8 @@ for word in '-n 0' '-n 1025' '-n x' '-n -1' '-n' '-w' '-w 10000' '-w x' '-w -1' 
 done
 expect 'back of one word' 2 '' "$(usage back)" "$xm23" back sum.paper
 expect 'back of no program' 3 '' 'no/such: No such .*' "$xm23" back sum.paper no/such
-expect 'back to a full disk' 3 '' 'standard output: cannot be written: .*' full "$xm23" back sum.paper programs/sound.s19
+expect 'back to a full disk' 3 '' 'standard output: cannot be written: .*' \
+    full "$xm23" back sum.paper programs/sound.s19
 cd "$top" || exit 1
 
 # ---- dis, card, stack
@@ -337,9 +359,11 @@ expect 'mark again' 1 '' '' "$xm23" mark -j 1 -o "$room/marks" sum.paper program
 same 'the same bytes, by one worker too' "$(sum "$room/marks")" "$first"
 expect 'all as expected' 0 '' '' "$xm23" mark -o "$room/one" sum.paper programs/sound.s19
 same 'the source on its page' "$(grep -c '^1000  6829     3.  START   MOVLZ' "$room"/marks/pages/*screen*)" 1
-same 'the screen on its page' "$(sed -n '/<h2>Screen/,/<.pre>/p' "$room"/marks/pages/*screen*)" $'<h2>Screen</h2>\n<pre class="screen">SUM</pre>'
+same 'the screen on its page' "$(sed -n '/<h2>Screen/,/<.pre>/p' "$room"/marks/pages/*screen*)" \
+    $'<h2>Screen</h2>\n<pre class="screen">SUM</pre>'
 if [ $# -eq 0 ]; then
-    expect 'make run' 0 'build/sitting/index.html .*build/sitting/results.csv .*' '' make -s --no-print-directory -C "$top" run
+    expect 'make run' 0 'build/sitting/index.html .*build/sitting/results.csv .*' '' \
+        make -s --no-print-directory -C "$top" run
     same 'marks the sitting' "$(cat "$top/build/sitting/results.csv")" "$(cat expected.csv)"
 fi
 marked() { printf 'programs/%s.s19\0' sound unsound | "$xm23" mark -o "$room/listed" -0 sum.paper; }
@@ -353,14 +377,18 @@ cd "$top" || exit 1
     for byte in 3C 2C 22 0A 00 80 C3 A9 26; do printf '        MOVLZ $%s,R0\n        ST.B R0,R1\n' "$byte"; done
     printf 'HERE    BRA HERE\n        END\n'
 } > "$room/odd.asm"
-printf '        ORG $1000\n        MOVLZ $05,R1\n        MOVLZ $41,R0\nHERE    ST.B R0,R1\n        BRA HERE\n        END\n' > "$room/long.asm"
+printf '        %s\n' 'ORG $1000' 'MOVLZ $05,R1' 'MOVLZ $41,R0' > "$room/long.asm"
+printf 'HERE    ST.B R0,R1\n        BRA HERE\n        END\n' >> "$room/long.asm"
 for name in odd long; do "$xm23" asm -o "$room/$name.s19" "$room/$name.asm"; done
 printf 'steps 20002\ndevice 2 $10\n' > "$room/screen.paper"
 expect 'mark of screens' 0 '' '' "$xm23" mark -o "$room/screens" "$room/screen.paper" "$room/odd.s19" "$room/long.s19"
 same 'odd bytes in a field' "$(sed -n 2p "$room/screens/results.csv" | cut -d , -f 6-7)" '"<,""\x0A\x00\x80é&"'
-same 'on a page' "$(sed -n '/<h2>Screen/,/<.pre>/p' "$room"/screens/pages/*odd*)" $'<h2>Screen</h2>\n<pre class="screen">&#60;,&#34;\n\\x00\\x80é&#38;</pre>'
-same 'a long one is cut' "$(sed -n 3p "$room/screens/results.csv" | cut -d , -f 6 | sed 's/A\{8192\}/8192/')" '8192 .. (10000 bytes)'
-same 'and on its page' "$(sed -n '/<h2>Screen/,/<.pre>/p' "$room"/screens/pages/*long* | sed 's/A\{2048\}/2048/' | tr '\n' ' ')" \
+same 'on a page' "$(sed -n '/<h2>Screen/,/<.pre>/p' "$room"/screens/pages/*odd*)" \
+    $'<h2>Screen</h2>\n<pre class="screen">&#60;,&#34;\n\\x00\\x80é&#38;</pre>'
+same 'a long one is cut' "$(sed -n 3p "$room/screens/results.csv" | cut -d , -f 6 | sed 's/A\{8192\}/8192/')" \
+    '8192 .. (10000 bytes)'
+same 'and on its page' \
+    "$(sed -n '/<h2>Screen/,/<.pre>/p' "$room"/screens/pages/*long* | sed 's/A\{2048\}/2048/' | tr '\n' ' ')" \
     '<h2>Screen</h2> <p>The first 2048 bytes of 10000.</p> <pre class="screen">2048</pre> '
 same 'these are well-formed too' "$(python3 -B tests/desk/pages.py "$room"/screens/pages/*.html)" 'all well-formed'
 
@@ -383,25 +411,28 @@ cp "$sound" "$room/a b.s19"
 cp "$sound" "$room/a
 b.s19"
 cp "$sound" "$room/\"quoted\", <b>&.s19"
-head -c 100000 /dev/urandom > "$room/noise"
+noise 100000 > "$room/noise"
 long=$(printf 'x%.0s' $(seq 100000))
 expect 'a long name is a row' 1 '' '' "$xm23" mark -o "$room/long" "$paper" "$long"
 same 'with its name' "$(sed -n 's/^\(x*\),,File name too long.*/\1/p' "$room/long/results.csv" | wc -c)" 100001
-expect 'bad files are rows' 1 '' '' timeout 60 "$xm23" mark -o "$room/bad" "$paper" no/such / "$room/fifo" /dev/zero "$room/noise" \
-    "$room/empty" "$room/a b.s19" $'no\nsuch' "$room/a
+expect 'bad files are rows' 1 '' '' timeout 60 "$xm23" mark -o "$room/bad" "$paper" no/such / "$room/fifo" /dev/zero \
+    "$room/noise" "$room/empty" "$room/a b.s19" $'no\nsuch' "$room/a
 b.s19" "$room/\"quoted\", <b>&.s19" "$sound" "$sound"
-same 'twelve rows' "$(python3 -c 'import csv, sys; print(len(list(csv.DictReader(open(sys.argv[1], newline="")))))' "$room/bad/results.csv")" 12
+same 'twelve rows' "$(python3 -c 'import csv, sys
+print(len(list(csv.DictReader(open(sys.argv[1], newline="")))))' "$room/bad/results.csv")" 12
 same 'five are as expected' "$(python3 -c 'import csv, sys
 print([r["agrees"] for r in csv.DictReader(open(sys.argv[1], newline=""))].count("yes"))' "$room/bad/results.csv")" 5
 same 'what is said' "$(python3 -c 'import csv, sys
-for r in list(csv.DictReader(open(sys.argv[1], newline="")))[:6]: print(r["line"] + ":" + r["says"].split(":")[0])' "$room/bad/results.csv")" \
+for r in list(csv.DictReader(open(sys.argv[1], newline="")))[:6]:
+    print(r["line"] + ":" + r["says"].split(":")[0])' "$room/bad/results.csv")" \
     ':No such file or directory
 :is a folder
 :is no regular file
 :is no regular file
 R10:line 1
 R10:line 1'
-same 'pages are well-formed' "$(python3 -B tests/desk/pages.py "$room"/bad/index.html "$room"/bad/pages/*.html)" 'all well-formed'
+same 'pages are well-formed' "$(python3 -B tests/desk/pages.py "$room"/bad/index.html "$room"/bad/pages/*.html)" \
+    'all well-formed'
 # Without rights, as somebody who is not root.
 anybody=
 [ "$(id -u)" -ne 0 ] || anybody='setpriv --reuid=65534 --regid=65534 --clear-groups'
@@ -410,13 +441,15 @@ if [ -z "$anybody" ] || $anybody "$xm23" --version > /dev/null 2>&1; then
     chmod 0 "$room/a b.s19"
     mkdir -m 777 "$room/rights"
     mkdir -m 555 "$room/closed"
-    expect 'a program without rights is a row' 1 '' '' $anybody "$xm23" mark -o "$room/rights/marks" "$paper" "$room/a b.s19" "$sound"
+    expect 'a program without rights is a row' 1 '' '' \
+        $anybody "$xm23" mark -o "$room/rights/marks" "$paper" "$room/a b.s19" "$sound"
     same 'that says so' "$(sed -n 2p "$room/rights/marks/results.csv" | cut -d , -f 3)" 'Permission denied'
     expect 'a folder without rights' 3 '' "$room/closed/marks: cannot be made: Permission denied" \
         $anybody "$xm23" mark -o "$room/closed/marks" "$paper" "$sound"
     expect 'a page without rights' 3 '' "$room/closed/page.html: cannot be written: Permission denied" \
         $anybody "$xm23" report -o "$room/closed/page.html" "$paper" "$sound"
-    expect 'a paper without rights' 3 '' "$room/a b.s19: Permission denied" $anybody "$xm23" run "$room/a b.s19" "$sound"
+    expect 'a paper without rights' 3 '' "$room/a b.s19: Permission denied" \
+        $anybody "$xm23" run "$room/a b.s19" "$sound"
     chmod 755 "$room/closed"
 fi
 mkdir -p "$room/full/pages"
@@ -428,7 +461,8 @@ same 'has no results' "$(ls "$room/full")" pages
 for name in index.html results.csv; do
     mkdir -p "$room/full_$name"
     ln -s /dev/full "$room/full_$name/$name.part"
-    expect "a disk that is full at $name" 3 '' ".*$name: cannot be written: No space left.*" "$xm23" mark -o "$room/full_$name" "$paper" "$sound"
+    expect "a disk that is full at $name" 3 '' ".*$name: cannot be written: No space left.*" \
+        "$xm23" mark -o "$room/full_$name" "$paper" "$sound"
     same 'leaves no results and no part' "$(ls "$room/full_$name" | grep -v index.html)" pages
     expect 'and goes on' 0 '' '' "$xm23" mark -o "$room/full_$name" "$paper" "$sound"
     same 'to the same bytes' "$(sum "$room/full_$name")" "$(sum "$room/plain")"
@@ -440,22 +474,28 @@ import random, sys
 dice, room = random.Random(1), sys.argv[1]
 touch = ["ST.B R3,R4", "ST R0,R1+", "ADD R1,R0", "SWPB R0", "SVC #12", "LD R1,R2"]
 lines = ["ORG $1000", "MOVLZ $05,R4", "MOVLZ $3C,R3", "MOVH $30,R1", "TOP ADD #1,R0"]
-lines += [dice.choice(touch + [f"STR R0,R1,#{dice.randrange(-32, 32) * 2}", f"MOVLZ ${dice.randrange(256):02X},R2"]) for _ in range(900)]
+lines += [dice.choice(touch + [f"STR R0,R1,#{dice.randrange(-32, 32) * 2}", f"MOVLZ ${dice.randrange(256):02X},R2"])
+          for _ in range(900)]
 lines += ["BL TOP", "ORG $0F00", "ADD R0,R2", "MOV LR,PC"]
 with open(room + "/worst.asm", "w") as file:
     file.write("".join(line + " ;" + "<" * 40 + "\n" for line in lines) + " END ;" + "<" * 9000 + "\n")
 with open(room + "/worst.paper", "w") as file:
-    file.write(f"title {'&' * 70000}\nsteps 1000000\ndevice 2 $10\nstart SP=$0F00 R1=$3000\nvector 12 $60 $0F00\nexpect {'<' * 70000}\n")
+    file.write(f"title {'&' * 70000}\nsteps 1000000\ndevice 2 $10\nstart SP=$0F00 R1=$3000\nvector 12 $60 $0F00\n")
+    file.write(f"expect {'<' * 70000}\n")
     for at in range(0x2000, 0xFF00, 256):
         file.write(f"bytes {at} {' '.join(str(dice.randrange(1, 256)) for _ in range(256))}\n")
 END
 expect 'the longest pages' 1 '' '' "$xm23" mark -o "$room/worst" "$room/worst.paper" "$room/worst.asm" "$long"
 same 'they are as long as they may be' "$(python3 -B tests/desk/pages.py "$room"/worst/pages/*.html)" 'all well-formed'
 
-(exec 9> "$room/bad/.lock"; exec python3 -c 'import fcntl, sys, time; fcntl.flock(9, fcntl.LOCK_EX); print("locked", flush=True); time.sleep(60)' > "$room/locked") &
+(exec 9> "$room/bad/.lock"; exec python3 -c 'import fcntl, time
+fcntl.flock(9, fcntl.LOCK_EX)
+print("locked", flush=True)
+time.sleep(60)' > "$room/locked") &
 holder=$!
 while [ ! -s "$room/locked" ]; do sleep 0.01; done
-expect 'two markings in one folder' 3 '' "$room/bad: another marking is at work there .*" "$xm23" mark -o "$room/bad" "$paper" "$sound"
+expect 'two markings in one folder' 3 '' "$room/bad: another marking is at work there .*" \
+    "$xm23" mark -o "$room/bad" "$paper" "$sound"
 kill "$holder" && wait "$holder" 2> /dev/null
 same 'leaves its results' "$(test -e "$room/bad/results.csv" && echo yes)" yes
 
@@ -465,7 +505,7 @@ for i in $(seq -w 300); do cp "$sound" "$room/many/$i.s19"; done
 "$xm23" asm -o "$room/many/001.s19" "${sound%/*}/screen.asm"
 sed 's/^steps.*/steps 1000000/; /^expect/d' "$paper" > "$room/long.paper"
 expect 'a whole marking' 0 '' '' "$xm23" mark -o "$room/whole" "$room/long.paper" "$room"/many/*.s19
-(exec "$xm23" mark -j 2 -o "$room/killed" "$room/long.paper" "$room"/many/*.s19) 2> /dev/null &
+(exec nice -n 19 "$xm23" mark -j 2 -o "$room/killed" "$room/long.paper" "$room"/many/*.s19) 2> /dev/null &
 while [ "$(ls "$room/killed/pages" 2> /dev/null | wc -l)" -lt 20 ]; do sleep 0.01; done
 kill -9 $! && wait $! 2> /dev/null
 sleep 0.3

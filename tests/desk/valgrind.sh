@@ -5,14 +5,16 @@ cd "$(dirname "$0")/../.."
 . tests/shell/expect.sh
 paper=examples/sitting/sum.paper
 programs=examples/sitting/programs
-head -c 5000 /dev/urandom > "$room/noise"
+noise 5000 > "$room/noise"
 printf 'steps 5\n1 1 3\n1 1 4\n' > "$room/twins.paper"
 
-# clean WHAT STATUS WORD..: under valgrind, whose own status is 99.
+# clean WHAT STATUS WORD..: under valgrind, whose own status is 99 and whose own words go to a file.
 clean() {
     local what=$1 status=$2
     shift 2
-    expect "$what" "$status" '.*' '[^=]*' valgrind -q --error-exitcode=99 --leak-check=full build/xm23 "$@"
+    expect "$what" "$status" '.*' '.*' \
+        valgrind -q --log-file="$room/found" --error-exitcode=99 --leak-check=full build/xm23 "$@"
+    same "$what: valgrind" "$(cat "$room/found")" ''
 }
 clean 'help' 0 --help
 clean 'run' 0 run -l "$paper" "$programs/sound.s19"

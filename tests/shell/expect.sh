@@ -37,6 +37,11 @@ expect() {
     like "$what: errors" "$(cat "$room/err")" "$err"
 }
 
+# noise COUNT: random bytes, the same in every run.
+noise() {
+    python3 -c 'import random, sys; sys.stdout.buffer.write(random.Random(23).randbytes(int(sys.argv[1])))' "$1"
+}
+
 count() {
     echo "$passed passed, $failed failed"
     [ "$failed" -eq 0 ]

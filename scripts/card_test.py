@@ -66,8 +66,8 @@ def listed(word):
     return " ".join(line.split()[2:])
 
 
-# The flags that 01 has each operation change: BIC and BIS Z alone, SVC all of them, from its vector. A machine that takes
-# a step is awake, so CLRCC changes no SLP.
+# The flags that 01 has each operation change: BIC and BIS Z alone, SVC all of them, from its vector. A machine that
+# takes a step is awake, so CLRCC changes no SLP.
 FLAGS = {"BIC": "Z", "BIS": "Z", "DADD": "ZC", "SETCC": "VSNZC"}
 FLAGS.update(dict.fromkeys(("ADD", "ADDC", "SUB", "SUBC", "CMP", "CLRCC", "SVC"), "VNZC"))
 FLAGS.update(dict.fromkeys(("AND", "OR", "XOR", "BIT", "COMP"), "NZ"))

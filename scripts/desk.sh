@@ -1,6 +1,6 @@
 #!/usr/bin/env bash
-# desk.sh PROGRAM [FLAG..]: compiles desk/ over target/staticlib/libxm23.a, with more flags where they are given; SHA-256
-# is libcrypto's. What pages carry, desk/*.css, desk/*.html and desk/*.js, becomes build/assets.c.
+# desk.sh PROGRAM [FLAG..]: compiles desk/ over target/staticlib/libxm23.a, with more flags where they are given;
+# SHA-256 is libcrypto's. What pages carry, desk/*.css, desk/*.html and desk/*.js, becomes build/assets.c.
 set -eu -o pipefail
 program=$1
 shift

@@ -6,8 +6,8 @@
     edits.py CRATE/EDIT ..   these
 
 The crates are proved already ('rt prove' or 'rt check'). A crate with several edits is first checked as it is, and each
-edit then over a copy of what that check kept, so that only what the edit reaches is checked again. The logs, whose first
-error is a fact that fails, are build/edits/CRATE/EDIT.log. The last line is 'N passed, M failed'.
+edit then over a copy of what that check kept, so that only what the edit reaches is checked again. The logs, whose
+first error is a fact that fails, are build/edits/CRATE/EDIT.log. The last line is 'N passed, M failed'.
 """
 import collections
 import glob
@@ -63,7 +63,8 @@ def edited(folder, path):
     """The files that an edit changes, with their new texts. Each old text stands there exactly once."""
     texts = {}
     for file, old, new in pairs(path):
-        if file is None or not re.match(r"(src|specs|proofs)/", file) or ".." in file or not os.path.isfile(f"{folder}/{file}"):
+        named = file is not None and re.match(r"(src|specs|proofs)/", file) and ".." not in file
+        if not named or not os.path.isfile(f"{folder}/{file}"):
             raise BadEdit(f"'{file}' is no file of the crate")
         if file not in texts:
             with open(f"{folder}/{file}", encoding="utf-8") as text:
@@ -113,7 +114,8 @@ class Worker(threading.Thread):
             self.tally.begin(self, crate)
             status, _ = self.check(crate, f"{LOGS}/{crate}/.unedited.log")
             if status:
-                self.tally.end(self, crate, f"NOT TRIED: as it is the crate is not proved ({LOGS}/{crate}/.unedited.log)", len(edits))
+                why = f"NOT TRIED: as it is the crate is not proved ({LOGS}/{crate}/.unedited.log)"
+                self.tally.end(self, crate, why, len(edits))
                 return
             shutil.move(used, kept)
         for edit in edits:

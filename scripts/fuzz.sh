@@ -16,8 +16,8 @@ clang=${CLANG:-clang}
 out=build/fuzz
 oracle='--release --offline --locked --manifest-path oracle/Cargo.toml --target-dir oracle/target'
 warn='-std=gnu11 -g -O2 -Wall -Wextra -Werror -Iinclude'
-mkdir -p "$out/seeds" "$out/corpus" "$out/corpus_journal" "$out/corpus_words" "$out/corpus_srec" "$out/corpus_stack" "$out/corpus_sources" \
-    "$out/sources"
+mkdir -p "$out/seeds" "$out/corpus" "$out/corpus_journal" "$out/corpus_words" "$out/corpus_srec" "$out/corpus_stack" \
+    "$out/corpus_sources" "$out/sources"
 
 # The compiler and its runtime may not be here: the rest of 'make fuzz' does without.
 if ! command -v "$clang" > /dev/null; then

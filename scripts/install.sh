@@ -1,7 +1,7 @@
 #!/usr/bin/env bash
-# install.sh install|uninstall PREFIX DESTDIR: the header, both libraries, xm23.pc, the manual pages, print_state, and xm23
-# with its completion, below DESTDIR/PREFIX. What is installed reads nothing of this folder. Uninstalling removes the same files, of any
-# version, and no folder.
+# install.sh install|uninstall PREFIX DESTDIR: the header, both libraries, xm23.pc, the manual pages, print_state, and
+# xm23 with its completion, below DESTDIR/PREFIX. What is installed reads nothing of this folder. Uninstalling removes
+# the same files, of any version, and no folder.
 set -eu -o pipefail
 if [ $# -ne 3 ] || [[ $1 != install && $1 != uninstall || $2 != /* ]]; then
     echo "install.sh: PREFIX '${2:-}' is not an absolute path" >&2
@@ -25,7 +25,8 @@ pages() {
     done
 }
 
-files="bin/print_state bin/xm23 include/xm23.h lib/libxm23.a lib/libxm23.so.$version lib/libxm23.so.$major_minor lib/libxm23.so
+files="bin/print_state bin/xm23 include/xm23.h
+    lib/libxm23.a lib/libxm23.so.$version lib/libxm23.so.$major_minor lib/libxm23.so
     lib/pkgconfig/xm23.pc share/man/man1/print_state.1 share/man/man1/xm23.1 share/man/man3/xm23.3 share/man/man5/xm23.5
     share/bash-completion/completions/xm23 $(pages)"
 

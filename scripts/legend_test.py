@@ -16,9 +16,11 @@ REST = legend("0 0 0000 0000 0000 0000 0000 0000 0800 1000 0000 00 00000000 0")
 
 CASES = {
     "a run that halted": says(RUN, ("reason", "halted"), ("PSW", "priority 0, previous 7, flags: SLP N FLT"),
-                              ("CEX", "true count 1, false count 3, condition held"), ("lines", "events waiting: 1 of device 0, 2 of device 1, 15 of device 7"),
+                              ("CEX", "true count 1, false count 3, condition held"),
+                              ("lines", "events waiting: 1 of device 0, 2 of device 1, 15 of device 7"),
                               ("depth", "frames open together at most")),
-    "a run that did its steps": says(REST, ("reason", "all steps are done"), ("CEX", "clear"), ("lines", "events waiting: none")),
+    "a run that did its steps": says(REST, ("reason", "all steps are done"), ("CEX", "clear"),
+                                     ("lines", "events waiting: none")),
     "every field of a line has its row": [len(RUN), len(REST)] == [14, 14],
     "the depth is in base ten": [RUN[13][1], REST[13][1]] == ["333334", "0"],
     **{f"R{k}": legend(f"R{k}") == [("refusal", str(k), text)] for k, text in sentences().items()},

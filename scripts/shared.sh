@@ -1,7 +1,7 @@
 #!/usr/bin/env bash
 # Makes the shared library of the archive: shared.sh ARCHIVE LIBRARY.MAJOR.MINOR.PATCH. Its name for the loader ends in
-# MAJOR.MINOR. It takes in the whole archive and nothing else. It is refused where it exports anything but xm23_ calls, or
-# needs anything but C's memset, by which the assembler's table begins as zeros.
+# MAJOR.MINOR. It takes in the whole archive and nothing else. It is refused where it exports anything but xm23_ calls,
+# or needs anything but C's memset, by which the assembler's table begins as zeros.
 set -eu -o pipefail
 archive=$1 library=$2
 mkdir -p "$(dirname "$library")"

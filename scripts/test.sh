@@ -106,7 +106,8 @@ listing() {
 # The oracle's pages are asked for by its program, which is compiled first.
 random_papers() {
     scripts/oracle.sh report > /dev/null 2>&1 || [ $? -eq 2 ] &&
-        python3 -B tests/desk/random_runs.py "$build/xm23" target/bin/print_state oracle/target/release/examples/report 1200
+        python3 -B tests/desk/random_runs.py \
+            "$build/xm23" target/bin/print_state oracle/target/release/examples/report 1200
 }
 
 # The machines of the example host print what the program prints; by slices, all but the depth, which is a slice's own.

@@ -6,7 +6,8 @@ it, `[02 §5, for 01 Arithmetic]` where the request replaces a rule of 01. This 
 - on a tag of a specs file that names no heading of 01 or no section of 02,
 - on a heading of 01 that no tag names (the misreadings aside, which no definition says), or that has no section in
   docs/TRACE.md,
-- on a section of 02 that a tag names and that has no section in docs/TRACE.md, `## 02 §5: topic`, and the other way round,
+- on a section of 02 that a tag names and that has no section in docs/TRACE.md, `## 02 §5: topic`, and the other way
+  round,
 - on a name in docs/TRACE.md that is defined nowhere: `File.antt`: `name` (a file without a folder is of machine/specs),
   proof: `crate::function` and law: `crate/proofs/File.antt::law` and edit: `crate/edit` of a crate that is there,
   oracle: `file::test`, case: `name`,
@@ -83,7 +84,8 @@ class Trace:
             for tag in tags(path.read_text()):
                 for heading in headings_in(tag):
                     seen.add(heading)
-                    self.check(heading, f"{path.relative_to(self.root)}: [{tag}] names no heading of 01, no section of 02")
+                    file = path.relative_to(self.root)
+                    self.check(heading, f"{file}: [{tag}] names no heading of 01, no section of 02")
         for heading in OWED:
             self.check(heading in seen, f'no definition has a tag of 01 "{heading}"')
         self.requests = {heading for heading in seen if heading and heading.startswith("02 ")}

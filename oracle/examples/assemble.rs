@@ -1,6 +1,6 @@
-//! Assembles a source on standard input by the oracle: prints its verdict, `refusal line`, and where it is accepted each
-//! byte of the image in the order of the statements, `address byte` in base sixteen, one to a line. With `--hex` the
-//! input is a list of sources, each a line of hexadecimal digits, and each verdict with its image is one line.
+//! Assembles a source on standard input by the oracle: prints its verdict, `refusal line`, and where it is accepted
+//! each byte of the image in the order of the statements, `address byte` in base sixteen, one to a line. With `--hex`
+//! the input is a list of sources, each a line of hexadecimal digits, and each verdict with its image is one line.
 
 use oracle::assemble::judge;
 use std::io::{Read, Write};

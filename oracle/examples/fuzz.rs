@@ -1,8 +1,8 @@
 //! Compares the library with the oracle on more inputs than the gate does. `fuzz INPUTS [SEED]` runs so many of each
 //! kind, a tenth as many sessions with a journal, a quarter as many of each kind of S-record file and of source, and as
-//! many calls for stack bytes, from a seed of the clock if none is given, and saves the first difference under build/fuzz.
-//! `fuzz replay FOLDER` runs a saved input again, or a saved call on a journal, for S-records or source. The exit status is 1 where there is a difference, and 2, with one
-//! line, where the command cannot be carried out.
+//! many calls for stack bytes, from a seed of the clock if none is given, and saves the first difference under
+//! build/fuzz. `fuzz replay FOLDER` runs a saved input again, or a saved call on a journal, for S-records or source.
+//! The exit status is 1 where there is a difference, and 2, with one line, where the command cannot be carried out.
 
 #[path = "../tests/library/mod.rs"]
 mod library;

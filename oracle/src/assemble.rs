@@ -1,5 +1,5 @@
-//! The assembler of 02 §12, written from 02, its readings and 003 alone: a source is judged whole, 17, then 18, then 19,
-//! and gives the bytes of its image, or the refusal and the line at fault. Simple comes before fast.
+//! The assembler of 02 §12, written from 02, its readings and 003 alone: a source is judged whole, 17, then 18, then
+//! 19, and gives the bytes of its image, or the refusal and the line at fault. Simple comes before fast.
 
 pub mod source;
 pub mod words;
@@ -70,8 +70,8 @@ fn above(statement: &Statement) -> bool {
     matches!(statement, Statement::Org(_) | Statement::Equ(_) | Statement::Bss(_))
 }
 
-/// The first line at fault by 18. A name is given where it stands before a statement, or alone; the 1,025th is none, and
-/// unknown where it is used.
+/// The first line at fault by 18. A name is given where it stands before a statement, or alone; the 1,025th is none,
+/// and unknown where it is used.
 pub fn named(lines: &[Line]) -> Result<(), Fault> {
     let mut given: HashMap<&str, usize> = HashMap::new();
     for (at, line) in lines.iter().enumerate() {
@@ -172,8 +172,8 @@ fn passes(place: i64, length: i64) -> bool {
     length > 0 && place + length > MEMORY as i64
 }
 
-/// The places and names of a source, or the first line at fault by 19 on the way: the value of an ORG, EQU or BSS, BSS's
-/// bytes past #FFFF, a name whose place leaves 32 signed bits.
+/// The places and names of a source, or the first line at fault by 19 on the way: the value of an ORG, EQU or BSS,
+/// BSS's bytes past #FFFF, a name whose place leaves 32 signed bits.
 pub fn placed(lines: &[Line]) -> Result<Assembled, Fault> {
     let mut made = Assembled::default();
     let mut place: i64 = 0;
@@ -260,8 +260,8 @@ pub fn content(statement: &Statement, place: i64, names: &HashMap<String, i32>) 
     (!odd && !passes(place, bytes.len() as i64)).then_some(bytes)
 }
 
-/// A source judged: 17 over the whole of it, then 18, then 19. Of two lines at fault by 19 an ORG, EQU or BSS goes first:
-/// no other value means anything before the places and names are settled.
+/// A source judged: 17 over the whole of it, then 18, then 19. Of two lines at fault by 19 an ORG, EQU or BSS goes
+/// first: no other value means anything before the places and names are settled.
 pub fn judge(text: &[u8]) -> Result<Assembled, Fault> {
     judge_lines(&read(text)?)
 }

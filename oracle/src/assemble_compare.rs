@@ -1,4 +1,5 @@
-//! The assembler's call beside the oracle, on the same inputs: reply and all of memory; and what the inputs have reached.
+//! The assembler's call beside the oracle, on the same inputs: reply and all of memory; and what the inputs have
+//! reached.
 
 use crate::assemble::source::{Factor, Line, Source, Statement};
 use crate::assemble::words::reserved;
@@ -26,16 +27,18 @@ pub fn oracle_assemble(i: &mut Input) -> u64 {
 pub enum Item {
     NoMemory,
     // 17
-    NoSource, EndMissing, LoneCr, LowerCase, OtherByte, TooDeep, NoDigits, Suffix, EndValue, EquUnnamed, WordAsName, TwoNames, Flags,
-    MovConstant, OtherForm, FormAfterOthers,
+    NoSource, EndMissing, LoneCr, LowerCase, OtherByte, TooDeep, NoDigits, Suffix, EndValue, EquUnnamed, WordAsName,
+    TwoNames, Flags, MovConstant, OtherForm, FormAfterOthers,
     // 18
     Twice, TooMany, Unknown, OrgBelow, EquBelow, BssBelow, OfItself, NameAfterValue,
     // 19
-    NumberLeaves, ResultLeaves, ByZero, OrgNegative, BssNegative, BssPast, NameFar, ByteMisfit, WordMisfit, Constant, SetPri, Svc, Cex,
-    Ldr, Str, MovNumber, MovWord, TargetWord, TargetOdd, TargetFar, LinkFar, OddCode, OddWord, PastByte, PastWord, PastCode, PlaceAfterValue,
+    NumberLeaves, ResultLeaves, ByZero, OrgNegative, BssNegative, BssPast, NameFar, ByteMisfit, WordMisfit, Constant,
+    SetPri, Svc, Cex, Ldr, Str, MovNumber, MovWord, TargetWord, TargetOdd, TargetFar, LinkFar, OddCode, OddWord,
+    PastByte, PastWord, PastCode, PlaceAfterValue,
     // accepted
-    NamedEnd, Forward, Wraps, Farthest, LinkFarthest, NegativeTarget, Overlap, NameBeyond, Plus, Minus, Times, Divided, Depth16, CrLf, Lf,
-    BothEndings, NoEnding, AfterEnd, CommentBytes, Tab, Names1024, HighOfName, HighOfNumber, LowOfBracket, EmptyImage, LastByte,
+    NamedEnd, Forward, Wraps, Farthest, LinkFarthest, NegativeTarget, Overlap, NameBeyond, Plus, Minus, Times, Divided,
+    Depth16, CrLf, Lf, BothEndings, NoEnding, AfterEnd, CommentBytes, Tab, Names1024, HighOfName, HighOfNumber,
+    LowOfBracket, EmptyImage, LastByte,
 }
 
 use Item::*;
@@ -43,12 +46,13 @@ use Item::*;
 /// Everything that must be reached, besides each operation.
 #[rustfmt::skip]
 pub const OWED: [Item; 78] = [
-    NoMemory, NoSource, EndMissing, LoneCr, LowerCase, OtherByte, TooDeep, NoDigits, Suffix, EndValue, EquUnnamed, WordAsName, TwoNames, Flags,
-    MovConstant, OtherForm, FormAfterOthers, Twice, TooMany, Unknown, OrgBelow, EquBelow, BssBelow, OfItself, NameAfterValue, NumberLeaves,
-    ResultLeaves, ByZero, OrgNegative, BssNegative, BssPast, NameFar, ByteMisfit, WordMisfit, Constant, SetPri, Svc, Cex, Ldr, Str, MovNumber,
-    MovWord, TargetWord, TargetOdd, TargetFar, LinkFar, OddCode, OddWord, PastByte, PastWord, PastCode, PlaceAfterValue, NamedEnd, Forward, Wraps,
-    Farthest, LinkFarthest, NegativeTarget, Overlap, NameBeyond, Plus, Minus, Times, Divided, Depth16, CrLf, Lf, BothEndings, NoEnding, AfterEnd,
-    CommentBytes, Tab, Names1024, HighOfName, HighOfNumber, LowOfBracket, EmptyImage, LastByte,
+    NoMemory, NoSource, EndMissing, LoneCr, LowerCase, OtherByte, TooDeep, NoDigits, Suffix, EndValue, EquUnnamed,
+    WordAsName, TwoNames, Flags, MovConstant, OtherForm, FormAfterOthers, Twice, TooMany, Unknown, OrgBelow, EquBelow,
+    BssBelow, OfItself, NameAfterValue, NumberLeaves, ResultLeaves, ByZero, OrgNegative, BssNegative, BssPast, NameFar,
+    ByteMisfit, WordMisfit, Constant, SetPri, Svc, Cex, Ldr, Str, MovNumber, MovWord, TargetWord, TargetOdd, TargetFar,
+    LinkFar, OddCode, OddWord, PastByte, PastWord, PastCode, PlaceAfterValue, NamedEnd, Forward, Wraps, Farthest,
+    LinkFarthest, NegativeTarget, Overlap, NameBeyond, Plus, Minus, Times, Divided, Depth16, CrLf, Lf, BothEndings,
+    NoEnding, AfterEnd, CommentBytes, Tab, Names1024, HighOfName, HighOfNumber, LowOfBracket, EmptyImage, LastByte,
 ];
 
 #[derive(Default)]

@@ -42,35 +42,45 @@ const NEARBY: &[u8] = b"0123456789ABCDEFRSTVNZ#$-+*/(),.;; \t\r\n\0a_:'\xFF";
 #[rustfmt::skip]
 const WRONG: &[&str] = &[
     // 17
-    "WORD", "WORD #", "WORD $", "WORD 5", "WORD # 5", "WORD #- 5", "WORD -#5", "WORD $-1", "WORD #1+#2", "WORD (#1", "WORD #1)", "WORD ()",
-    "WORD (-#1)", "WORD (#1+)", "WORD #1,#2", "WORD 'A'", "WORD R0", "WORD (R0)", "BYTE $ab", "EQU #1", "SP EQU #1", "EQ BYTE #1",
-    "ADC BYTE #1", "RET", "INC R0", "CALL X", "END #1", "ADD .B R0,R1", "ADD.BR0,R1", "ADD.X R0,R1", "SWAP.B R0,R1", "SWPB.W R0", "MOV #1,R0",
-    "ADD R0 R1", "ADD R0", "ADD R0,#1", "ADD R0,R1,R2", "SETCC", "SETCC CC", "SETCC V C", "SETCC X", "CLRCC #1", "LD +R0+,R1", "LD #1,R1",
-    "LD R0,+R1", "ST +R0,R1", "LDR R0,R1,#1", "STR R0,#1,R1", "MOVL R0,R1", "MOVL.B #1,R0", "CEX #1,#1", "CEX XX,#1,#1", "CEX EQ,#1", "BRA R0",
-    "A_B BYTE #1", "LOOP: BYTE #1", "QA QB BYTE #1", "add R0,R1", "\r", "BYTE #1\r\r", "BYTE #1\rBYTE #2", "BYTE #1\0", "QA.B BYTE #1", "R0", "EQ",
-    "WORD (((((((((((((((((#1)))))))))))))))))", "SETPRI", "SVC R0", "BSS", "ORG", "1A", "ADD. B R0,R1", "SETPRI.B #1",
+    "WORD", "WORD #", "WORD $", "WORD 5", "WORD # 5", "WORD #- 5", "WORD -#5", "WORD $-1", "WORD #1+#2", "WORD (#1",
+    "WORD #1)", "WORD ()", "WORD (-#1)", "WORD (#1+)", "WORD #1,#2", "WORD 'A'", "WORD R0", "WORD (R0)", "BYTE $ab",
+    "EQU #1", "SP EQU #1", "EQ BYTE #1", "ADC BYTE #1", "RET", "INC R0", "CALL X", "END #1", "ADD .B R0,R1",
+    "ADD.BR0,R1", "ADD.X R0,R1", "SWAP.B R0,R1", "SWPB.W R0", "MOV #1,R0", "ADD R0 R1", "ADD R0", "ADD R0,#1",
+    "ADD R0,R1,R2", "SETCC", "SETCC CC", "SETCC V C", "SETCC X", "CLRCC #1", "LD +R0+,R1", "LD #1,R1", "LD R0,+R1",
+    "ST +R0,R1", "LDR R0,R1,#1", "STR R0,#1,R1", "MOVL R0,R1", "MOVL.B #1,R0", "CEX #1,#1", "CEX XX,#1,#1", "CEX EQ,#1",
+    "BRA R0", "A_B BYTE #1", "LOOP: BYTE #1", "QA QB BYTE #1", "add R0,R1", "\r", "BYTE #1\r\r", "BYTE #1\rBYTE #2",
+    "BYTE #1\0", "QA.B BYTE #1", "R0", "EQ", "WORD (((((((((((((((((#1)))))))))))))))))", "SETPRI", "SVC R0", "BSS",
+    "ORG", "1A", "ADD. B R0,R1", "SETPRI.B #1",
     // 18
-    "WORD NOWHERE", "BRA NOWHERE", "ORG NOWHERE", "BSS (NOWHERE)", "QX EQU (QX+#1)", "QY ORG QY", "QZ BSS (QZ*#0)", "MOVH NOWHERE,R0", "BYTE (NOWHERE/#0)",
-    "ORG QBELOW", "BSS QBELOW", "QV EQU QBELOW",
+    "WORD NOWHERE", "BRA NOWHERE", "ORG NOWHERE", "BSS (NOWHERE)", "QX EQU (QX+#1)", "QY ORG QY", "QZ BSS (QZ*#0)",
+    "MOVH NOWHERE,R0", "BYTE (NOWHERE/#0)", "ORG QBELOW", "BSS QBELOW", "QV EQU QBELOW",
     // 19
-    "BYTE #256", "BYTE #-129", "WORD #65536", "WORD #-32769", "WORD #99999999999999999999", "WORD $FFFFFFFF", "WORD (#2147483647+#1-#2147483647)",
-    "WORD (#1/#0)", "WORD (#0/(#1-#1))", "WORD (#-2147483648/#-1)", "WORD (#65536*#32768/#65536)", "QE EQU #2147483648", "QE EQU (#1/#0)", "ORG #-1", "BSS #-1",
-    "BSS #70000", "ADD #3,R0", "ADD #65535,R0", "CMP.B (#5+#2),R1", "SETPRI #8", "SETPRI #-1", "SVC #16", "SVC #-1", "CEX EQ,#8,#0", "CEX FL,#0,#8", "CEX FL,#0,#-1",
-    "LDR R0,#64,R1", "LDR.B R0,#-65,R1", "STR R0,R1,#64", "STR.W R0,R1,#-65", "MOVL #256,R0", "MOVH #-129,R0", "MOVLZ (#65536),R0", "MOVLS (#-32769),R0",
-    "BRA #65536", "BL #-32769", "BRA (QHERE+#1026)", "QHERE BRA (QHERE+#1026)", "QHERE BRA (QHERE-#1024)", "QHERE BL (QHERE+#8194)",
-    "QHERE BL (QHERE-#8192)", "QHERE BNE (QHERE+#1)", "QHERE BEQ (QHERE+#3)",
-    "ORG #70000\nWORD #0", "ORG #70000\nBRA #0", "ORG $FFFE\nWORD #0\nWORD #0", "ORG #65536\nBYTE #0", "ORG #70001\nWORD #0", "ORG $FFFF\nBYTE #0\nBYTE #0", "ORG $FFFF\nWORD #0", "ORG $FFFE\nWORD #0\nADD R0,R0", "ORG #1\nADD R0,R0", "ORG #1\nWORD #0",
-    "ORG $FFF0\nBSS #17", "ORG #70000\nBSS #1", "ORG #2147483647\nBYTE #0\nQFAR", "ORG #70000\nQFAR\nORG #0\nWORD QFAR",
+    "BYTE #256", "BYTE #-129", "WORD #65536", "WORD #-32769", "WORD #99999999999999999999", "WORD $FFFFFFFF",
+    "WORD (#2147483647+#1-#2147483647)", "WORD (#1/#0)", "WORD (#0/(#1-#1))", "WORD (#-2147483648/#-1)",
+    "WORD (#65536*#32768/#65536)", "QE EQU #2147483648", "QE EQU (#1/#0)", "ORG #-1", "BSS #-1", "BSS #70000",
+    "ADD #3,R0", "ADD #65535,R0", "CMP.B (#5+#2),R1", "SETPRI #8", "SETPRI #-1", "SVC #16", "SVC #-1", "CEX EQ,#8,#0",
+    "CEX FL,#0,#8", "CEX FL,#0,#-1", "LDR R0,#64,R1", "LDR.B R0,#-65,R1", "STR R0,R1,#64", "STR.W R0,R1,#-65",
+    "MOVL #256,R0", "MOVH #-129,R0", "MOVLZ (#65536),R0", "MOVLS (#-32769),R0", "BRA #65536", "BL #-32769",
+    "BRA (QHERE+#1026)", "QHERE BRA (QHERE+#1026)", "QHERE BRA (QHERE-#1024)", "QHERE BL (QHERE+#8194)",
+    "QHERE BL (QHERE-#8192)", "QHERE BNE (QHERE+#1)", "QHERE BEQ (QHERE+#3)", "ORG #70000\nWORD #0",
+    "ORG #70000\nBRA #0", "ORG $FFFE\nWORD #0\nWORD #0", "ORG #65536\nBYTE #0", "ORG #70001\nWORD #0",
+    "ORG $FFFF\nBYTE #0\nBYTE #0", "ORG $FFFF\nWORD #0", "ORG $FFFE\nWORD #0\nADD R0,R0", "ORG #1\nADD R0,R0",
+    "ORG #1\nWORD #0", "ORG $FFF0\nBSS #17", "ORG #70000\nBSS #1", "ORG #2147483647\nBYTE #0\nQFAR",
+    "ORG #70000\nQFAR\nORG #0\nWORD QFAR",
 ];
 
 /// Lines that are right alone, and seldom made.
 #[rustfmt::skip]
 const RIGHT: &[&str] = &[
-    "SETCC SVC", "QA", "QFAR ORG #70000\nQEND\nBSS #0\nORG #0", "ORG $FFFF\nBYTE #1\nORG #0", "ORG $FFFE\nWORD #1\nORG #0", "ORG $FFF0\nBSS #16\nQE\nORG #0",
-    "QH ORG $4000\nQHERE BRA (QHERE+#1024)\nBL (QHERE+#8194)", "ORG $4000\nQHERE BRA (QHERE-#1022)\nBL (QHERE-#8188)", "ORG $FFFE\nBRA #0\nORG #0\nBRA $FFFE\nBRA #-2\nORG $100",
-    "WORD ((((((((((((((((#1))))))))))))))))", "WORD (#-7/#2)", "WORD (#10-#3-#2)", "WORD (#100/#5/#2)", "WORD (#1+#2*#3)", "QN EQU #-2147483648", "QN EQU $7FFFFFFF",
-    "MOVH (#32),R0", "MOVL (#300),R0", "MOVH #32,R0", "MOVH QBELOW,R0", "WORD QBELOW", "ORG $200\nWORD $1234\nORG $201\nBYTE $AB\nORG $300", "BYTE #1 ;\r\0 lower\r", "ORG #2147483647\nQFAR\nORG #0", "ORG #80000\nQFAR BSS #0\nQFARTHER ORG #0",
-    "WORD #000000000000000000000000000000007", "C EQU #1", "R8 EQU #1", "LD R1 + , R2", "ST R1,- SP", "BSS #0", "", "\t;", "L1 BSS #0",
+    "SETCC SVC", "QA", "QFAR ORG #70000\nQEND\nBSS #0\nORG #0", "ORG $FFFF\nBYTE #1\nORG #0",
+    "ORG $FFFE\nWORD #1\nORG #0", "ORG $FFF0\nBSS #16\nQE\nORG #0",
+    "QH ORG $4000\nQHERE BRA (QHERE+#1024)\nBL (QHERE+#8194)", "ORG $4000\nQHERE BRA (QHERE-#1022)\nBL (QHERE-#8188)",
+    "ORG $FFFE\nBRA #0\nORG #0\nBRA $FFFE\nBRA #-2\nORG $100", "WORD ((((((((((((((((#1))))))))))))))))",
+    "WORD (#-7/#2)", "WORD (#10-#3-#2)", "WORD (#100/#5/#2)", "WORD (#1+#2*#3)", "QN EQU #-2147483648",
+    "QN EQU $7FFFFFFF", "MOVH (#32),R0", "MOVL (#300),R0", "MOVH #32,R0", "MOVH QBELOW,R0", "WORD QBELOW",
+    "ORG $200\nWORD $1234\nORG $201\nBYTE $AB\nORG $300", "BYTE #1 ;\r\0 lower\r", "ORG #2147483647\nQFAR\nORG #0",
+    "ORG #80000\nQFAR BSS #0\nQFARTHER ORG #0", "WORD #000000000000000000000000000000007", "C EQU #1", "R8 EQU #1",
+    "LD R1 + , R2", "ST R1,- SP", "BSS #0", "", "\t;", "L1 BSS #0",
 ];
 
 /// A memory in which every byte is told from its neighbours.

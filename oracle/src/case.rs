@@ -4,20 +4,21 @@
 //! A file is a list of `key: value`; lines that start with a blank belong to the key above them. Keys: `title`, `from`,
 //! `start` (`R0=00FF PSW=60E0 CEX=.. LINES=00000012 HALTED=1 COUNT=..`, hexadecimal; PC #1000 and SP #0800 if not
 //! named; `BYTE20=01` is byte 20 of the record whatever it means),
-//! `source` (02 §12), `events` (`step device data` on each line, step in base ten; `x9` behind it is nine of them, each a step
-//! later), `n`, `line`, `bytes` (`0100=34`, afterwards), `printed`, `decides`. Every key but `start`, `events`, `bytes`
-//! and `printed` must be there in a case of the repository; an input is made of `source` and `n` alone.
+//! `source` (02 §12), `events` (`step device data` on each line, step in base ten; `x9` behind it is nine of them, each
+//! a step later), `n`, `line`, `bytes` (`0100=34`, afterwards), `printed`, `decides`. Every key but `start`, `events`,
+//! `bytes` and `printed` must be there in a case of the repository; an input is made of `source` and `n` alone.
 //!
-//! Of the output log: `log` is the length in bytes of the log that the library is lent, of long enough a one if it is not
-//! named; `reply` what the library then gives, `reason steps added` in base ten or `R9`, and `shown` the records that
-//! stand in the log, `step device byte` on each line; `deepest` the depth that it then gives, in base ten. `line` is of a
-//! log long enough whatever `log` says, and so are `bytes` where `reply` is not there; with `reply` they are what the
-//! library leaves.
+//! Of the output log: `log` is the length in bytes of the log that the library is lent, of long enough a one if it is
+//! not named; `reply` what the library then gives, `reason steps added` in base ten or `R9`, and `shown` the records
+//! that stand in the log, `step device byte` on each line; `deepest` the depth that it then gives, in base ten. `line`
+//! is of a log long enough whatever `log` says, and so are `bytes` where `reply` is not there; with `reply` they are
+//! what the library leaves.
 //!
-//! Of the journal: `journal` is how many records the library is lent, and the next place, 0 if not named, with which the run
-//! is done once more; `kept` the number kept and the next place afterwards; `records` a line for each record that is looked
-//! at: its place, the step count in it, its address and its eight bytes, the last nine in base sixteen. `back` is by how
-//! many steps it is then gone back, and `then` what is there afterwards: `R1=0001 PC=1000 COUNT=2 0100=34`, hexadecimal.
+//! Of the journal: `journal` is how many records the library is lent, and the next place, 0 if not named, with which
+//! the run is done once more; `kept` the number kept and the next place afterwards; `records` a line for each record
+//! that is looked at: its place, the step count in it, its address and its eight bytes, the last nine in base sixteen.
+//! `back` is by how many steps it is then gone back, and `then` what is there afterwards, hexadecimal:
+//! `R1=0001 PC=1000 COUNT=2 0100=34`.
 
 use crate::assemble::judge;
 use crate::inputs::Input;
@@ -327,7 +328,7 @@ pub const OF_01: [&str; 25] = [
 ];
 
 /// The cases of the change requests of 02.
-pub const OF_02: [&str; 58] = [
+pub const OF_02: [&str; 68] = [
     "02-1-count-before-the-step",
     "02-1-ena-clear",
     "02-1-ena-set-by-the-same-store",
@@ -352,6 +353,12 @@ pub const OF_02: [&str; 58] = [
     "02-3-other-data",
     "02-3-before-the-sitting",
     "02-3-order-first",
+    "02-bic-of-16-sets-z",
+    "02-bis-byte-by-the-low-byte",
+    "02-bis-byte-of-8-sets-no-bit",
+    "02-bis-of-16-sets-no-bit",
+    "02-bis-of-no-bit-into-pc-clears-cex",
+    "02-bit-keeps-its-mask",
     "02-6-word-store-takes-nothing",
     "02-6-effective-address",
     "02-6-byte-accesses",
@@ -386,6 +393,10 @@ pub const OF_02: [&str; 58] = [
     "02-10-past-the-bound",
     "02-10-return-with-none-open",
     "02-10-since-the-start",
+    "02-interrupted-trap",
+    "02-interrupted-trap-alone",
+    "02-ignored-bit-assembled",
+    "02-ignored-bit-executed",
 ];
 
 /// Every case of the repository, by name. A mistake in one is a panic.

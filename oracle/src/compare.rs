@@ -1,5 +1,5 @@
-//! An engine beside the oracle on the same inputs: reply, record, all of memory, all of the log, the depth and the events.
-//! A difference can be kept as a folder of files, to be read and to be run again.
+//! An engine beside the oracle on the same inputs: reply, record, all of memory, all of the log, the depth and the
+//! events. A difference can be kept as a folder of files, to be read and to be run again.
 
 use crate::coverage::Coverage;
 use crate::inputs::{input, Input, Kind};

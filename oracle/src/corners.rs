@@ -121,8 +121,8 @@ impl Seen<'_> {
         data.map(|&a| (usize::from(a / 2), self.trace.devices[usize::from(a - 1)]))
     }
 
-    /// A store to the data byte of an output device that shows nothing, since ENA is clear; of a byte, or of a word that
-    /// sets it.
+    /// A store to the data byte of an output device that shows nothing, since ENA is clear; of a byte, or of a word
+    /// that sets it.
     fn hidden(&self, byte: bool) -> bool {
         let hidden = |status: u8| status & (ENA | INPUT) == 0;
         self.stores() == Some(byte) && self.data_written().any(|(_, status)| hidden(status))

@@ -85,8 +85,8 @@ pub enum Item {
     FullAtTheEnd,
     PastTheLast,
     FullAndHalted,
-    /// No room for what the next step would show: before the first step; with events due, or none; with a line that these
-    /// would have raised; in a handler; in a CEX block.
+    /// No room for what the next step would show: before the first step; with events due, or none; with a line that
+    /// these would have raised; in a handler; in a CEX block.
     NoRoomAtOnce,
     NoRoom { due: bool },
     NoRoomRaised,
@@ -99,8 +99,8 @@ pub enum Item {
     Deepest(u32),
     AboveSeven,
     DeepestBy(&'static str),
-    /// Fewer frames are open at the close; more are opened after a return with none open; a line is chained, and a fault
-    /// halts, while as many are open as ever; the log has no room, with a frame opened.
+    /// Fewer frames are open at the close; more are opened after a return with none open; a line is chained, and a
+    /// fault halts, while as many are open as ever; the log has no room, with a frame opened.
     ClosedBelow,
     DeeperAfterStray,
     ChainedAtTheDeepest,
@@ -169,8 +169,8 @@ struct Way {
     added: usize,
     last: bool,
     open: u32,
-    /// The most frames so far, and what opened the last of them; whether a return found none open, and an entry after it
-    /// went deeper than before; the most that were open where a line was chained.
+    /// The most frames so far, and what opened the last of them; whether a return found none open, and an entry after
+    /// it went deeper than before; the most that were open where a line was chained.
     deepest: u32,
     by: &'static str,
     stray: bool,
@@ -199,8 +199,8 @@ impl Way {
     }
 }
 
-/// Whether the instruction at the PC of a step that a line took is a store to a device by its offset from 0, of a device
-/// that would have shown it.
+/// Whether the instruction at the PC of a step that a line took is a store to a device by its offset from 0, of a
+/// device that would have shown it.
 fn would_show(seen: &Seen) -> bool {
     let word = word_at(seen.memory, seen.before.regs[PC]);
     let Instr::Str { offset, wb, dst, .. } = decode(word) else { return false };

@@ -38,8 +38,8 @@ impl Journal {
     }
 }
 
-/// "The address is that of the last word pushed, bit 0 dropped, or of the first byte stored outside the device bytes, or
-/// 0." The last word pushed is where SP stands then.
+/// "The address is that of the last word pushed, bit 0 dropped, or of the first byte stored outside the device bytes,
+/// or 0." The last word pushed is where SP stands then.
 pub fn address(trace: &Trace, after: &Machine) -> u16 {
     match trace.act {
         Act::Accept(_) | Act::Fault(_) | Act::Trap(_) => even(after.regs[SP]),

@@ -1,5 +1,5 @@
-//! Instructions as 02 §12 writes them: `$` hexadecimal, `#` decimal, a branch with the address that it goes to. What the
-//! assembler has no notation for is said behind the statement: an ignored bit that is set, in a comment.
+//! Instructions as 02 §12 writes them: `$` hexadecimal, `#` decimal, a branch with the address that it goes to. What
+//! the assembler has no notation for is said behind the statement: an ignored bit that is set, in a comment.
 
 use crate::assemble::words::{ALU, BRANCHES, CONDITIONS, CONSTANTS, MOVES, UNARY};
 use crate::isa::Instr;

@@ -137,8 +137,8 @@ pub enum Act {
 }
 
 impl Act {
-    /// How many frames are open after it, of those before it: an entry that pushed is one more, a return that pulled one
-    /// less, and one with none open counts nothing. (02, §10)
+    /// How many frames are open after it, of those before it: an entry that pushed is one more, a return that pulled
+    /// one less, and one with none open counts nothing. (02, §10)
     pub fn open_after(self, open: u32) -> u32 {
         match self {
             Act::Accept(_) | Act::Fault(_) | Act::Trap(_) => open + 1,

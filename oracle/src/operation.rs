@@ -1,5 +1,5 @@
-//! The operations of 003 section 14, row by row, and the longest unbroken range around each word whose words all have its
-//! operation (02 §4), found by looking from each word to its neighbour.
+//! The operations of 003 section 14, row by row, and the longest unbroken range around each word whose words all have
+//! its operation (02 §4), found by looking from each word to its neighbour.
 
 use std::collections::HashSet;
 

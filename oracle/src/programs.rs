@@ -1,6 +1,6 @@
 //! Random setups that look like examination papers: an application, eight handlers that mostly restore what they use,
-//! enabled devices, and events that nest and chain. In every other one the application calls SVC, whose handlers restore
-//! nothing. Words mostly lie at even addresses (02, §6). Now and then each of them does something unwise.
+//! enabled devices, and events that nest and chain. In every other one the application calls SVC, whose handlers
+//! restore nothing. Words mostly lie at even addresses (02, §6). Now and then each of them does something unwise.
 
 use crate::inputs::lines;
 use crate::isa::{encode, Instr};
@@ -215,9 +215,9 @@ impl Maker {
         self.word(entry);
     }
 
-    /// Saves R0 to R4, works on data of its own, may touch a device, and restores. One in eight is careless: it works on
-    /// the application's code, does something unwise, forgets a register, works on after restoring, or stores into what
-    /// lies above its frame.
+    /// Saves R0 to R4, works on data of its own, may touch a device, and restores. One in eight is careless: it works
+    /// on the application's code, does something unwise, forgets a register, works on after restoring, or stores into
+    /// what lies above its frame.
     fn saving_handler(&mut self) {
         let careless = if self.random.one_in(8) { self.below(5) } else { 5 };
         (0..5).for_each(|r| self.push(r));

@@ -429,8 +429,9 @@ impl<'a> Walk<'a> {
         Held { regs, sp: self.m.regs[SP], bytes: at.map(|a| (a, self.memory[usize::from(a)])).collect() }
     }
 
-    /// A chained entry keeps its frame open, as the entry that pushed it left it. An SVC frame counts as a device's from
-    /// here to the pull, as the chained handler finds it: the chaining step changes none of R0 to R4, SP and memory.
+    /// A chained entry keeps its frame open, as the entry that pushed it left it. An SVC frame counts as a device's
+    /// from here to the pull, as the chained handler finds it: the chaining step changes none of R0 to R4, SP and
+    /// memory.
     fn chains(&mut self) {
         let found = self.held(eight(self.m.regs[SP]));
         let Some(mut frame) = self.frames.pop() else { return };
@@ -446,8 +447,8 @@ impl<'a> Walk<'a> {
         self.frames.push(frame);
     }
 
-    /// A return that pulls closes the newest frame. It writes nothing, so the memory is as its step's events left it. SVC's
-    /// handlers need restore nothing.
+    /// A return that pulls closes the newest frame. It writes nothing, so the memory is as its step's events left it.
+    /// SVC's handlers need restore nothing.
     fn pulls(&mut self, was: &Machine, devices: &[u8]) {
         let Some(frame) = self.frames.pop() else { return };
         let memory = &self.memory;

@@ -1,5 +1,5 @@
-//! Corner sources, tests/sources/*.txt: a source of 02 §12 with its refusal and line, or its image, and the sentence that
-//! decides.
+//! Corner sources, tests/sources/*.txt: a source of 02 §12 with its refusal and line, or its image, and the sentence
+//! that decides.
 //!
 //! A file is `title`, then `refused: NUMBER LINE` or `image: ADDRESS=BYTE BYTE .. ADDRESS=..` in base sixteen, then
 //! `decides`, then `source:` with the lines below it, each from its fifth column on. No line feed follows the last one.

@@ -37,8 +37,8 @@ pub enum Item {
     PastByOne, PastByMore,
     AfterData,
     // loads accepted
-    S9Alone, S0, CrLf, Lf, BothEndings, NoEnding, LowerCase, BothCases, NoData, LastByte, LongestLine, Overlap, ManyLines,
-    OddPc,
+    S9Alone, S0, CrLf, Lf, BothEndings, NoEnding, LowerCase, BothCases, NoData, LastByte, LongestLine, Overlap,
+    ManyLines, OddPc,
     // writes
     WriteNoMemory, SpanByOne, SpanFar, BufferByOne, BufferNone, ExactFit, Tail, EmptySpan, FullLines, Rest, ToTheEnd,
     AllOfMemory, Unaligned,

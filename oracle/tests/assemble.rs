@@ -67,7 +67,8 @@ fn corner_sources() {
     }
 }
 
-/// The readable cases, every program of 003's chapters among them: the proved assembler makes the memory that they run in.
+/// The readable cases, every program of 003's chapters among them: the proved assembler makes the memory that they run
+/// in.
 #[test]
 fn readable_cases() {
     for case in case::all() {

@@ -1,5 +1,5 @@
-//! How deep a run went, 02 §10, sentence by sentence, and what the comparison must catch of it: depths counted wrongly on
-//! purpose.
+//! How deep a run went, 02 §10, sentence by sentence, and what the comparison must catch of it: depths counted wrongly
+//! on purpose.
 
 use oracle::assemble::assemble;
 use oracle::compare::{compare_many, Engine};
@@ -30,8 +30,8 @@ fn depth(source: &str, events: &[(u32, u8)], n: u64) -> u32 {
     program(source, events, n).run().expect("an accepted run").deepest
 }
 
-/// Vectors 0 to 3 of priorities 1 to 4, 11 of priority 5, 8 of priority 0, each with a handler of one return; devices 0 to
-/// 3 with interrupts.
+/// Vectors 0 to 3 of priorities 1 to 4, 11 of priority 5, 8 of priority 0, each with a handler of one return; devices 0
+/// to 3 with interrupts.
 const HANDLERS: &str = "
         ORG $0000
         BYTE $11
@@ -64,7 +64,8 @@ fn with_handlers(source: &str) -> String {
     format!("{HANDLERS}\n ORG $1000\n{source}")
 }
 
-/// "entries that pushed": an accepted line, SVC and a fault; "less returns that pulled"; "the greatest value over the run".
+/// "entries that pushed": an accepted line, SVC and a fault; "less returns that pulled"; "the greatest value over the
+/// run".
 #[test]
 fn entries_less_returns() {
     let here = with_handlers("HERE BRA HERE");
@@ -128,8 +129,8 @@ fn of_this_run_alone() {
     assert_eq!((i.run().expect("accepted").deepest, i.deepest), (1, 1));
 }
 
-/// Traps in handlers that have lowered their priority: "where the bound of 7 − p need not hold, the figure is exact", and
-/// "printed as the line's last field, in base ten".
+/// Traps in handlers that have lowered their priority: "where the bound of 7 − p need not hold, the figure is exact",
+/// and "printed as the line's last field, in base ten".
 #[test]
 fn traps_and_faults_pass_the_bound() {
     let source = with_handlers(" SVC #11\n ORG $2000\n SETPRI #0\n SVC #11");
@@ -151,8 +152,8 @@ fn hundreds_of_thousands_deep() {
     assert_eq!((ran.steps, ran.deepest), (1_000_000, 333_334));
 }
 
-/// "Document 01 bounds the open frames": the frames that Depth's premises speak of are those that are counted, and where
-/// the premises hold the figure is at most 7 - p.
+/// "Document 01 bounds the open frames": the frames that Depth's premises speak of are those that are counted, and
+/// where the premises hold the figure is at most 7 - p.
 #[test]
 fn the_frames_of_depth() {
     let mut bounded = 0;

@@ -50,8 +50,8 @@ const HERE: &str = " ORG $1000\nHERE BRA HERE";
 
 // ---- the sentences
 
-/// "one 64-byte record per step, no header": "0-31 state record before the step, 32-47 the device bytes, 48-49 an address,
-/// 50-57 the eight bytes there before the step, 58-63 zero".
+/// "one 64-byte record per step, no header": "0-31 state record before the step, 32-47 the device bytes, 48-49 an
+/// address, 50-57 the eight bytes there before the step, 58-63 zero".
 #[test]
 fn the_record() {
     let source =
@@ -194,8 +194,9 @@ fn going_back_is_unchecked() {
     assert_eq!(held.back(1), 15);
 }
 
-/// "14 when the journal's length is zero, above 65,536 or not a multiple of 64, the number kept above its records or the
-/// next place not below them", after 9; "15 when k exceeds the steps kept, after 14"; "going back tests 1, 3, 14 and 15".
+/// "14 when the journal's length is zero, above 65,536 or not a multiple of 64, the number kept above its records or
+/// the next place not below them", after 9; "15 when k exceeds the steps kept, after 14"; "going back tests 1, 3, 14
+/// and 15".
 #[test]
 fn refusals() {
     let held = |length: usize, kept, place| {
@@ -417,7 +418,8 @@ fn going_back(held: &mut Held, k: u64, change: fn(&mut Held, &Held, u64)) -> u64
 const RUN: fn(&mut Held) -> u64 = ORACLE.run;
 const BACK: fn(&mut Held, u64) -> u64 = ORACLE.back;
 
-/// Engines that keep their journal or go back wrongly: the impostors of 02 §8, and others that a person could take it for.
+/// Engines that keep their journal or go back wrongly: the impostors of 02 §8, and others that a person could take it
+/// for.
 #[rustfmt::skip]
 const WRONG: [(&str, Engine); 31] = [
     ("takes the eight bytes after the events", Engine { run: |held| keeping(held, &Keeping {
@@ -439,7 +441,9 @@ const WRONG: [(&str, Engine); 31] = [
         ..RIGHT
     }), back: BACK }),
     ("takes the eight bytes after the step", Engine { run: |held| keeping(held, &Keeping {
-        record: |trace, was, after, [_, memory]| at(record_of(trace, was, after, memory), address(trace, after), memory),
+        record: |trace, was, after, [_, memory]| {
+            at(record_of(trace, was, after, memory), address(trace, after), memory)
+        },
         ..RIGHT
     }), back: BACK }),
     ("takes the address of the first word pushed", Engine { run: |held| keeping(held, &Keeping {
@@ -572,12 +576,12 @@ const WRONG: [(&str, Engine); 31] = [
         },
         ..RIGHT
     }), back: BACK }),
-    ("leaves the number lowered and the place not", Engine { run: RUN, back: |held, k| going_back(held, k, |held, given, _| {
-        held.journal.place = given.journal.place;
-    }) }),
-    ("leaves the place lowered and the number not", Engine { run: RUN, back: |held, k| going_back(held, k, |held, given, _| {
-        held.journal.kept = given.journal.kept;
-    }) }),
+    ("leaves the number lowered and the place not", Engine { run: RUN, back: |held, k| {
+        going_back(held, k, |held, given, _| held.journal.place = given.journal.place)
+    } }),
+    ("leaves the place lowered and the number not", Engine { run: RUN, back: |held, k| {
+        going_back(held, k, |held, given, _| held.journal.kept = given.journal.kept)
+    } }),
     ("does not wrap the place below 0", Engine { run: RUN, back: |held, k| going_back(held, k, |held, given, k| {
         held.journal.place = u64::from(given.journal.place).saturating_sub(k) as u32;
     }) }),
@@ -622,7 +626,8 @@ const WRONG: [(&str, Engine); 31] = [
             held.input.memory.clone_from(&given.input.memory);
             let records = held.journal.records();
             for i in (0..k as usize).rev() {
-                let record = given.journal.bytes[KEPT * ((held.journal.place as usize + i) % records)..][..KEPT].to_vec();
+                let place = (held.journal.place as usize + i) % records;
+                let record = given.journal.bytes[KEPT * place..][..KEPT].to_vec();
                 let a = u16::from_le_bytes([record[48], record[49]]);
                 (0..8).for_each(|i| held.input.memory[usize::from(a.wrapping_add(i))] = record[50 + usize::from(i)]);
                 held.input.memory[..16].copy_from_slice(&record[32..48]);

@@ -1,4 +1,5 @@
-//! The output log of 02 §1, sentence by sentence, and what the comparison must catch of it: logs kept wrongly on purpose.
+//! The output log of 02 §1, sentence by sentence, and what the comparison must catch of it: logs kept wrongly on
+//! purpose.
 
 use oracle::assemble::assemble;
 use oracle::compare::{compare_many, Engine};
@@ -132,8 +133,8 @@ fn handlers_are_shown_too() {
 /// "A step that would need a record past the end is not taken": nothing of it stays, its events included.
 #[test]
 fn the_step_not_taken_leaves_nothing() {
-    // Two events on the step of the second store: one on the device stored to, one on device 1, which raises its line at
-    // a priority that is not above the program's.
+    // Two events on the step of the second store: one on the device stored to, one on device 1, which raises its line
+    // at a priority that is not above the program's.
     let source = two_stores("$14") + "\n ORG $0002\n BYTE $13";
     let mut i = program(&source, &[(0, 5), (1, 0), (1, 1)], 9, 1);
     let mut one = i.clone();

@@ -1,6 +1,6 @@
 //! Why 01 "Depth", demand 3 and 02 §13 say what they say: for each premise a run that breaks it alone and breaks the
-//! promise, or breaks it alone and shows that it is idle, and for each other reading of their words a run that meets the
-//! premises so read and breaks the promise.
+//! promise, or breaks it alone and shows that it is idle, and for each other reading of their words a run that meets
+//! the premises so read and breaks the promise.
 
 use oracle::alu::SLP;
 use oracle::assemble::assemble;
@@ -98,8 +98,8 @@ H5      CMP R0,R1
 
 #[test]
 fn a_sound_run_across_svc() {
-    // SVC 1 calls SVC 2, whose handler device 5 interrupts and onto whose return device 6 is chained. Both handlers change
-    // registers; that of SVC 1 returns from a copy of its frame, with SP 8 lower.
+    // SVC 1 calls SVC 2, whose handler device 5 interrupts and onto whose return device 6 is chained. Both handlers
+    // change registers; that of SVC 1 returns from a copy of its frame, with SP 8 lower.
     let copy = " LDR SP,#6,R2\n ST R2,-SP\n".repeat(4);
     let source = format!(
         "LOOP ADD #1,R0\n SVC #1\n BRA LOOP\nH1 ADD #1,R1\n SVC #2\n{copy} MOV LR,PC\nH2 ADD #1,R1\n MOV LR,PC\n"

@@ -240,7 +240,8 @@ fn state_by_name() {
 
 #[test]
 fn events_of_a_line_that_counts() {
-    // Sixteen events of device 7, whose vector has priority 0: the line counts fifteen of them, beside those of a start.
+    // Sixteen events of device 7, whose vector has priority 0: the line counts fifteen of them, beside those of a
+    // start.
     let many: Vec<(u32, u8, u8)> = (0..16).map(|step| (step, 7, 0)).collect();
     let source = " ORG $000E\n BYTE $11\n ORG $1000\nHERE BRA HERE";
     let fates = |page: &str| rows(page, "events").iter().map(|row| row[4].clone()).collect::<Vec<String>>();
@@ -572,7 +573,8 @@ fn the_screen_of_each_output_device() {
 fn nothing_shown_and_much_shown() {
     let page = page_of(&program("            ORG $1000\nHERE        BRA HERE\n", &[], 4, |_| ()));
     assert!(page.contains("<p>Nothing was shown: no instruction stored to the data byte"));
-    let much = "            ORG $0000\n            BYTE $10\n            ORG $1000\nHERE        STR.B R1,R0,#1\n            BRA HERE\n";
+    let much = "            ORG $0000\n            BYTE $10\n            ORG $1000\n\
+                HERE        STR.B R1,R0,#1\n            BRA HERE\n";
     let page = page_of(&program(much, &[], 10_000, |m| m.regs[1] = 0x61));
     assert!(page.contains("<p>Device 0 showed 5,000 bytes. The last 3,000 are left out here.</p>"));
     let shown = rows(&page, "screen");

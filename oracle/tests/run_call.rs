@@ -1,5 +1,5 @@
-//! libxm23.a's run call beside the oracle: reply, record, all 65,536 bytes, all of the log and the depth, on inputs of every
-//! kind. `make fuzz` goes on from new seeds.
+//! libxm23.a's run call beside the oracle: reply, record, all 65,536 bytes, all of the log and the depth, on inputs of
+//! every kind. `make fuzz` goes on from new seeds.
 
 mod library;
 
@@ -168,8 +168,9 @@ fn slices_close_as_the_whole_run() {
     }
 }
 
-/// A run with a log too short, then again with a fresh one and the same list, and so on: the logs joined are the one log
-/// of the one run, and the close is its close. A log of no bytes takes the run to the next step that shows something.
+/// A run with a log too short, then again with a fresh one and the same list, and so on: the logs joined are the one
+/// log of the one run, and the close is its close. A log of no bytes takes the run to the next step that shows
+/// something.
 #[test]
 fn logs_joined_are_the_one_log() {
     let (mut seen, mut random, mut short) = (Coverage::default(), Random::new(15), 0);

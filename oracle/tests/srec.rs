@@ -187,7 +187,9 @@ const WRONG: [(&str, Kind, Loader); 9] = [
     })),
     ("asks for a last line feed", Kind::Lawful, |i| if i.text.ends_with(b"\n") { oracle_load(i) } else { 10 }),
     ("takes s for S", Kind::Crafted, |i| handed(i, |text| text.to_ascii_uppercase())),
-    ("trims blanks", Kind::Crafted, |i| handed(i, |text| text.iter().copied().filter(|b| !b" \t\0".contains(b)).collect())),
+    ("trims blanks", Kind::Crafted, |i| handed(i, |text| {
+        text.iter().copied().filter(|b| !b" \t\0".contains(b)).collect()
+    })),
     ("sets the PC of a refused file", Kind::Damaged, |i| {
         let reply = oracle_load(i);
         if reply & 0xFF == 0 { reply } else { reply & !0xFFFF_0000 }

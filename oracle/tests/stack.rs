@@ -1,5 +1,5 @@
-//! The call for stack bytes of libxm23.a beside the oracle, which tries every choice of devices; and 02 §9's claim along
-//! runs.
+//! The call for stack bytes of libxm23.a beside the oracle, which tries every choice of devices; and 02 §9's claim
+//! along runs.
 
 #[path = "library/stack.rs"]
 mod library;
@@ -191,11 +191,14 @@ const WRONG: [(&str, fn(&Stack) -> u32); 6] = [
     }),
     ("leaves a use unchecked that is not chosen", |c| {
         let mut c = c.clone();
-        if c.uses.len() == 16 { (0..8).filter(|d| c.devices >> d & 1 == 0).for_each(|d| c.uses[2 * d..2 * d + 2].fill(0)) }
+        if c.uses.len() == 16 {
+            (0..8).filter(|d| c.devices >> d & 1 == 0).for_each(|d| c.uses[2 * d..2 * d + 2].fill(0))
+        }
         c.reply()
     }),
     ("takes the first device of a priority", |c| each(c, |c| {
-        (1..8).filter(|&l| l > c.priority).filter_map(|l| (0..8).find(|&d| counts(c, d) && level(c, d) == l)).map(|d| cost(c, d)).sum()
+        let first = |l| (0..8).find(|&d| counts(c, d) && level(c, d) == l);
+        (1..8).filter(|&l| l > c.priority).filter_map(first).map(|d| cost(c, d)).sum()
     })),
     ("forgets the frame", |c| each(c, |c| c.bytes().saturating_sub(8))),
     ("counts devices that are not given", |c| Stack { devices: 0xFF, ..c.clone() }.reply()),

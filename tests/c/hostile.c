@@ -596,9 +596,11 @@ static uint64_t assemble(void)
     check("guard bytes", guarded(&memory) && guarded(&text));
     check("source", memcmp(text.at, text_before, text.length) == 0);
     check("refusal by length", (refusal == XM23_REFUSED_MEMORY) == (memory.length != 65536));
-    check("refusal", refusal <= XM23_REFUSED_MEMORY || (refusal >= XM23_REFUSED_SOURCE_FORM && refusal <= XM23_REFUSED_SOURCE_VALUE));
+    check("refusal", refusal <= XM23_REFUSED_MEMORY ||
+                         (refusal >= XM23_REFUSED_SOURCE_FORM && refusal <= XM23_REFUSED_SOURCE_VALUE));
     check("bits between", (reply >> 8 & 0xFFFFFF) == 0);
-    check("line", (XM23_ASSEMBLE_LINE(reply) == 0) == (refusal <= XM23_REFUSED_MEMORY) && XM23_ASSEMBLE_LINE(reply) <= text.length + 1);
+    check("line", (XM23_ASSEMBLE_LINE(reply) == 0) == (refusal <= XM23_REFUSED_MEMORY) &&
+                      XM23_ASSEMBLE_LINE(reply) <= text.length + 1);
     if (refusal)
         check("memory as it was", memcmp(memory.at, memory_before, memory.length) == 0);
     return reply;
@@ -608,8 +610,9 @@ static uint64_t assemble(void)
 static void sources(int at_end, int rounds)
 {
     static const char near[] = "0123456789ABCDEFR#$-+*/(),.; \t\r\nENDORGBSS";
-    static const char *const words[] = {"ORG ", "A EQU ", "BSS ", "BYTE ", "WORD ", "END\n", "ADD.B #1,R0\n", "BRA A\n", "((((((((", "#1",
-                                        "$FF", "))))))))", "+", "/", "-", "\n", "\r\n", ";", "A", "SETCC VC\n", "MOVH A,R1\n", "LD R1+,R2"};
+    static const char *const words[] = {
+        "ORG ", "A EQU ", "BSS ", "BYTE ", "WORD ", "END\n", "ADD.B #1,R0\n", "BRA A\n", "((((((((", "#1", "$FF",
+        "))))))))", "+", "/", "-", "\n", "\r\n", ";", "A", "SETCC VC\n", "MOVH A,R1\n", "LD R1+,R2"};
     int i;
     for (i = 0; i < rounds; i++) {
         uint64_t pick = draw();

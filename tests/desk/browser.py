@@ -1,7 +1,7 @@
 #!/usr/bin/env python3
-"""Pages of xm23 in a real browser, headless: browser.py XM23. The example sitting is marked; its table and its pages are
-loaded, keys are pressed, buttons clicked and what is shown then is held to what xm23 back tells; without scripts, in print
-and at several widths too. The last line is 'N passed, M failed'."""
+"""Pages of xm23 in a real browser, headless: browser.py XM23. The example sitting is marked; its table and its pages
+are loaded, keys are pressed, buttons clicked and what is shown then is held to what xm23 back tells; without scripts,
+in print and at several widths too. The last line is 'N passed, M failed'."""
 import os
 import re
 import subprocess
@@ -10,17 +10,10 @@ import tempfile
 
 sys.path.insert(0, os.path.dirname(os.path.abspath(__file__)))
 from chromium import Browser
+from tally import end, same
 
 xm23 = os.path.abspath(sys.argv[1])
 os.chdir(os.path.join(os.path.dirname(os.path.abspath(__file__)), "../../examples/sitting"))
-passed = failed = 0
-
-
-def same(what, got, expected):
-    global passed, failed
-    passed, failed = passed + (got == expected), failed + (got != expected)
-    if got != expected:
-        print(f"{what}: {got!r}, expected {expected!r}")
 
 
 def run(*words):
@@ -31,10 +24,15 @@ def shown_rows(browser):
     return browser.value("[...document.querySelectorAll('tbody tr')].filter((r) => !r.hidden).length")
 
 
+def slide(browser, at):
+    browser.value(f"document.getElementById('slide').value = {at}; document.getElementById('slide').oninput()")
+
+
 def fits(browser, what):
     for width in (360, 768, 1280, 1920):
         browser.size(width, 900)
-        same(f"{what}: {width} pixels wide", browser.value("document.documentElement.scrollWidth <= window.innerWidth"), True)
+        narrow = browser.value("document.documentElement.scrollWidth <= window.innerWidth")
+        same(f"{what}: {width} pixels wide", narrow, True)
     browser.size(1280, 900)
 
 
@@ -46,7 +44,9 @@ def on_paper(browser, what, room):
         boxes = set(re.findall(rb"/MediaBox *\[0 0 (\d+)[\d.]* (\d+)[\d.]*\]", file.read()))
     same(f"{what}: on A4", boxes <= {(b"594", b"841"), (b"595", b"842"), (b"595", b"841")} and len(boxes) == 1, True)
     browser.call("Emulation.setEmulatedMedia", media="print")
-    same(f"{what}: no walk in print", browser.value("[...document.querySelectorAll('#walk, .find')].every((e) => getComputedStyle(e).display === 'none')"), True)
+    hidden = browser.value("[...document.querySelectorAll('#walk, .find')].every("
+                           "(e) => getComputedStyle(e).display === 'none')")
+    same(f"{what}: no walk in print", hidden, True)
     browser.call("Emulation.setEmulatedMedia", media="")
 
 
@@ -80,14 +80,15 @@ def state_back(program, many):
 def try_walk(browser, marks, room):
     browser.open(os.path.join(marks, "pages/000005-unsound.s19.html"))
     same("walk: it is there", browser.value("document.getElementById('walk').hidden"), False)
-    same("walk: the close", browser.text("now"), "After step 119, at $1016: BRA $1016. It left: nothing but PC. The run ends here.")
+    same("walk: the close", browser.text("now"),
+         "After step 119, at $1016: BRA $1016. It left: nothing but PC. The run ends here.")
     browser.click("#to_back")
     browser.press("ArrowLeft")
     browser.press("ArrowLeft")
     same("walk: three back", (browser.value("document.getElementById('step').value"), registers(browser)),
          ("116", state_back("programs/unsound.s19", 3)))
     for many in (20, 54, 75, 99):
-        browser.value(f"document.getElementById('slide').value = {120 - many}; document.getElementById('slide').oninput()")
+        slide(browser, 120 - many)
         same(f"walk: {many} back", registers(browser), state_back("programs/unsound.s19", many))
     browser.press("Home")
     same("walk: Home", browser.text("now"), "Before step 0, the first of these.")
@@ -98,7 +99,8 @@ def try_walk(browser, marks, room):
     same("walk: 32 forward", browser.value("document.getElementById('step').value"), "32")
     browser.press("End")
     same("walk: End", browser.text("now").endswith("The run ends here."), True)
-    same("walk: buttons at the end", browser.value("[document.getElementById('to_on').disabled, document.getElementById('to_back').disabled]"), [True, False])
+    disabled = browser.value("['to_on', 'to_back'].map((name) => document.getElementById(name).disabled)")
+    same("walk: buttons at the end", disabled, [True, False])
     browser.click("#to_first")
     browser.click("#to_last")
     same("walk: first and last by buttons", browser.text("now").endswith("The run ends here."), True)
@@ -117,8 +119,9 @@ def try_steps(browser, program):
     lines = run("back", "-n", "1024", "sum.paper", program).splitlines()[-2:0:-1]
     seen = {}
     for at in range(1, len(lines) + 1, 7):
-        browser.value(f"document.getElementById('slide').value = {at}; document.getElementById('slide').oninput()")
-        for row in browser.value("[...document.querySelectorAll('#around tr')].map((r) => [...r.cells].map((c) => c.textContent))"):
+        slide(browser, at)
+        for row in browser.value("[...document.querySelectorAll('#around tr')].map("
+                                 "(r) => [...r.cells].map((c) => c.textContent))"):
             seen[int(row[0])] = " ".join(row)
     same(f"{program}: every step", [re.sub(" +", " ", seen[step]).strip() for step in sorted(seen)],
          [re.sub(" +", " ", line).strip() for line in lines])
@@ -132,7 +135,8 @@ def try_writer(browser):
     same("writer: found", browser.text("found"), "Step 46 wrote $0120: ST R0,R1.")
     same("writer: it is gone to", browser.value("document.getElementById('step').value"), "46")
     same("writer: the bytes", browser.value("document.querySelector('#memory .chosen').innerText"), "19")
-    same("writer: as xm23 back tells", run("back", "-w", "120", "sum.paper", "programs/unsound.s19").splitlines()[-2].split()[0], "46")
+    told = run("back", "-w", "120", "sum.paper", "programs/unsound.s19").splitlines()
+    same("writer: as xm23 back tells", told[-2].split()[0], "46")
     browser.click("#writer")
     same("writer: none before it", browser.text("found"), "No step before, back to step 0, wrote $0120.")
     browser.value("document.getElementById('byte').value = '$0130'")
@@ -159,8 +163,10 @@ def try_screen(browser, marks):
         if browser.text("screen") != seen[-1]:
             seen.append(browser.text("screen"))
     same("screen: so far", seen, ["", "S", "SU", "SUM"])
-    same("screen: lines of the source", browser.value("[...document.querySelectorAll('#around tr')].slice(0, 3).map((r) => r.cells[4].textContent)"),
-         ["3.  START   MOVLZ $05,R1        ; the screen's data byte", "4.          MOVLZ $53,R0        ; S", "5.          ST.B R0,R1"])
+    lines = browser.value("[...document.querySelectorAll('#around tr')].slice(0, 3).map((r) => r.cells[4].textContent)")
+    same("screen: lines of the source", lines,
+         ["3.  START   MOVLZ $05,R1        ; the screen's data byte", "4.          MOVLZ $53,R0        ; S",
+          "5.          ST.B R0,R1"])
     same("screen: errors", browser.errors(), [])
 
 
@@ -213,5 +219,4 @@ with tempfile.TemporaryDirectory() as room:
         try_long(browser, room)
     finally:
         browser.close()
-print(f"{passed} passed, {failed} failed")
-sys.exit(failed != 0)
+end()

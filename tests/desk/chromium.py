@@ -104,8 +104,9 @@ class Browser:
         self.call("Input.insertText", text=text)
 
     def click(self, selector):
-        box = self.value(f"(() => {{ const e = document.querySelector({json.dumps(selector)}); e.scrollIntoView({{block: 'center'}});"
-                         " const b = e.getBoundingClientRect(); return [b.x + b.width / 2, b.y + b.height / 2]; })()")
+        box = self.value(f"(() => {{ const e = document.querySelector({json.dumps(selector)});"
+                         " e.scrollIntoView({block: 'center'}); const b = e.getBoundingClientRect();"
+                         " return [b.x + b.width / 2, b.y + b.height / 2]; })()")
         for kind in ("mousePressed", "mouseReleased"):
             self.call("Input.dispatchMouseEvent", type=kind, x=box[0], y=box[1], button="left", clickCount=1)
 

@@ -1,10 +1,10 @@
 #!/usr/bin/env python3
 """xm23 beside print_state and the oracle on random runs: random_runs.py XM23 PRINT_STATE ORACLE RUNS [SEED]. A run is a
-random start, program, devices, vectors, memory and events. Of the first half the program is random bytes, and of a sixth of
-them one rule is broken, which a paper tells by the refusal's number: print_state gives the line that xm23 run and xm23 mark
-must give. Of the second half it is a source with handlers, SVC, CEX blocks, faults, sleep and stores: there what xm23 report
-and xm23 back tell of the last steps is held against the oracle's walk of the same run (ORACLE is its program, report), and
-the walk's data are replayed. The last line is 'N passed, M failed'."""
+random start, program, devices, vectors, memory and events. Of the first half the program is random bytes, and of a
+sixth of them one rule is broken, which a paper tells by the refusal's number: print_state gives the line that xm23 run
+and xm23 mark must give. Of the second half it is a source with handlers, SVC, CEX blocks, faults, sleep and stores:
+there what xm23 report and xm23 back tell of the last steps is held against the oracle's walk of the same run (ORACLE is
+its program, report), and the walk's data are replayed. The last line is 'N passed, M failed'."""
 import base64
 import csv
 import html
@@ -15,6 +15,8 @@ import re
 import subprocess
 import sys
 import tempfile
+
+from tally import end, same
 
 xm23, print_state, oracle, runs = sys.argv[1], sys.argv[2], sys.argv[3], int(sys.argv[4])
 dice = random.Random(int(sys.argv[5]) if len(sys.argv) > 5 else 1)
@@ -43,8 +45,10 @@ class Run:
         self.registers = [word() for _ in NAMES]
         self.registers[6] &= 0xFFFE
         self.pc = self.registers[7] = dice.randrange(0x100, 0xFE00) & 0xFFFE
-        self.psw, self.cex = dice.choice([0, 0x20, 0x60, 0xE0, word() & 0xE1FF]), dice.choice([0, 0, 0x4B, dice.randrange(128)])
-        self.n, self.count = dice.choice([0, 1, 5, 60, 2000, dice.randrange(30000)]), dice.choice([0, 0, 7, dice.randrange(1 << 31)])
+        self.psw = dice.choice([0, 0x20, 0x60, 0xE0, word() & 0xE1FF])
+        self.cex = dice.choice([0, 0, 0x4B, dice.randrange(128)])
+        self.n = dice.choice([0, 1, 5, 60, 2000, dice.randrange(30000)])
+        self.count = dice.choice([0, 0, 7, dice.randrange(1 << 31)])
         self.lines = dice.choice([0, 0, dice.randrange(1 << 32)])
         self.halted = dice.choice([0] * 20 + [1])
         self.lay_program()
@@ -98,11 +102,13 @@ class Run:
             self.psw |= 0x0200
         else:
             last = self.count + 5000
-            self.events += [(last, 1, 1), {"device": (last, 8, 1), "order": (last - 1, 1, 1), "twins": (last, 1, 2)}[kind]]
+            wrong = {"device": (last, 8, 1), "order": (last - 1, 1, 1), "twins": (last, 1, 2)}
+            self.events += [(last, 1, 1), wrong[kind]]
 
     def input(self):
         state = b"".join(r.to_bytes(2, "little") for r in self.registers + [self.psw, self.cex])
-        state += bytes([0, self.halted]) + self.count.to_bytes(4, "little") + self.lines.to_bytes(4, "little") + bytes(2)
+        state += bytes([0, self.halted])
+        state += self.count.to_bytes(4, "little") + self.lines.to_bytes(4, "little") + bytes(2)
         events = b"".join(s.to_bytes(4, "little") + bytes([d, b, 0, 0]) for s, d, b in self.events)
         return self.n.to_bytes(4, "little") + state + bytes(self.memory) + events
 
@@ -116,10 +122,11 @@ class Run:
 
 
 PLAIN = ["ADD #1,R0", "SUB #1,R1", "ADD R0,R2", "SWPB R3", "CMP R0,R1", "MOVL $5A,R3", "SXT R1", "RRC R2", "XOR R0,R3"]
-TOUCH = ["ST R0,R4", "ST.B R1,R4+", "LD R4,R2", "LD.B R4-,R3", "ST R2,-SP", "LD SP+,R1", "STR R0,R4,#2", "STR.B R3,R4,#-3",
-         "LDR R4,#4,R0", "MOVLZ $05,R4", "MOVLZ $02,R4", "MOVLZ $03,R4", "MOVH $01,R4", "MOVLZ $00,R4", "MOVLS #-2,R4"]
-TURNS = ["SVC #12", "SVC #13", "SETPRI #0", "WORD $4E00", "CEX EQ,#2,#1", "CEX NE,#1,#2", "SETCC S", "CEX TR,#1,#0", "SVC #14",
-         "ST R0,R0", "LD R4,PC", "BIS #1,PC", "MOV LR,PC"]
+TOUCH = ["ST R0,R4", "ST.B R1,R4+", "LD R4,R2", "LD.B R4-,R3", "ST R2,-SP", "LD SP+,R1", "STR R0,R4,#2",
+         "STR.B R3,R4,#-3", "LDR R4,#4,R0", "MOVLZ $05,R4", "MOVLZ $02,R4", "MOVLZ $03,R4", "MOVH $01,R4",
+         "MOVLZ $00,R4", "MOVLS #-2,R4"]
+TURNS = ["SVC #12", "SVC #13", "SETPRI #0", "WORD $4E00", "CEX EQ,#2,#1", "CEX NE,#1,#2", "SETCC S", "CEX TR,#1,#0",
+         "SVC #14", "ST R0,R0", "LD R4,PC", "BIS #1,PC", "MOV LR,PC"]
 
 
 def some(many, turns):
@@ -127,7 +134,7 @@ def some(many, turns):
 
 
 class Source(Run):
-    """A run of a source: a loop and handlers of random lines, so that there is something to enter and to return from."""
+    """A run of a source: a loop and handlers of random lines, so that there is something to enter and return from."""
 
     def lay_program(self):
         self.pc = self.registers[7] = 0x1000
@@ -164,16 +171,6 @@ def run(command, **more):
     return subprocess.run(command, stdout=subprocess.PIPE, stderr=subprocess.PIPE, **more)
 
 
-passed = failed = 0
-
-
-def same(what, got, expected):
-    global passed, failed
-    passed, failed = passed + (got == expected), failed + (got != expected)
-    if got != expected:
-        print(f"{what}: {got!r}, expected {expected!r}")
-
-
 # ---- the last steps
 
 def rows(page, heading):
@@ -181,8 +178,8 @@ def rows(page, heading):
     part = page[page.index(heading) + 4:] if heading in page else ""
     part = part[:part.index("<h2")] if "<h2" in part else part
     table = part[:part.index("</table>")] if "<table" in part else ""
-    return [[html.unescape(re.sub(r"<[^>]*>", "", cell)) for cell in re.findall(r"<t[dh][^>]*>(.*?)</t[dh]>", row, re.S)]
-            for row in re.findall(r"<tr.*?</tr>", table, re.S)][1:]
+    cells = [re.findall(r"<t[dh][^>]*>(.*?)</t[dh]>", row, re.S) for row in re.findall(r"<tr.*?</tr>", table, re.S)]
+    return [[html.unescape(re.sub(r"<[^>]*>", "", cell)) for cell in row] for row in cells][1:]
 
 
 ACTS = [(r"skipped by CEX: not decoded", r"skipped by CEX"), (r"asleep: nothing", r"asleep"),
@@ -192,8 +189,8 @@ ACTS = [(r"skipped by CEX: not decoded", r"skipped by CEX"), (r"asleep: nothing"
 
 
 # Kinds of steps that must be met among those that are compared.
-KINDS = ["skipped", "asleep", "accepted", "chained", "pulled", "SVC by", "fault 8", "fault 9", "fault 10", "halt: fault 8", "halt: fault 9",
-         "halt: fault 10", "; fault 9", "ST ", "ST.B", "STR ", "STR.B", "LD ", "LDR "]
+KINDS = ["skipped", "asleep", "accepted", "chained", "pulled", "SVC by", "fault 8", "fault 9", "fault 10",
+         "halt: fault 8", "halt: fault 9", "halt: fault 10", "; fault 9", "ST ", "ST.B", "STR ", "STR.B", "LD ", "LDR "]
 met = set()
 
 
@@ -211,8 +208,8 @@ def oracle_steps(page):
     for step, pc, fetched, what, left in rows(page, ">The last steps<"):
         left = re.sub(r"CEX #00", "CEX #", left)
         fetched = "" if what.startswith("skipped") else fetched
-        yield [cell.replace("#", "").replace(",", "") for cell in (step, pc, fetched)] + [in_desk_words(what),
-                                                                                       left.replace("#", "").split(", ")]
+        cells = [cell.replace("#", "").replace(",", "") for cell in (step, pc, fetched)]
+        yield cells + [in_desk_words(what), left.replace("#", "").split(", ")]
 
 
 def desk_steps(page):
@@ -221,7 +218,8 @@ def desk_steps(page):
 
 
 def oracle_turns(page):
-    return [[cells[0].replace(",", ""), in_desk_words(cells[1])] for cells in rows(page, ">Entries, returns and faults<")]
+    turns = rows(page, ">Entries, returns and faults<")
+    return [[cells[0].replace(",", ""), in_desk_words(cells[1])] for cells in turns]
 
 
 def walk_of(page):
@@ -307,7 +305,8 @@ def go_back(this, name, walk, counts, files, steps):
     at = dice.choice(sorted(walk.writers)) if walk.writers else 0x4321
     told = run([xm23, "back", "-w", f"{at:X}", *files])
     if at in walk.writers:
-        same(f"{name}: who wrote {at:04X}", told.stdout.decode().splitlines()[-2].split()[0], str(counts[walk.writers[at]]))
+        step = told.stdout.decode().splitlines()[-2].split()[0]
+        same(f"{name}: who wrote {at:04X}", step, str(counts[walk.writers[at]]))
     else:
         same(f"{name}: nobody wrote", told.returncode, 1)
 
@@ -344,5 +343,4 @@ with tempfile.TemporaryDirectory() as room:
         same(f"source {i}", run([xm23, "run", paper, source]).stdout.decode().strip(), line)
         look_at(this, f"source {i}", (paper, source, given, line_file, page))
 same("kinds of steps that were not met", sorted(set(KINDS) - met), [])
-print(f"{passed} passed, {failed} failed")
-sys.exit(failed != 0)
+end()

@@ -1,7 +1,7 @@
 /*
- * A target of libFuzzer: xm23_assemble beside an assembler in C, written from 02 and compiled with the fuzzer's counters.
- * The string is a source. Held: both give one reply and leave one memory, and each word of an accepted source that no
- * later statement overlaps is one that xm23_decode takes.
+ * A target of libFuzzer: xm23_assemble beside an assembler in C, written from 02 and compiled with the fuzzer's
+ * counters. The string is a source. Held: both give one reply and leave one memory, and each word of an accepted source
+ * that no later statement overlaps is one that xm23_decode takes.
  */
 #include <inttypes.h>
 #include <stdio.h>
@@ -105,13 +105,14 @@ static int find(struct word w, const char *list)
 
 static const char alu[] = "ADD ADDC SUB SUBC DADD CMP XOR AND OR BIT BIC BIS";
 static const char branch[] = "BEQ BZ BNE BNZ BC BHS BNC BLO BN BN BGE BGE BLT BLT BRA BRA";
-static const char condition[] = "EQ EQ NE NE CS HS CC LO MI MI PL PL VS VS VC VC HI HI LS LS GE GE LT LT GT GT LE LE TR TR FL FL";
+static const char condition[] = "EQ EQ NE NE CS HS CC LO MI MI PL PL VS VS VC VC "
+                                "HI HI LS LS GE GE LT LT GT GT LE LE TR TR FL FL";
 static const char registers[] = "R0 R1 R2 R3 R4 R5 R6 R7 BP LR SP PC";
 static const char unary[] = "SRA RRC COMP";
 static const char moves[] = "MOVL MOVLZ MOVLS MOVH";
 static const char others[] = "ORG EQU BSS BYTE WORD END BL MOV SWAP SWPB SXT SETPRI SVC SETCC CLRCC CEX LD ST LDR STR";
-static const char emulated[] = "ADC CALL CLC CLN CLR CLS CLV CLZ DADC DEC DECD INC INCD JUMP NOP PULL PUSH RET RLC SBC SEC SEN SEV "
-                               "SEZ SLA TST";
+static const char emulated[] = "ADC CALL CLC CLN CLR CLS CLV CLZ DADC DEC DECD INC INCD "
+                               "JUMP NOP PULL PUSH RET RLC SBC SEC SEN SEV SEZ SLA TST";
 
 static int reserved(struct word w)
 {
@@ -507,7 +508,8 @@ static void sweep(const uint8_t *source, size_t end, int uses, uint8_t *memory, 
     while (at < end) {
         size_t from = at, many = next_line(source, end, &at);
         struct line line = read_line(source + from, many);
-        int placing = line.kind == ORG || line.kind == EQU || line.kind == BSS, negative = line.kind != EQU && line.value < 0;
+        int placing = line.kind == ORG || line.kind == EQU || line.kind == BSS;
+        int negative = line.kind != EQU && line.value < 0;
         int past = bytes_of(&line) > 0 && place + bytes_of(&line) > XM23_MEMORY_SIZE;
         number++;
         if (!uses && placing) {
@@ -522,7 +524,8 @@ static void sweep(const uint8_t *source, size_t end, int uses, uint8_t *memory, 
         if (uses && !placing) {
             int odd = (line.kind == WORD || line.kind == CODE) && place % 2, misfit = 0;
             if (line.kind == BYTE || line.kind == WORD)
-                misfit = line.value < (line.kind == BYTE ? -128 : -32768) || line.value > (line.kind == BYTE ? 255 : 65535);
+                misfit = line.value < (line.kind == BYTE ? -128 : -32768) ||
+                         line.value > (line.kind == BYTE ? 255 : 65535);
             if (line.kind == CODE)
                 misfit = !fits(&line, place);
             first(&faults->name, now.unknown, number);

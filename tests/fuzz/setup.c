@@ -101,8 +101,8 @@ static void break_n(struct setup *s, unsigned a, unsigned b)
 }
 
 /*
- * Events on every device on each step after the last record's, up to 4,096 records, or 4,097 where `over` is set; or the
- * last record again and again where `twins` is.
+ * Events on every device on each step after the last record's, up to 4,096 records, or 4,097 where `over` is set; or
+ * the last record again and again where `twins` is.
  */
 static void fill_list(struct setup *s, int over, int twins)
 {

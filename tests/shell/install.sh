@@ -7,9 +7,10 @@ cd "$(dirname "$0")/../.."
 make="make -s --no-print-directory"
 version=$(scripts/version.sh)
 prefix=$room/usr
-files="bin/print_state bin/xm23 include/xm23.h lib/libxm23.a lib/libxm23.so lib/libxm23.so.${version%.*} lib/libxm23.so.$version
-    lib/pkgconfig/xm23.pc share/man/man1/print_state.1 share/man/man1/xm23.1 share/man/man3/xm23.3 share/man/man3/xm23_decode.3
-    share/man/man5/xm23.5 share/bash-completion/completions/xm23"
+files="bin/print_state bin/xm23 include/xm23.h
+    lib/libxm23.a lib/libxm23.so lib/libxm23.so.${version%.*} lib/libxm23.so.$version
+    lib/pkgconfig/xm23.pc share/man/man1/print_state.1 share/man/man1/xm23.1
+    share/man/man3/xm23.3 share/man/man3/xm23_decode.3 share/man/man5/xm23.5 share/bash-completion/completions/xm23"
 
 # there FOLDER: what lies below it that is no folder.
 there() {
@@ -40,7 +41,8 @@ expect 'a prefix that is no path' 2 '' ".*PREFIX 'usr' is not an absolute path.*
 expect 'the version' 0 "$version" '' env PKG_CONFIG_PATH="$prefix/lib/pkgconfig" pkg-config --modversion xm23
 
 same 'exports of the shared library' "$(nm -D --defined-only "$prefix/lib/libxm23.so" | grep -vc ' T xm23_')" 0
-same 'its name' "$(readelf -d "$prefix/lib/libxm23.so" | sed -n 's/.*SONAME.*\[\(.*\)\]/\1/p')" "libxm23.so.${version%.*}"
+same 'its name' "$(readelf -d "$prefix/lib/libxm23.so" | sed -n 's/.*SONAME.*\[\(.*\)\]/\1/p')" \
+    "libxm23.so.${version%.*}"
 same 'what it needs' "$(readelf -d "$prefix/lib/libxm23.so" | sed -n 's/.*NEEDED.*\[\(.*\)\]/\1/p')" libc.so.6
 same 'and of it' "$(nm -D --undefined-only "$prefix/lib/libxm23.so" | awk '{ print $2 }' | sed 's/@.*//')" memset
 printf 'int other(void) { return 0; }\n' > "$room/other.c"
@@ -59,7 +61,8 @@ expect "README's example in C++" 0 "$said" '' built g++ -std=c++11 -x c++ "$room
 expect "the manual's example in C" 0 'accepted, reason 0, 1000 steps' '' built gcc -std=c99 -pedantic "$room/manual.c"
 expect "the manual's example in C++" 0 'accepted, reason 0, 1000 steps' '' \
     built g++ -std=c++11 -x c++ "$room/manual.c" -x none
-expect "README's example in Python" 0 'refusal 0 steps 1 depth 0 R0 1' '' python3 -B examples/run.py "$prefix/lib/libxm23.so"
+expect "README's example in Python" 0 'refusal 0 steps 1 depth 0 R0 1' '' \
+    python3 -B examples/run.py "$prefix/lib/libxm23.so"
 expect 'by its name' 0 'refusal 0 steps 1 depth 0 R0 1' '' env LD_LIBRARY_PATH="$prefix/lib" python3 -B examples/run.py
 same 'is that of README' "$(cat "$room/readme.py")" "$(cat examples/run.py)"
 same 'xm23' "$("$prefix/bin/xm23" dis examples/copy_words.s19)" "$(cat examples/copy_words.lst)"

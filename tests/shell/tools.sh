@@ -43,7 +43,8 @@ wrong 4 "'7 0' is no record of the log: .*" 'n: 5\nsource: END\nshown:\n    7 0\
 wrong 3 "'deep' is no depth" 'n: 5\nsource: END\ndeepest: deep\n'
 printf 'n: 5\nsource:\n            ORG $1000\n    HERE    BRA HERE\n            END\n' > "$room/case.txt"
 expect 'the least case' 0 "$room/case.in" '' scripts/input.sh "$room/case.txt" "$room/case.in"
-same 'runs' "$(target/bin/print_state < "$room/case.in")" '0 5 0000 0000 0000 0000 0000 0000 0800 1000 0000 00 00000000 0'
+same 'runs' "$(target/bin/print_state < "$room/case.in")" \
+    '0 5 0000 0000 0000 0000 0000 0000 0800 1000 0000 00 00000000 0'
 
 # The legend of an accepted line has a row for each field; of a refusal, its sentence.
 legend() {

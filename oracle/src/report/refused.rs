@@ -61,9 +61,10 @@ pub fn section(number: u8, input: &[u8]) -> Section {
     ];
     let kept = "No step was taken: a refused run leaves memory, state record and events as they were handed over, so \
                 there is no closing state to show.";
-    let order = "The papers are 01, the house rules, and 02, the change requests, which adds 13. An input under 36 bytes \
-                 is 3 and short memory is 1, whatever else is wrong. Then the rules are tried in this order, and the first \
-                 that is broken is named: 2 for n alone; 2 for the sum of step count and n; 4; 5; 6; 7; 13.";
+    let order = "The papers are 01, the house rules, and 02, the change requests, which adds 13. An input under 36 \
+                 bytes is 3 and short memory is 1, whatever else is wrong. Then the rules are tried in this order, \
+                 and the first that is broken is named: 2 for n alone; 2 for the sum of step count and n; 4; 5; 6; 7; \
+                 13.";
     Section::new(
         "refusal",
         format!("Refusal {number}"),

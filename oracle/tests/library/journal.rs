@@ -1,26 +1,16 @@
 //! The two calls on a journal of libxm23.a, for Rust.
 
+#[macro_use]
+#[path = "declared.rs"]
+mod declared;
+
 use oracle::journal::Held;
 use oracle::journal_compare::Engine;
 
+run_call!(xm23_run_journal, journal: *mut u8, journal_len: usize, kept: *mut u32, place: *mut u32, n: u64);
+
 #[link(name = "xm23", kind = "static")]
 extern "C" {
-    pub fn xm23_run_journal(
-        memory: *mut u8,
-        memory_len: usize,
-        record: *mut u8,
-        record_len: usize,
-        events: *const u8,
-        events_len: usize,
-        log: *mut u8,
-        log_len: usize,
-        deepest: *mut u32,
-        journal: *mut u8,
-        journal_len: usize,
-        kept: *mut u32,
-        place: *mut u32,
-        n: u64,
-    ) -> u64;
     pub fn xm23_back(
         memory: *mut u8,
         memory_len: usize,

@@ -1,22 +1,12 @@
 //! The run call of libxm23.a, for Rust.
 
+#[macro_use]
+#[path = "declared.rs"]
+mod declared;
+
 use oracle::inputs::Input;
 
-#[link(name = "xm23", kind = "static")]
-extern "C" {
-    pub fn xm23_run(
-        memory: *mut u8,
-        memory_len: usize,
-        record: *mut u8,
-        record_len: usize,
-        events: *const u8,
-        events_len: usize,
-        log: *mut u8,
-        log_len: usize,
-        deepest: *mut u32,
-        n: u64,
-    ) -> u64;
-}
+run_call!(xm23_run, n: u64);
 
 /// Runs an input in place by the proved library.
 pub fn library(i: &mut Input) -> u64 {

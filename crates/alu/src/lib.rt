@@ -1,8 +1,9 @@
 // Arithmetic and logic of the XM-23 machine: one call, `alu`, for every instruction of both groups.
 // `byte` chooses the width: 8 bits, else 16. A byte form keeps the high byte of its destination.
 ghost use mathlib.Core.Path.{_≡_};
-ghost use mathlib.Core.Bool.{not, Bool·beq};
+ghost use mathlib.Core.Bool.{not, cond, Bool·beq};
 ghost use Prim.Native.Nat.{_+_, _-_, _/_, _%_, _^_, _<_, _≤_};
+ghost use lib.Dec.{ltb};
 ghost use Rattle.word.specs.Width.{widthOf, low, turned};
 ghost use Rattle.alu.specs.Sums.{addWithCarry, negative};
 ghost use Rattle.alu.specs.Decimal.{decimalSum, digitOf, digitCarry};
@@ -83,6 +84,17 @@ fn signs_differ(byte: bool, x: u16, y: u16) -> bool
     (sign <= x) != (sign <= y)
 }
 
+// Is a below b, both read with their signs? Numbers of one sign stand in their plain order; of two
+// signs the one with its top bit set is below.
+fn below(byte: bool, a: u16, b: u16) -> bool
+    requires { ⌜ (a < 2 ^ widthOf byte) × (b < 2 ^ widthOf byte) ⌝ }
+    ensures { λ r. ⌜ r ≡ cond (Bool·beq (negative (widthOf byte) a) (negative (widthOf byte) b))
+        (ltb a b) (negative (widthOf byte) a) ⌝ }
+{
+    let sign = word::top(byte);
+    (a ^ sign) < (b ^ sign)
+}
+
 // A logical result written to the destination, with Z and N.
 pub fn logic_into(byte: bool, dst: u16, result: u16, psw: u16) -> Computed
     requires { ⌜ result < 2 ^ widthOf byte ⌝ }
@@ -138,7 +150,7 @@ fn difference_into(byte: bool, dst: u16, src: u16, psw: u16) -> Computed
     let a = word::low_bits(byte, dst);
     let b = word::low_bits(byte, src);
     let sum = difference(byte, a, b);
-    let overflow = signs_differ(byte, a, b) & signs_differ(byte, a, sum.value);
+    let overflow = (word::top(byte) <= sum.value) != below(byte, a, b);
     sum_into(byte, dst, sum, overflow, psw)
 }
 

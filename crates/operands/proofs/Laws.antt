@@ -6,13 +6,14 @@ use Prim.Native.Nat.{ℕ, zero, suc, _+_, _-_, _*_, _%_, _<_, _≤_, zero-le}
 use native.Mathlib.Nat.{not-suc-le-zero, le-of-suc-le-suc}
 use native.Mathlib.Omega.{arith}
 use lib.IntN.{ℤ, pos, negsuc, negℤ, _*ℤ_}
-use lib.ListN.{length, getD}
+use lib.ListN.{length, getD, List·getD-eq-default}
 use lib.Signed.{mag, ltZ}
 use mir.Syntax.{w16}
 use mir.Val.{toZ, ofZ, SFits}
 use mir.ValLaws.{toZ-ofZ}
 use borrow.Author.Tests.{ltb-true}
 use Rattle.machine.specs.State.{moved, doubled}
+use Rattle.machine.specs.Cex.{conditionOf}
 
 -- ---- tables
 
@@ -34,6 +35,11 @@ last-entry [] x d zero h = refl
 last-entry [] x d (suc k) h = absurd (not-suc-le-zero (le-of-suc-le-suc h))
 last-entry (y ∷ l) x d zero h = refl
 last-entry (y ∷ l) x d (suc k) h = last-entry l x d k (le-of-suc-le-suc h)
+
+-- no condition from 15 on holds
+pub never : (n p : ℕ) → 15 ≤ n → false ≡ conditionOf n p
+unfolding conditionOf
+never n p h = rw List·getD-eq-default
 
 -- ---- addresses
 

@@ -2,7 +2,7 @@
 // name by number, and the fields of the PSW that they set.
 ghost use mathlib.Core.Path.{_≡_};
 ghost use mathlib.Core.Bool.{cond};
-ghost use Prim.Native.Nat.{_<_, _≤_};
+ghost use Prim.Native.Nat.{_*_, _<_, _≤_};
 ghost use lib.Dec.{eqb};
 ghost use lib.ListN.{getD, set};
 ghost use lib.Signed.{mag};
@@ -131,30 +131,30 @@ pub fn taken(n: u8, psw: u16) -> bool
     }
 }
 
-// Does CEX's condition of this number hold?
-pub fn condition(n: u8, psw: u16) -> bool
-    ensures { λ r. ⌜ r ≡ conditionOf n psw ⌝ }
+// Does the condition of number 2 * k hold?
+fn even_condition(k: u8, psw: u16) -> bool
+    ensures { λ r. ⌜ r ≡ conditionOf (2 * k) psw ⌝ }
 {
     let c = psw % 2 == 1;
     let z = psw / 2 % 2 == 1;
-    match n {
+    match k {
         0 => z,
-        1 => !z,
-        2 => c,
-        3 => !c,
-        4 => psw / 4 % 2 == 1,
-        5 => psw / 4 % 2 != 1,
-        6 => psw / 16 % 2 == 1,
-        7 => psw / 16 % 2 != 1,
-        8 => c & !z,
-        9 => !c | z,
-        10 => at_least(psw),
-        11 => !at_least(psw),
-        12 => !z & at_least(psw),
-        13 => z | !at_least(psw),
-        14 => true,
+        1 => c,
+        2 => psw / 4 % 2 == 1,
+        3 => psw / 16 % 2 == 1,
+        4 => c & !z,
+        5 => at_least(psw),
+        6 => !z & at_least(psw),
+        7 => true,
         _ => false,
     }
+}
+
+// Does CEX's condition of this number hold? An odd one holds where the one before it does not.
+pub fn condition(n: u8, psw: u16) -> bool
+    ensures { λ r. ⌜ r ≡ conditionOf n psw ⌝ }
+{
+    (n < 16) & (even_condition(n / 2, psw) != (n % 2 == 1))
 }
 
 // The CEX state that CEX loads: both counts and the condition's outcome.

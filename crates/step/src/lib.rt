@@ -178,20 +178,23 @@ fn instruction(regs: &mut [u16; 8], mem: &[u8], psw: u16, cex: u16) -> Planned
     grant(regs, mem, psw, cex, pc, d)
 }
 
-// Point 2, a return: a line above the previous priority is chained, else the frame is pulled.
+// Point 2, a return: a line above the previous priority is chained, else the frame is pulled. No
+// vector is read where no line waits.
 fn leave(mem: &[u8], lines: Lines, psw: u16, cex: u16) -> Planned
     requires { ⌜ length (now mem) ≡ 65536 ⌝ }
     ensures plan { λ r. ⌜ ((regs : List ℕ) (p : Plan) → planWith regs r ≡
         chosen (leaving (coreOf regs psw cex) lines (now (mem .entry))) (coreOf regs psw cex) p) ⌝ }
     ensures within { λ r. ⌜ Within (r .act) ⌝ }
 {
-    let d = entry::best_above(mem, lines, word::previous_priority(psw));
-    if d < 8 {
-        return Planned {
-            psw,
-            cex,
-            act: Act::Chain(d),
-        };
+    if lines != 0 {
+        let d = entry::best_above(mem, lines, word::previous_priority(psw));
+        if d < 8 {
+            return Planned {
+                psw,
+                cex,
+                act: Act::Chain(d),
+            };
+        }
     }
     Planned {
         psw,

@@ -1,6 +1,7 @@
 -- `alu::difference_into` meets its contract. Assumes nothing.
-use Rattle.alu.specs.Sums.{overflowOf}
-use Rattle.alu.proofs.Overflow.{difference-signs}
+use Rattle.word.specs.Width.{widthOf, low}
+use Rattle.word.proofs.Laws.{low-lt}
+use Rattle.alu.proofs.Overflow.{difference-overflow}
 use borrow.Author.Needs.{needs}
 use Rattle.alu.proofs.difference_into.Statement.{statement}
 use Rattle.alu.proofs.difference_into.Tie as tie
@@ -14,28 +15,28 @@ low-bits-requires-2 c κs = search needs
 difference-requires : tie.Need-difference-requires
 difference-requires c κs = search needs
 
-signs-differ-requires : tie.Need-signs-differ-requires
-signs-differ-requires c κs = search needs
+top-requires : tie.Need-top-requires
+top-requires c κs = search needs
 
-signs-differ-requires-2 : tie.Need-signs-differ-requires-2
-signs-differ-requires-2 c κs = search needs
+below-requires : tie.Need-below-requires
+below-requires c κs = search needs
 
 sum-into-requires : tie.Need-sum-into-requires
 sum-into-requires c κs = search needs
 
 returns : tie.Need-returns
-unfolding overflowOf
 returns c =
-    let s = c .before .before in
-    let b = s .before .before in
+    let t = c .before .before .before in
+    let b = t .before .before in
+    let a = b .before .before .args in
     simp (
       c .sum-into .ensures,
-      c .before .signs-differ2 .ensures,
-      s .signs-differ .ensures,
-      difference-signs,
-      s .before .difference .ensures .0,
+      c .before .below .ensures,
+      t .top .ensures,
+      t .before .difference .ensures .0,
       b .low-bits2 .ensures .0,
       b .before .low-bits .ensures .0,
+      difference-overflow (a .byte) (low (widthOf (a .byte)) (a .dst)) (a .src) (low-lt (widthOf (a .byte)) (a .dst)),
     )
 
 pub difference-into-spec : {M : Type 1} → statement M
@@ -45,7 +46,7 @@ difference-into-spec =
     low-bits-requires
     low-bits-requires-2
     difference-requires
-    signs-differ-requires
-    signs-differ-requires-2
+    top-requires
+    below-requires
     sum-into-requires
     returns)

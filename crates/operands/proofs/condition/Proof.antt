@@ -1,97 +1,68 @@
 -- `operands::condition` meets its contract. Assumes nothing.
-use native.Mathlib.Nat.{div-one}
-use lib.ListN.{List·getD-eq-default}
+use mathlib.Core.Path.{_≡_, refl, sym, ap, _∙_}
+use mathlib.Core.Bool.{Bool, true, false, not, _&&_, _||_, Bool·beq}
+use mathlib.Core.Logic.{⊎-elim}
+use Prim.Native.Nat.{ℕ, zero, suc, _+_, _*_, _/_, _%_, _<_, _≤_}
+use native.Mathlib.Omega.{arith}
+use lib.Dec.{eqb}
 use borrow.Author.Needs.{needs}
-use Rattle.machine.specs.Cex.{conditionOf}
-use Rattle.operands.proofs.Laws.{past}
+use borrow.Author.Tests.{lt-ltb, le-ltb}
+use Rattle.word.specs.Psw.{carry?, zero?}
+use Rattle.word.proofs.Laws.{order}
+use Rattle.machine.specs.Cex.{conditionOf, atLeast?}
+use Rattle.operands.proofs.Laws.{never}
 use Rattle.operands.proofs.condition.Statement.{statement}
 use Rattle.operands.proofs.condition.Tie as tie
 
+not-and : (a b : Bool) → not a || b ≡ not (a && not b)
+not-and true true = refl
+not-and true false = refl
+not-and false b = refl
+
+or-not : (a b : Bool) → a || not b ≡ not (not a && b)
+or-not true b = refl
+or-not false b = refl
+
+-- an odd condition is the one before it turned over
+turned : (k p : ℕ) → k < 8 → conditionOf (2 * k + 1) p ≡ not (conditionOf (2 * k) p)
+unfolding conditionOf
+turned zero p h = refl
+turned (suc zero) p h = refl
+turned (suc (suc zero)) p h = refl
+turned (suc (suc (suc zero))) p h = refl
+turned (suc (suc (suc (suc zero)))) p h = not-and (carry? p) (zero? p)
+turned (suc (suc (suc (suc (suc zero))))) p h = refl
+turned (suc (suc (suc (suc (suc (suc zero)))))) p h = or-not (zero? p) (atLeast? p)
+turned (suc (suc (suc (suc (suc (suc (suc zero))))))) p h = refl
+turned (suc (suc (suc (suc (suc (suc (suc (suc k)))))))) p h = absurd (omega arith)
+
+same : (x : Bool) → not (Bool·beq x false) ≡ x
+same true = refl
+same false = refl
+
+other : (x : Bool) → not (Bool·beq x true) ≡ not x
+other true = refl
+other false = refl
+
+-- a number below 16 is twice a number below 8, or the next one
+paired : (n p : ℕ) → n < 16 → not (Bool·beq (conditionOf (2 * (n / 2)) p) (eqb (n % 2) 1)) ≡ conditionOf n p
+paired n p h =
+    let x = conditionOf (2 * (n / 2)) p in
+    let at : (t : ℕ) → n % 2 ≡ t → not (Bool·beq x (eqb (n % 2) 1)) ≡ not (Bool·beq x (eqb t 1)) =
+    λ t e. ap (λ (m : ℕ). not (Bool·beq x (eqb m 1))) e in
+    ⊎-elim
+    (λ (q : 1 ≤ n % 2). let e : 2 * (n / 2) + 1 ≡ n = omega arith in
+    at 1 (omega arith) ∙ other x ∙ sym (turned (n / 2) p (omega arith)) ∙ ap (λ (m : ℕ). conditionOf m p) e)
+    (λ (q : n % 2 < 1). let e : 2 * (n / 2) ≡ n = omega arith in
+    at 0 (omega arith) ∙ same x ∙ ap (λ (m : ℕ). conditionOf m p) e)
+    (order 1 (n % 2))
+
 returns : tie.Need-returns
-unfolding conditionOf
-returns c = rw (c .match .keys1)
-
-returns-2 : tie.Need-returns-2
-unfolding conditionOf
-returns-2 c = rw (c .match .keys2)
-
-returns-3 : tie.Need-returns-3
-unfolding conditionOf
-returns-3 c = rw (c .match .keys3, div-one)
-
-returns-4 : tie.Need-returns-4
-unfolding conditionOf
-returns-4 c = rw (c .match .keys4, div-one)
-
-returns-5 : tie.Need-returns-5
-unfolding conditionOf
-returns-5 c = rw (c .match .keys5)
-
-returns-6 : tie.Need-returns-6
-unfolding conditionOf
-returns-6 c = rw (c .match .keys6)
-
-returns-7 : tie.Need-returns-7
-unfolding conditionOf
-returns-7 c = rw (c .match .keys7)
-
-returns-8 : tie.Need-returns-8
-unfolding conditionOf
-returns-8 c = rw (c .match .keys8)
-
-returns-9 : tie.Need-returns-9
-unfolding conditionOf
-returns-9 c = rw (c .match .keys9, div-one)
-
-returns-10 : tie.Need-returns-10
-unfolding conditionOf
-returns-10 c = rw (c .match .keys10, div-one)
-
-returns-11 : tie.Need-returns-11
-unfolding conditionOf
-returns-11 c = rw (c .before .match .keys11, c .at-least .ensures)
-
-returns-12 : tie.Need-returns-12
-unfolding conditionOf
-returns-12 c = rw (c .before .match .keys12, c .at-least2 .ensures)
-
-returns-13 : tie.Need-returns-13
-unfolding conditionOf
-returns-13 c = rw (c .before .match .keys13, c .at-least3 .ensures)
-
-returns-14 : tie.Need-returns-14
-unfolding conditionOf
-returns-14 c = rw (c .before .match .keys14, c .at-least4 .ensures)
-
-returns-15 : tie.Need-returns-15
-unfolding conditionOf
-returns-15 c = rw (c .match .keys15)
-
-returns-16 : tie.Need-returns-16
-unfolding conditionOf
-returns-16 c = let h = past (c .before .args .n) 15 (c .match .rest) in rw List·getD-eq-default
+returns c =
+    let n = c .before .args .n in
+    let p = c .before .args .psw in
+    ⊎-elim (λ (q : 16 ≤ n). rw (le-ltb n 16 q) (never n p (omega arith)))
+    (λ (q : n < 16). rw (lt-ltb n 16 q, c .even-condition .ensures) (paired n p q)) (order 16 n)
 
 pub condition-spec : {M : Type 1} → statement M
-condition-spec =
-    tie.close
-    (tie.spec
-    (λ c κs. search needs)
-    (λ c κs. search needs)
-    (λ c κs. search needs)
-    (λ c κs. search needs)
-    returns
-    returns-2
-    returns-3
-    returns-4
-    returns-5
-    returns-6
-    returns-7
-    returns-8
-    returns-9
-    returns-10
-    returns-11
-    returns-12
-    returns-13
-    returns-14
-    returns-15
-    returns-16)
+condition-spec = tie.close (tie.spec (λ c κs. search needs) returns)

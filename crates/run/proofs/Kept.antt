@@ -1,9 +1,9 @@
--- The journal that a run keeps, as its loop goes: a stretch, which is empty where a journal is lent, and one step, whose record is that
--- of the state before its events. Assumes nothing.
-use Prim.Native.Nat.{ℕ, zero, suc, _+_, _-_, _*_, _≤_}
-use mathlib.Core.Bool.{Bool, true, false, cond, not}
+-- The journal that a run keeps, as its loop goes: one step, whose record is that of the state before its events, and a stretch, which is
+-- empty where a journal is lent. Assumes nothing.
+use Prim.Native.Nat.{ℕ, zero, suc, _+_, _-_, _*_}
+use mathlib.Core.Bool.{false, cond}
 use mathlib.Core.List.{List, _++_}
-use mathlib.Core.Path.{_≡_, refl, sym, ap, subst, _∙_}
+use mathlib.Core.Path.{_≡_, refl, sym, ap, _∙_}
 use native.Mathlib.Numerals.{add-one}
 use native.Mathlib.Omega.{arith}
 use lib.Dec.{eqb}
@@ -44,17 +44,13 @@ module _ (b : List ℕ) (r : Ring) (ev : List Event) (s : State) where
   kept-size n = bool-cases (eqb (length b) 0) (λ q. rw q refl) (λ q. rw q (journal-size ev s (journalWith b r) n))
 
   -- a stretch
-  pub kept-stretch : (lent : Bool) → lent ≡ not (eqb (length b) 0) → (n j left : ℕ) → j ≤ cond lent 0 left
+  pub kept-stretch : (n j : ℕ) → (eqb (length b) 0 ≡ false → j ≡ 0)
       → (x : Journal) → x ≡ keptOver b r ev s n → x ≡ keptOver b r ev s (n + j)
-  kept-stretch lent e n j left h x f =
+  kept-stretch n j none x f =
       f
       ∙ bool-cases (eqb (length b) 0)
       (λ q. rw q refl)
-      (λ q.
-      let there : lent ≡ true = e ∙ ap not q in
-      let none : j ≤ 0 = subst (λ c. j ≤ cond c 0 left) there h in
-      let same : n ≡ n + j = omega arith in
-      ap (keptOver b r ev s) same)
+      (λ q. let z = none q in let same : n ≡ n + j = omega arith in ap (keptOver b r ev s) same)
 
   -- one step more from the state t; e is its record, where a journal is lent
   pub kept-next : (n : ℕ) (t : State) → t ≡ runOf ev s n .state
@@ -108,17 +104,3 @@ record-kept ev regs t mem held is b eb q eq =
     let a = addressIn ev (stateWith regs t mem) in
     (λ i. fieldsOf (recordOf (stateOf held (eb i))) (bytesFrom (eb i) 0 16) (addressBy (eq i)) (bytesFrom (eb i) (addressBy (eq i)) 8))
     ∙ ap (λ u. fieldsOf (recordOf u) (bytesFrom mem 0 16) a (bytesFrom mem a 8)) (is mem)
-
--- ---- a stretch of the loop
-
-pub at-most : (lent : Bool) (left x : ℕ) → x ≡ cond lent 0 left → x ≤ left
-at-most true left x e = omega (arith, e)
-at-most false left x e = omega (arith, e)
-
--- its steps, from a count a to a count b, are as many as it may do at once, and not past the steps of the run
-pub stretched : (lent : Bool) (a b done n x : ℕ) → x ≡ cond lent 0 (n - done) → done ≤ n → (a ≤ b) × (b ≤ a + x)
-    → (b - a ≤ cond lent 0 (n - done)) × (done + (b - a) ≤ n)
-stretched lent a b done n x e h l =
-    let few = at-most lent (n - done) x e in
-    let some : b - a ≤ x = omega (arith, l) in
-    (subst (λ k. b - a ≤ k) e some, omega arith)

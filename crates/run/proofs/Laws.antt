@@ -1,8 +1,8 @@
--- A run with its log and its journal as its loop goes: steps with no event due, a stretch, one step that is taken or given up, and
--- the ways in which it ends. Assumes nothing.
+-- A run with its log and its journal as its loop goes: steps with no event due, one step that is taken or given up, a stretch, and
+-- the ways in which it ends; and a run that begins with a stretch. Assumes nothing.
 use Prim.Native.Nat.{ℕ, zero, suc, _+_, _-_, _*_, _/_, _<_, _≤_}
-use mathlib.Core.Bool.{Bool, true, false, cond, not, _&&_, _||_}
-use mathlib.Core.List.{List, [], _∷_, _++_}
+use mathlib.Core.Bool.{Bool, true, false, cond, not, _&&_, _||_, true≢false}
+use mathlib.Core.List.{List, []}
 use mathlib.Core.Path.{_≡_, refl, sym, ap, subst, _∙_}
 use native.Mathlib.Numerals.{add-one}
 use native.Mathlib.Omega.{arith}
@@ -10,11 +10,11 @@ use lib.Dec.{eqb, ltb, leb}
 use lib.ListN.{length, take, length-append}
 use lib.Seq.{sets, length-sets}
 use mathlib.Mathlib.Data.Bool.Basic.{or-eq-false-eq-eq-false-and-eq-false}
-use borrow.Author.Tests.{lt-ltb, eqb-false}
+use borrow.Author.Tests.{lt-ltb}
 use Rattle.machine.specs.declared.Depth.{Depth}
 use Rattle.machine.specs.declared.Machine.{Machine}
 use Rattle.machine.specs.declared.Rest.{Rest}
-use Rattle.machine.specs.State.{Core, State, stateOf}
+use Rattle.machine.specs.State.{Core, State, coreOf, stateOf}
 use Rattle.machine.specs.Record.{recordOf}
 use Rattle.machine.specs.Rest.{coreWith, stateWith}
 use Rattle.machine.specs.Events.{Event, eventAt, eventsFrom, eventCount, eventsOf}
@@ -22,21 +22,24 @@ use Rattle.machine.specs.Devices.{deliver, deliverAt}
 use Rattle.machine.specs.Step.{Plan, planOf, perform, closed, finished}
 use Rattle.machine.specs.Run.{ran, runOf}
 use Rattle.machine.specs.Log.{Shown, loggedOf, logBytes}
-use Rattle.machine.specs.Logged.{Logged, logged, runLogged}
+use Rattle.machine.specs.Logged.{Logged, logged, runLogged, joined}
 use Rattle.machine.specs.Refusal.{eventsFitBelow}
 use Rattle.machine.specs.Uneventful.{nextAct, Uneventful}
 use Rattle.machine.specs.Depth.{depthAfter, depthFrom}
 use Rattle.machine_laws.specs.Bounds.{Each}
-use Rattle.machine_laws.proofs.Cases.{bool-cases, eq-of, is-eq, is-le, not-le, le-of, gt-of, lt-of, ge-of}
-use Rattle.run_laws.proofs.Room.{logged-one, logged-run, records-fit}
+use Rattle.machine_laws.proofs.Cases.{bool-cases, eq-of, is-eq, gt-of, lt-of, ge-of, and-left, and-right, and-both}
+use Rattle.machine_laws.proofs.Runs.{run-zero}
+use Rattle.run_laws.proofs.Room.{logged-one, logged-run, logged-le, logged-slices, records-fit}
 use Rattle.run_laws.proofs.LogBytes.{log-stored}
 use Rattle.run_laws.proofs.Turns.{turn-start, turn-taken, turn-short, turn-stretch, turn-full, turn-halted, OfDevice, given-back}
-use Rattle.run_laws.proofs.Depth.{depth-next, depth-stretch, open-le}
+use Rattle.run_laws.proofs.Turns.{uneventful-run}
+use Rattle.run_laws.proofs.Depth.{depth-next, depth-stretch, depth-slice, uneventful-depth, open-le}
 use Rattle.output_log.specs.declared.Showing.{Showing}
 use Rattle.output_log.specs.Showing.{listed}
 use Rattle.devices.specs.Cursor.{Behind, Ordered, stateFrom}
 use Rattle.devices.proofs.Laws.{behind-later, index-none-due, device-lt}
-use Rattle.stretch.specs.Stretch.{Undisturbed}
+use Rattle.stretch.specs.declared.Progress.{Progress}
+use Rattle.stretch.specs.Stretch.{Undisturbed, Passes}
 use Rattle.journal.specs.Record.{addressBy, bytesFrom, fieldsOf}
 use Rattle.journal.specs.Ring.{Journal}
 use Rattle.journal_record.specs.declared.Ring.{Ring}
@@ -122,7 +125,7 @@ module _ (ev : List Event) (s₀ : State) (k : ℕ) (lent : List ℕ) where
     depth-on p d e j f = e ∙ sym (depth-stretch ev s₀ p done j s state-is f)
 
     -- all steps done, or halted before that
-    pub reached-full : (n : ℕ) → done ≤ n → n ≤ done → Reached (at n) lent s done added log false
+    reached-full : (n : ℕ) → done ≤ n → n ≤ done → Reached (at n) lent s done added log false
     reached-full n l m =
         subst (λ x. Reached x lent s done added log false) (turn-full ev s₀ k held held-is refl n l m) as-held
 
@@ -176,13 +179,12 @@ module _ (ev : List Event) (s₀ : State) (k : ℕ) (lent : List ℕ) where
 -- ---- one step of the loop, in the order of its calls
 
 -- the same where what is held is equal part by part
-pub carried : {x : Logged} {lent regs regs′ m m′ log : List ℕ} {t t′ : Rest} {d d′ a : ℕ} {b b′ : Bool}
-    → m′ ≡ m → regs′ ≡ regs → t′ ≡ t → d′ ≡ d → b′ ≡ b
-    → Reached x lent (stateWith regs t m) d a log b → Reached x lent (stateWith regs′ t′ m′) d′ a log b′
-carried em er et ed eb h =
+pub carried : {x : Logged} {lent regs regs′ m m′ log : List ℕ} {t : Rest} {d a : ℕ} {b b′ : Bool}
+    → m′ ≡ m → regs′ ≡ regs → b′ ≡ b → Reached x lent (stateWith regs t m) d a log b → Reached x lent (stateWith regs′ t m′) d a log b′
+carried {t = t} em er eb h =
     record {
-      state = (λ i. stateWith (er i) (et i) (em i)) ∙ h .state;
-      steps = ed ∙ h .steps;
+      state = (λ i. stateWith (er i) t (em i)) ∙ h .state;
+      steps = h .steps;
       added = h .added;
       log = h .log;
       short = eb ∙ h .short;
@@ -231,20 +233,20 @@ module _
 
   -- and the journal with its record: the device bytes kept give back the memory before its events
   pub step-kept : Each OfDevice ev → 16 ≤ length mem
-      → (b : List ℕ) (r : Ring) (here first : Bool) → here ≡ not (eqb (length b) 0)
-      → (kept : List ℕ) → (here || first ≡ true → kept ≡ take 16 mem)
+      → (b : List ℕ) (r : Ring) (here first wanted : Bool) → here ≡ not (eqb (length b) 0) → wanted ≡ here || first
+      → (kept : List ℕ) → (wanted ≡ true → kept ≡ take 16 mem)
       → (held : Machine) → ((n : List ℕ) → stateOf held n ≡ stateWith regs t n)
       → (j : List ℕ) (v : Ring) → journalWith j v ≡ keptOver b r ev s₀ done
       → (y : Journal) → y ≡ keptIn j v (fieldsOf (recordOf (stateOf held (sets m 0 kept))) (bytesFrom (sets m 0 kept) 0 16) (addressBy q)
       (bytesFrom (sets m 0 kept) (addressBy q) 8))
       → y ≡ keptOver b r ev s₀ (done + 1)
-  step-kept devices size b r here first eh kept keeps held is j v ej y ey =
+  step-kept devices size b r here first wanted eh ew kept keeps held is j v ej y ey =
       let s = stateWith regs t mem in
       kept-next b r ev s₀ done s (state-is ev s₀ k lent s done added log h) j v ej _
       (λ e.
       let there : here ≡ true = eh ∙ ap not e in
       let back : sets m 0 kept ≡ mem =
-      (λ i. sets (begun-is i .mem) 0 (keeps (ap (λ c. c || first) there) i)) ∙ given-back ev s devices size in
+      (λ i. sets (begun-is i .mem) 0 (keeps (ew ∙ ap (λ c. c || first) there) i)) ∙ given-back ev s devices size in
       record-kept ev regs t mem held is (sets m 0 kept) back q (plan-is ∙ ap planOf begun-is))
       y ey
 
@@ -271,9 +273,18 @@ opened-fits ev s p d k n e h l =
     let q : d .opened ≡ depthFrom ev s p k .opened = ap (λ (x : Depth). x .opened) e in
     omega arith
 
--- a turn goes on
-pub goes-on : (h : Bool) (k n : ℕ) → (h || eqb k n) ≡ false → (h ≡ false) × (k ≡ n → ⊥)
-goes-on h k n e = let p = or-eq-false-eq-eq-false-and-eq-false h (eqb k n) .0 e in (p .0, eqb-false k n (p .1))
+-- a turn is begun: the machine is not halted, and there are steps to do
+pub goes-on : (h : Bool) (k n : ℕ) → (ltb k n && not h) ≡ true → (h ≡ false) × (k < n)
+goes-on true k n e = absurd (true≢false (sym (and-right (ltb k n) false e)))
+goes-on false k n e = (refl, lt-of (and-left (ltb k n) true e))
+
+-- none is begun: the machine is halted, or all steps are done
+pub all-done : (h : Bool) (k n : ℕ) → k ≤ n → (ltb k n && not h) ≡ false → (h || eqb k n) ≡ true
+all-done true k n l e = refl
+all-done false k n l e =
+    bool-cases (ltb k n)
+    (λ q. absurd (true≢false (sym (and-both q refl) ∙ e)))
+    (λ q. let m : n ≤ k = ge-of q in is-eq {m = k} {n = n} (omega arith))
 
 -- ---- a step given up
 
@@ -315,13 +326,14 @@ module _
     (up : lacks ≡ true)
     (next due : ℕ) (awaits : Awaits b next due (t .count)) (ordered : Ordered b) (fits : eventsFitBelow b (eventCount b) ≡ true)
     (size : 16 ≤ length mem)
-    (here : Bool) (kept : List ℕ) (keeps : here || (eqb added k && leb due (t .count)) ≡ true → kept ≡ take 16 mem) where
-  pub undone-memory : cond (here || (eqb added k && leb due (t .count))) (sets m 0 kept) m ≡ mem
+    (here wanted : Bool) (wants : wanted ≡ here || (eqb added k && leb due (t .count)))
+    (kept : List ℕ) (keeps : wanted ≡ true → kept ≡ take 16 mem) where
+  pub undone-memory : cond wanted (sets m 0 kept) m ≡ mem
   undone-memory =
       let ev = eventsOf b in
       let full = step-full ev s₀ k lent regs t mem done added log h live l m delivered w lines q planned x shows lacks test up in
-      restored b next due (stateWith regs t mem) awaits ordered fits size (here || (eqb added k && leb due (t .count)))
-      (late-of here (eqb added k) due (t .count) full) kept m keeps
+      restored b next due (stateWith regs t mem) awaits ordered fits size wanted
+      (λ q. late-of here (eqb added k) due (t .count) full (sym wants ∙ q)) kept m keeps
       (step-memory ev s₀ k lent regs t mem done added log h live l m delivered w lines q planned x shows lacks test)
 
   pub undone : (n : ℕ) → done < n → Reached (runLogged (eventsOf b) s₀ k n) lent (stateWith regs t mem) done added log true
@@ -335,3 +347,85 @@ pub room-for : (n : ℕ) (x : Showing) (added : ℕ) (lent log : List ℕ) (lack
 room-for n x added lent log lacks e b size =
     let fits : added + length (listed n x) ≤ length lent / 8 = ge-of (sym e ∙ b) in
     omega arith
+
+-- ---- a stretch
+
+-- none is done by a machine that is halted, and none where a journal is lent
+pub halts-none : (lent halted : Bool) (u : ℕ) → (lent || halted ≡ true → u ≡ 0) → halted ≡ true → u ≡ 0
+halts-none true halted u none h = none refl
+halts-none false halted u none h = none h
+
+pub lends-none : (b : List ℕ) (halted : Bool) (u left : ℕ) → (not (eqb (length b) 0) || halted ≡ true → u ≡ 0)
+    → eqb (length b) 0 ≡ false → u - left ≡ 0
+lends-none b halted u left none q = let z : u ≡ 0 = none (ap (λ c. not c || halted) q) in omega arith
+
+-- a machine with the count n, taken apart
+abbrev machine : List ℕ → (psw cex l : ℕ) → Bool → (n : ℕ) → List ℕ → State
+machine regs psw cex l h n m = record { core = coreOf regs psw cex; lines = l; halted = h; count = n; mem = m }
+
+-- What a stretch of at most u steps from a machine taken apart answers, no event being due in them and none being done if it is
+-- halted: its steps are steps of the run, all uneventful.
+module _
+    (ev : List Event) (regs : List ℕ) (t : Rest) (mem regs′ : List ℕ) (p : Progress) (mem′ : List ℕ) (u due : ℕ)
+    (none : t .halted ≡ true → u ≡ 0) (undue : Undisturbed ev (t .count) due) (few : u ≤ due - t .count)
+    (passes : (es : List Event) (k : ℕ) → Undisturbed es k (k + u)
+    → Passes es (machine regs (t .psw) (t .cex) (t .lines) false k mem)
+    (machine regs′ (p .psw) (p .cex) (t .lines) false (k + (u - p .left)) mem′) (u - p .left))
+    (v : Rest)
+    (on : v ≡ record { psw = p .psw; cex = p .cex; lines = t .lines; halted = t .halted; count = t .count + (u - p .left) }) where
+  abbrev done : ℕ
+  done = u - p .left
+
+  abbrev before : Bool → State
+  before h = machine regs (t .psw) (t .cex) (t .lines) h (t .count) mem
+
+  abbrev after : Bool → State
+  after h = machine regs′ (p .psw) (p .cex) (t .lines) h (t .count + done) mem′
+
+  passed : Passes ev (before false) (after false) done
+  passed = passes ev (t .count) (λ k h l s. undue k h (omega arith) s)
+
+  -- none from a halted machine: nothing has changed
+  stood : t .halted ≡ true → Passes ev (before (t .halted)) (after (t .halted)) done
+  stood h =
+      let z : done ≡ 0 = let e = none h in omega arith in
+      let same : after false ≡ before false =
+      ap (λ r. r .state) (passed .0 ∙ ap (runOf ev (before false)) z ∙ run-zero ev (before false)) in
+      let same′ : after (t .halted) ≡ before (t .halted) =
+      ap (λ s. record { core = s .core; lines = s .lines; halted = t .halted; count = s .count; mem = s .mem }) same in (
+        (λ i. ran (same′ i) (z i)) ∙ sym (run-zero ev (before (t .halted))) ∙ ap (runOf ev (before (t .halted))) (sym z),
+        λ i l. absurd (omega arith),
+      )
+
+  pub stretch-passes : Passes ev (stateWith regs t mem) (stateWith regs′ v mem′) done
+  stretch-passes =
+      subst (λ w. Passes ev (stateWith regs t mem) (stateWith regs′ w mem′) done) (sym on)
+      (bool-cases (t .halted)
+      stood
+      (λ q. subst (λ h. Passes ev (before h) (after h) done) (sym q) passed))
+
+-- ---- a run whose first j steps are a stretch
+
+module _ (ev : List Event) (s v : State) (j : ℕ) (passes : Passes ev s v j) (k : ℕ) where
+  -- these steps alone
+  pub passed-run : runLogged ev s k j ≡ logged v j [] false
+  passed-run =
+      uneventful-run ev s k j (passes .1) ∙ ap (λ r. logged (r .state) (r .steps) [] false) (sym (passes .0))
+
+  pub passed-depth : (d : Depth) → depthFrom ev s d j ≡ d
+  passed-depth d = uneventful-depth ev s d j (passes .1)
+
+  -- and the rest of n, from the state that they reach
+  pub run-on : (n : ℕ) → j ≤ n → runLogged ev s k n ≡ joined (logged v j [] false) (runLogged ev v k (n - j))
+  run-on n h =
+      let l = logged-le ev s k j in
+      let z : k - 0 ≡ k = omega arith in
+      logged-slices ev s k k j n (records-fit ev s k j) (omega arith)
+      ∙ ap (λ x. joined x (runLogged ev (x .state) (k - length (x .records)) (n - x .steps))) passed-run
+      ∙ ap (λ i. joined (logged v j [] false) (runLogged ev v i (n - j))) z
+
+  pub depth-run-on : (d : Depth) (n : ℕ) → j ≤ n
+      → depthFrom ev v d (runLogged ev v k (n - j) .steps) ≡ depthFrom ev s d (runLogged ev s k n .steps)
+  depth-run-on d n h =
+      depth-slice ev s d j (runLogged ev v k (n - j) .steps) v d (passes .0) (sym (passed-depth d))
+      ∙ ap (λ x. depthFrom ev s d (x .steps)) (sym (run-on n h))

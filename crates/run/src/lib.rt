@@ -1,8 +1,9 @@
 // A run of n steps with an output log, and the whole run call on its raw buffers.
 ghost use mathlib.Core.Path.{_≡_};
-ghost use mathlib.Core.Bool.{Bool, true, cond};
+ghost use mathlib.Core.Bool.{Bool, true, cond, _&&_, _||_};
 ghost use mathlib.Core.List.{List};
-ghost use Prim.Native.Nat.{ℕ, _+_, _≤_};
+ghost use Prim.Native.Nat.{ℕ, _+_, _-_, _≤_};
+ghost use lib.Dec.{leb};
 ghost use lib.ListN.{length};
 ghost use Rattle.machine.specs.declared.Reason.the-variants.{Done, Halted, NoRoom};
 ghost use Rattle.machine.specs.State.{Core, stateOf};
@@ -25,6 +26,7 @@ use machine::Lines;
 use machine::Machine;
 use machine::Reason;
 use machine::Rest;
+use stretch::Progress;
 
 // The step of record k, past every step where there is none.
 fn due_at(events: &[u8], k: usize) -> u64
@@ -177,20 +179,59 @@ fn ended(
     }
 }
 
-// How many steps a stretch may do at once: none where a journal is lent, for each has its record.
-fn at_once(lent: bool, left: u32) -> u32
-    ensures { λ r. ⌜ r ≡ cond lent 0 left ⌝ }
+// How many steps a stretch may do at once, at most `left`: those before the next event is due, none
+// where there is to be no stretch.
+fn at_once(none: bool, count: u32, due: u64, left: u32) -> u32
+    ensures { λ r. ⌜ (r ≤ left) × (r ≤ due - count) × (none ≡ true → r ≡ 0) ⌝ }
 {
-    if lent {
+    let c = count as u64;
+    if none | (due <= c) {
         return 0;
+    }
+    if due - c < left as u64 {
+        return (due - c) as u32;
     }
     left
 }
 
+// The machine after a stretch that might have had n steps.
+fn gone_on(t: Rest, n: u32, p: Progress) -> Rest
+    requires { ⌜ (p .left ≤ n) × (t .count + n ≤ 4294967295) ⌝ }
+    ensures { λ r. ⌜ r ≡ record {
+      psw = p .psw;
+      cex = p .cex;
+      lines = t .lines;
+      halted = t .halted;
+      count = t .count + (n - p .left);
+    } ⌝ }
+{
+    Rest {
+        psw: p.psw,
+        cex: p.cex,
+        lines: t.lines,
+        halted: t.halted,
+        count: t.count + (n - p.left),
+    }
+}
+
+// Are the device bytes before a step wanted: for its record, or because it may be given up after
+// its events?
+fn wants(lent: bool, full: bool, due: u64, count: u32) -> bool
+    ensures { λ r. ⌜ r ≡ lent || (full && leb due count) ⌝ }
+{
+    if lent {
+        return true;
+    }
+    if full {
+        return due <= count as u64;
+    }
+    false
+}
+
 // A run of n steps, fewer if the machine halts or the log has no room for what a step would show,
 // each step kept in the journal, if one is lent. The machine is taken apart where the loop begins
-// and put together where it ends. Each turn is a stretch, which may be empty and shows nothing, and
-// then one step. A step that is not taken gives back the registers that its plan changed and the
+// and put together where it ends. Each turn is one step and then, where it may, a stretch, which
+// shows nothing. A step that is not taken gives back the registers that its plan changed and the
 // device bytes that its events changed.
 pub fn run_kept(
     m: Machine,
@@ -242,15 +283,9 @@ pub fn run_kept(
     let mut depth = begun;
     let mut ring = begins;
     let mut short = false;
-    while done < n {
-        let before = t.count;
-        t = stretch::stretch(&mut regs, memory, t, at.due, at_once(lent, n - done));
-        done += t.count - before;
-        if t.halted | (done == n) {
-            break;
-        }
+    while (done < n) & !t.halted {
         let held = machine_of(regs, t);
-        let wanted = lent | ((added == room) & (at.due <= t.count as u64));
+        let wanted = wants(lent, added == room, at.due, t.count);
         output_log::keep(memory, wanted, &mut devices);
         let d = deliver_due(memory, events, at, t.count, t.lines);
         let p = step::plan(&mut regs, memory, with_lines(t, d.lines));
@@ -268,11 +303,45 @@ pub fn run_kept(
         t = step::perform(&mut regs, memory, d.lines, t.count, p);
         at = d.at;
         done += 1;
+        let u = at_once(lent | t.halted, t.count, at.due, n - done);
+        if 0 < u {
+            let q = stretch::stretch(&mut regs, memory, t.psw, t.cex, t.lines, u);
+            t = gone_on(t, u, q);
+            done += u - q.left;
+        }
     }
     ended(regs, t, short, done, added, at.next, depth, ring)
 }
 
-// A run whose steps are not kept.
+// A run after as many steps that showed nothing.
+fn after_steps(done: u32, r: Ran) -> Ran
+    requires { ⌜ done + r .steps ≤ 4294967295 ⌝ }
+    ensures { λ x. ⌜ x ≡ record {
+      machine = r .machine;
+      reason = r .reason;
+      steps = done + r .steps;
+      added = r .added;
+      next = r .next;
+      depth = r .depth;
+      ring = r .ring;
+    } ⌝ }
+{
+    let machine = r.machine;
+    let reason = r.reason;
+    let depth = r.depth;
+    let kept = r.ring;
+    Ran {
+        machine,
+        reason,
+        steps: done + r.steps,
+        added: r.added,
+        next: r.next,
+        depth,
+        ring: kept,
+    }
+}
+
+// A run whose steps are not kept. A short one is a stretch alone.
 pub fn run(
     m: Machine,
     memory: &mut [u8],
@@ -306,8 +375,28 @@ pub fn run(
         (stateOf m (now (memory .entry))) (roomOf (now (log .entry))) n .steps) ⌝ }
 {
     let mut nowhere: [u8; 0] = [0; 0];
-    let ring = Ring { kept: 0, place: 0 };
-    run_kept(m, memory, events, from, log, begun, &mut nowhere, ring, n)
+    let none = Ring { kept: 0, place: 0 };
+    let mut regs = m.regs;
+    let t = rest_of(m);
+    let u = at_once(t.halted, t.count, due_at(events, from), n);
+    let p = stretch::stretch(&mut regs, memory, t.psw, t.cex, t.lines, u);
+    let done = u - p.left;
+    let s = gone_on(t, u, p);
+    if done == n {
+        return ended(regs, s, false, n, 0, from, begun, none);
+    }
+    let r = run_kept(
+        machine_of(regs, s),
+        memory,
+        events,
+        from,
+        log,
+        begun,
+        &mut nowhere,
+        none,
+        n - done,
+    );
+    after_steps(done, r)
 }
 
 // The number of a reason.

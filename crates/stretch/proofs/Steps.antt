@@ -4,15 +4,14 @@ use Prim.Native.Nat.{ℕ, zero, suc, _+_, _-_, _*_, _/_, _%_, _<_, _≤_}
 use native.Mathlib.Nat.{mod-eq-of-lt}
 use native.Mathlib.Omega.{arith}
 use native.Mathlib.Numerals.{add-one}
-use mathlib.Core.Bool.{Bool, true, false, cond, not, _&&_, _||_, and-false, false≢true}
+use mathlib.Core.Bool.{Bool, true, false, not, _&&_, and-false, false≢true}
 use mathlib.Core.List.{List, [], _∷_}
 use mathlib.Core.Logic.{inl, inr, _⊎_, ⊎-elim}
 use mathlib.Core.Path.{_≡_, refl, sym, ap, subst, _∙_}
-use mathlib.Mathlib.Data.Bool.Basic.{or-eq-false-eq-eq-false-and-eq-false}
 use lib.Dec.{eqb, ltb, leb}
 use lib.ListN.{length, getD, set, length-set}
 use lib.Seq.{set-set, set-getD, getD-set-same}
-use borrow.Author.Tests.{eq-eqb, ne-eqb, lt-ltb, le-ltb, eqb-false, ltb-true, ltb-false, not-true, not-false}
+use borrow.Author.Tests.{ne-eqb, lt-ltb, le-ltb, ltb-true, ltb-false}
 use Rattle.word.specs.Psw.{asleep?, current}
 use Rattle.word.proofs.Laws.{bool-cases}
 use Rattle.isa.specs.declared.Instr.{Instr}
@@ -22,7 +21,7 @@ use Rattle.machine.specs.declared.Access.{Access}
 use Rattle.machine.specs.declared.Access.the-variants as asks
 use Rattle.machine.specs.declared.Act.the-variants as act
 use Rattle.machine.specs.State.{Core, State, coreOf, pc, wrap}
-use Rattle.machine.specs.Memory.{byteAt, wordAt, firstByte, commit}
+use Rattle.machine.specs.Memory.{wordAt, commit}
 use Rattle.machine.specs.Cex.{skips?, lowered, loadedCex}
 use Rattle.machine.specs.Events.{Event}
 use Rattle.machine.specs.Devices.{deliver}
@@ -32,19 +31,17 @@ use Rattle.machine.specs.Step as step
 use Rattle.machine.specs.Step.{Plan, Interrupt, planned, chosen, returns?, interruptOf, advanced, allowed, granted}
 use Rattle.machine.specs.Step.{executed, instructionOf, planOf, perform, finished}
 use Rattle.machine.specs.Uneventful.{uneventful?, Uneventful}
-use Rattle.machine_laws.proofs.Cases.{and-left, and-right, le-of, lt-of, eq-of, not-lt}
+use Rattle.machine_laws.proofs.Cases.{and-left, and-right, le-of, lt-of, not-lt}
 use Rattle.machine_laws.proofs.Effects.{effect-eight}
 use Rattle.machine_laws.proofs.Plans.{plan-live}
 use Rattle.machine_laws.proofs.Runs.{run-zero, run-turn}
 use Rattle.machine_laws.proofs.Uneventful.{uneventful-none, uneventful-one, uneventful-append}
 use Rattle.machine_laws.proofs.Vectors.{BelowVectors, load-below, store-below, above-kept}
 use Rattle.entry.proofs.Lines.{line-no-lines, line-isnt}
-use Rattle.machine.specs.declared.Rest.{Rest}
-use Rattle.machine.specs.Rest.{stateWith}
 use Rattle.stretch_memory.specs.Ordinary.{aligned?, inside?, ordinary?}
 use Rattle.stretch_memory.specs.Served.{running, carriedOut, Untouched, Served, Taken}
 use Rattle.stretch_memory.proofs.Laws.{ordinary-granted}
-use Rattle.stretch.specs.Stretch.{Undisturbed, Awake, Fetching, NoneAbove, Passes, OneStep, Reaches, Goes, Stepped, Stepping}
+use Rattle.stretch.specs.Stretch.{Undisturbed, Awake, NoneAbove, Passes, OneStep, Reaches, Goes, Stepped, Stepping}
 use Rattle.stretch.specs.Stretch.{Walked}
 
 -- ---- an ordinary access
@@ -292,7 +289,7 @@ module _ (l : ℕ) (regs m : List ℕ) (psw cex : ℕ) where
 -- ---- the steps of a loop
 
 -- a CEX state with no count left skips nothing and stays
-open-none : (x : ℕ) → x % 64 ≡ 0 → (skips? x ≡ false) × (lowered x ≡ x)
+pub open-none : (x : ℕ) → x % 64 ≡ 0 → (skips? x ≡ false) × (lowered x ≡ x)
 open-none x h =
     let a : x / 8 % 8 ≡ 0 = omega arith in
     let b : x % 8 ≡ 0 = omega arith in
@@ -404,6 +401,12 @@ module _ (regs₀ m₀ : List ℕ) (psw₀ x₀ : ℕ) (regs m regs₁ m₁ : Li
     where
       none : (q : ℕ) → q + 0 ≡ q
       none q = omega arith
+
+-- where no block is open, none is after a step
+pub stays-shut :
+    (regs m regs₁ m₁ : List ℕ) (psw cex psw₁ cex₁ p r : ℕ) → Stepping p regs psw cex m regs₁ psw₁ cex₁ m₁ r → cex % 64 ≡ 0 → cex₁ % 64 ≡ 0
+stays-shut regs m regs₁ m₁ psw cex psw₁ cex₁ p r g h =
+    ⊎-elim (λ u. ap (λ (n : ℕ). n % 64) (u .1 .2) ∙ h) (λ v. v .1 .4 h) g
 
 -- ---- what was walked, from the CEX state before the count was lowered
 
@@ -560,65 +563,41 @@ sleep-run ev s (suc k) h u =
 
 -- ---- the call
 
-pub stretch-none : (ev : List Event) (s : State) (n : ℕ) → Passes ev s s (n - n)
-stretch-none ev s n = let e : n - n ≡ 0 = omega arith in rw e (passes-none ev s)
+module _ (ev : List Event) (regs m : List ℕ) (psw cex l k n : ℕ) where
+  abbrev here : State
+  here = running regs psw cex l k m
 
-pub stretch-asleep :
-    (ev : List Event) (s : State) (due j : ℕ) → Asleep s → j ≤ due - s .count → Undisturbed ev (s .count) due →
-    Passes ev s (withCount s (s .count + j)) (s .count + j - s .count)
-stretch-asleep ev s due j a h u =
-    let n = s .count in
-    let e : n + j - n ≡ j = omega arith in
-    rw e (sleep-run ev s j a (λ i b c. u i b (omega arith)))
+  pub stretch-none : Passes ev here (running regs psw cex l (k + (n - n)) m) (n - n)
+  stretch-none =
+      let z : n - n ≡ 0 = omega arith in
+      let e : k + 0 ≡ k = omega arith in
+      rw (z, e) (passes-none ev here)
 
--- the machine as its loop has it
-pub stretch-done :
-    (regs m regs₁ m₁ : List ℕ) (t : Rest) (due psw cex j : ℕ) (ev : List Event) → t .halted ≡ false →
-    NoneAbove m (t .lines) (current (t .psw)) → j ≤ due - t .count →
-    Goes (t .lines) regs (t .psw) (t .cex) m regs₁ psw cex m₁ j → Undisturbed ev (t .count) due →
-    Passes ev (stateWith regs t m) (running regs₁ psw cex (t .lines) (t .count + j) m₁) (t .count + j - t .count)
-stretch-done regs m regs₁ m₁ t due psw cex j ev eh q h f u =
-    let n = t .count in
-    let l = t .lines in
-    let e : n + j - n ≡ j = omega arith in
-    let s : running regs (t .psw) (t .cex) l n m ≡ stateWith regs t m =
-    λ i. record { core = coreOf regs (t .psw) (t .cex); lines = l; halted = sym eh i; count = n; mem = m } in
-    rw e
-    (subst (λ (x : State). Passes ev x (running regs₁ psw cex l (n + j) m₁) j) s
-    (reached q .1 ev n (λ i a b. u i a (omega arith))))
-  where
-    reached : Reaches (t .lines) regs (t .psw) (t .cex) m regs₁ psw cex m₁ j
-    reached =
-        let z : 0 + j ≡ j = omega arith in
-        subst (λ (k : ℕ). Reaches (t .lines) regs (t .psw) (t .cex) m regs₁ psw cex m₁ k) z
-        (f regs (t .psw) (t .cex) m 0 (reaches-start (t .lines) regs m (t .psw) (t .cex)))
+  pub stretch-asleep :
+      asleep? psw ≡ true → NoneAbove m l (current psw) → Undisturbed ev k (k + n) →
+      Passes ev here (running regs psw cex l (k + (n - 0)) m) (n - 0)
+  stretch-asleep h q u =
+      let e : n - 0 ≡ n = omega arith in
+      rw e (sleep-run ev here n (refl, h, q) u)
 
--- PC is even where the test for an odd one fails
-pub even-of : (v : ℕ) (b : Bool) → (eqb (v % 2) 1 || b) ≡ false → v % 2 ≡ 0
-even-of v b h =
-    let n = eqb-false (v % 2) 1 (or-eq-false-eq-eq-false-and-eq-false _ _ .0 h .0) in
-    omega arith
+  pub stretch-done :
+      (regs₁ m₁ : List ℕ) (psw₁ cex₁ j : ℕ) → NoneAbove m l (current psw) → j ≤ n → Goes l regs psw cex m regs₁ psw₁ cex₁ m₁ j →
+      Undisturbed ev k (k + n) → Passes ev here (running regs₁ psw₁ cex₁ l (k + j) m₁) j
+  stretch-done regs₁ m₁ psw₁ cex₁ j q h f u = reached q .1 ev k (λ i a b. u i a (omega arith))
+    where
+      reached : Reaches l regs psw cex m regs₁ psw₁ cex₁ m₁ j
+      reached =
+          let z : 0 + j ≡ j = omega arith in
+          subst (Reaches l regs psw cex m regs₁ psw₁ cex₁ m₁) z (f regs psw cex m 0 (reaches-start l regs m psw cex))
 
--- what the tests say; a is the code's answer of whether SLP is set
+-- R7 is there where it is not 0
 getD-past : (l : List ℕ) (k : ℕ) → length l ≤ k → getD l k 0 ≡ 0
 getD-past [] k h = refl
 getD-past (x ∷ l) zero h = absurd (omega arith)
 getD-past (x ∷ l) (suc k) h = getD-past l k (omega arith)
 
-pub tests-fetching :
-    (regs : List ℕ) (t : Rest) {a : Bool} {v : ℕ} → a ≡ asleep? (t .psw) → t .halted || a ≡ false → v ≡ getD regs 7 0 →
-    not (eqb v 0) ≡ true → (t .halted ≡ false) × Awake regs (t .psw)
-tests-fetching regs t {a} {v} h e f g =
-    let p = or-eq-false-eq-eq-false-and-eq-false _ _ .0 e in
-    (p .0, (sym h ∙ p .1, there regs v f (eqb-false v 0 (not-true _ g))))
-  where
-    there : (l : List ℕ) (v : ℕ) → v ≡ getD l 7 0 → (v ≡ 0 → ⊥) → 7 < length l
-    there l v e n = bool-cases (ltb 7 (length l)) (λ b. ltb-true 7 (length l) b) (λ b. absurd (n (e ∙ getD-past l 7 (ltb-false 7
-        (length l) b))))
-
-pub tests-asleep :
-    (regs m : List ℕ) (t : Rest) {a : Bool} → a ≡ asleep? (t .psw) → t .halted || not a ≡ false →
-    NoneAbove m (t .lines) (current (t .psw)) → Asleep (stateWith regs t m)
-tests-asleep regs m t h e q =
-    let p = or-eq-false-eq-eq-false-and-eq-false _ _ .0 e in
-    (p .0, sym h ∙ not-false _ (p .1), q)
+pub there : (l : List ℕ) (v : ℕ) → v ≡ getD l 7 0 → (v ≡ 0 → ⊥) → 7 < length l
+there l v e n =
+    bool-cases (ltb 7 (length l))
+    (λ b. ltb-true 7 (length l) b)
+    (λ b. absurd (n (e ∙ getD-past l 7 (ltb-false 7 (length l) b))))

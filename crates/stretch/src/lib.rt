@@ -13,14 +13,11 @@ ghost use Rattle.word.specs.Psw.{current};
 ghost use Rattle.machine.specs.Memory.{wordAt};
 ghost use Rattle.machine.specs.Cex.{skips?, lowered};
 ghost use Rattle.machine.specs.Events.{Event};
-ghost use Rattle.machine.specs.Run.{ran, runOf};
-ghost use Rattle.machine.specs.Uneventful.{Uneventful};
-ghost use Rattle.machine.specs.Rest.{stateWith};
+ghost use Rattle.stretch_memory.specs.Served.{running};
 ghost use Rattle.stretch_words.specs.Ready.{constants};
 ghost use Rattle.stretch.specs.Stretch.{Undisturbed, Awake, Fetching, NoneAbove};
 ghost use Rattle.stretch.specs.Stretch.{Passes, Goes, Stepping, Walked};
 use machine::Lines;
-use machine::Rest;
 use stretch_registers::reg;
 use stretch_registers::set_reg;
 
@@ -55,29 +52,20 @@ fn take_step(
 }
 
 // The PSW and the CEX state after some steps, and how many are left of those that might be taken.
-struct Progress {
-    psw: u16,
-    cex: u16,
-    left: u32,
+pub struct Progress {
+    pub psw: u16,
+    pub cex: u16,
+    pub left: u32,
 }
 
-// R7 where a step ends the loop: back before a word that was left alone, or the odd PC. Gives the
-// steps of it, 0 or 1.
-fn stop(regs: &mut [u16; 8], r: usize) -> u32
+// PC back before a word that was left alone.
+fn step_back(regs: &mut [u16; 8])
     requires { ⌜ 7 < length (now regs) ⌝ }
-    ensures left { λ s. ⌜ (r ≡ 1048576 → (s ≡ 0) × (now (regs .exit) ≡ set (now (regs .entry)) 7
-        ((getD (now (regs .entry)) 7 0 + 65534) % 65536))) ⌝ }
-    ensures odd { λ s. ⌜ ((r ≡ 1048576 → ⊥)
-        → (s ≡ 1) × (now (regs .exit) ≡ set (now (regs .entry)) 7 (r % 65536))) ⌝ }
-    ensures few { λ s. ⌜ s ≤ 1 ⌝ }
+    ensures { λ r. ⌜ now (regs .exit) ≡ set (now (regs .entry)) 7
+        ((getD (now (regs .entry)) 7 0 + 65534) % 65536) ⌝ }
 {
-    if r == 1048576 {
-        let v = std::num::wrapping_add_u16(reg(regs, 7), 65534);
-        set_reg(regs, 7, v);
-        return 0;
-    }
-    set_reg(regs, 7, (r % 65536) as u16);
-    1
+    let v = std::num::wrapping_add_u16(reg(regs, 7), 65534);
+    set_reg(regs, 7, v);
 }
 
 // Up to n steps, fewer where a word is for the general way or PC is odd. The CEX count of the first
@@ -89,6 +77,7 @@ fn take_steps(regs: &mut [u16; 8], mem: &mut [u8], psw: u16, cex: u16, n: u32) -
         (now (regs .exit)) (r .psw) (r .cex) (now (mem .exit)) (n - r .left) ⌝ }
     ensures left { λ r. ⌜ (r .left ≤ n) × (length (now (mem .exit)) ≡ 65536)
         × Awake (now (regs .exit)) (r .psw) ⌝ }
+    ensures shut { λ r. ⌜ (cex % 64 ≡ 0 → r .cex % 64 ≡ 0) ⌝ }
 {
     let k: [u16; 8] = [0, 1, 2, 4, 8, 16, 32, 0xFFFF];
     let mut p = psw;
@@ -98,11 +87,19 @@ fn take_steps(regs: &mut [u16; 8], mem: &mut [u8], psw: u16, cex: u16, n: u32) -
     while 0 < left {
         let r = take_step(regs, mem, &k, &mut p, &mut x, pc);
         if 1048576 <= r {
-            let last = stop(regs, r);
+            if r == 1048576 {
+                step_back(regs);
+                return Progress {
+                    psw: p,
+                    cex: x,
+                    left,
+                };
+            }
+            set_reg(regs, 7, (r % 65536) as u16);
             return Progress {
                 psw: p,
                 cex: x,
-                left: left - last,
+                left: left - 1,
             };
         }
         pc = r;
@@ -116,63 +113,65 @@ fn take_steps(regs: &mut [u16; 8], mem: &mut [u8], psw: u16, cex: u16, n: u32) -
     }
 }
 
-// Does the block skip the next instruction, and the CEX state with its count lowered.
-fn skips(x: u16) -> bool
-    ensures { λ r. ⌜ r ≡ skips? x ⌝ }
-{
-    let held = x / 64 % 2 == 1;
-    if x / 8 % 8 == 0 {
-        return (0 < x % 8) & held;
-    }
-    !held
+// How the CEX state bears on the next step: itself with the count lowered, and how many steps may be
+// taken from there: none where its block skips the next instruction, one where it covers it, all
+// where no block is open.
+struct Ahead {
+    cex: u16,
+    steps: u32,
 }
 
-fn lower(x: u16) -> u16
-    ensures { λ r. ⌜ r ≡ lowered x ⌝ }
+fn covered(x: u16, left: u32) -> Ahead
+    requires { ⌜ 0 < left ⌝ }
+    ensures lowers { λ r. ⌜ r .cex ≡ lowered x ⌝ }
+    ensures skips { λ r. ⌜ (r .steps ≡ 0 → skips? x ≡ true) × (0 < r .steps → skips? x ≡ false) ⌝ }
+    ensures shut { λ r. ⌜ (x % 64 ≡ 0 → r .steps ≡ left) ⌝ }
+    ensures one { λ r. ⌜ ((x % 64 ≡ 0 → ⊥) → r .steps ≤ 1) ⌝ }
 {
-    if x / 8 % 8 != 0 {
-        return x - 8;
-    }
-    if x % 8 != 0 {
-        return x - 1;
-    }
-    x
-}
-
-// One step, which the open block skips or covers, or none.
-fn block_step(regs: &mut [u16; 8], mem: &mut [u8], psw: u16, cex: u16) -> Progress
-    requires { ⌜ (length (now mem) ≡ 65536) × Fetching (now regs) psw ⌝ }
-    ensures goes { λ r. ⌜ ((l : ℕ) → Goes l (now (regs .entry)) psw cex (now (mem .entry))
-        (now (regs .exit)) (r .psw) (r .cex) (now (mem .exit)) (1 - r .left)) ⌝ }
-    ensures left { λ r. ⌜ (r .left ≤ 1) × (length (now (mem .exit)) ≡ 65536)
-        × Awake (now (regs .exit)) (r .psw) ⌝ }
-{
-    if skips(cex) {
-        let pc = reg(regs, 7);
-        set_reg(regs, 7, std::num::wrapping_add_u16(pc, 2));
-        return Progress {
-            psw,
-            cex: lower(cex),
-            left: 0,
+    if x % 64 == 0 {
+        return Ahead {
+            cex: x,
+            steps: left,
         };
     }
-    let p = take_steps(regs, mem, psw, lower(cex), 1);
-    if p.left == 1 {
-        return Progress { psw, cex, left: 1 };
+    let held = x / 64 % 2 == 1;
+    if x / 8 % 8 == 0 {
+        return Ahead {
+            cex: x - 1,
+            steps: !held as u32,
+        };
     }
-    p
+    Ahead {
+        cex: x - 8,
+        steps: held as u32,
+    }
 }
 
-// CEX, and SETPRI that is no fault while no line waits: one step, or none.
-fn control(regs: &mut [u16; 8], mem: &[u8], psw: u16, cex: u16, lines: Lines) -> Progress
-    requires { ⌜ (length (now mem) ≡ 65536) × Awake (now regs) psw ⌝ }
+// What a turn of the walk comes to, and whether another may follow it.
+struct Turned {
+    psw: u16,
+    cex: u16,
+    left: u32,
+    more: bool,
+}
+
+// Where no block is open: CEX, and SETPRI that is no fault while no line waits; one step, or none.
+fn control(regs: &mut [u16; 8], mem: &[u8], psw: u16, cex: u16, lines: Lines, left: u32) -> Turned
+    requires { ⌜ (length (now mem) ≡ 65536) × Awake (now regs) psw × (cex % 64 ≡ 0)
+        × (0 < left) ⌝ }
     ensures goes { λ r. ⌜ Goes lines (now (regs .entry)) psw cex (now (mem .entry))
-        (now (regs .exit)) (r .psw) (r .cex) (now (mem .entry)) (1 - r .left) ⌝ }
-    ensures left { λ r. ⌜ (r .left ≤ 1) × Awake (now (regs .exit)) (r .psw) ⌝ }
+        (now (regs .exit)) (r .psw) (r .cex) (now (mem .entry)) (left - r .left) ⌝ }
+    ensures left { λ r. ⌜ (r .left ≤ left) × (r .more ≡ true → r .left < left)
+        × Awake (now (regs .exit)) (r .psw) ⌝ }
 {
     let pc = reg(regs, 7);
-    let none = Progress { psw, cex, left: 1 };
-    if (pc % 2 == 1) | skips(cex) {
+    let none = Turned {
+        psw,
+        cex,
+        left,
+        more: false,
+    };
+    if pc % 2 == 1 {
         return none;
     }
     let w = fetch(mem, pc as usize) as u16;
@@ -181,23 +180,73 @@ fn control(regs: &mut [u16; 8], mem: &[u8], psw: u16, cex: u16, lines: Lines) ->
         let n = (w / 64 % 16) as u8;
         let x = operands::loaded_cex(n, (w / 8 % 8) as u8, (w % 8) as u8, psw);
         set_reg(regs, 7, next);
-        return Progress {
+        return Turned {
             psw,
             cex: x,
-            left: 0,
+            left: left - 1,
+            more: true,
         };
     }
-    if (w / 8 != 0x9B0) | (lines != 0) {
+    if w / 8 != 0x9B0 {
         return none;
     }
-    if word::current_priority(psw) < w % 8 {
+    if (lines != 0) | (word::current_priority(psw) < w % 8) {
         return none;
     }
     set_reg(regs, 7, next);
-    Progress {
+    Turned {
         psw: operands::priority_put(psw, w % 8),
-        cex: lower(cex),
-        left: 0,
+        cex,
+        left: left - 1,
+        more: true,
+    }
+}
+
+// One turn: a step that the open block skips or covers, or steps with no block open and the word
+// that ended them.
+fn turn(regs: &mut [u16; 8], mem: &mut [u8], psw: u16, cex: u16, lines: Lines, left: u32) -> Turned
+    requires { ⌜ (length (now mem) ≡ 65536) × Fetching (now regs) psw × (0 < left) ⌝ }
+    ensures goes { λ r. ⌜ Goes lines (now (regs .entry)) psw cex (now (mem .entry))
+        (now (regs .exit)) (r .psw) (r .cex) (now (mem .exit)) (left - r .left) ⌝ }
+    ensures left { λ r. ⌜ (r .left ≤ left) × (r .more ≡ true → r .left < left)
+        × (length (now (mem .exit)) ≡ 65536) × Awake (now (regs .exit)) (r .psw) ⌝ }
+{
+    let c = covered(cex, left);
+    if c.steps == 0 {
+        let pc = reg(regs, 7);
+        set_reg(regs, 7, std::num::wrapping_add_u16(pc, 2));
+        return Turned {
+            psw,
+            cex: c.cex,
+            left: left - 1,
+            more: true,
+        };
+    }
+    let a = take_steps(regs, mem, psw, c.cex, c.steps);
+    if cex % 64 == 0 {
+        if a.left == 0 {
+            return Turned {
+                psw: a.psw,
+                cex: a.cex,
+                left: 0,
+                more: false,
+            };
+        }
+        return control(regs, mem, a.psw, a.cex, lines, a.left);
+    }
+    if a.left == 1 {
+        return Turned {
+            psw: a.psw,
+            cex,
+            left,
+            more: false,
+        };
+    }
+    Turned {
+        psw: a.psw,
+        cex: a.cex,
+        left: left - 1,
+        more: true,
     }
 }
 
@@ -208,68 +257,23 @@ fn walk(regs: &mut [u16; 8], mem: &mut [u8], psw: u16, cex: u16, lines: Lines, n
         (now (regs .exit)) (r .psw) (r .cex) (now (mem .exit)) (n - r .left) ⌝ }
     ensures left { λ r. ⌜ r .left ≤ n ⌝ }
 {
-    let mut p = psw;
-    let mut x = cex;
-    let mut left = n;
-    while 0 < left {
+    let mut t = Turned {
+        psw,
+        cex,
+        left: n,
+        more: true,
+    };
+    while t.more & (0 < t.left) {
         if reg(regs, 7) % 2 == 1 {
             break;
         }
-        if x % 64 != 0 {
-            let a = block_step(regs, mem, p, x);
-            p = a.psw;
-            x = a.cex;
-            if a.left == 1 {
-                break;
-            }
-            left -= 1;
-        } else {
-            let a = take_steps(regs, mem, p, x, left);
-            p = a.psw;
-            x = a.cex;
-            left = a.left;
-            if left == 0 {
-                break;
-            }
-            let c = control(regs, mem, p, x, lines);
-            p = c.psw;
-            x = c.cex;
-            if c.left == 1 {
-                break;
-            }
-            left -= 1;
-        }
+        t = turn(regs, mem, t.psw, t.cex, lines, t.left);
     }
     Progress {
-        psw: p,
-        cex: x,
-        left,
+        psw: t.psw,
+        cex: t.cex,
+        left: t.left,
     }
-}
-
-// How many steps may pass before the next event is due, at most `left`.
-fn until(count: u32, due: u64, left: u32) -> u32
-    ensures { λ r. ⌜ (r ≤ left) × (r ≤ due - count) ⌝ }
-{
-    let c = count as u64;
-    if due <= c {
-        return 0;
-    }
-    if due - c < left as u64 {
-        return (due - c) as u32;
-    }
-    left
-}
-
-// Is the machine not halted and awake? PC 0 is for the general way, so that R7 is known to be
-// there.
-fn fetching(regs: &[u16; 8], t: Rest) -> bool
-    ensures { λ r. ⌜ (r ≡ true → (t .halted ≡ false) × Awake (now (regs .entry)) (t .psw)) ⌝ }
-{
-    if t.halted | word::asleep(t.psw) {
-        return false;
-    }
-    reg(regs, 7) != 0
 }
 
 // Does no line wait above the priority?
@@ -280,59 +284,32 @@ fn unasked(mem: &[u8], lines: Lines, psw: u16) -> bool
     entry::line_above(mem, lines, word::current_priority(psw)) == 8
 }
 
-// Asleep with no line above the priority, a step changes nothing but the count: all steps before
-// the next event pass at once, at most `left`. Any other machine stays as it is.
-fn sleep_on(mem: &[u8], t: Rest, due: u64, left: u32) -> Rest
-    requires { ⌜ (length (now mem) ≡ 65536) × (t .count + left ≤ 4294967295) ⌝ }
-    ensures passes { λ r. ⌜ ((regs : List ℕ) (ev : List Event) → Undisturbed ev (t .count) due →
-        Passes ev (stateWith regs t (now (mem .entry))) (stateWith regs r (now (mem .entry)))
-        (r .count - t .count)) ⌝ }
-    ensures count { λ r. ⌜ (t .count ≤ r .count) × (r .count ≤ t .count + left) ⌝ }
+// Up to n steps of a machine that is not halted, before the end of which no event is due:
+// instructions, or sleep, in which nothing changes but the count. None where a line waits above the
+// priority; none from PC 0, so that R7 is known to be there.
+pub fn stretch(
+    regs: &mut [u16; 8],
+    mem: &mut [u8],
+    psw: u16,
+    cex: u16,
+    lines: Lines,
+    n: u32,
+) -> Progress
+    requires { ⌜ length (now mem) ≡ 65536 ⌝ }
+    ensures passes { λ r. ⌜ ((ev : List Event) (k : ℕ) → Undisturbed ev k (k + n) → Passes ev
+        (running (now (regs .entry)) psw cex lines k (now (mem .entry)))
+        (running (now (regs .exit)) (r .psw) (r .cex) lines (k + (n - r .left)) (now (mem .exit)))
+        (n - r .left)) ⌝ }
+    ensures left { λ r. ⌜ r .left ≤ n ⌝ }
 {
-    if t.halted | !word::asleep(t.psw) {
-        return t;
+    if !unasked(mem, lines, psw) {
+        return Progress { psw, cex, left: n };
     }
-    if !unasked(mem, t.lines, t.psw) {
-        return t;
+    if word::asleep(psw) {
+        return Progress { psw, cex, left: 0 };
     }
-    Rest {
-        psw: t.psw,
-        cex: t.cex,
-        lines: t.lines,
-        halted: t.halted,
-        count: t.count + until(t.count, due, left),
+    if reg(regs, 7) == 0 {
+        return Progress { psw, cex, left: n };
     }
-}
-
-// The steps that can be done at once, at most `left` and none from where an event is due (`due` is
-// the step of the next one): instructions, or sleep, in which nothing changes but the count. None
-// where the machine is halted or a line waits above the priority.
-pub fn stretch(regs: &mut [u16; 8], mem: &mut [u8], t: Rest, due: u64, left: u32) -> Rest
-    requires { ⌜ (length (now mem) ≡ 65536) × (t .count + left ≤ 4294967295) ⌝ }
-    ensures state { λ r. ⌜ ((ev : List Event) → Undisturbed ev (t .count) due →
-        ran (stateWith (now (regs .exit)) r (now (mem .exit))) (r .count - t .count)
-        ≡ runOf ev (stateWith (now (regs .entry)) t (now (mem .entry))) (r .count - t .count)) ⌝ }
-    ensures uneventful { λ r. ⌜ ((ev : List Event) → Undisturbed ev (t .count) due →
-        Uneventful ev (stateWith (now (regs .entry)) t (now (mem .entry)))
-        (r .count - t .count)) ⌝ }
-    ensures count { λ r. ⌜ (t .count ≤ r .count) × (r .count ≤ t .count + left) ⌝ }
-{
-    if left == 0 {
-        return t;
-    }
-    if !fetching(regs, t) {
-        return sleep_on(mem, t, due, left);
-    }
-    if !unasked(mem, t.lines, t.psw) {
-        return t;
-    }
-    let n = until(t.count, due, left);
-    let p = walk(regs, mem, t.psw, t.cex, t.lines, n);
-    Rest {
-        psw: p.psw,
-        cex: p.cex,
-        lines: t.lines,
-        halted: false,
-        count: t.count + (n - p.left),
-    }
+    walk(regs, mem, psw, cex, lines, n)
 }

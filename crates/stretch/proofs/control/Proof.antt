@@ -1,191 +1,128 @@
-use lib.Dec.{eqb}
-use Rattle.stretch.proofs.Steps.{goes-none, goes-one, cex-loaded, priority-lowered, awake-set, awake-lowered, even-of}
-use Rattle.machine.specs.Memory.{wordAt}
-use borrow.Author.Tests.{eqb-true, not-false}
-use lib.ListN.{getD, set}
-use mathlib.Mathlib.Data.Bool.Basic.{or-eq-false-eq-eq-false-and-eq-false}
-use mathlib.Core.Bool.{Bool, true, false, not}
-use Prim.Native.Nat.{ℕ, _+_, _%_, _/_, _≤_}
-use mathlib.Core.Path.{_≡_, refl, sym, ap, subst, _∙_}
-use denote.Ref.{now}
+-- Neither word, or one step of CEX or SETPRI, with no block open before it. Assumes nothing.
+use Prim.Native.Nat.{ℕ, _+_, _-_, _%_, _≤_}
 use native.Mathlib.Omega.{arith}
+use mathlib.Core.Bool.{true, false, not, false≢true}
+use mathlib.Core.Path.{_≡_, sym, ap, subst, _∙_}
+use mathlib.Mathlib.Data.Bool.Basic.{or-eq-false-eq-eq-false-and-eq-false}
+use denote.Ref.{now}
+use lib.Dec.{eqb, ltb}
+use lib.ListN.{set}
+use borrow.Author.Tests.{eqb-true, ltb-false, not-false}
+use Rattle.machine.specs.Memory.{wordAt}
+use Rattle.stretch.specs.Stretch.{Goes}
+use Rattle.stretch.proofs.Steps.{goes-none, goes-one, open-none, cex-loaded, priority-lowered, awake-set, awake-lowered}
 use borrow.Author.Needs.{needs}
 use Rattle.stretch.proofs.control.Statement.{statement}
 use Rattle.stretch.proofs.control.Tie as tie
-use Rattle.stretch.proofs.control.Reads as reads
-use Rattle.stretch.proofs.control.Lts as lts
-use Rattle.operands.proofs.loaded_cex.Reads as loaded-cex-reads
-use Rattle.operands.proofs.priority_put.Reads as priority-put-reads
-use Rattle.std.proofs.num.wrapping_add_u16.Reads as wrapping-add-u16-reads
-use Rattle.stretch.proofs.fetch.Reads as fetch-reads
-use Rattle.stretch.proofs.lower.Reads as lower-reads
-use Rattle.stretch.proofs.skips.Reads as skips-reads
-use Rattle.stretch_registers.proofs.reg.Reads as reg-reads
-use Rattle.stretch_registers.proofs.set_reg.Reads as set-reg-reads
-use Rattle.word.proofs.current_priority.Reads as current-priority-reads
 
--- what a failed test for another number says
-same : (n k : ℕ) → not (eqb n k) ≡ false → n ≡ k
-same n k h = eqb-true n k (not-false _ h)
+even : (v : ℕ) → (v % 2 ≡ 1 → ⊥) → v % 2 ≡ 0
+even v n = omega arith
 
--- src/lib.rt:173:9
-reg-requires : tie.Need-reg-requires
-reg-requires c κs = search needs
+one : (c : tie.Start) → let a = c .args in a .left - (a .left - 1) ≡ 1
+one c = omega (arith, c .pre .3)
 
--- src/lib.rt:175:24
-skips-requires : tie.Need-skips-requires
-skips-requires c κs = search needs
+-- no step
+none : (c : tie.Start)
+    → let a = c .args in
+    let r = now (a .regs) in
+    let m = now (a .mem) in
+    Goes (a .lines) r (a .psw) (a .cex) m r (a .psw) (a .cex) m (a .left - a .left)
+none c =
+    let a = c .args in
+    let e : a .left - a .left ≡ 0 = omega arith in
+    rw e (goes-none (a .lines) (now (a .regs)) (now (a .mem)) (a .psw) (a .cex))
 
--- src/lib.rt:176:9
 returns : tie.Need-returns
 returns c =
-    let t = c .before .before .before .before .before in
-    let a = t .args in
-    (goes-none (a .lines) (now (a .regs)) (now (a .mem)) (a .psw) (a .cex), (omega arith, t .pre .1))
+    let t = c .before .before .before .before in
+    (none t, (omega arith, (λ e. absurd (false≢true e)), t .pre .1))
 
--- src/lib.rt:178:24
-cast-fetch : tie.Need-cast-fetch
-cast-fetch c = search needs
-
--- src/lib.rt:178:13
 fetch-requires : tie.Need-fetch-requires
-fetch-requires c κs =
-    let e = even-of (c .before .before .reg .result) (c .before .skips .result) (c .if1 .left) in
-    (omega arith, omega arith, e)
+fetch-requires c κs = (omega arith, omega arith, even (c .before .reg .result) (c .if1 .left))
 
--- src/lib.rt:178:13
-cast-w : tie.Need-cast-w
-cast-w c = search needs
-
--- src/lib.rt:179:9
-wrapping-add-u16-requires : tie.Need-wrapping-add-u16-requires
-wrapping-add-u16-requires c κs = search needs
-
--- src/lib.rt:181:17
-cast-n : tie.Need-cast-n
-cast-n c = search needs
-
--- src/lib.rt:182:41
-cast-loaded-cex : tie.Need-cast-loaded-cex
-cast-loaded-cex c = search needs
-
--- src/lib.rt:182:60
-cast-loaded-cex-2 : tie.Need-cast-loaded-cex-2
-cast-loaded-cex-2 c = search needs
-
--- src/lib.rt:182:13
-loaded-cex-requires : tie.Need-loaded-cex-requires
-loaded-cex-requires c κs = search needs
-
--- src/lib.rt:183:9
-set-reg-requires : tie.Need-set-reg-requires
-set-reg-requires c κs = search needs
-
--- src/lib.rt:184:9
 returns-2 : tie.Need-returns-2
 returns-2 c =
-    let u = c .before .before .before in
-    let f = u .before .before in
-    let s = f .before in
-    let r = s .before .before in
-    let t = r .before .before .before in
+    let f = c .before .before .before .before .before .fetch in
+    let i = c .before .before .before .before .before .before in
+    let g = i .before .reg in
+    let t = i .before .before .before .before in
     let a = t .args in
     let l = now (a .regs) in
     let m = now (a .mem) in
-    let g = r .reg .ensures in
-    let v = u .before .wrapping-add-u16 .result in
-    let even = even-of (r .reg .result) (s .before .skips .result) (s .if1 .left) in
-    let both = or-eq-false-eq-eq-false-and-eq-false (eqb (r .reg .result % 2) 1) (s .before .skips .result) .0 (s .if1 .left) in
-    rw (c .set-reg .ensures) (
-      goes-one (a .lines) l m (a .psw) (a .cex) (set l 7 v) m (a .psw) _
-          (cex-loaded (a .lines) l m (a .psw) (a .cex) (f .fetch .result) v (c .before .before .loaded-cex .result)
-          (ap (λ (n : ℕ). n % 2) (sym g) ∙ even) (t .pre .1 .0)
-          (sym (s .before .skips .ensures) ∙ both .1) (f .fetch .ensures .0 ∙ ap (wordAt m) g) (u .if2 .taken)
-          (u .before .wrapping-add-u16 .ensures ∙ ap (λ (n : ℕ). (n + 2) % 65536) g) (c .before .before .loaded-cex .ensures)),
-      (omega arith, awake-set l (a .psw) v (t .pre .1)),
+    let v = c .before .before .before .before .wrapping-add-u16 in
+    let x = c .before .before .loaded-cex in
+    rw (c .set-reg .ensures, one t) (
+      goes-one (a .lines) l m (a .psw) (a .cex) (set l 7 (v .result)) m (a .psw) (x .result)
+          (cex-loaded (a .lines) l m (a .psw) (a .cex) (f .result) (v .result) (x .result)
+          (ap (λ (n : ℕ). n % 2) (sym (g .ensures)) ∙ even (g .result) (i .if1 .left)) (t .pre .1 .0)
+          (open-none (a .cex) (t .pre .2) .0) (f .ensures .0 ∙ ap (wordAt m) (g .ensures)) (c .before .before .before .if2 .taken)
+          (v .ensures ∙ ap (λ (n : ℕ). (n + 2) % 65536) (g .ensures)) (x .ensures)),
+      (omega (arith, t .pre .3), (λ e. omega (arith, t .pre .3)), awake-set l (a .psw) (v .result) (t .pre .1)),
     )
 
--- src/lib.rt:191:9
 returns-3 : tie.Need-returns-3
 returns-3 c =
-    let t = c .before .before .before .before .before .before .before .before .before in
-    let a = t .args in
-    (goes-none (a .lines) (now (a .regs)) (now (a .mem)) (a .psw) (a .cex), (omega arith, t .pre .1))
+    let t = c .before .before .before .before .before .before .before .before in
+    (none t, (omega arith, (λ e. absurd (false≢true e)), t .pre .1))
 
--- src/lib.rt:193:8
-current-priority-requires : tie.Need-current-priority-requires
-current-priority-requires c κs = search needs
-
--- src/lib.rt:194:9
 returns-4 : tie.Need-returns-4
 returns-4 c =
-    let t = c .before .before .before .before .before .before .before .before .before .before .before in
-    let a = t .args in
-    (goes-none (a .lines) (now (a .regs)) (now (a .mem)) (a .psw) (a .cex), (omega arith, t .pre .1))
+    let t = c .before .before .before .before .before .before .before .before .before .before in
+    (none t, (omega arith, (λ e. absurd (false≢true e)), t .pre .1))
 
--- src/lib.rt:196:5
-set-reg-requires-2 : tie.Need-set-reg-requires-2
-set-reg-requires-2 c κs = search needs
-
--- src/lib.rt:198:14
-priority-put-requires : tie.Need-priority-put-requires
-priority-put-requires c κs = search needs
-
--- src/lib.rt:199:14
-lower-requires : tie.Need-lower-requires
-lower-requires c κs = search needs
-
--- src/lib.rt:167:1
 returns-5 : tie.Need-returns-5
 returns-5 c =
-    let k = c .before .before .before .before in
-    let h = k .before .before in
-    let o = h .before .before in
-    let f = o .before in
-    let s = f .before in
-    let r = s .before .before in
-    let t = r .before .before .before in
+    let q = c .before .before .before .before .current-priority in
+    let f = c .before .before .before .before .before .before .before .before .fetch in
+    let i = c .before .before .before .before .before .before .before .before .before in
+    let g = i .before .reg in
+    let t = i .before .before .before .before in
     let a = t .args in
     let l = now (a .regs) in
     let m = now (a .mem) in
-    let g = r .reg .ensures in
-    let v = o .wrapping-add-u16 .result in
-    let even = even-of (r .reg .result) (s .before .skips .result) (s .if1 .left) in
-    let both = or-eq-false-eq-eq-false-and-eq-false (eqb (r .reg .result % 2) 1) (s .before .skips .result) .0 (s .if1 .left) in
-    let kind = or-eq-false-eq-eq-false-and-eq-false (not (eqb (f .fetch .result / 8) 0x9B0)) (not (eqb (a .lines) 0)) .0 (h .if3 .left) in
-    let level : f .fetch .result % 8 ≤ c .before .before .before .before .before .current-priority .result = k .if4 .left in
-    let p = k .before .current-priority .ensures .0 in
-    rw (c .before .before .set-reg2 .ensures) (
-      goes-one (a .lines) l m (a .psw) (a .cex) (set l 7 v) m (c .before .priority-put .result) _
-          (priority-lowered (a .lines) l m (a .psw) (a .cex) (f .fetch .result) v (c .lower .result) (c .before .priority-put .result)
-          (ap (λ (n : ℕ). n % 2) (sym g) ∙ even) (t .pre .1 .0)
-          (sym (s .before .skips .ensures) ∙ both .1) (f .fetch .ensures .0 ∙ ap (wordAt m) g) (same _ _ (kind .0)) (same _ _ (kind .1))
-          (subst (λ (n : ℕ). f .fetch .result % 8 ≤ n) p level)
-          (o .wrapping-add-u16 .ensures ∙ ap (λ (n : ℕ). (n + 2) % 65536) g) (c .lower .ensures) (c .before .priority-put .ensures)),
-      (omega arith, awake-lowered l (a .psw) (f .fetch .result % 8) v _ (c .before .priority-put .ensures) (t .pre .1)),
+    let v = c .before .before .before .before .before .before .before .wrapping-add-u16 in
+    let p = c .priority-put in
+    let o = open-none (a .cex) (t .pre .2) in
+    let tests =
+    or-eq-false-eq-eq-false-and-eq-false (not (eqb (a .lines) 0)) (ltb (q .result) (f .result % 8)) .0
+    (c .before .before .before .if4 .left) in
+    let level : f .result % 8 ≤ q .result = ltb-false _ _ (tests .1) in
+    rw (c .before .set-reg2 .ensures, one t) (
+      goes-one (a .lines) l m (a .psw) (a .cex) (set l 7 (v .result)) m (p .result) (a .cex)
+          (priority-lowered (a .lines) l m (a .psw) (a .cex) (f .result) (v .result) (a .cex) (p .result)
+          (ap (λ (n : ℕ). n % 2) (sym (g .ensures)) ∙ even (g .result) (i .if1 .left)) (t .pre .1 .0)
+          (o .0) (f .ensures .0 ∙ ap (wordAt m) (g .ensures)) (c .before .before .before .before .before .if3 .left)
+          (eqb-true _ _ (not-false _ (tests .0)))
+          (subst (λ (n : ℕ). f .result % 8 ≤ n) (q .ensures .0) level)
+          (v .ensures ∙ ap (λ (n : ℕ). (n + 2) % 65536) (g .ensures)) (sym (o .1)) (p .ensures)),
+      (
+        omega (arith, t .pre .3),
+        (λ e. omega (arith, t .pre .3)),
+        awake-lowered l (a .psw) (f .result % 8) (v .result) _ (p .ensures) (t .pre .1),
+      ),
     )
 
 pub control-spec : {M : Type 1} → statement M
 control-spec =
     tie.close
     (tie.spec
-    reg-requires
-    skips-requires
+    (λ c κs. search needs)
     returns
-    cast-fetch
+    (λ c. search needs)
     fetch-requires
-    cast-w
-    wrapping-add-u16-requires
-    cast-n
-    cast-loaded-cex
-    cast-loaded-cex-2
-    loaded-cex-requires
-    set-reg-requires
+    (λ c. search needs)
+    (λ c κs. search needs)
+    (λ c. search needs)
+    (λ c. search needs)
+    (λ c. search needs)
+    (λ c κs. search needs)
+    (λ c κs. search needs)
+    (λ c. search needs)
     returns-2
     returns-3
-    current-priority-requires
+    (λ c κs. search needs)
     returns-4
-    set-reg-requires-2
-    priority-put-requires
-    lower-requires
+    (λ c κs. search needs)
+    (λ c κs. search needs)
+    (λ c. search needs)
     returns-5)

@@ -1,43 +1,34 @@
 use Rattle.machine.specs.Memory.{byteAt}
 use Rattle.machine.specs.Memory.{byteAt, even}
 use Prim.Native.Nat.{ℕ, _+_, _*_, _/_, _%_}
-use mathlib.Core.Path.{_≡_, refl, sym, ap, _∙_}
+use mathlib.Core.Path.{_≡_, ap}
 use denote.Ref.{now}
 use native.Mathlib.Omega.{arith}
 use borrow.Author.Needs.{needs}
 use Rattle.stretch.proofs.fetch.Statement.{statement}
 use Rattle.stretch.proofs.fetch.Tie as tie
-use Rattle.stretch.proofs.fetch.Reads as reads
-use Rattle.stretch.proofs.fetch.Lts as lts
 
 evened : (i : ℕ) → i % 2 ≡ 0 → i ≡ even i
 evened i h = omega arith
 
--- src/lib.rt:32:5
 shared-slice-read-result : tie.Need-shared-slice-read-result
 shared-slice-read-result c = search needs
 
--- src/lib.rt:32:5
 cast-result : tie.Need-cast-result
 cast-result c = omega (arith, c .shared-slice-known .given (c .before .args .i))
 
--- src/lib.rt:32:33
 add-result : tie.Need-add-result
 add-result c = search needs
 
--- src/lib.rt:32:29
 shared-slice-read-result-2 : tie.Need-shared-slice-read-result-2
 shared-slice-read-result-2 c = search needs
 
--- src/lib.rt:32:29
 cast-result-2 : tie.Need-cast-result-2
 cast-result-2 c = omega (arith, c .shared-slice-known2 .given (c .before .before .args .i + 1))
 
--- src/lib.rt:32:23
 mul-result : tie.Need-mul-result
 mul-result c = omega (arith, c .shared-slice-known2 .given (c .before .before .args .i + 1))
 
--- src/lib.rt:32:5
 add-result-2 : tie.Need-add-result-2
 add-result-2 c =
     omega (
@@ -47,7 +38,6 @@ add-result-2 c =
           (c .before .before .args .i + 1),
     )
 
--- src/lib.rt:28:1
 returns : tie.Need-returns
 returns c =
     let s = c .before .before in

@@ -3,39 +3,28 @@ use lib.Seq.{getD-set-same}
 use lib.ListN.{getD}
 use mathlib.Core.List.{List}
 use Prim.Native.Nat.{ℕ}
-use mathlib.Core.Path.{_≡_, refl, sym, ap, _∙_}
+use mathlib.Core.Path.{refl, sym, ap, _∙_}
 use denote.Ref.{now}
 use native.Mathlib.Omega.{arith}
 use borrow.Author.Needs.{needs}
 use Rattle.stretch.proofs.take_step.Statement.{statement}
 use Rattle.stretch.proofs.take_step.Tie as tie
-use Rattle.stretch.proofs.take_step.Reads as reads
-use Rattle.stretch.proofs.take_step.Lts as lts
-use Rattle.stretch.proofs.fetch.Reads as fetch-reads
-use Rattle.stretch_registers.proofs.set_reg.Reads as set-reg-reads
-use Rattle.stretch_words.proofs.take_word.Reads as take-word-reads
 
--- src/lib.rt:52:9
 fetch-requires : tie.Need-fetch-requires
 fetch-requires c κs = search needs
 
--- src/lib.rt:53:24
 add-set-reg : tie.Need-add-set-reg
 add-set-reg c = search needs
 
--- src/lib.rt:53:22
 cast-set-reg : tie.Need-cast-set-reg
 cast-set-reg c = search needs
 
--- src/lib.rt:53:5
 set-reg-requires : tie.Need-set-reg-requires
 set-reg-requires c κs = search needs
 
--- src/lib.rt:54:54
 add-take-word : tie.Need-add-take-word
 add-take-word c = search needs
 
--- src/lib.rt:54:5
 take-word-requires : tie.Need-take-word-requires
 take-word-requires c κs =
     let s = c .before .before .before .before in
@@ -45,11 +34,9 @@ take-word-requires c κs =
     let even = t .pre .2 in
     ((sym e, omega arith, omega arith), s .before .before .fetch .ensures .1, omega arith, t .pre .1)
 
--- src/lib.rt:37:1
 same-length : tie.Need-same-length
 same-length c = search needs
 
--- src/lib.rt:37:1
 returns : tie.Need-returns
 returns c =
     let w = c .before .before in

@@ -1,20 +1,14 @@
-use Rattle.stretch.proofs.Steps.{awake-set, long, walked-start, walked-on, walked-stop}
+use Rattle.stretch.proofs.Steps.{awake-set, long, walked-start, walked-on, walked-stop, stays-shut}
 use Rattle.stretch.specs.Stretch.{Awake, Walked}
 use Rattle.stretch_words.specs.Ready.{constants}
 use lib.ListN.{length, set}
 use mathlib.Core.Logic.{_⊎_}
 use Prim.Native.Nat.{ℕ, _+_, _-_, _%_, _<_, _≤_}
-use mathlib.Core.Path.{_≡_, refl, sym, ap, _∙_}
+use mathlib.Core.Path.{_≡_, refl}
 use denote.Ref.{now}
 use native.Mathlib.Omega.{arith}
 use Rattle.stretch.proofs.take_steps.Statement.{statement}
 use Rattle.stretch.proofs.take_steps.Tie as tie
-use Rattle.stretch.proofs.take_steps.Reads as reads
-use Rattle.stretch.proofs.take_steps.Lts as lts
-use Rattle.stretch.proofs.stop.Reads as stop-reads
-use Rattle.stretch.proofs.take_step.Reads as take-step-reads
-use Rattle.stretch_registers.proofs.reg.Reads as reg-reads
-use Rattle.stretch_registers.proofs.set_reg.Reads as set-reg-reads
 
 abbrev Inv-loop : tie.InvT-loop
 Inv-loop regs₀ mem₀ psw cex n k p₀ x₀ pc₀ left₀ regs mem p x pc left =
@@ -26,6 +20,7 @@ Inv-loop regs₀ mem₀ psw cex n k p₀ x₀ pc₀ left₀ regs mem p x pc left
     × (pc < 1048576)
     × ((x % 64 ≡ 0) ⊎ (n ≤ 1))
     × Walked regs₀ psw cex mem₀ (set regs 7 (pc % 65536)) p x mem (n - left)
+    × (cex % 64 ≡ 0 → x % 64 ≡ 0)
 
 abbrev μ-loop : tie.MeasureT-loop
 μ-loop regs₀ mem₀ psw cex n k p₀ x₀ pc₀ left₀ regs mem p x pc left = left
@@ -34,15 +29,12 @@ abbrev μ-loop : tie.MeasureT-loop
 more : (n k s : ℕ) → s ≤ k → k ≤ n → n - (k - s) ≡ n - k + s
 more n k s h g = omega arith
 
--- src/lib.rt:95:18
 reg-requires : tie.Need-reg-requires Inv-loop μ-loop
 reg-requires c κs = omega arith
 
--- src/lib.rt:95:18
 cast-pc : tie.Need-cast-pc Inv-loop μ-loop
 cast-pc c = omega arith
 
--- src/lib.rt:97:5
 loop-holds : tie.Need-loop-holds Inv-loop μ-loop
 loop-holds c =
     let s = c .before .before .before in
@@ -58,51 +50,69 @@ loop-holds c =
       omega arith,
       s .pre .2,
       rw none (walked-start (now (a .regs)) (now (a .mem)) (a .psw) (a .cex) (now (a .regs)) _ refl e (omega arith)),
+      (λ h. h),
     )
 
--- src/lib.rt:98:13
 take-step-requires : tie.Need-take-step-requires Inv-loop μ-loop
 take-step-requires c κs =
     let l = c .before .before .before .before .before .before .loop in
     (omega arith, l .inv .2, l .inv .4, l .inv .3)
 
--- src/lib.rt:100:17
-stop-requires : tie.Need-stop-requires Inv-loop μ-loop
-stop-requires c κs =
-    let l = c .before .before .before .before .before .before .before .before .before .before .before .loop in
-    long (l .regs) (l .mem) _ _ (l .p) (l .x) _ _ (l .pc) _ (l .inv .3) (c .before .before .before .before .take-step .ensures)
+step-back-requires : tie.Need-step-back-requires Inv-loop μ-loop
+step-back-requires c κs =
+    let l = c .before .before .before .before .before .before .before .before .before .before .before .before .loop in
+    long (l .regs) (l .mem) _ _ (l .p) (l .x) _ _ (l .pc) _ (l .inv .3) (c .before .before .before .before .before .take-step .ensures)
 
--- src/lib.rt:101:54
-sub-t25 : tie.Need-sub-t25 Inv-loop μ-loop
-sub-t25 c = omega arith
-
--- src/lib.rt:101:13
 same-length : tie.Need-same-length Inv-loop μ-loop
 same-length c = omega arith
 
--- src/lib.rt:101:13
 returns : tie.Need-returns Inv-loop μ-loop
 returns c =
-    let l = c .before .before .before .before .before .before .before .before .before .before .before .before .loop in
-    let half6 = c .before .before .before .before .before .before .before .before in
-    let a = half6 .before .before .before .before .before .before .before .before .args in
-    let o = c .stop .ensures in
-    let t = c .before .before .before .before .before .before .before .before .before .before .before .loop-test .taken in
-    let some = l .inv .0 in
+    let i = c .before .before .before .before .before .before .before .before .before .before .before .before .before in
+    let l = i .loop in
+    let a = i .before .before .before .before .args in
+    let g = c .before .before .before .before .before .before .take-step .ensures in
+    let some = c .before .before .before .before .before .before .before .before .before .before .before .before .loop-test .taken in
     let w = walked-stop (now (a .regs)) (now (a .mem)) (a .psw) (a .cex) (l .regs) (l .mem) _ _ (l .p) (l .x) _ _ (l .pc) _ (a .n - l .left)
-    (a .n) (l .inv .3) (l .inv .7) (l .inv .6) (omega arith)
-    (c .before .before .before .before .before .take-step .ensures) _ _ (o .0) (o .1 .0) in
-    (rw (more (a .n) (l .left) (c .stop .result) (omega (arith, o .1 .1)) some) (w .0), (omega arith, omega arith, w .1))
+    (a .n) (l .inv .3) (l .inv .7) (l .inv .6) (omega (arith, l .inv .0)) g _ 0
+    (λ e. (refl, c .step-back .ensures)) (λ n. absurd (n (c .before .before .if2 .taken))) in
+    let none : a .n - l .left ≡ a .n - l .left + 0 = omega arith in
+    let still = stays-shut (l .regs) (l .mem) _ _ (l .p) (l .x) _ _ (l .pc) _ g in
+    (rw none (w .0), ((omega (arith, l .inv .0), omega arith, w .1), (λ h. still (l .inv .8 h))))
 
--- src/lib.rt:104:9
+cast-set-reg : tie.Need-cast-set-reg Inv-loop μ-loop
+cast-set-reg c = omega arith
+
+set-reg-requires : tie.Need-set-reg-requires Inv-loop μ-loop
+set-reg-requires c κs = omega arith
+
+sub-t31 : tie.Need-sub-t31 Inv-loop μ-loop
+sub-t31 c = omega arith
+
+same-length-2 : tie.Need-same-length-2 Inv-loop μ-loop
+same-length-2 c = omega arith
+
+returns-2 : tie.Need-returns-2 Inv-loop μ-loop
+returns-2 c =
+    let i = c .before .before .before .before .before .before .before .before .before .before .before .before .before in
+    let l = i .loop in
+    let a = i .before .before .before .before .args in
+    let g = c .before .before .before .before .before .before .take-step .ensures in
+    let some = c .before .before .before .before .before .before .before .before .before .before .before .before .loop-test .taken in
+    let w = walked-stop (now (a .regs)) (now (a .mem)) (a .psw) (a .cex) (l .regs) (l .mem) _ _ (l .p) (l .x) _ _ (l .pc) _ (a .n - l .left)
+    (a .n) (l .inv .3) (l .inv .7) (l .inv .6) (omega (arith, l .inv .0)) g _ 1
+    (λ e. absurd (c .before .before .if2 .left e)) (λ n. (refl, c .set-reg .ensures)) in
+    let still = stays-shut (l .regs) (l .mem) _ _ (l .p) (l .x) _ _ (l .pc) _ g in (
+      rw (more (a .n) (l .left) 1 (omega arith) (l .inv .0)) (w .0),
+      ((omega (arith, l .inv .0), omega arith, w .1), (λ h. still (l .inv .8 h))),
+    )
+
 sub-left : tie.Need-sub-left Inv-loop μ-loop
 sub-left c = omega arith
 
--- src/lib.rt:97:5
 loop-less : tie.Need-loop-less Inv-loop μ-loop
 loop-less c = omega arith
 
--- src/lib.rt:97:5
 loop-again : tie.Need-loop-again Inv-loop μ-loop
 loop-again c =
     let l = c .before .before .before .before .before .before .before .before .before .before .loop in
@@ -110,28 +120,34 @@ loop-again c =
     let t = c .before .before .before .before .before .before .before .before .before .loop-test .taken in
     let some = l .inv .0 in
     let w = walked-on (now (a .regs)) (now (a .mem)) (a .psw) (a .cex) (l .regs) (l .mem) _ _ (l .p) (l .x) _ _ (l .pc) _ (a .n - l .left)
-    (a .n) (l .inv .3) (l .inv .7) (l .inv .6) (omega arith) (c .before .before .before .take-step .ensures) (c .if1 .left) in
-    (omega arith, omega arith, l .inv .2, w .0, w .1, c .if1 .left, w .2, rw (more (a .n) (l .left) 1 (omega arith) some) (w .3))
+    (a .n) (l .inv .3) (l .inv .7) (l .inv .6) (omega arith) (c .before .before .before .take-step .ensures) (c .if1 .left) in (
+      omega arith,
+      omega arith,
+      l .inv .2,
+      w .0,
+      w .1,
+      c .if1 .left,
+      w .2,
+      rw (more (a .n) (l .left) 1 (omega arith) some) (w .3),
+      (λ h. stays-shut (l .regs) (l .mem) _ _ (l .p) (l .x) _ _ (l .pc) _ (c .before .before .before .take-step .ensures) (l .inv .8 h)),
+    )
 
--- src/lib.rt:106:22
-cast-set-reg : tie.Need-cast-set-reg Inv-loop μ-loop
-cast-set-reg c = omega arith
+cast-set-reg-2 : tie.Need-cast-set-reg-2 Inv-loop μ-loop
+cast-set-reg-2 c = omega arith
 
--- src/lib.rt:106:5
-set-reg-requires : tie.Need-set-reg-requires Inv-loop μ-loop
-set-reg-requires c κs = omega arith
+set-reg-requires-2 : tie.Need-set-reg-requires-2 Inv-loop μ-loop
+set-reg-requires-2 c κs = omega arith
 
--- src/lib.rt:84:1
-same-length-2 : tie.Need-same-length-2 Inv-loop μ-loop
-same-length-2 c = omega arith
+same-length-3 : tie.Need-same-length-3 Inv-loop μ-loop
+same-length-3 c = omega arith
 
--- src/lib.rt:84:1
-returns-2 : tie.Need-returns-2 Inv-loop μ-loop
-returns-2 c =
+returns-3 : tie.Need-returns-3 Inv-loop μ-loop
+returns-3 c =
     let l = c .before .before .before .loop in
     let a = c .before .before .before .before .before .before .before .args in
     let e : a .n - 0 ≡ a .n - l .left = omega arith in
-    rw (c .set-reg .ensures, e) (l .inv .7, (omega arith, omega arith, awake-set (l .regs) (l .p) (l .pc % 65536) (l .inv .3)))
+    rw (c .set-reg2 .ensures, e)
+    (l .inv .7, ((omega arith, omega arith, awake-set (l .regs) (l .p) (l .pc % 65536) (l .inv .3)), l .inv .8))
 
 pub take-steps-spec : {M : Type 1} → statement M
 take-steps-spec =
@@ -143,14 +159,18 @@ take-steps-spec =
     cast-pc
     loop-holds
     take-step-requires
-    stop-requires
-    sub-t25
+    step-back-requires
     same-length
     returns
+    cast-set-reg
+    set-reg-requires
+    sub-t31
+    same-length-2
+    returns-2
     sub-left
     loop-less
     loop-again
-    cast-set-reg
-    set-reg-requires
-    same-length-2
-    returns-2)
+    cast-set-reg-2
+    set-reg-requires-2
+    same-length-3
+    returns-3)

@@ -6,35 +6,22 @@ use mathlib.Core.Path.{_≡_, refl, sym, ap, _∙_}
 use borrow.Author.Needs.{needs}
 use Rattle.asm_call.proofs.assemble.Statement.{statement}
 use Rattle.asm_call.proofs.assemble.Tie as tie
-use Rattle.asm_call.proofs.assemble.Reads as reads
-use Rattle.asm_call.proofs.assemble.Lts as lts
-use Rattle.asm_call.proofs.reply.Reads as reply-reads
-use Rattle.asm_image.proofs.image.Reads as image-reads
-use Rattle.asm_sweeps.proofs.collect.Reads as collect-reads
-use Rattle.asm_sweeps.proofs.decide.Reads as decide-reads
-use Rattle.asm_sweeps.proofs.uses.Reads as uses-reads
 
--- src/lib.rt:34:41
 slice-aggregate-collect : tie.Need-slice-aggregate-collect
 slice-aggregate-collect c = search needs
 
--- src/lib.rt:34:54
 slice-aggregate-collect-2 : tie.Need-slice-aggregate-collect-2
 slice-aggregate-collect-2 c = search needs
 
--- src/lib.rt:34:65
 slice-aggregate-collect-3 : tie.Need-slice-aggregate-collect-3
 slice-aggregate-collect-3 c = search needs
 
--- src/lib.rt:34:9
 collect-requires : tie.Need-collect-requires
 collect-requires c κs = search needs
 
--- src/lib.rt:36:38
 array-share-prefix-places : tie.Need-array-share-prefix-places
 array-share-prefix-places c = search needs
 
--- src/lib.rt:36:38
 slice-aggregate-uses : tie.Need-slice-aggregate-uses
 slice-aggregate-uses c =
     let c4 = c .before .before .before .before in
@@ -43,11 +30,9 @@ slice-aggregate-uses c =
     (length-take-le (collect .result .count) (collect .last .1 .0)
     (omega (arith, collect .ensures .1 .within, collect .ensures .1 .places)))
 
--- src/lib.rt:36:52
 array-share-prefix-keys : tie.Need-array-share-prefix-keys
 array-share-prefix-keys c = search needs
 
--- src/lib.rt:36:52
 slice-aggregate-uses-2 : tie.Need-slice-aggregate-uses-2
 slice-aggregate-uses-2 c =
     let c5 = c .before .before .before .before .before in
@@ -56,11 +41,9 @@ slice-aggregate-uses-2 c =
     (length-take-le (collect .result .count) (collect .last .1 .1 .0)
     (omega (arith, collect .ensures .1 .within, collect .ensures .1 .keys)))
 
--- src/lib.rt:36:64
 array-share-prefix-values : tie.Need-array-share-prefix-values
 array-share-prefix-values c = search needs
 
--- src/lib.rt:36:64
 slice-aggregate-uses-3 : tie.Need-slice-aggregate-uses-3
 slice-aggregate-uses-3 c =
     let c6 = c .before .before .before .before .before .before in
@@ -69,19 +52,15 @@ slice-aggregate-uses-3 c =
     (length-take-le (collect .result .count) (collect .last .1 .1 .1 .0)
     (omega (arith, collect .ensures .1 .within, collect .ensures .1 .values)))
 
--- src/lib.rt:36:9
 uses-requires : tie.Need-uses-requires
 uses-requires c κs = search needs
 
--- src/lib.rt:37:9
 decide-requires : tie.Need-decide-requires
 decide-requires c κs = search needs
 
--- src/lib.rt:39:9
 reply-requires : tie.Need-reply-requires
 reply-requires c κs = search needs
 
--- src/lib.rt:39:9
 returns : tie.Need-returns
 returns c =
     let c1 = c .before in
@@ -99,11 +78,9 @@ returns c =
     (decide .ensures)) (c1 .if1 .taken) (c .reply .ensures) in
     (ap (λ (x : Assembled). x .reply) e, ap (λ (x : Assembled). x .memory) e)
 
--- src/lib.rt:41:38
 array-share-prefix-places-2 : tie.Need-array-share-prefix-places-2
 array-share-prefix-places-2 c = search needs
 
--- src/lib.rt:41:38
 slice-aggregate-image : tie.Need-slice-aggregate-image
 slice-aggregate-image c =
     let c12 = c .before .before .before .before .before .before .before .before .before .before .before .before in
@@ -112,11 +89,9 @@ slice-aggregate-image c =
     (length-take-le (collect .result .count) (collect .last .1 .0)
     (omega (arith, collect .ensures .1 .within, collect .ensures .1 .places)))
 
--- src/lib.rt:41:52
 array-share-prefix-keys-2 : tie.Need-array-share-prefix-keys-2
 array-share-prefix-keys-2 c = search needs
 
--- src/lib.rt:41:52
 slice-aggregate-image-2 : tie.Need-slice-aggregate-image-2
 slice-aggregate-image-2 c =
     let c13 = c .before .before .before .before .before .before .before .before .before .before .before .before .before in
@@ -125,11 +100,9 @@ slice-aggregate-image-2 c =
     (length-take-le (collect .result .count) (collect .last .1 .1 .0)
     (omega (arith, collect .ensures .1 .within, collect .ensures .1 .keys)))
 
--- src/lib.rt:41:64
 array-share-prefix-values-2 : tie.Need-array-share-prefix-values-2
 array-share-prefix-values-2 c = search needs
 
--- src/lib.rt:41:64
 slice-aggregate-image-3 : tie.Need-slice-aggregate-image-3
 slice-aggregate-image-3 c =
     let c14 = c .before .before .before .before .before .before .before .before .before .before .before .before .before .before in
@@ -138,22 +111,18 @@ slice-aggregate-image-3 c =
     (length-take-le (collect .result .count) (collect .last .1 .1 .1 .0)
     (omega (arith, collect .ensures .1 .within, collect .ensures .1 .values)))
 
--- src/lib.rt:41:5
 image-requires : tie.Need-image-requires
 image-requires c κs =
     let c10 = c .before .before .before .before .before .before .before .before .before .before in
     let c20 = c10 .before .before .before .before .before .before .before .before .before .before in
     c20 .pre .0
 
--- src/lib.rt:42:5
 reply-requires-2 : tie.Need-reply-requires-2
 reply-requires-2 c κs = search needs
 
--- src/lib.rt:25:1
 same-length : tie.Need-same-length
 same-length c = search needs
 
--- src/lib.rt:25:1
 returns-2 : tie.Need-returns-2
 returns-2 c =
     let c3 = c .before .before .before in

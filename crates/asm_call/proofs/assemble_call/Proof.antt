@@ -7,28 +7,19 @@ use mathlib.Core.Path.{_≡_, refl, sym, ap, _∙_}
 use borrow.Author.Needs.{needs}
 use Rattle.asm_call.proofs.assemble_call.Statement.{statement}
 use Rattle.asm_call.proofs.assemble_call.Tie as tie
-use Rattle.asm_call.proofs.assemble_call.Reads as reads
-use Rattle.asm_call.proofs.assemble_call.Lts as lts
-use Rattle.asm_call.proofs.assemble.Reads as assemble-reads
-use Rattle.asm_call.proofs.reply.Reads as reply-reads
-use Rattle.asm_sweeps.proofs.form.Reads as form-reads
 
--- src/lib.rt:52:9
 returns : tie.Need-returns
 returns c =
     let c3 = c .before .before .before in
     let e = call-length (c3 .args .memory .now) (c3 .args .source .now) (c .if1 .taken) in
     (ap (λ (x : Assembled). x .reply) e, ap (λ (x : Assembled). x .memory) e)
 
--- src/lib.rt:54:9
 form-requires : tie.Need-form-requires
 form-requires c κs = search needs
 
--- src/lib.rt:56:9
 reply-requires : tie.Need-reply-requires
 reply-requires c κs = search needs
 
--- src/lib.rt:56:9
 returns-2 : tie.Need-returns-2
 returns-2 c =
     let c1 = c .before in
@@ -43,15 +34,12 @@ returns-2 c =
     (λ z. let k : _≡_ {A = ℕ} 17 0 = z in omega arith) (c .reply .ensures) in
     (ap (λ (x : Assembled). x .reply) e, ap (λ (x : Assembled). x .memory) e)
 
--- src/lib.rt:61:5
 assemble-requires : tie.Need-assemble-requires
 assemble-requires c κs = search needs
 
--- src/lib.rt:46:1
 same-length : tie.Need-same-length
 same-length c = search needs
 
--- src/lib.rt:46:1
 returns-3 : tie.Need-returns-3
 returns-3 c = search needs
 

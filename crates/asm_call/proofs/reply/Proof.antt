@@ -4,27 +4,19 @@ use mathlib.Core.Path.{_≡_, refl, sym, ap, _∙_}
 use borrow.Author.Needs.{needs}
 use Rattle.asm_call.proofs.reply.Statement.{statement}
 use Rattle.asm_call.proofs.reply.Tie as tie
-use Rattle.asm_call.proofs.reply.Reads as reads
-use Rattle.asm_call.proofs.reply.Lts as lts
-use Rattle.asm_call.proofs.shown.Reads as shown-reads
 
--- src/lib.rt:20:9
 shown-requires : tie.Need-shown-requires
 shown-requires c κs = search needs
 
--- src/lib.rt:21:5
 cast-result : tie.Need-cast-result
 cast-result c = search needs
 
--- src/lib.rt:21:24
 mul-result : tie.Need-mul-result
 mul-result c = search needs
 
--- src/lib.rt:21:5
 add-result : tie.Need-add-result
 add-result c = search needs
 
--- src/lib.rt:17:1
 returns : tie.Need-returns
 unfolding assembleReply
 returns c = ap (λ (x : ℕ). c .before .before .args .v .refusal + 4294967296 * x) (c .before .shown .ensures)

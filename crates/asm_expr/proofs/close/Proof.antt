@@ -5,10 +5,6 @@ use native.Mathlib.Omega.{arith}
 use borrow.Author.Needs.{needs}
 use Rattle.asm_expr.proofs.close.Statement.{statement}
 use Rattle.asm_expr.proofs.close.Tie as tie
-use Rattle.asm_expr.proofs.close.Reads as reads
-use Rattle.asm_expr.proofs.close.Lts as lts
-use Rattle.asm_text.proofs.byte_at.Reads as byte-at-reads
-use Rattle.asm_text.proofs.skip_blanks.Reads as skip-blanks-reads
 
 enum-told : tie.Need-enum-told
 enum-told c = search needs

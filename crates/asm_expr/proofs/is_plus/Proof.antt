@@ -4,8 +4,6 @@ use native.Mathlib.Omega.{arith}
 use borrow.Author.Needs.{needs}
 use Rattle.asm_expr.proofs.is_plus.Statement.{statement}
 use Rattle.asm_expr.proofs.is_plus.Tie as tie
-use Rattle.asm_expr.proofs.is_plus.Reads as reads
-use Rattle.asm_expr.proofs.is_plus.Lts as lts
 
 returns : tie.Need-returns
 unfolding plus?

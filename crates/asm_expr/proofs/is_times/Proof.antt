@@ -4,8 +4,6 @@ use native.Mathlib.Omega.{arith}
 use borrow.Author.Needs.{needs}
 use Rattle.asm_expr.proofs.is_times.Statement.{statement}
 use Rattle.asm_expr.proofs.is_times.Tie as tie
-use Rattle.asm_expr.proofs.is_times.Reads as reads
-use Rattle.asm_expr.proofs.is_times.Lts as lts
 
 returns : tie.Need-returns
 unfolding times?

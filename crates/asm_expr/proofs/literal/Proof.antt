@@ -5,12 +5,6 @@ use native.Mathlib.Omega.{arith}
 use borrow.Author.Needs.{needs}
 use Rattle.asm_expr.proofs.literal.Statement.{statement}
 use Rattle.asm_expr.proofs.literal.Tie as tie
-use Rattle.asm_expr.proofs.literal.Reads as reads
-use Rattle.asm_expr.proofs.literal.Lts as lts
-use Rattle.asm_text.proofs.byte_at.Reads as byte-at-reads
-use Rattle.asm_text.proofs.digit.Reads as digit-reads
-use Rattle.asm_text.proofs.read_digits.Reads as read-digits-reads
-use Rattle.asm_value.proofs.number.Reads as number-reads
 
 byte-at-requires : tie.Need-byte-at-requires
 byte-at-requires c κs = search needs

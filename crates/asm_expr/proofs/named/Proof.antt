@@ -5,11 +5,6 @@ use Rattle.asm_expr.proofs.Laws.{name-word, name-read}
 use borrow.Author.Needs.{needs}
 use Rattle.asm_expr.proofs.named.Statement.{statement}
 use Rattle.asm_expr.proofs.named.Tie as tie
-use Rattle.asm_expr.proofs.named.Reads as reads
-use Rattle.asm_expr.proofs.named.Lts as lts
-use Rattle.asm_text.proofs.look_up.Reads as look-up-reads
-use Rattle.asm_text.proofs.read_word.Reads as read-word-reads
-use Rattle.asm_words.proofs.word_number.Reads as word-number-reads
 
 read-word-requires : tie.Need-read-word-requires
 read-word-requires c κs = search needs

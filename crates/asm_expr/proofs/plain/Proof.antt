@@ -9,12 +9,6 @@ use Rattle.asm_expr.proofs.Laws.{plain-name, plain-minus, plain-ten, pl
 use borrow.Author.Needs.{needs}
 use Rattle.asm_expr.proofs.plain.Statement.{statement}
 use Rattle.asm_expr.proofs.plain.Tie as tie
-use Rattle.asm_expr.proofs.plain.Reads as reads
-use Rattle.asm_expr.proofs.plain.Lts as lts
-use Rattle.asm_expr.proofs.literal.Reads as literal-reads
-use Rattle.asm_expr.proofs.named.Reads as named-reads
-use Rattle.asm_text.proofs.byte_at.Reads as byte-at-reads
-use Rattle.asm_text.proofs.is_letter.Reads as is-letter-reads
 
 byte-at-requires : tie.Need-byte-at-requires
 byte-at-requires c κs = search needs

@@ -3,37 +3,25 @@ use Rattle.asm_fits.proofs.Laws.{branch-number, branch-unknown, branch-
 use borrow.Author.Needs.{needs}
 use Rattle.asm_fits.proofs.branch.Statement.{statement}
 use Rattle.asm_fits.proofs.branch.Tie as tie
-use Rattle.asm_fits.proofs.branch.Reads as reads
-use Rattle.asm_fits.proofs.branch.Lts as lts
-use Rattle.asm_fits.proofs.steps.Reads as steps-reads
-use Rattle.asm_fits.proofs.way.Reads as way-reads
-use Rattle.asm_fits.proofs.word.Reads as word-reads
 
--- src/lib.rt:212:11
 word-requires : tie.Need-word-requires
 word-requires c κs = search needs
 
--- src/lib.rt:213:21
 enum-known-n : tie.Need-enum-known-n
 enum-known-n c = search needs
 
--- src/lib.rt:213:39
 way-requires : tie.Need-way-requires
 way-requires c κs = search needs
 
--- src/lib.rt:213:27
 steps-requires : tie.Need-steps-requires
 steps-requires c κs = search needs
 
--- src/lib.rt:214:25
 enum-told : tie.Need-enum-told
 enum-told c = search needs
 
--- src/lib.rt:215:25
 enum-told-2 : tie.Need-enum-told-2
 enum-told-2 c = search needs
 
--- src/lib.rt:207:1
 returns : tie.Need-returns
 returns c =
     let c1 = c .before in
@@ -47,7 +35,6 @@ returns c =
       steps .ensures .1,
     )
 
--- src/lib.rt:207:1
 returns-2 : tie.Need-returns-2
 returns-2 c =
     let c2 = c .before .before in
@@ -57,7 +44,6 @@ returns-2 c =
       tt,
     )
 
--- src/lib.rt:207:1
 returns-3 : tie.Need-returns-3
 returns-3 c =
     let c2 = c .before .before in

@@ -6,27 +6,19 @@ use mathlib.Core.Path.{_≡_}
 use borrow.Author.Needs.{needs}
 use Rattle.asm_fits.proofs.constant.Statement.{statement}
 use Rattle.asm_fits.proofs.constant.Tie as tie
-use Rattle.asm_fits.proofs.constant.Reads as reads
-use Rattle.asm_fits.proofs.constant.Lts as lts
-use Rattle.asm_fits.proofs.constant_number.Reads as constant-number-reads
 
--- src/lib.rt:174:22
 enum-known-v : tie.Need-enum-known-v
 enum-known-v c = search needs
 
--- src/lib.rt:174:28
 constant-number-requires : tie.Need-constant-number-requires
 constant-number-requires c κs = search needs
 
--- src/lib.rt:175:27
 enum-told : tie.Need-enum-told
 enum-told c = search needs
 
--- src/lib.rt:176:27
 enum-told-2 : tie.Need-enum-told-2
 enum-told-2 c = search needs
 
--- src/lib.rt:169:1
 returns : tie.Need-returns
 returns c =
     let c2 = c .before .before in
@@ -34,11 +26,9 @@ returns c =
     let e : toZ w32 (ofZ w32 (v .given .0 .0)) ≡ v .given .0 .0 = search needs in
     ((rw e at (c .constant-number .ensures .0)) ∙ sym (ap constantFit (v .given .1)), c .constant-number .ensures .1)
 
--- src/lib.rt:169:1
 returns-2 : tie.Need-returns-2
 returns-2 c = (sym (ap constantFit (c .enum-told .given .1)), tt)
 
--- src/lib.rt:169:1
 returns-3 : tie.Need-returns-3
 returns-3 c = (sym (ap constantFit (c .enum-told2 .given .1)), tt)
 

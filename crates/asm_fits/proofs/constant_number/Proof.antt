@@ -6,15 +6,10 @@ use Rattle.asm_fits.proofs.Signed.{is-minus, is-plus}
 use borrow.Author.Needs.{needs}
 use Rattle.asm_fits.proofs.constant_number.Statement.{statement}
 use Rattle.asm_fits.proofs.constant_number.Tie as tie
-use Rattle.asm_fits.proofs.constant_number.Reads as reads
-use Rattle.asm_fits.proofs.constant_number.Lts as lts
-use Rattle.asm_fits.proofs.magnitude.Reads as magnitude-reads
 
--- src/lib.rt:143:9
 magnitude-requires : tie.Need-magnitude-requires
 magnitude-requires c κs = search needs
 
--- src/lib.rt:146:13
 returns : tie.Need-returns
 returns c =
     let c1 = c .before in
@@ -26,7 +21,6 @@ returns c =
       omega arith,
     )
 
--- src/lib.rt:148:9
 returns-2 : tie.Need-returns-2
 returns-2 c =
     let c1 = c .before in
@@ -38,11 +32,9 @@ returns-2 c =
       tt,
     )
 
--- src/lib.rt:151:28
 cast-t5 : tie.Need-cast-t5
 cast-t5 c = search needs
 
--- src/lib.rt:151:9
 returns-3 : tie.Need-returns-3
 returns-3 c =
     let c1 = c .before in
@@ -55,7 +47,6 @@ returns-3 c =
       omega (arith, c .if3 .taken),
     )
 
--- src/lib.rt:154:9
 returns-4 : tie.Need-returns-4
 returns-4 c =
     let c1 = c .before in
@@ -69,7 +60,6 @@ returns-4 c =
       omega arith,
     )
 
--- src/lib.rt:157:9
 returns-5 : tie.Need-returns-5
 returns-5 c =
     let c1 = c .before in
@@ -84,7 +74,6 @@ returns-5 c =
       omega arith,
     )
 
--- src/lib.rt:160:9
 returns-6 : tie.Need-returns-6
 returns-6 c =
     let c1 = c .before in
@@ -100,7 +89,6 @@ returns-6 c =
       omega arith,
     )
 
--- src/lib.rt:163:9
 returns-7 : tie.Need-returns-7
 returns-7 c =
     let c1 = c .before in
@@ -117,7 +105,6 @@ returns-7 c =
       omega arith,
     )
 
--- src/lib.rt:139:1
 returns-8 : tie.Need-returns-8
 returns-8 c =
     let c1 = c .before in

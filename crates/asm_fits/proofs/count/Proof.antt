@@ -3,15 +3,10 @@ use Rattle.asm_fits.specs.Fits.{mapFit, fitOf, byteFit, wordFit, constan
 use borrow.Author.Needs.{needs}
 use Rattle.asm_fits.proofs.count.Statement.{statement}
 use Rattle.asm_fits.proofs.count.Tie as tie
-use Rattle.asm_fits.proofs.count.Reads as reads
-use Rattle.asm_fits.proofs.count.Lts as lts
-use Rattle.asm_fits.proofs.ranged.Reads as ranged-reads
 
--- src/lib.rt:108:5
 ranged-requires : tie.Need-ranged-requires
 ranged-requires c κs = search needs
 
--- src/lib.rt:104:1
 returns : tie.Need-returns
 returns c =
     let c1 = c .before in

@@ -4,33 +4,25 @@ use Rattle.asm_fits.proofs.Laws.{map-number, map-unknown, map-outside}
 use borrow.Author.Needs.{needs}
 use Rattle.asm_fits.proofs.high_byte.Statement.{statement}
 use Rattle.asm_fits.proofs.high_byte.Tie as tie
-use Rattle.asm_fits.proofs.high_byte.Reads as reads
-use Rattle.asm_fits.proofs.high_byte.Lts as lts
 
--- src/lib.rt:89:21
 enum-known-f : tie.Need-enum-known-f
 enum-known-f c = search needs
 
--- src/lib.rt:90:25
 enum-told : tie.Need-enum-told
 enum-told c = search needs
 
--- src/lib.rt:91:25
 enum-told-2 : tie.Need-enum-told-2
 enum-told-2 c = search needs
 
--- src/lib.rt:84:1
 returns : tie.Need-returns
 returns c =
     let c1 = c .before in
     let c3 = c1 .before .before in
     (map-number (λ (n : ℕ). n / 256) (c3 .args .f) (c1 .f .given .0 .0) (c1 .f .given .1), omega arith)
 
--- src/lib.rt:84:1
 returns-2 : tie.Need-returns-2
 returns-2 c = (map-unknown (λ (n : ℕ). n / 256) (c .before .before .args .f) (c .enum-told .given .1), tt)
 
--- src/lib.rt:84:1
 returns-3 : tie.Need-returns-3
 returns-3 c = (map-outside (λ (n : ℕ). n / 256) (c .before .before .args .f) (c .enum-told2 .given .1), tt)
 

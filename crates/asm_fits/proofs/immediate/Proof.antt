@@ -7,18 +7,10 @@ use mathlib.Core.Path.{_≡_, sym, ap, _∙_}
 use borrow.Author.Needs.{needs}
 use Rattle.asm_fits.proofs.immediate.Statement.{statement}
 use Rattle.asm_fits.proofs.immediate.Tie as tie
-use Rattle.asm_fits.proofs.immediate.Reads as reads
-use Rattle.asm_fits.proofs.immediate.Lts as lts
-use Rattle.asm_fits.proofs.byte.Reads as byte-reads
-use Rattle.asm_fits.proofs.high_byte.Reads as high-byte-reads
-use Rattle.asm_fits.proofs.low_byte.Reads as low-byte-reads
-use Rattle.asm_fits.proofs.word.Reads as word-reads
 
--- src/lib.rt:130:9
 byte-requires : tie.Need-byte-requires
 byte-requires c κs = search needs
 
--- src/lib.rt:130:9
 returns : tie.Need-returns
 returns c =
     let c1 = c .before in
@@ -33,15 +25,12 @@ returns c =
       c .byte .ensures .1,
     )
 
--- src/lib.rt:133:26
 word-requires : tie.Need-word-requires
 word-requires c κs = search needs
 
--- src/lib.rt:133:9
 high-byte-requires : tie.Need-high-byte-requires
 high-byte-requires c κs = search needs
 
--- src/lib.rt:133:9
 returns-2 : tie.Need-returns-2
 returns-2 c =
     let c1 = c .before in
@@ -54,15 +43,12 @@ returns-2 c =
       c .high-byte .ensures .1,
     )
 
--- src/lib.rt:135:14
 word-requires-2 : tie.Need-word-requires-2
 word-requires-2 c κs = search needs
 
--- src/lib.rt:135:5
 low-byte-requires : tie.Need-low-byte-requires
 low-byte-requires c κs = search needs
 
--- src/lib.rt:125:1
 returns-3 : tie.Need-returns-3
 returns-3 c =
     let c1 = c .before in

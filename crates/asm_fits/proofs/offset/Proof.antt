@@ -6,27 +6,19 @@ use Rattle.asm_fits.proofs.Laws.{map-number, map-unknown, map-outside}
 use borrow.Author.Needs.{needs}
 use Rattle.asm_fits.proofs.offset.Statement.{statement}
 use Rattle.asm_fits.proofs.offset.Tie as tie
-use Rattle.asm_fits.proofs.offset.Reads as reads
-use Rattle.asm_fits.proofs.offset.Lts as lts
-use Rattle.asm_fits.proofs.ranged.Reads as ranged-reads
 
--- src/lib.rt:116:11
 ranged-requires : tie.Need-ranged-requires
 ranged-requires c κs = search needs
 
--- src/lib.rt:117:21
 enum-known-n : tie.Need-enum-known-n
 enum-known-n c = search needs
 
--- src/lib.rt:118:25
 enum-told : tie.Need-enum-told
 enum-told c = search needs
 
--- src/lib.rt:119:25
 enum-told-2 : tie.Need-enum-told-2
 enum-told-2 c = search needs
 
--- src/lib.rt:112:1
 returns : tie.Need-returns
 returns c =
     let c1 = c .before in
@@ -36,7 +28,6 @@ returns c =
       omega arith,
     )
 
--- src/lib.rt:112:1
 returns-2 : tie.Need-returns-2
 returns-2 c =
     let c2 = c .before .before in (
@@ -45,7 +36,6 @@ returns-2 c =
       tt,
     )
 
--- src/lib.rt:112:1
 returns-3 : tie.Need-returns-3
 returns-3 c =
     let c2 = c .before .before in (

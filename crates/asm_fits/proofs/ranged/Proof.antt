@@ -5,24 +5,16 @@ use Rattle.asm_fits.proofs.Laws.{ranged-in, ranged-out, ranged-unknown,
 use borrow.Author.Needs.{needs}
 use Rattle.asm_fits.proofs.ranged.Statement.{statement}
 use Rattle.asm_fits.proofs.ranged.Tie as tie
-use Rattle.asm_fits.proofs.ranged.Reads as reads
-use Rattle.asm_fits.proofs.ranged.Lts as lts
-use Rattle.asm_fits.proofs.residue.Reads as residue-reads
-use Rattle.asm_fits.proofs.within.Reads as within-reads
 
--- src/lib.rt:54:22
 enum-known-v : tie.Need-enum-known-v
 enum-known-v c = search needs
 
--- src/lib.rt:55:16
 within-requires : tie.Need-within-requires
 within-requires c κs = search needs
 
--- src/lib.rt:56:36
 residue-requires : tie.Need-residue-requires
 residue-requires c κs = search needs
 
--- src/lib.rt:56:17
 returns : tie.Need-returns
 returns c =
     let c1 = c .before in
@@ -35,15 +27,12 @@ returns c =
     ranged-in (a .below) (a .limit) (a .v) (v .given .0 .0) (c2 .within .result) (c .residue .result) (v .given .1)
     (rw e at (c2 .within .ensures)) (c1 .if1 .taken) (rw e at (c .residue .ensures))
 
--- src/lib.rt:60:27
 enum-told : tie.Need-enum-told
 enum-told c = search needs
 
--- src/lib.rt:61:27
 enum-told-2 : tie.Need-enum-told-2
 enum-told-2 c = search needs
 
--- src/lib.rt:50:1
 returns-2 : tie.Need-returns-2
 returns-2 c =
     let c1 = c .before in
@@ -55,13 +44,11 @@ returns-2 c =
     ranged-out (a .below) (a .limit) (a .v) (v .given .0 .0) (c1 .within .result) (v .given .1) (rw e at (c1 .within .ensures))
     (c .if1 .left)
 
--- src/lib.rt:50:1
 returns-3 : tie.Need-returns-3
 returns-3 c =
     let c2 = c .before .before in
     ranged-unknown (c2 .args .below) (c2 .args .limit) (c2 .args .v) (c .enum-told .given .1)
 
--- src/lib.rt:50:1
 returns-4 : tie.Need-returns-4
 returns-4 c =
     let c2 = c .before .before in

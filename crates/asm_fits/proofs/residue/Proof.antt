@@ -2,23 +2,16 @@ use Rattle.asm_fits.proofs.Signed.{residue-minus, residue-plus, is-minu
 use borrow.Author.Needs.{needs}
 use Rattle.asm_fits.proofs.residue.Statement.{statement}
 use Rattle.asm_fits.proofs.residue.Tie as tie
-use Rattle.asm_fits.proofs.residue.Reads as reads
-use Rattle.asm_fits.proofs.residue.Lts as lts
-use Rattle.asm_fits.proofs.magnitude.Reads as magnitude-reads
 
--- src/lib.rt:31:14
 magnitude-requires : tie.Need-magnitude-requires
 magnitude-requires c κs = search needs
 
--- src/lib.rt:31:13
 cast-n : tie.Need-cast-n
 cast-n c = search needs
 
--- src/lib.rt:33:16
 sub-result : tie.Need-sub-result
 sub-result c = search needs
 
--- src/lib.rt:33:9
 returns : tie.Need-returns
 returns c =
     let c1 = c .before in
@@ -27,7 +20,6 @@ returns c =
     residue-minus (c2 .args .z) (magnitude .result)
     (is-minus (c2 .args .z) (c2 .fits .z) (magnitude .result) (magnitude .ensures) (c .if1 .taken))
 
--- src/lib.rt:28:1
 returns-2 : tie.Need-returns-2
 returns-2 c =
     let c1 = c .before in

@@ -3,29 +3,22 @@ use Rattle.asm_fits.proofs.Laws.{steps-odd, steps-up, steps-far, steps-
 use borrow.Author.Needs.{needs}
 use Rattle.asm_fits.proofs.steps.Statement.{statement}
 use Rattle.asm_fits.proofs.steps.Tie as tie
-use Rattle.asm_fits.proofs.steps.Reads as reads
-use Rattle.asm_fits.proofs.steps.Lts as lts
 
--- src/lib.rt:195:9
 returns : tie.Need-returns
 returns c = (steps-odd (c .before .args .half) (c .before .args .d) (c .if1 .taken), tt)
 
--- src/lib.rt:198:28
 cast-t6 : tie.Need-cast-t6
 cast-t6 c = search needs
 
--- src/lib.rt:198:9
 returns-2 : tie.Need-returns-2
 returns-2 c =
     let c1 = c .before in
     let c2 = c1 .before in
     (steps-up (c2 .args .half) (c2 .args .d) (c1 .if1 .left) (c .if2 .taken), omega (arith, c .if2 .taken))
 
--- src/lib.rt:200:16
 sub-if3 : tie.Need-sub-if3
 sub-if3 c = search needs
 
--- src/lib.rt:201:9
 returns-3 : tie.Need-returns-3
 returns-3 c =
     let c1 = c .before in
@@ -33,23 +26,18 @@ returns-3 c =
     let c3 = c2 .before in
     (steps-far (c3 .args .half) (c3 .args .d) (c2 .if1 .left) (c1 .if2 .left) (c .if3 .taken), tt)
 
--- src/lib.rt:203:27
 sub-t7 : tie.Need-sub-t7
 sub-t7 c = search needs
 
--- src/lib.rt:203:27
 sub-t8 : tie.Need-sub-t8
 sub-t8 c = search needs
 
--- src/lib.rt:203:18
 sub-t9 : tie.Need-sub-t9
 sub-t9 c = search needs
 
--- src/lib.rt:203:17
 cast-t10 : tie.Need-cast-t10
 cast-t10 c = search needs
 
--- src/lib.rt:189:1
 returns-4 : tie.Need-returns-4
 returns-4 c =
     let c1 = c .before in

@@ -2,15 +2,10 @@ use Rattle.asm_fits.proofs.Signed.{within-minus, within-plus, is-minus,
 use borrow.Author.Needs.{needs}
 use Rattle.asm_fits.proofs.within.Statement.{statement}
 use Rattle.asm_fits.proofs.within.Tie as tie
-use Rattle.asm_fits.proofs.within.Reads as reads
-use Rattle.asm_fits.proofs.within.Lts as lts
-use Rattle.asm_fits.proofs.magnitude.Reads as magnitude-reads
 
--- src/lib.rt:42:9
 magnitude-requires : tie.Need-magnitude-requires
 magnitude-requires c κs = search needs
 
--- src/lib.rt:44:9
 returns : tie.Need-returns
 returns c =
     let c1 = c .before in
@@ -20,7 +15,6 @@ returns c =
     within-minus (a .below) (a .limit) (a .z) (magnitude .result)
     (is-minus (a .z) (c2 .fits .z) (magnitude .result) (magnitude .ensures) (c .if1 .taken))
 
--- src/lib.rt:39:1
 returns-2 : tie.Need-returns-2
 returns-2 c =
     let c1 = c .before in

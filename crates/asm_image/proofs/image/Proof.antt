@@ -9,10 +9,6 @@ use Prim.Native.Nat.{ℕ, _+_, _-_, _%_, _≤_, _<_}
 use mathlib.Core.Path.{_≡_, refl, sym, ap, _∙_}
 use Rattle.asm_image.proofs.image.Statement.{statement}
 use Rattle.asm_image.proofs.image.Tie as tie
-use Rattle.asm_image.proofs.image.Reads as reads
-use Rattle.asm_image.proofs.image.Lts as lts
-use Rattle.asm_image.proofs.store_line.Reads as store-line-reads
-use Rattle.lines.proofs.line_at.Reads as line-at-reads
 
 abbrev Inv-loop : tie.InvT-loop
 Inv-loop memory₀ source places keys values at₀ p₀ memory at p =
@@ -23,31 +19,24 @@ Inv-loop memory₀ source places keys values at₀ p₀ memory at p =
 abbrev μ-loop : tie.MeasureT-loop
 μ-loop memory₀ source places keys values at₀ p₀ memory at p = length source - at
 
--- src/lib.rt:95:5
 loop-holds : tie.Need-loop-holds Inv-loop μ-loop
 loop-holds c = (omega arith, c .before .before .before .before .pre, refl)
 
--- src/lib.rt:96:13
 line-at-requires : tie.Need-line-at-requires Inv-loop μ-loop
 line-at-requires c κs = omega arith
 
--- src/lib.rt:99:20
 sub-part : tie.Need-sub-part Inv-loop μ-loop
 sub-part c = omega arith
 
--- src/lib.rt:99:20
 part-part-start : tie.Need-part-part-start Inv-loop μ-loop
 part-part-start c = search needs
 
--- src/lib.rt:99:20
 part-part-end : tie.Need-part-part-end Inv-loop μ-loop
 part-part-end c = search needs
 
--- src/lib.rt:100:13
 store-line-requires : tie.Need-store-line-requires Inv-loop μ-loop
 store-line-requires c κs = c .before .before .before .before .loop .inv .1
 
--- src/lib.rt:102:13
 same-length : tie.Need-same-length Inv-loop μ-loop
 same-length c =
     let c3 = c .before .before .before in
@@ -55,7 +44,6 @@ same-length c =
     let c13 = c8 .before .before .before .before .before in
     c3 .store-line .kept .0 ∙ c8 .loop .inv .1 ∙ sym (c13 .pre)
 
--- src/lib.rt:102:13
 returns : tie.Need-returns Inv-loop μ-loop
 returns c =
     let c3 = c .before .before .before in
@@ -70,11 +58,9 @@ returns c =
     (stored .result .end) (stored .ensures .1 .1) (c .if1 .taken)
     ∙ c8 .loop .inv .2
 
--- src/lib.rt:95:5
 loop-less : tie.Need-loop-less Inv-loop μ-loop
 loop-less c = omega arith
 
--- src/lib.rt:95:5
 loop-again : tie.Need-loop-again Inv-loop μ-loop
 loop-again c =
     let c3 = c .before .before .before in
@@ -92,11 +78,9 @@ loop-again c =
           ∙ c8 .loop .inv .2,
     )
 
--- src/lib.rt:87:1
 same-length-2 : tie.Need-same-length-2 Inv-loop μ-loop
 same-length-2 c = c .before .loop .inv .1 ∙ sym (c .before .before .before .before .before .before .pre)
 
--- src/lib.rt:87:1
 returns-2 : tie.Need-returns-2 Inv-loop μ-loop
 returns-2 c =
     let c1 = c .before in

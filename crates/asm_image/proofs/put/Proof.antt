@@ -5,30 +5,22 @@ use Rattle.asm_image.proofs.Laws.{put-none, put-one, put-two}
 use borrow.Author.Needs.{needs}
 use Rattle.asm_image.proofs.put.Statement.{statement}
 use Rattle.asm_image.proofs.put.Tie as tie
-use Rattle.asm_image.proofs.put.Reads as reads
-use Rattle.asm_image.proofs.put.Lts as lts
 
--- src/lib.rt:26:9
 returns : tie.Need-returns
 returns c = put-none (c .before .args .memory .now) (c .before .args .p) (c .before .args .size) (c .before .args .n) (c .if1 .taken)
 
--- src/lib.rt:29:17
 cast-memory : tie.Need-cast-memory
 cast-memory c = search needs
 
--- src/lib.rt:29:5
 slice-write-memory : tie.Need-slice-write-memory
 slice-write-memory c = let h = c .before .pre .1 (c .if1 .left) in omega (arith, h, c .before .pre .0, c .if1 .left)
 
--- src/lib.rt:31:25
 cast-memory-2 : tie.Need-cast-memory-2
 cast-memory-2 c = search needs
 
--- src/lib.rt:31:16
 add-memory : tie.Need-add-memory
 add-memory c = search needs
 
--- src/lib.rt:31:9
 slice-write-memory-2 : tie.Need-slice-write-memory-2
 slice-write-memory-2 c =
     let c1 = c .before in
@@ -37,22 +29,18 @@ slice-write-memory-2 c =
     let h = c2 .pre .1 (c1 .if1 .left) in
     let l = length-set (a .memory .now) (a .p) (a .n % 256) in omega (arith, h, l, c2 .pre .0, c1 .if1 .left, c .if2 .taken)
 
--- src/lib.rt:21:1
 same-length : tie.Need-same-length
 same-length c = search needs
 
--- src/lib.rt:21:1
 returns-2 : tie.Need-returns-2
 returns-2 c =
     let c1 = c .before in
     let c2 = c1 .before in
     put-two (c2 .args .memory .now) (c2 .args .p) (c2 .args .size) (c2 .args .n) (c1 .if1 .left) (c .if2 .taken)
 
--- src/lib.rt:21:1
 same-length-2 : tie.Need-same-length-2
 same-length-2 c = search needs
 
--- src/lib.rt:21:1
 returns-3 : tie.Need-returns-3
 returns-3 c =
     let c1 = c .before in

@@ -2,30 +2,19 @@ use Rattle.asm_image.proofs.Laws.{used-room, store-number, store-unknow
 use borrow.Author.Needs.{needs}
 use Rattle.asm_image.proofs.store.Statement.{statement}
 use Rattle.asm_image.proofs.store.Tie as tie
-use Rattle.asm_image.proofs.store.Reads as reads
-use Rattle.asm_image.proofs.store.Lts as lts
-use Rattle.asm_image.proofs.put.Reads as put-reads
-use Rattle.asm_write.proofs.layout_of.Reads as layout-of-reads
-use Rattle.asm_write.proofs.size.Reads as size-reads
-use Rattle.asm_write.proofs.used.Reads as used-reads
 
--- src/lib.rt:40:32
 layout-of-requires : tie.Need-layout-of-requires
 layout-of-requires c κs = search needs
 
--- src/lib.rt:40:9
 size-requires : tie.Need-size-requires
 size-requires c κs = search needs
 
--- src/lib.rt:41:11
 used-requires : tie.Need-used-requires
 used-requires c κs = search needs
 
--- src/lib.rt:42:21
 enum-known-n : tie.Need-enum-known-n
 enum-known-n c = search needs
 
--- src/lib.rt:42:27
 put-requires : tie.Need-put-requires
 put-requires c κs =
     let c2 = c .before .before in
@@ -44,11 +33,9 @@ enum-told c = search needs
 enum-told-2 : tie.Need-enum-told-2
 enum-told-2 c = search needs
 
--- src/lib.rt:36:1
 same-length : tie.Need-same-length
 same-length c = search needs
 
--- src/lib.rt:36:1
 returns : tie.Need-returns
 returns c =
     let c2 = c .before .before in
@@ -62,7 +49,6 @@ returns c =
     (c8 .size .ensures) (c7 .used .ensures) (a .memory .now) (c2 .put .last .0) (c5 .n .given .0 .0) (c5 .n .given .1)
     (c2 .put .ensures)
 
--- src/lib.rt:36:1
 returns-2 : tie.Need-returns-2
 returns-2 c =
     let c2 = c .before .before in
@@ -73,7 +59,6 @@ returns-2 c =
     store-unknown (a .p) (a .x) (c4 .layout-of .result) (c3 .size .result) (c2 .used .result) (c4 .layout-of .ensures)
     (c3 .size .ensures) (c2 .used .ensures) (a .memory .now) (c .enum-told .given .1)
 
--- src/lib.rt:36:1
 returns-3 : tie.Need-returns-3
 returns-3 c =
     let c2 = c .before .before in

@@ -6,28 +6,16 @@ use mathlib.Core.Path.{_≡_, refl, sym, ap, _∙_}
 use borrow.Author.Needs.{needs}
 use Rattle.asm_image.proofs.store_line.Statement.{statement}
 use Rattle.asm_image.proofs.store_line.Tie as tie
-use Rattle.asm_image.proofs.store_line.Reads as reads
-use Rattle.asm_image.proofs.store_line.Lts as lts
-use Rattle.asm_image.proofs.store.Reads as store-reads
-use Rattle.asm_line.proofs.read_line.Reads as read-line-reads
-use Rattle.asm_sweeps.proofs.is_stop.Reads as is-stop-reads
-use Rattle.asm_sweeps.proofs.place_after.Reads as place-after-reads
-use Rattle.asm_write.proofs.after.Reads as after-reads
-use Rattle.asm_write.proofs.layout_of.Reads as layout-of-reads
 
--- src/lib.rt:67:9
 read-line-requires : tie.Need-read-line-requires
 read-line-requires c κs = search needs
 
--- src/lib.rt:71:9
 enum-known-r : tie.Need-enum-known-r
 enum-known-r c = search needs
 
--- src/lib.rt:74:9
 enum-told : tie.Need-enum-told
 enum-told c = search needs
 
--- src/lib.rt:74:9
 returns : tie.Need-returns
 returns c =
     let c2 = c .before .before in
@@ -43,31 +31,24 @@ returns c =
       ),
     )
 
--- src/lib.rt:79:5
 store-requires : tie.Need-store-requires
 store-requires c κs = search needs
 
--- src/lib.rt:80:9
 layout-of-requires : tie.Need-layout-of-requires
 layout-of-requires c κs = search needs
 
--- src/lib.rt:81:9
 is-stop-requires : tie.Need-is-stop-requires
 is-stop-requires c κs = search needs
 
--- src/lib.rt:82:44
 after-requires : tie.Need-after-requires
 after-requires c κs = search needs
 
--- src/lib.rt:82:9
 place-after-requires : tie.Need-place-after-requires
 place-after-requires c κs = search needs
 
--- src/lib.rt:49:1
 same-length : tie.Need-same-length
 same-length c = search needs
 
--- src/lib.rt:49:1
 returns-2 : tie.Need-returns-2
 returns-2 c =
     let c1 = c .before in

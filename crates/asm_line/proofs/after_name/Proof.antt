@@ -8,13 +8,6 @@ use Rattle.asm_line.proofs.Laws.{statement-there, name-alone, name-stat
 use borrow.Author.Needs.{needs}
 use Rattle.asm_line.proofs.after_name.Statement.{statement}
 use Rattle.asm_line.proofs.after_name.Tie as tie
-use Rattle.asm_line.proofs.after_name.Reads as reads
-use Rattle.asm_line.proofs.after_name.Lts as lts
-use Rattle.asm_line.proofs.end_line.Reads as end-line-reads
-use Rattle.asm_line.proofs.read_statement.Reads as read-statement-reads
-use Rattle.asm_operands.proofs.is_over.Reads as is-over-reads
-use Rattle.asm_text.proofs.read_word.Reads as read-word-reads
-use Rattle.asm_words.proofs.word_number.Reads as word-number-reads
 
 is-over-requires : tie.Need-is-over-requires
 is-over-requires c κs = search needs

@@ -4,11 +4,6 @@ use Rattle.asm_line.specs.Statement.{arithmeticFrom}
 use borrow.Author.Needs.{needs}
 use Rattle.asm_line.proofs.arithmetic_from.Statement.{statement}
 use Rattle.asm_line.proofs.arithmetic_from.Tie as tie
-use Rattle.asm_line.proofs.arithmetic_from.Reads as reads
-use Rattle.asm_line.proofs.arithmetic_from.Lts as lts
-use Rattle.asm_line.proofs.constant.Reads as constant-reads
-use Rattle.asm_operands.proofs.comma_register.Reads as comma-register-reads
-use Rattle.asm_operands.proofs.read_register.Reads as read-register-reads
 
 read-register-requires : tie.Need-read-register-requires
 read-register-requires c κs = search needs

@@ -5,10 +5,6 @@ use Rattle.asm_operands.specs.Operands.{valueAt}
 use borrow.Author.Needs.{needs}
 use Rattle.asm_line.proofs.constant.Statement.{statement}
 use Rattle.asm_line.proofs.constant.Tie as tie
-use Rattle.asm_line.proofs.constant.Reads as reads
-use Rattle.asm_line.proofs.constant.Lts as lts
-use Rattle.asm_expr.proofs.factor.Reads as factor-reads
-use Rattle.asm_operands.proofs.comma_register.Reads as comma-register-reads
 
 factor-requires : tie.Need-factor-requires
 factor-requires c κs = search needs

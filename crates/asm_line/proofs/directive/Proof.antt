@@ -3,9 +3,6 @@ use Rattle.asm_line.specs.Statement.{directiveOf}
 use borrow.Author.Needs.{needs}
 use Rattle.asm_line.proofs.directive.Statement.{statement}
 use Rattle.asm_line.proofs.directive.Tie as tie
-use Rattle.asm_line.proofs.directive.Reads as reads
-use Rattle.asm_line.proofs.directive.Lts as lts
-use Rattle.asm_line.proofs.one_value.Reads as one-value-reads
 
 returns : tie.Need-returns
 unfolding directiveOf

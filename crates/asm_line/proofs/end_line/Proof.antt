@@ -5,10 +5,6 @@ use Rattle.asm_line.proofs.Laws.{end-yes, end-no}
 use borrow.Author.Needs.{needs}
 use Rattle.asm_line.proofs.end_line.Statement.{statement}
 use Rattle.asm_line.proofs.end_line.Tie as tie
-use Rattle.asm_line.proofs.end_line.Reads as reads
-use Rattle.asm_line.proofs.end_line.Lts as lts
-use Rattle.asm_operands.proofs.is_over.Reads as is-over-reads
-use Rattle.asm_text.proofs.skip_blanks.Reads as skip-blanks-reads
 
 enum-known-x : tie.Need-enum-known-x
 enum-known-x c = search needs

@@ -7,11 +7,6 @@ use Rattle.asm_line.specs.declared.Statement.the-variants.{MovImm}
 use borrow.Author.Needs.{needs}
 use Rattle.asm_line.proofs.move_byte.Statement.{statement}
 use Rattle.asm_line.proofs.move_byte.Tie as tie
-use Rattle.asm_line.proofs.move_byte.Reads as reads
-use Rattle.asm_line.proofs.move_byte.Lts as lts
-use Rattle.asm_expr.proofs.factor.Reads as factor-reads
-use Rattle.asm_operands.proofs.comma_register.Reads as comma-register-reads
-use Rattle.asm_operands.proofs.is_number.Reads as is-number-reads
 
 factor-requires : tie.Need-factor-requires
 factor-requires c κs = search needs

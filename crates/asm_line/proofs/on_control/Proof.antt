@@ -3,11 +3,6 @@ use Rattle.asm_line.specs.Statement.{onControl}
 use borrow.Author.Needs.{needs}
 use Rattle.asm_line.proofs.on_control.Statement.{statement}
 use Rattle.asm_line.proofs.on_control.Tie as tie
-use Rattle.asm_line.proofs.on_control.Reads as reads
-use Rattle.asm_line.proofs.on_control.Lts as lts
-use Rattle.asm_line.proofs.on_flags.Reads as on-flags-reads
-use Rattle.asm_line.proofs.one_value.Reads as one-value-reads
-use Rattle.asm_line.proofs.read_conditional.Reads as read-conditional-reads
 
 one-value-requires : tie.Need-one-value-requires
 one-value-requires c κs = search needs

@@ -4,9 +4,6 @@ use Rattle.asm_line.specs.Statement.{onFlags}
 use borrow.Author.Needs.{needs}
 use Rattle.asm_line.proofs.on_flags.Statement.{statement}
 use Rattle.asm_line.proofs.on_flags.Tie as tie
-use Rattle.asm_line.proofs.on_flags.Reads as reads
-use Rattle.asm_line.proofs.on_flags.Lts as lts
-use Rattle.asm_operands.proofs.read_flags.Reads as read-flags-reads
 
 read-flags-requires : tie.Need-read-flags-requires
 read-flags-requires c κs = search needs

@@ -3,13 +3,6 @@ use Rattle.asm_line.specs.Statement.{onMemory}
 use borrow.Author.Needs.{needs}
 use Rattle.asm_line.proofs.on_memory.Statement.{statement}
 use Rattle.asm_line.proofs.on_memory.Tie as tie
-use Rattle.asm_line.proofs.on_memory.Reads as reads
-use Rattle.asm_line.proofs.on_memory.Lts as lts
-use Rattle.asm_line.proofs.load_relative.Reads as load-relative-reads
-use Rattle.asm_line.proofs.move_byte.Reads as move-byte-reads
-use Rattle.asm_line.proofs.read_load.Reads as read-load-reads
-use Rattle.asm_line.proofs.read_store.Reads as read-store-reads
-use Rattle.asm_line.proofs.store_relative.Reads as store-relative-reads
 
 read-load-requires : tie.Need-read-load-requires
 read-load-requires c κs = search needs

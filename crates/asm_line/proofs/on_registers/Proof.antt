@@ -3,13 +3,6 @@ use Rattle.asm_line.specs.Statement.{onRegisters}
 use borrow.Author.Needs.{needs}
 use Rattle.asm_line.proofs.on_registers.Statement.{statement}
 use Rattle.asm_line.proofs.on_registers.Tie as tie
-use Rattle.asm_line.proofs.on_registers.Reads as reads
-use Rattle.asm_line.proofs.on_registers.Lts as lts
-use Rattle.asm_line.proofs.one_register.Reads as one-register-reads
-use Rattle.asm_line.proofs.read_arithmetic.Reads as read-arithmetic-reads
-use Rattle.asm_line.proofs.read_exchange.Reads as read-exchange-reads
-use Rattle.asm_line.proofs.read_move.Reads as read-move-reads
-use Rattle.asm_line.proofs.read_unary.Reads as read-unary-reads
 
 sub-read-arithmetic : tie.Need-sub-read-arithmetic
 sub-read-arithmetic c = search needs

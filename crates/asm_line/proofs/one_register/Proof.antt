@@ -4,9 +4,6 @@ use Rattle.asm_line.specs.Statement.{oneRegister}
 use borrow.Author.Needs.{needs}
 use Rattle.asm_line.proofs.one_register.Statement.{statement}
 use Rattle.asm_line.proofs.one_register.Tie as tie
-use Rattle.asm_line.proofs.one_register.Reads as reads
-use Rattle.asm_line.proofs.one_register.Lts as lts
-use Rattle.asm_operands.proofs.read_register.Reads as read-register-reads
 
 read-register-requires : tie.Need-read-register-requires
 read-register-requires c κs = search needs

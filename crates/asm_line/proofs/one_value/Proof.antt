@@ -6,10 +6,6 @@ use Rattle.asm_line.specs.declared.Stated.the-variants.{Fits}
 use borrow.Author.Needs.{needs}
 use Rattle.asm_line.proofs.one_value.Statement.{statement}
 use Rattle.asm_line.proofs.one_value.Tie as tie
-use Rattle.asm_line.proofs.one_value.Reads as reads
-use Rattle.asm_line.proofs.one_value.Lts as lts
-use Rattle.asm_expr.proofs.factor.Reads as factor-reads
-use Rattle.asm_line.proofs.with_value.Reads as with-value-reads
 
 factor-requires : tie.Need-factor-requires
 factor-requires c κs = search needs

@@ -4,10 +4,6 @@ use Rattle.asm_line.specs.Statement.{arithmetic}
 use borrow.Author.Needs.{needs}
 use Rattle.asm_line.proofs.read_arithmetic.Statement.{statement}
 use Rattle.asm_line.proofs.read_arithmetic.Tie as tie
-use Rattle.asm_line.proofs.read_arithmetic.Reads as reads
-use Rattle.asm_line.proofs.read_arithmetic.Lts as lts
-use Rattle.asm_line.proofs.arithmetic_from.Reads as arithmetic-from-reads
-use Rattle.asm_operands.proofs.read_width.Reads as read-width-reads
 
 read-width-requires : tie.Need-read-width-requires
 read-width-requires c κs = search needs

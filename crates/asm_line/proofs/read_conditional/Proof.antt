@@ -4,10 +4,6 @@ use Rattle.asm_line.specs.Statement.{conditional}
 use borrow.Author.Needs.{needs}
 use Rattle.asm_line.proofs.read_conditional.Statement.{statement}
 use Rattle.asm_line.proofs.read_conditional.Tie as tie
-use Rattle.asm_line.proofs.read_conditional.Reads as reads
-use Rattle.asm_line.proofs.read_conditional.Lts as lts
-use Rattle.asm_operands.proofs.comma_value.Reads as comma-value-reads
-use Rattle.asm_operands.proofs.read_condition.Reads as read-condition-reads
 
 read-condition-requires : tie.Need-read-condition-requires
 read-condition-requires c κs = search needs

@@ -4,10 +4,6 @@ use Rattle.asm_line.specs.Statement.{exchange}
 use borrow.Author.Needs.{needs}
 use Rattle.asm_line.proofs.read_exchange.Statement.{statement}
 use Rattle.asm_line.proofs.read_exchange.Tie as tie
-use Rattle.asm_line.proofs.read_exchange.Reads as reads
-use Rattle.asm_line.proofs.read_exchange.Lts as lts
-use Rattle.asm_operands.proofs.comma_register.Reads as comma-register-reads
-use Rattle.asm_operands.proofs.read_register.Reads as read-register-reads
 
 read-register-requires : tie.Need-read-register-requires
 read-register-requires c κs = search needs

@@ -9,17 +9,6 @@ use Rattle.asm_line.proofs.Laws.{statement-there, line-empty, line-word
 use borrow.Author.Needs.{needs}
 use Rattle.asm_line.proofs.read_line.Statement.{statement}
 use Rattle.asm_line.proofs.read_line.Tie as tie
-use Rattle.asm_line.proofs.read_line.Reads as reads
-use Rattle.asm_line.proofs.read_line.Lts as lts
-use Rattle.asm_line.proofs.after_name.Reads as after-name-reads
-use Rattle.asm_line.proofs.end_line.Reads as end-line-reads
-use Rattle.asm_line.proofs.read_statement.Reads as read-statement-reads
-use Rattle.asm_operands.proofs.is_over.Reads as is-over-reads
-use Rattle.asm_text.proofs.byte_at.Reads as byte-at-reads
-use Rattle.asm_text.proofs.is_letter.Reads as is-letter-reads
-use Rattle.asm_text.proofs.read_word.Reads as read-word-reads
-use Rattle.asm_text.proofs.skip_blanks.Reads as skip-blanks-reads
-use Rattle.asm_words.proofs.word_number.Reads as word-number-reads
 
 skip-blanks-requires : tie.Need-skip-blanks-requires
 skip-blanks-requires c κs = search needs

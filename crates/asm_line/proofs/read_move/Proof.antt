@@ -4,11 +4,6 @@ use Rattle.asm_line.specs.Statement.{move}
 use borrow.Author.Needs.{needs}
 use Rattle.asm_line.proofs.read_move.Statement.{statement}
 use Rattle.asm_line.proofs.read_move.Tie as tie
-use Rattle.asm_line.proofs.read_move.Reads as reads
-use Rattle.asm_line.proofs.read_move.Lts as lts
-use Rattle.asm_operands.proofs.comma_register.Reads as comma-register-reads
-use Rattle.asm_operands.proofs.read_register.Reads as read-register-reads
-use Rattle.asm_operands.proofs.read_width.Reads as read-width-reads
 
 read-width-requires : tie.Need-read-width-requires
 read-width-requires c κs = search needs

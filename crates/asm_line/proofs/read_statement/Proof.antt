@@ -4,13 +4,6 @@ use Rattle.asm_line.specs.Statement.{statementOf}
 use borrow.Author.Needs.{needs}
 use Rattle.asm_line.proofs.read_statement.Statement.{statement}
 use Rattle.asm_line.proofs.read_statement.Tie as tie
-use Rattle.asm_line.proofs.read_statement.Reads as reads
-use Rattle.asm_line.proofs.read_statement.Lts as lts
-use Rattle.asm_line.proofs.directive.Reads as directive-reads
-use Rattle.asm_line.proofs.on_control.Reads as on-control-reads
-use Rattle.asm_line.proofs.on_memory.Reads as on-memory-reads
-use Rattle.asm_line.proofs.on_registers.Reads as on-registers-reads
-use Rattle.asm_line.proofs.one_value.Reads as one-value-reads
 
 returns : tie.Need-returns
 unfolding statementOf

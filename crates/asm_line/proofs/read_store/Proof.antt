@@ -4,11 +4,6 @@ use Rattle.asm_line.specs.Statement.{store}
 use borrow.Author.Needs.{needs}
 use Rattle.asm_line.proofs.read_store.Statement.{statement}
 use Rattle.asm_line.proofs.read_store.Tie as tie
-use Rattle.asm_line.proofs.read_store.Reads as reads
-use Rattle.asm_line.proofs.read_store.Lts as lts
-use Rattle.asm_operands.proofs.comma_address.Reads as comma-address-reads
-use Rattle.asm_operands.proofs.read_register.Reads as read-register-reads
-use Rattle.asm_operands.proofs.read_width.Reads as read-width-reads
 
 read-width-requires : tie.Need-read-width-requires
 read-width-requires c κs = search needs

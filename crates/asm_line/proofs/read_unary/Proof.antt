@@ -4,10 +4,6 @@ use Rattle.asm_line.specs.Statement.{unary}
 use borrow.Author.Needs.{needs}
 use Rattle.asm_line.proofs.read_unary.Statement.{statement}
 use Rattle.asm_line.proofs.read_unary.Tie as tie
-use Rattle.asm_line.proofs.read_unary.Reads as reads
-use Rattle.asm_line.proofs.read_unary.Lts as lts
-use Rattle.asm_operands.proofs.read_register.Reads as read-register-reads
-use Rattle.asm_operands.proofs.read_width.Reads as read-width-reads
 
 read-width-requires : tie.Need-read-width-requires
 read-width-requires c κs = search needs

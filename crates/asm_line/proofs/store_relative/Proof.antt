@@ -4,12 +4,6 @@ use Rattle.asm_line.specs.Statement.{storeRelative}
 use borrow.Author.Needs.{needs}
 use Rattle.asm_line.proofs.store_relative.Statement.{statement}
 use Rattle.asm_line.proofs.store_relative.Tie as tie
-use Rattle.asm_line.proofs.store_relative.Reads as reads
-use Rattle.asm_line.proofs.store_relative.Lts as lts
-use Rattle.asm_operands.proofs.comma_register.Reads as comma-register-reads
-use Rattle.asm_operands.proofs.comma_value.Reads as comma-value-reads
-use Rattle.asm_operands.proofs.read_register.Reads as read-register-reads
-use Rattle.asm_operands.proofs.read_width.Reads as read-width-reads
 
 read-width-requires : tie.Need-read-width-requires
 read-width-requires c κs = search needs

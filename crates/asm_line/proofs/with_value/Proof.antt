@@ -3,8 +3,6 @@ use borrow.Author.Tests.{lt-ltb, le-ltb}
 use Rattle.asm_line.specs.Statement.{withValue}
 use Rattle.asm_line.proofs.with_value.Statement.{statement}
 use Rattle.asm_line.proofs.with_value.Tie as tie
-use Rattle.asm_line.proofs.with_value.Reads as reads
-use Rattle.asm_line.proofs.with_value.Lts as lts
 
 returns : tie.Need-returns
 unfolding withValue

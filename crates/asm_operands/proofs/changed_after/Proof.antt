@@ -6,10 +6,6 @@ use Rattle.asm_operands.proofs.Laws.{changed-plus, changed-minus, uncha
 use borrow.Author.Needs.{needs}
 use Rattle.asm_operands.proofs.changed_after.Statement.{statement}
 use Rattle.asm_operands.proofs.changed_after.Tie as tie
-use Rattle.asm_operands.proofs.changed_after.Reads as reads
-use Rattle.asm_operands.proofs.changed_after.Lts as lts
-use Rattle.asm_text.proofs.byte_at.Reads as byte-at-reads
-use Rattle.asm_text.proofs.skip_blanks.Reads as skip-blanks-reads
 
 enum-known-found : tie.Need-enum-known-found
 enum-known-found c = search needs

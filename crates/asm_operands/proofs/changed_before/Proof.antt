@@ -3,8 +3,6 @@ use Rattle.asm_operands.specs.Operands.{changedBefore}
 use borrow.Author.Needs.{needs}
 use Rattle.asm_operands.proofs.changed_before.Statement.{statement}
 use Rattle.asm_operands.proofs.changed_before.Tie as tie
-use Rattle.asm_operands.proofs.changed_before.Reads as reads
-use Rattle.asm_operands.proofs.changed_before.Lts as lts
 
 enum-told : tie.Need-enum-told
 enum-told c = search needs

@@ -7,11 +7,6 @@ use Rattle.asm_operands.proofs.Laws.{is-comma, no-comma}
 use borrow.Author.Needs.{needs}
 use Rattle.asm_operands.proofs.comma_register.Statement.{statement}
 use Rattle.asm_operands.proofs.comma_register.Tie as tie
-use Rattle.asm_operands.proofs.comma_register.Reads as reads
-use Rattle.asm_operands.proofs.comma_register.Lts as lts
-use Rattle.asm_operands.proofs.read_register.Reads as read-register-reads
-use Rattle.asm_text.proofs.byte_at.Reads as byte-at-reads
-use Rattle.asm_text.proofs.skip_blanks.Reads as skip-blanks-reads
 
 skip-blanks-requires : tie.Need-skip-blanks-requires
 skip-blanks-requires c κs = search needs

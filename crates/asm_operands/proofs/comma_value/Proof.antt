@@ -8,11 +8,6 @@ use Rattle.asm_operands.proofs.Laws.{is-comma, no-comma}
 use borrow.Author.Needs.{needs}
 use Rattle.asm_operands.proofs.comma_value.Statement.{statement}
 use Rattle.asm_operands.proofs.comma_value.Tie as tie
-use Rattle.asm_operands.proofs.comma_value.Reads as reads
-use Rattle.asm_operands.proofs.comma_value.Lts as lts
-use Rattle.asm_expr.proofs.factor.Reads as factor-reads
-use Rattle.asm_text.proofs.byte_at.Reads as byte-at-reads
-use Rattle.asm_text.proofs.skip_blanks.Reads as skip-blanks-reads
 
 skip-blanks-requires : tie.Need-skip-blanks-requires
 skip-blanks-requires c κs = search needs

@@ -2,10 +2,6 @@ use Rattle.asm_operands.proofs.Laws.{number-test}
 use borrow.Author.Needs.{needs}
 use Rattle.asm_operands.proofs.is_number.Statement.{statement}
 use Rattle.asm_operands.proofs.is_number.Tie as tie
-use Rattle.asm_operands.proofs.is_number.Reads as reads
-use Rattle.asm_operands.proofs.is_number.Lts as lts
-use Rattle.asm_text.proofs.byte_at.Reads as byte-at-reads
-use Rattle.asm_text.proofs.skip_blanks.Reads as skip-blanks-reads
 
 skip-blanks-requires : tie.Need-skip-blanks-requires
 skip-blanks-requires c κs = search needs

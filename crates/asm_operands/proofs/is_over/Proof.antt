@@ -3,8 +3,6 @@ use Rattle.asm_operands.specs.Operands.{over?}
 use borrow.Author.Needs.{needs}
 use Rattle.asm_operands.proofs.is_over.Statement.{statement}
 use Rattle.asm_operands.proofs.is_over.Tie as tie
-use Rattle.asm_operands.proofs.is_over.Reads as reads
-use Rattle.asm_operands.proofs.is_over.Lts as lts
 
 returns : tie.Need-returns
 unfolding over?

@@ -7,13 +7,6 @@ use Rattle.asm_operands.proofs.Laws.{is-byte, no-byte}
 use borrow.Author.Needs.{needs}
 use Rattle.asm_operands.proofs.read_address.Statement.{statement}
 use Rattle.asm_operands.proofs.read_address.Tie as tie
-use Rattle.asm_operands.proofs.read_address.Reads as reads
-use Rattle.asm_operands.proofs.read_address.Lts as lts
-use Rattle.asm_operands.proofs.changed_after.Reads as changed-after-reads
-use Rattle.asm_operands.proofs.changed_before.Reads as changed-before-reads
-use Rattle.asm_operands.proofs.read_register.Reads as read-register-reads
-use Rattle.asm_text.proofs.byte_at.Reads as byte-at-reads
-use Rattle.asm_text.proofs.skip_blanks.Reads as skip-blanks-reads
 
 skip-blanks-requires : tie.Need-skip-blanks-requires
 skip-blanks-requires c κs = search needs

@@ -7,11 +7,6 @@ use Rattle.asm_operands.proofs.Laws.{below-yes, below-no}
 use borrow.Author.Needs.{needs}
 use Rattle.asm_operands.proofs.read_condition.Statement.{statement}
 use Rattle.asm_operands.proofs.read_condition.Tie as tie
-use Rattle.asm_operands.proofs.read_condition.Reads as reads
-use Rattle.asm_operands.proofs.read_condition.Lts as lts
-use Rattle.asm_text.proofs.read_word.Reads as read-word-reads
-use Rattle.asm_text.proofs.skip_blanks.Reads as skip-blanks-reads
-use Rattle.asm_words.proofs.condition_number.Reads as condition-number-reads
 
 skip-blanks-requires : tie.Need-skip-blanks-requires
 skip-blanks-requires c κs = search needs

@@ -4,11 +4,6 @@ use Rattle.asm_operands.proofs.Laws.{below-yes, below-no}
 use borrow.Author.Needs.{needs}
 use Rattle.asm_operands.proofs.read_flags.Statement.{statement}
 use Rattle.asm_operands.proofs.read_flags.Tie as tie
-use Rattle.asm_operands.proofs.read_flags.Reads as reads
-use Rattle.asm_operands.proofs.read_flags.Lts as lts
-use Rattle.asm_text.proofs.name_end.Reads as name-end-reads
-use Rattle.asm_text.proofs.skip_blanks.Reads as skip-blanks-reads
-use Rattle.asm_words.proofs.flags_number.Reads as flags-number-reads
 
 skip-blanks-requires : tie.Need-skip-blanks-requires
 skip-blanks-requires c κs = search needs

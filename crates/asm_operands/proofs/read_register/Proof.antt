@@ -7,11 +7,6 @@ use Rattle.asm_operands.proofs.Laws.{below-yes, below-no}
 use borrow.Author.Needs.{needs}
 use Rattle.asm_operands.proofs.read_register.Statement.{statement}
 use Rattle.asm_operands.proofs.read_register.Tie as tie
-use Rattle.asm_operands.proofs.read_register.Reads as reads
-use Rattle.asm_operands.proofs.read_register.Lts as lts
-use Rattle.asm_text.proofs.read_word.Reads as read-word-reads
-use Rattle.asm_text.proofs.skip_blanks.Reads as skip-blanks-reads
-use Rattle.asm_words.proofs.register_number.Reads as register-number-reads
 
 skip-blanks-requires : tie.Need-skip-blanks-requires
 skip-blanks-requires c κs = search needs

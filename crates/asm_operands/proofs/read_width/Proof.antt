@@ -5,10 +5,6 @@ use Rattle.asm_operands.proofs.Laws.{no-width, width-glued, width-byte,
 use borrow.Author.Needs.{needs}
 use Rattle.asm_operands.proofs.read_width.Statement.{statement}
 use Rattle.asm_operands.proofs.read_width.Tie as tie
-use Rattle.asm_operands.proofs.read_width.Reads as reads
-use Rattle.asm_operands.proofs.read_width.Lts as lts
-use Rattle.asm_text.proofs.byte_at.Reads as byte-at-reads
-use Rattle.asm_text.proofs.is_name_byte.Reads as is-name-byte-reads
 
 byte-at-requires : tie.Need-byte-at-requires
 byte-at-requires c κs = search needs

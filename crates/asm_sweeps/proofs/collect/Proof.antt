@@ -11,11 +11,6 @@ use Prim.Native.Nat.{ℕ, _+_, _-_, _≤_, _<_}
 use mathlib.Core.Path.{_≡_, refl, sym, ap, _∙_}
 use Rattle.asm_sweeps.proofs.collect.Statement.{statement}
 use Rattle.asm_sweeps.proofs.collect.Tie as tie
-use Rattle.asm_sweeps.proofs.collect.Reads as reads
-use Rattle.asm_sweeps.proofs.collect.Lts as lts
-use Rattle.asm_sweeps.proofs.name_line.Reads as name-line-reads
-use Rattle.asm_sweeps.proofs.next_line.Reads as next-line-reads
-use Rattle.lines.proofs.line_at.Reads as line-at-reads
 
 abbrev Inv-loop : tie.InvT-loop
 Inv-loop source places₀ keys₀ values₀ at₀ t₀ places keys values at t =
@@ -26,7 +21,6 @@ Inv-loop source places₀ keys₀ values₀ at₀ t₀ places keys values at t =
 abbrev μ-loop : tie.MeasureT-loop
 μ-loop source places₀ keys₀ values₀ at₀ t₀ places keys values at t = length source - at
 
--- src/lib.rt:333:5
 loop-holds : tie.Need-loop-holds Inv-loop μ-loop
 loop-holds c =
     let c3 = c .before .before .before in
@@ -37,11 +31,9 @@ loop-holds c =
       holds-start (a .source .now) (a .places .now) (a .keys .now) (a .values .now) (c3 .pre .0) (c3 .pre .1) (c3 .pre .2),
     )
 
--- src/lib.rt:334:13
 line-at-requires : tie.Need-line-at-requires Inv-loop μ-loop
 line-at-requires c κs = omega arith
 
--- src/lib.rt:337:13
 name-line-requires : tie.Need-name-line-requires Inv-loop μ-loop
 name-line-requires c κs =
     let c3 = c .before .before .before in
@@ -51,28 +43,24 @@ name-line-requires c κs =
       apart-of (c9 .args .source .now) (c5 .loop .at) (c3 .line-at .result .stop) (c3 .line-at .result .next) (c3 .line-at .ensures),
     )
 
--- src/lib.rt:339:13
 same-length : tie.Need-same-length Inv-loop μ-loop
 same-length c =
     let c7 = c .before .before .before .before .before .before .before in
     let c17 = c7 .before .before .before .before .before .before .before .before .before .before in
     c7 .name-line .ensures .1 .1 .0 .places ∙ sym (c17 .pre .0)
 
--- src/lib.rt:339:13
 same-length-2 : tie.Need-same-length-2 Inv-loop μ-loop
 same-length-2 c =
     let c7 = c .before .before .before .before .before .before .before in
     let c17 = c7 .before .before .before .before .before .before .before .before .before .before in
     c7 .name-line .ensures .1 .1 .0 .keys ∙ sym (c17 .pre .1)
 
--- src/lib.rt:339:13
 same-length-3 : tie.Need-same-length-3 Inv-loop μ-loop
 same-length-3 c =
     let c7 = c .before .before .before .before .before .before .before in
     let c17 = c7 .before .before .before .before .before .before .before .before .before .before in
     c7 .name-line .ensures .1 .1 .0 .values ∙ sym (c17 .pre .2)
 
--- src/lib.rt:339:13
 returns : tie.Need-returns Inv-loop μ-loop
 returns c =
     let c1 = c .before in
@@ -89,7 +77,6 @@ returns c =
       named .ensures .1 .1 .0,
     )
 
--- src/lib.rt:341:9
 next-line-requires : tie.Need-next-line-requires Inv-loop μ-loop
 next-line-requires c κs =
     let c6 = c .before .before .before .before .before .before in
@@ -97,11 +84,9 @@ next-line-requires c κs =
     let c16 = c12 .before .before .before .before in
     omega (arith, c6 .name-line .ensures .1 .1 .1, c12 .loop .inv .1, c16 .good .0 .1)
 
--- src/lib.rt:333:5
 loop-less : tie.Need-loop-less Inv-loop μ-loop
 loop-less c = omega arith
 
--- src/lib.rt:333:5
 loop-again : tie.Need-loop-again Inv-loop μ-loop
 loop-again c =
     let c1 = c .before in
@@ -122,19 +107,15 @@ loop-again c =
           (next-line .result) (ap (λ (x : Tally). x .count) (next-line .ensures)) (named .ensures .1 .1 .0),
     )
 
--- src/lib.rt:317:1
 same-length-4 : tie.Need-same-length-4 Inv-loop μ-loop
 same-length-4 c = c .before .loop .inv .3 .places ∙ sym (c .before .before .before .before .before .pre .0)
 
--- src/lib.rt:317:1
 same-length-5 : tie.Need-same-length-5 Inv-loop μ-loop
 same-length-5 c = c .before .loop .inv .3 .keys ∙ sym (c .before .before .before .before .before .pre .1)
 
--- src/lib.rt:317:1
 same-length-6 : tie.Need-same-length-6 Inv-loop μ-loop
 same-length-6 c = c .before .loop .inv .3 .values ∙ sym (c .before .before .before .before .before .pre .2)
 
--- src/lib.rt:317:1
 returns-2 : tie.Need-returns-2 Inv-loop μ-loop
 returns-2 c =
     let c1 = c .before in

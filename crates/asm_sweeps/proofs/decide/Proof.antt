@@ -2,19 +2,13 @@ use Rattle.asm_sweeps.proofs.Laws.{decide-form, decide-unknown, decide-
 use borrow.Author.Needs.{needs}
 use Rattle.asm_sweeps.proofs.decide.Statement.{statement}
 use Rattle.asm_sweeps.proofs.decide.Tie as tie
-use Rattle.asm_sweeps.proofs.decide.Reads as reads
-use Rattle.asm_sweeps.proofs.decide.Lts as lts
-use Rattle.asm_sweeps.proofs.least.Reads as least-reads
 
--- src/lib.rt:465:9
 returns : tie.Need-returns
 returns c = decide-form (c .before .args .form) (c .before .args .t) (c .before .args .u) (c .if1 .taken)
 
--- src/lib.rt:470:9
 least-requires : tie.Need-least-requires
 least-requires c κs = search needs
 
--- src/lib.rt:472:9
 returns-2 : tie.Need-returns-2
 returns-2 c =
     let c1 = c .before in
@@ -22,7 +16,6 @@ returns-2 c =
     let c3 = c2 .before in
     decide-unknown (c3 .args .form) (c3 .args .t) (c3 .args .u) (c2 .if1 .left) (c1 .least .result) (c1 .least .ensures) (c .if2 .taken)
 
--- src/lib.rt:478:9
 returns-3 : tie.Need-returns-3
 returns-3 c =
     let c2 = c .before .before in
@@ -32,7 +25,6 @@ returns-3 c =
     decide-places (c5 .args .form) (c5 .args .t) (c5 .args .u) (c4 .if1 .left) (c3 .least .result) (c3 .least .ensures) (c2 .if2 .left)
     (c .if3 .taken)
 
--- src/lib.rt:484:9
 returns-4 : tie.Need-returns-4
 returns-4 c =
     let c2 = c .before .before in
@@ -44,7 +36,6 @@ returns-4 c =
     decide-uses (a .form) (a .t) (a .u) (c6 .if1 .left) (c5 .least .result) (c5 .least .ensures) (c4 .if2 .left) (c2 .if3 .left)
     (c .if4 .taken)
 
--- src/lib.rt:461:1
 returns-5 : tie.Need-returns-5
 returns-5 c =
     let c2 = c .before .before in

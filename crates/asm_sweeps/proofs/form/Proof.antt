@@ -8,10 +8,6 @@ use Prim.Native.Nat.{ℕ, _+_, _-_, _≤_, _<_}
 use mathlib.Core.Path.{_≡_, refl, sym, ap, _∙_}
 use Rattle.asm_sweeps.proofs.form.Statement.{statement}
 use Rattle.asm_sweeps.proofs.form.Tie as tie
-use Rattle.asm_sweeps.proofs.form.Reads as reads
-use Rattle.asm_sweeps.proofs.form.Lts as lts
-use Rattle.asm_sweeps.proofs.form_line.Reads as form-line-reads
-use Rattle.lines.proofs.line_at.Reads as line-at-reads
 
 abbrev Inv-loop : tie.InvT-loop
 Inv-loop source at₀ number₀ at number =
@@ -20,31 +16,24 @@ Inv-loop source at₀ number₀ at number =
 abbrev μ-loop : tie.MeasureT-loop
 μ-loop source at₀ number₀ at number = length source - at
 
--- src/lib.rt:189:5
 loop-holds : tie.Need-loop-holds Inv-loop μ-loop
 loop-holds c = (omega arith, omega arith, refl)
 
--- src/lib.rt:190:13
 line-at-requires : tie.Need-line-at-requires Inv-loop μ-loop
 line-at-requires c κs = omega arith
 
--- src/lib.rt:193:20
 sub-part : tie.Need-sub-part Inv-loop μ-loop
 sub-part c = omega arith
 
--- src/lib.rt:193:20
 part-part-start : tie.Need-part-part-start Inv-loop μ-loop
 part-part-start c = search needs
 
--- src/lib.rt:193:20
 part-part-end : tie.Need-part-part-end Inv-loop μ-loop
 part-part-end c = search needs
 
--- src/lib.rt:194:13
 form-line-requires : tie.Need-form-line-requires Inv-loop μ-loop
 form-line-requires c κs = tt
 
--- src/lib.rt:196:13
 returns : tie.Need-returns Inv-loop μ-loop
 returns c =
     let c1 = c .before in
@@ -56,7 +45,6 @@ returns c =
     (sym (c1 .form-line .ensures .0) ∙ c .if1 .taken)
     ∙ c5 .loop .inv .2
 
--- src/lib.rt:199:13
 returns-2 : tie.Need-returns-2 Inv-loop μ-loop
 returns-2 c =
     let c1 = c .before in
@@ -69,15 +57,12 @@ returns-2 c =
     (sym (c2 .form-line .ensures .0) ∙ c1 .if1 .left) (sym (c2 .form-line .ensures .1) ∙ c .if2 .taken)
     ∙ c6 .loop .inv .2
 
--- src/lib.rt:202:9
 add-number : tie.Need-add-number Inv-loop μ-loop
 add-number c = search needs
 
--- src/lib.rt:189:5
 loop-less : tie.Need-loop-less Inv-loop μ-loop
 loop-less c = omega arith
 
--- src/lib.rt:189:5
 loop-again : tie.Need-loop-again Inv-loop μ-loop
 loop-again c =
     let c1 = c .before in
@@ -93,7 +78,6 @@ loop-again c =
           ∙ c6 .loop .inv .2,
     )
 
--- src/lib.rt:184:1
 returns-3 : tie.Need-returns-3 Inv-loop μ-loop
 returns-3 c =
     let c1 = c .before in

@@ -8,57 +8,40 @@ use mathlib.Core.Path.{_≡_, refl, sym, ap, _∙_}
 use borrow.Author.Needs.{needs}
 use Rattle.asm_sweeps.proofs.form_line.Statement.{statement}
 use Rattle.asm_sweeps.proofs.form_line.Tie as tie
-use Rattle.asm_sweeps.proofs.form_line.Reads as reads
-use Rattle.asm_sweeps.proofs.form_line.Lts as lts
-use Rattle.asm_line.proofs.read_line.Reads as read-line-reads
-use Rattle.asm_sweeps.proofs.is_stop.Reads as is-stop-reads
-use Rattle.asm_write.proofs.layout_of.Reads as layout-of-reads
 
--- src/lib.rt:165:39
 array-share-prefix-places : tie.Need-array-share-prefix-places
 array-share-prefix-places c = search needs
 
--- src/lib.rt:165:39
 slice-aggregate-read-line : tie.Need-slice-aggregate-read-line
 slice-aggregate-read-line c = search needs
 
--- src/lib.rt:165:53
 array-share-prefix-keys : tie.Need-array-share-prefix-keys
 array-share-prefix-keys c = search needs
 
--- src/lib.rt:165:53
 slice-aggregate-read-line-2 : tie.Need-slice-aggregate-read-line-2
 slice-aggregate-read-line-2 c = search needs
 
--- src/lib.rt:165:65
 array-share-prefix-values : tie.Need-array-share-prefix-values
 array-share-prefix-values c = search needs
 
--- src/lib.rt:165:65
 slice-aggregate-read-line-3 : tie.Need-slice-aggregate-read-line-3
 slice-aggregate-read-line-3 c = search needs
 
--- src/lib.rt:165:9
 read-line-requires : tie.Need-read-line-requires
 read-line-requires c κs = search needs
 
--- src/lib.rt:170:13
 enum-known-r : tie.Need-enum-known-r
 enum-known-r c = search needs
 
--- src/lib.rt:173:26
 layout-of-requires : tie.Need-layout-of-requires
 layout-of-requires c κs = search needs
 
--- src/lib.rt:173:18
 is-stop-requires : tie.Need-is-stop-requires
 is-stop-requires c κs = search needs
 
--- src/lib.rt:175:27
 enum-told : tie.Need-enum-told
 enum-told c = search needs
 
--- src/lib.rt:158:1
 returns : tie.Need-returns
 returns c =
     let c1 = c .before in
@@ -71,7 +54,6 @@ returns c =
     (c5 .read-line .ensures ∙ ap (λ (f : List ℕ → Value). lineOf f (a .part .now)) (no-names (a .part .now) [] [])) (g .0 .0)
     (g .0 .1 .0) (g .0 .1 .1 .0) (c1 .layout-of .result) (c .is-stop .result) (g .1) (c1 .layout-of .ensures) (c .is-stop .ensures)
 
--- src/lib.rt:158:1
 returns-2 : tie.Need-returns-2
 returns-2 c =
     let c2 = c .before .before in

@@ -13,75 +13,52 @@ use mathlib.Core.Path.{_≡_, refl, sym, ap, _∙_}
 use borrow.Author.Needs.{needs}
 use Rattle.asm_sweeps.proofs.give.Statement.{statement}
 use Rattle.asm_sweeps.proofs.give.Tie as tie
-use Rattle.asm_sweeps.proofs.give.Reads as reads
-use Rattle.asm_sweeps.proofs.give.Lts as lts
-use Rattle.asm_sweeps.proofs.is_known.Reads as is-known-reads
-use Rattle.asm_sweeps.proofs.note_unknown.Reads as note-unknown-reads
-use Rattle.asm_sweeps.proofs.note_value.Reads as note-value-reads
-use Rattle.asm_sweeps.proofs.one_more.Reads as one-more-reads
-use Rattle.asm_sweeps.proofs.stored.Reads as stored-reads
-use Rattle.asm_text.proofs.look_up.Reads as look-up-reads
-use Rattle.asm_text.proofs.read_word.Reads as read-word-reads
 
--- src/lib.rt:246:9
 read-word-requires : tie.Need-read-word-requires
 read-word-requires c κs = search needs
 
--- src/lib.rt:250:9
 slice-reshare-prefix-look-up : tie.Need-slice-reshare-prefix-look-up
 slice-reshare-prefix-look-up c = search needs
 
--- src/lib.rt:250:9
 slice-aggregate-look-up : tie.Need-slice-aggregate-look-up
 slice-aggregate-look-up c =
     let c5 = c .before .before .before .before .before in
     sym (length-take-le (c5 .args .t .count) (c5 .args .places .now) (omega (arith, c5 .pre .within, c5 .pre .places)))
 
--- src/lib.rt:251:9
 slice-reshare-prefix-look-up-2 : tie.Need-slice-reshare-prefix-look-up-2
 slice-reshare-prefix-look-up-2 c = search needs
 
--- src/lib.rt:251:9
 slice-aggregate-look-up-2 : tie.Need-slice-aggregate-look-up-2
 slice-aggregate-look-up-2 c =
     let c6 = c .before .before .before .before .before .before in
     sym (length-take-le (c6 .args .t .count) (c6 .args .keys .now) (omega (arith, c6 .pre .within, c6 .pre .keys)))
 
--- src/lib.rt:252:9
 slice-reshare-prefix-look-up-3 : tie.Need-slice-reshare-prefix-look-up-3
 slice-reshare-prefix-look-up-3 c = search needs
 
--- src/lib.rt:252:9
 slice-aggregate-look-up-3 : tie.Need-slice-aggregate-look-up-3
 slice-aggregate-look-up-3 c =
     let c7 = c .before .before .before .before .before .before .before in
     sym (length-take-le (c7 .args .t .count) (c7 .args .values .now) (omega (arith, c7 .pre .within, c7 .pre .values)))
 
--- src/lib.rt:248:9
 look-up-requires : tie.Need-look-up-requires
 look-up-requires c κs = search needs
 
--- src/lib.rt:257:8
 is-known-requires : tie.Need-is-known-requires
 is-known-requires c κs = search needs
 
--- src/lib.rt:258:9
 note-unknown-requires : tie.Need-note-unknown-requires
 note-unknown-requires c κs = search needs
 
--- src/lib.rt:258:9
 same-length : tie.Need-same-length
 same-length c = search needs
 
--- src/lib.rt:258:9
 same-length-2 : tie.Need-same-length-2
 same-length-2 c = search needs
 
--- src/lib.rt:258:9
 same-length-3 : tie.Need-same-length-3
 same-length-3 c = search needs
 
--- src/lib.rt:258:9
 returns : tie.Need-returns
 returns c =
     let c1 = c .before in
@@ -101,23 +78,18 @@ returns c =
       ),
     )
 
--- src/lib.rt:261:9
 note-unknown-requires-2 : tie.Need-note-unknown-requires-2
 note-unknown-requires-2 c κs = search needs
 
--- src/lib.rt:261:9
 same-length-4 : tie.Need-same-length-4
 same-length-4 c = search needs
 
--- src/lib.rt:261:9
 same-length-5 : tie.Need-same-length-5
 same-length-5 c = search needs
 
--- src/lib.rt:261:9
 same-length-6 : tie.Need-same-length-6
 same-length-6 c = search needs
 
--- src/lib.rt:261:9
 returns-2 : tie.Need-returns-2
 returns-2 c =
     let c1 = c .before in
@@ -138,58 +110,45 @@ returns-2 c =
       ),
     )
 
--- src/lib.rt:263:5
 mul-places : tie.Need-mul-places
 mul-places c = search needs
 
--- src/lib.rt:263:5
 slice-write-places : tie.Need-slice-write-places
 slice-write-places c = search needs
 
--- src/lib.rt:264:5
 mul-keys : tie.Need-mul-keys
 mul-keys c = search needs
 
--- src/lib.rt:264:5
 slice-write-keys : tie.Need-slice-write-keys
 slice-write-keys c = search needs
 
--- src/lib.rt:265:17
 stored-requires : tie.Need-stored-requires
 stored-requires c κs = search needs
 
--- src/lib.rt:265:5
 mul-t20 : tie.Need-mul-t20
 mul-t20 c = search needs
 
--- src/lib.rt:265:5
 slice-set-from-values : tie.Need-slice-set-from-values
 slice-set-from-values c = search needs
 
--- src/lib.rt:266:14
 note-value-requires : tie.Need-note-value-requires
 note-value-requires c κs = search needs
 
--- src/lib.rt:266:5
 one-more-requires : tie.Need-one-more-requires
 one-more-requires c κs =
     let c2 = c .before .before in
     let c13 = c2 .before .before .before .before .before .before .before .before .before .before .before in
     omega (arith, ap (λ (x : Tally). x .count) (c .note-value .ensures) ∙ note-count (c13 .args .t) (c13 .args .v), c2 .if2 .left)
 
--- src/lib.rt:229:1
 same-length-7 : tie.Need-same-length-7
 same-length-7 c = search needs
 
--- src/lib.rt:229:1
 same-length-8 : tie.Need-same-length-8
 same-length-8 c = search needs
 
--- src/lib.rt:229:1
 same-length-9 : tie.Need-same-length-9
 same-length-9 c = search needs
 
--- src/lib.rt:229:1
 returns-3 : tie.Need-returns-3
 returns-3 c =
     let c1 = c .before in

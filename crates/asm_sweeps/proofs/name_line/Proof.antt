@@ -13,83 +13,58 @@ use mathlib.Core.Path.{_≡_, refl, sym, ap, _∙_}
 use borrow.Author.Needs.{needs}
 use Rattle.asm_sweeps.proofs.name_line.Statement.{statement}
 use Rattle.asm_sweeps.proofs.name_line.Tie as tie
-use Rattle.asm_sweeps.proofs.name_line.Reads as reads
-use Rattle.asm_sweeps.proofs.name_line.Lts as lts
-use Rattle.asm_line.proofs.read_line.Reads as read-line-reads
-use Rattle.asm_sweeps.proofs.give.Reads as give-reads
-use Rattle.asm_sweeps.proofs.is_stop.Reads as is-stop-reads
-use Rattle.asm_sweeps.proofs.placed_at.Reads as placed-at-reads
-use Rattle.asm_write.proofs.after.Reads as after-reads
-use Rattle.asm_write.proofs.layout_of.Reads as layout-of-reads
-use Rattle.asm_write.proofs.name_value.Reads as name-value-reads
 
--- src/lib.rt:292:16
 sub-part : tie.Need-sub-part
 sub-part c = search needs
 
--- src/lib.rt:292:16
 part-part-start : tie.Need-part-part-start
 part-part-start c = search needs
 
--- src/lib.rt:292:16
 part-part-end : tie.Need-part-part-end
 part-part-end c = search needs
 
--- src/lib.rt:293:41
 slice-reshare-prefix-read-line : tie.Need-slice-reshare-prefix-read-line
 slice-reshare-prefix-read-line c = search needs
 
--- src/lib.rt:293:41
 slice-aggregate-read-line : tie.Need-slice-aggregate-read-line
 slice-aggregate-read-line c =
     let c5 = c .before .before .before .before .before in
     sym (length-take-le (c5 .args .t .count) (c5 .args .places .now) (omega (arith, c5 .pre .0 .within, c5 .pre .0 .places)))
 
--- src/lib.rt:293:55
 slice-reshare-prefix-read-line-2 : tie.Need-slice-reshare-prefix-read-line-2
 slice-reshare-prefix-read-line-2 c = search needs
 
--- src/lib.rt:293:55
 slice-aggregate-read-line-2 : tie.Need-slice-aggregate-read-line-2
 slice-aggregate-read-line-2 c =
     let c6 = c .before .before .before .before .before .before in
     sym (length-take-le (c6 .args .t .count) (c6 .args .keys .now) (omega (arith, c6 .pre .0 .within, c6 .pre .0 .keys)))
 
--- src/lib.rt:293:67
 slice-reshare-prefix-read-line-3 : tie.Need-slice-reshare-prefix-read-line-3
 slice-reshare-prefix-read-line-3 c = search needs
 
--- src/lib.rt:293:67
 slice-aggregate-read-line-3 : tie.Need-slice-aggregate-read-line-3
 slice-aggregate-read-line-3 c =
     let c7 = c .before .before .before .before .before .before .before in
     sym (length-take-le (c7 .args .t .count) (c7 .args .values .now) (omega (arith, c7 .pre .0 .within, c7 .pre .0 .values)))
 
--- src/lib.rt:293:9
 read-line-requires : tie.Need-read-line-requires
 read-line-requires c κs = search needs
 
--- src/lib.rt:295:9
 enum-known-r : tie.Need-enum-known-r
 enum-known-r c = search needs
 
--- src/lib.rt:300:9
 enum-told : tie.Need-enum-told
 enum-told c = search needs
 
--- src/lib.rt:300:9
 same-length : tie.Need-same-length
 same-length c = search needs
 
--- src/lib.rt:300:9
 same-length-2 : tie.Need-same-length-2
 same-length-2 c = search needs
 
--- src/lib.rt:300:9
 same-length-3 : tie.Need-same-length-3
 same-length-3 c = search needs
 
--- src/lib.rt:300:9
 returns : tie.Need-returns
 returns c =
     let c2 = c .before .before in
@@ -106,35 +81,27 @@ returns c =
       ),
     )
 
--- src/lib.rt:305:9
 layout-of-requires : tie.Need-layout-of-requires
 layout-of-requires c κs = search needs
 
--- src/lib.rt:306:9
 is-stop-requires : tie.Need-is-stop-requires
 is-stop-requires c κs = search needs
 
--- src/lib.rt:307:30
 after-requires : tie.Need-after-requires
 after-requires c κs = search needs
 
--- src/lib.rt:307:9
 placed-at-requires : tie.Need-placed-at-requires
 placed-at-requires c κs = search needs
 
--- src/lib.rt:309:9
 same-length-4 : tie.Need-same-length-4
 same-length-4 c = search needs
 
--- src/lib.rt:309:9
 same-length-5 : tie.Need-same-length-5
 same-length-5 c = search needs
 
--- src/lib.rt:309:9
 same-length-6 : tie.Need-same-length-6
 same-length-6 c = search needs
 
--- src/lib.rt:309:9
 returns-2 : tie.Need-returns-2
 returns-2 c =
     let c1 = c .before in
@@ -169,11 +136,9 @@ returns-2 c =
       ),
     )
 
--- src/lib.rt:311:9
 name-value-requires : tie.Need-name-value-requires
 name-value-requires c κs = search needs
 
--- src/lib.rt:312:59
 add-give : tie.Need-add-give
 add-give c =
     let c4 = c .before .before .before .before in
@@ -188,7 +153,6 @@ add-give c =
     (c12 .read-line .ensures) (g .1) (not-false _ (c4 .if1 .left))) in
     record { fits = omega (arith, k, c20 .pre .1 .to, c20 .good .0 .1) }
 
--- src/lib.rt:312:9
 give-requires : tie.Need-give-requires
 give-requires c κs =
     let c5 = c .before .before .before .before .before in
@@ -204,19 +168,15 @@ give-requires c κs =
     (g .0 .1 .1 .0) (g .1) (c8 .layout-of .result) (c8 .layout-of .ensures) (c6 .after .result) (c6 .after .ensures)
     (c5 .placed-at .result) (c5 .placed-at .ensures)
 
--- src/lib.rt:270:1
 same-length-7 : tie.Need-same-length-7
 same-length-7 c = search needs
 
--- src/lib.rt:270:1
 same-length-8 : tie.Need-same-length-8
 same-length-8 c = search needs
 
--- src/lib.rt:270:1
 same-length-9 : tie.Need-same-length-9
 same-length-9 c = search needs
 
--- src/lib.rt:270:1
 returns-3 : tie.Need-returns-3
 returns-3 c =
     let c5 = c .before .before .before .before .before in

@@ -4,15 +4,10 @@ use mathlib.Core.Path.{_≡_, refl, sym, ap, _∙_}
 use borrow.Author.Needs.{needs}
 use Rattle.asm_sweeps.proofs.note_outside.Statement.{statement}
 use Rattle.asm_sweeps.proofs.note_outside.Tie as tie
-use Rattle.asm_sweeps.proofs.note_outside.Reads as reads
-use Rattle.asm_sweeps.proofs.note_outside.Lts as lts
-use Rattle.asm_sweeps.proofs.first.Reads as first-reads
 
--- src/lib.rt:70:18
 first-requires : tie.Need-first-requires
 first-requires c κs = search needs
 
--- src/lib.rt:62:1
 returns : tie.Need-returns
 returns c = ap (λ (x : ℕ). let t = c .before .args .t in mk (t .count) (t .place) (t .line) (t .unknown) (x)) (c .first .ensures)
 

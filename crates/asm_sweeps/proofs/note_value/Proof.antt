@@ -3,40 +3,28 @@ use mathlib.Core.Path.{_≡_, refl, sym, ap, _∙_}
 use borrow.Author.Needs.{needs}
 use Rattle.asm_sweeps.proofs.note_value.Statement.{statement}
 use Rattle.asm_sweeps.proofs.note_value.Tie as tie
-use Rattle.asm_sweeps.proofs.note_value.Reads as reads
-use Rattle.asm_sweeps.proofs.note_value.Lts as lts
-use Rattle.asm_sweeps.proofs.note_outside.Reads as note-outside-reads
-use Rattle.asm_sweeps.proofs.note_unknown.Reads as note-unknown-reads
 
--- src/lib.rt:96:28
 enum-told : tie.Need-enum-told
 enum-told c = search needs
 
--- src/lib.rt:97:27
 enum-told-2 : tie.Need-enum-told-2
 enum-told-2 c = search needs
 
--- src/lib.rt:97:27
 note-unknown-requires : tie.Need-note-unknown-requires
 note-unknown-requires c κs = search needs
 
--- src/lib.rt:98:27
 enum-told-3 : tie.Need-enum-told-3
 enum-told-3 c = search needs
 
--- src/lib.rt:98:27
 note-outside-requires : tie.Need-note-outside-requires
 note-outside-requires c κs = search needs
 
--- src/lib.rt:92:1
 returns : tie.Need-returns
 returns c = search needs
 
--- src/lib.rt:92:1
 returns-2 : tie.Need-returns-2
 returns-2 c = c .note-unknown .ensures ∙ sym (ap (noteValue (c .before .before .before .args .t)) (c .before .enum-told2 .given .1))
 
--- src/lib.rt:92:1
 returns-3 : tie.Need-returns-3
 returns-3 c = c .note-outside .ensures ∙ sym (ap (noteValue (c .before .before .before .args .t)) (c .before .enum-told3 .given .1))
 

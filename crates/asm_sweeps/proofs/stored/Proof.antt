@@ -5,32 +5,24 @@ use mathlib.Core.Path.{_≡_, refl, sym, ap, _∙_}
 use borrow.Author.Needs.{needs}
 use Rattle.asm_sweeps.proofs.stored.Statement.{statement}
 use Rattle.asm_sweeps.proofs.stored.Tie as tie
-use Rattle.asm_sweeps.proofs.stored.Reads as reads
-use Rattle.asm_sweeps.proofs.stored.Lts as lts
 
--- src/lib.rt:132:22
 enum-known-v : tie.Need-enum-known-v
 enum-known-v c = search needs
 
--- src/lib.rt:133:27
 enum-told : tie.Need-enum-told
 enum-told c = search needs
 
--- src/lib.rt:134:27
 enum-told-2 : tie.Need-enum-told-2
 enum-told-2 c = search needs
 
--- src/lib.rt:128:1
 returns : tie.Need-returns
 returns c =
     let c1 = c .before in
     let e : toZ w32 (ofZ w32 (c1 .v .given .0 .0)) ≡ c1 .v .given .0 .0 = search needs in e ∙ sym (ap storedOf (c1 .v .given .1))
 
--- src/lib.rt:128:1
 returns-2 : tie.Need-returns-2
 returns-2 c = sym (ap storedOf (c .enum-told .given .1))
 
--- src/lib.rt:128:1
 returns-3 : tie.Need-returns-3
 returns-3 c = sym (ap storedOf (c .enum-told2 .given .1))
 

@@ -10,11 +10,6 @@ use Prim.Native.Nat.{ℕ, _+_, _-_, _≤_, _<_}
 use mathlib.Core.Path.{_≡_, refl, sym, ap, _∙_}
 use Rattle.asm_sweeps.proofs.uses.Statement.{statement}
 use Rattle.asm_sweeps.proofs.uses.Tie as tie
-use Rattle.asm_sweeps.proofs.uses.Reads as reads
-use Rattle.asm_sweeps.proofs.uses.Lts as lts
-use Rattle.asm_sweeps.proofs.next_line.Reads as next-line-reads
-use Rattle.asm_sweeps.proofs.use_line.Reads as use-line-reads
-use Rattle.lines.proofs.line_at.Reads as line-at-reads
 
 abbrev Inv-loop : tie.InvT-loop
 Inv-loop source places keys values at₀ t₀ at t =
@@ -24,31 +19,24 @@ Inv-loop source places keys values at₀ t₀ at t =
 abbrev μ-loop : tie.MeasureT-loop
 μ-loop source places keys values at₀ t₀ at t = length source - at
 
--- src/lib.rt:432:5
 loop-holds : tie.Need-loop-holds Inv-loop μ-loop
 loop-holds c = (omega arith, omega arith, refl)
 
--- src/lib.rt:433:13
 line-at-requires : tie.Need-line-at-requires Inv-loop μ-loop
 line-at-requires c κs = omega arith
 
--- src/lib.rt:436:20
 sub-part : tie.Need-sub-part Inv-loop μ-loop
 sub-part c = omega arith
 
--- src/lib.rt:436:20
 part-part-start : tie.Need-part-part-start Inv-loop μ-loop
 part-part-start c = search needs
 
--- src/lib.rt:436:20
 part-part-end : tie.Need-part-part-end Inv-loop μ-loop
 part-part-end c = search needs
 
--- src/lib.rt:437:13
 use-line-requires : tie.Need-use-line-requires Inv-loop μ-loop
 use-line-requires c κs = tt
 
--- src/lib.rt:439:13
 returns : tie.Need-returns Inv-loop μ-loop
 returns c =
     let c1 = c .before in
@@ -64,7 +52,6 @@ returns c =
     (use-line .ensures .0) (use-line .result .end) (use-line .ensures .1 .0) (c1 .if1 .taken)
     ∙ c6 .loop .inv .2
 
--- src/lib.rt:441:9
 next-line-requires : tie.Need-next-line-requires Inv-loop μ-loop
 next-line-requires c κs =
     let c1 = c .before in
@@ -72,11 +59,9 @@ next-line-requires c κs =
     let c9 = c5 .before .before .before .before in
     omega (arith, c1 .use-line .ensures .1 .1, c5 .loop .inv .1, c9 .good .0 .1)
 
--- src/lib.rt:432:5
 loop-less : tie.Need-loop-less Inv-loop μ-loop
 loop-less c = omega arith
 
--- src/lib.rt:432:5
 loop-again : tie.Need-loop-again Inv-loop μ-loop
 loop-again c =
     let c1 = c .before in
@@ -96,7 +81,6 @@ loop-again c =
           ∙ c6 .loop .inv .2,
     )
 
--- src/lib.rt:420:1
 returns-2 : tie.Need-returns-2 Inv-loop μ-loop
 returns-2 c =
     let c1 = c .before in

@@ -5,8 +5,6 @@ use native.Mathlib.Omega.{arith}
 use borrow.Author.Needs.{needs}
 use Rattle.asm_text.proofs.digit.Statement.{statement}
 use Rattle.asm_text.proofs.digit.Tie as tie
-use Rattle.asm_text.proofs.digit.Reads as reads
-use Rattle.asm_text.proofs.digit.Lts as lts
 
 sub-result : tie.Need-sub-result
 sub-result c = let h = both-true 48 (c .before .args .b) 57 (c .if1 .taken) in h .0

@@ -4,8 +4,6 @@ use native.Mathlib.Omega.{arith}
 use borrow.Author.Needs.{needs}
 use Rattle.asm_text.proofs.grow.Statement.{statement}
 use Rattle.asm_text.proofs.grow.Tie as tie
-use Rattle.asm_text.proofs.grow.Reads as reads
-use Rattle.asm_text.proofs.grow.Lts as lts
 
 mul-n : tie.Need-mul-n
 mul-n c = let h = mul-le-mul (c .pre .0) (c .pre .1) in record { fits = omega (arith, h) }

@@ -4,8 +4,6 @@ use native.Mathlib.Omega.{arith}
 use borrow.Author.Needs.{needs}
 use Rattle.asm_text.proofs.is_blank.Statement.{statement}
 use Rattle.asm_text.proofs.is_blank.Tie as tie
-use Rattle.asm_text.proofs.is_blank.Reads as reads
-use Rattle.asm_text.proofs.is_blank.Lts as lts
 
 returns : tie.Need-returns
 unfolding blank?

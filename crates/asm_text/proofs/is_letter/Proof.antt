@@ -4,8 +4,6 @@ use native.Mathlib.Omega.{arith}
 use borrow.Author.Needs.{needs}
 use Rattle.asm_text.proofs.is_letter.Statement.{statement}
 use Rattle.asm_text.proofs.is_letter.Tie as tie
-use Rattle.asm_text.proofs.is_letter.Reads as reads
-use Rattle.asm_text.proofs.is_letter.Lts as lts
 
 returns : tie.Need-returns
 unfolding letter?

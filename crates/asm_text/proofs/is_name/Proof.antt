@@ -2,9 +2,6 @@ use borrow.Author.Tests.{eq-eqb, ne-eqb}
 use borrow.Author.Needs.{needs}
 use Rattle.asm_text.proofs.is_name.Statement.{statement}
 use Rattle.asm_text.proofs.is_name.Tie as tie
-use Rattle.asm_text.proofs.is_name.Reads as reads
-use Rattle.asm_text.proofs.is_name.Lts as lts
-use Rattle.asm_text.proofs.same_word.Reads as same-word-reads
 
 returns : tie.Need-returns
 returns c = rw (ne-eqb (c .before .before .before .args .there) (c .before .before .before .args .key) (c .if1 .taken))

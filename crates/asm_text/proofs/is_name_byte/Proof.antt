@@ -4,8 +4,6 @@ use native.Mathlib.Omega.{arith}
 use borrow.Author.Needs.{needs}
 use Rattle.asm_text.proofs.is_name_byte.Statement.{statement}
 use Rattle.asm_text.proofs.is_name_byte.Tie as tie
-use Rattle.asm_text.proofs.is_name_byte.Reads as reads
-use Rattle.asm_text.proofs.is_name_byte.Lts as lts
 
 returns : tie.Need-returns
 unfolding nameByte?

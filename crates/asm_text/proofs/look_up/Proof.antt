@@ -13,9 +13,6 @@ use Rattle.asm_text.specs.Text.{lookUpAt, word, same, keyOf}
 use Rattle.asm_text.proofs.Laws.{look-hit, look-miss, look-end, look-no-key, look-no-value}
 use Rattle.asm_text.proofs.look_up.Statement.{statement}
 use Rattle.asm_text.proofs.look_up.Tie as tie
-use Rattle.asm_text.proofs.look_up.Reads as reads
-use Rattle.asm_text.proofs.look_up.Lts as lts
-use Rattle.asm_text.proofs.is_name.Reads as is-name-reads
 
 abbrev Inv-loop : tie.InvT-loop
 Inv-loop source places keys values s at key k₀ k =

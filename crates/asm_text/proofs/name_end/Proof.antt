@@ -8,10 +8,6 @@ use native.Mathlib.Omega.{arith}
 use borrow.Author.Needs.{needs}
 use Rattle.asm_text.proofs.name_end.Statement.{statement}
 use Rattle.asm_text.proofs.name_end.Tie as tie
-use Rattle.asm_text.proofs.name_end.Reads as reads
-use Rattle.asm_text.proofs.name_end.Lts as lts
-use Rattle.asm_text.proofs.byte_at.Reads as byte-at-reads
-use Rattle.asm_text.proofs.is_name_byte.Reads as is-name-byte-reads
 
 abbrev Inv-loop : tie.InvT-loop
 Inv-loop s at i₀ i = after nameByte? s i ≡ after nameByte? s at

@@ -7,11 +7,6 @@ use native.Mathlib.Omega.{arith}
 use borrow.Author.Needs.{needs}
 use Rattle.asm_text.proofs.read_digits.Statement.{statement}
 use Rattle.asm_text.proofs.read_digits.Tie as tie
-use Rattle.asm_text.proofs.read_digits.Reads as reads
-use Rattle.asm_text.proofs.read_digits.Lts as lts
-use Rattle.asm_text.proofs.byte_at.Reads as byte-at-reads
-use Rattle.asm_text.proofs.digit.Reads as digit-reads
-use Rattle.asm_text.proofs.grow.Reads as grow-reads
 
 abbrev Inv-loop : tie.InvT-loop
 Inv-loop s at base i₀ size₀ i size = (size ≤ 2 ^ 32) × (sat base size (drop i s) ≡ sat base 0 (drop at s)) ×

@@ -9,12 +9,6 @@ use Rattle.asm_text.specs.Text.{byteAt, nameByte?, after, word, spelled,
 use Rattle.asm_text.proofs.Laws.{spelled-more, spelled-stop, key-more, key-stop, after-more, after-stop, kind-in, name-zero}
 use Rattle.asm_text.proofs.read_word.Statement.{statement}
 use Rattle.asm_text.proofs.read_word.Tie as tie
-use Rattle.asm_text.proofs.read_word.Reads as reads
-use Rattle.asm_text.proofs.read_word.Lts as lts
-use Rattle.asm_text.proofs.byte_at.Reads as byte-at-reads
-use Rattle.asm_text.proofs.is_name_byte.Reads as is-name-byte-reads
-use Rattle.asm_text.proofs.spell.Reads as spell-reads
-use Rattle.asm_text.proofs.mix.Reads as mix-reads
 
 abbrev Inv-loop : tie.InvT-loop
 Inv-loop s at i₀ n₀ key₀ i n key =

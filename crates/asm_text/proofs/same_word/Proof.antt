@@ -9,10 +9,6 @@ use Rattle.asm_text.proofs.Laws.{same-stop, same-short, same-other, sam
 use Rattle.asm_text.specs.Text.{byteAt, nameByte?, word, same}
 use Rattle.asm_text.proofs.same_word.Statement.{statement}
 use Rattle.asm_text.proofs.same_word.Tie as tie
-use Rattle.asm_text.proofs.same_word.Reads as reads
-use Rattle.asm_text.proofs.same_word.Lts as lts
-use Rattle.asm_text.proofs.byte_at.Reads as byte-at-reads
-use Rattle.asm_text.proofs.is_name_byte.Reads as is-name-byte-reads
 
 abbrev Inv-loop : tie.InvT-loop
 Inv-loop t p s q i₀ j₀ i j = same (word (drop i t)) (word (drop j s)) ≡ same (word (drop p t)) (word (drop q s))

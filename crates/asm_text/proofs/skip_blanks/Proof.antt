@@ -8,10 +8,6 @@ use native.Mathlib.Omega.{arith}
 use borrow.Author.Needs.{needs}
 use Rattle.asm_text.proofs.skip_blanks.Statement.{statement}
 use Rattle.asm_text.proofs.skip_blanks.Tie as tie
-use Rattle.asm_text.proofs.skip_blanks.Reads as reads
-use Rattle.asm_text.proofs.skip_blanks.Lts as lts
-use Rattle.asm_text.proofs.byte_at.Reads as byte-at-reads
-use Rattle.asm_text.proofs.is_blank.Reads as is-blank-reads
 
 abbrev Inv-loop : tie.InvT-loop
 Inv-loop s at i₀ i = after blank? s i ≡ after blank? s at

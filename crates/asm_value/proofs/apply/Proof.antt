@@ -12,9 +12,6 @@ use mir.ValLaws.{toZ-ofZ, toZ-pos}
 use borrow.Author.Needs.{needs}
 use Rattle.asm_value.proofs.apply.Statement.{statement}
 use Rattle.asm_value.proofs.apply.Tie as tie
-use Rattle.asm_value.proofs.apply.Reads as reads
-use Rattle.asm_value.proofs.apply.Lts as lts
-use Rattle.asm_value.proofs.fit.Reads as fit-reads
 
 cast-x : tie.Need-cast-x
 cast-x c = rw (toZ-ofZ w32 (c .args .a) (c .fits .a)) (sfits-wide (c .args .a) (c .fits .a))

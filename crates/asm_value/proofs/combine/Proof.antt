@@ -6,9 +6,6 @@ use mir.ValLaws.{toZ-ofZ}
 use borrow.Author.Needs.{needs}
 use Rattle.asm_value.proofs.combine.Statement.{statement}
 use Rattle.asm_value.proofs.combine.Tie as tie
-use Rattle.asm_value.proofs.combine.Reads as reads
-use Rattle.asm_value.proofs.combine.Lts as lts
-use Rattle.asm_value.proofs.apply.Reads as apply-reads
 
 enum-told : tie.Need-enum-told
 enum-told c = search needs

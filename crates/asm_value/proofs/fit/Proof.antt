@@ -13,9 +13,6 @@ use mir.ValLaws.{toZ-ofZ, toZ-pos}
 use borrow.Author.Needs.{needs}
 use Rattle.asm_value.proofs.fit.Statement.{statement}
 use Rattle.asm_value.proofs.fit.Tie as tie
-use Rattle.asm_value.proofs.fit.Reads as reads
-use Rattle.asm_value.proofs.fit.Lts as lts
-use Rattle.asm_value.proofs.magnitude.Reads as magnitude-reads
 
 magnitude-requires : tie.Need-magnitude-requires
 magnitude-requires c κs = search needs

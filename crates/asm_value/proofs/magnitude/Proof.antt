@@ -1,8 +1,6 @@
 use Rattle.asm_value.proofs.Signed.{down-cast, down-mag, up-cast, up-mag}
 use Rattle.asm_value.proofs.magnitude.Statement.{statement}
 use Rattle.asm_value.proofs.magnitude.Tie as tie
-use Rattle.asm_value.proofs.magnitude.Reads as reads
-use Rattle.asm_value.proofs.magnitude.Lts as lts
 
 cast-result : tie.Need-cast-result
 cast-result c = down-cast (c .before .args .z) (c .before .fits .z) (c .if1 .taken)

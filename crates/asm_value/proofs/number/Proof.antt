@@ -10,9 +10,6 @@ use Rattle.asm_value.proofs.Signed.{minus-fits, minus-is, sized}
 use borrow.Author.Needs.{needs}
 use Rattle.asm_value.proofs.number.Statement.{statement}
 use Rattle.asm_value.proofs.number.Tie as tie
-use Rattle.asm_value.proofs.number.Reads as reads
-use Rattle.asm_value.proofs.number.Lts as lts
-use Rattle.asm_value.proofs.fit.Reads as fit-reads
 
 cast-z : tie.Need-cast-z
 cast-z c = search needs

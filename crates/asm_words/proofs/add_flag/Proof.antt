@@ -6,8 +6,6 @@ use Rattle.asm_words.specs.Words.{addFlag}
 use borrow.Author.Needs.{needs}
 use Rattle.asm_words.proofs.add_flag.Statement.{statement}
 use Rattle.asm_words.proofs.add_flag.Tie as tie
-use Rattle.asm_words.proofs.add_flag.Reads as reads
-use Rattle.asm_words.proofs.add_flag.Lts as lts
 
 add-result : tie.Need-add-result
 add-result c = search needs

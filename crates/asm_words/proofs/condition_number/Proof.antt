@@ -2,9 +2,6 @@ use Rattle.asm_words.specs.Words.{conditions}
 use borrow.Author.Needs.{needs}
 use Rattle.asm_words.proofs.condition_number.Statement.{statement}
 use Rattle.asm_words.proofs.condition_number.Tie as tie
-use Rattle.asm_words.proofs.condition_number.Reads as reads
-use Rattle.asm_words.proofs.condition_number.Lts as lts
-use Rattle.asm_words.proofs.row_number.Reads as row-number-reads
 
 slice-aggregate-row-number : tie.Need-slice-aggregate-row-number
 slice-aggregate-row-number c = search needs

@@ -11,11 +11,6 @@ use Rattle.asm_words.specs.Words.{addFlag, flagsFrom, flagsOf}
 use Rattle.asm_words.proofs.Laws.{flags-stop, flags-fail, flags-more}
 use Rattle.asm_words.proofs.flags_number.Statement.{statement}
 use Rattle.asm_words.proofs.flags_number.Tie as tie
-use Rattle.asm_words.proofs.flags_number.Reads as reads
-use Rattle.asm_words.proofs.flags_number.Lts as lts
-use Rattle.asm_text.proofs.byte_at.Reads as byte-at-reads
-use Rattle.asm_text.proofs.is_name_byte.Reads as is-name-byte-reads
-use Rattle.asm_words.proofs.add_flag.Reads as add-flag-reads
 
 abbrev Inv-loop : tie.InvT-loop
 Inv-loop s at i₀ f₀ i f = (f < 32) × (flagsFrom f (word (drop i s)) ≡ flagsFrom 0 (word (drop at s)))

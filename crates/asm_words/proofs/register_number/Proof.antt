@@ -5,8 +5,6 @@ use Rattle.asm_text.proofs.Laws.{both-true}
 use Rattle.asm_words.specs.Words.{registerNumber}
 use Rattle.asm_words.proofs.register_number.Statement.{statement}
 use Rattle.asm_words.proofs.register_number.Tie as tie
-use Rattle.asm_words.proofs.register_number.Reads as reads
-use Rattle.asm_words.proofs.register_number.Lts as lts
 
 sub-result : tie.Need-sub-result
 sub-result c = let h = both-true 0x5230 (c .before .args .p) 0x5237 (c .if1 .taken) in h .0

@@ -7,8 +7,6 @@ use Rattle.asm_words.specs.Words.{numberIn}
 use Rattle.asm_words.proofs.Laws.{number-hit, number-miss, number-end}
 use Rattle.asm_words.proofs.row_number.Statement.{statement}
 use Rattle.asm_words.proofs.row_number.Tie as tie
-use Rattle.asm_words.proofs.row_number.Reads as reads
-use Rattle.asm_words.proofs.row_number.Lts as lts
 
 abbrev Inv-loop : tie.InvT-loop
 Inv-loop rows none p k₀ k = (k ≤ length rows) × (numberIn none (drop k rows) p ≡ numberIn none rows p)

@@ -5,9 +5,6 @@ use Rattle.asm_words.proofs.Laws.{table, starts, group, start-fits, sta
 use borrow.Author.Needs.{needs}
 use Rattle.asm_words.proofs.word_number.Statement.{statement}
 use Rattle.asm_words.proofs.word_number.Tie as tie
-use Rattle.asm_words.proofs.word_number.Reads as reads
-use Rattle.asm_words.proofs.word_number.Lts as lts
-use Rattle.asm_words.proofs.row_number.Reads as row-number-reads
 
 mul-from : tie.Need-mul-from
 mul-from c = search needs

@@ -4,45 +4,31 @@ use mathlib.Core.Path.{_≡_, refl, sym, ap, _∙_}
 use borrow.Author.Needs.{needs}
 use Rattle.asm_write.proofs.after.Statement.{statement}
 use Rattle.asm_write.proofs.after.Tie as tie
-use Rattle.asm_write.proofs.after.Reads as reads
-use Rattle.asm_write.proofs.after.Lts as lts
-use Rattle.asm_write.proofs.moved.Reads as moved-reads
-use Rattle.asm_write.proofs.origin.Reads as origin-reads
-use Rattle.asm_write.proofs.space.Reads as space-reads
 
--- src/lib.rt:370:23
 enum-known-l : tie.Need-enum-known-l
 enum-known-l c = search needs
 
--- src/lib.rt:370:41
 moved-requires : tie.Need-moved-requires
 moved-requires c κs = search needs
 
--- src/lib.rt:371:24
 enum-known-l-2 : tie.Need-enum-known-l-2
 enum-known-l-2 c = search needs
 
--- src/lib.rt:371:30
 origin-requires : tie.Need-origin-requires
 origin-requires c κs = search needs
 
--- src/lib.rt:372:29
 enum-told : tie.Need-enum-told
 enum-told c = search needs
 
--- src/lib.rt:373:23
 enum-known-l-3 : tie.Need-enum-known-l-3
 enum-known-l-3 c = search needs
 
--- src/lib.rt:373:29
 space-requires : tie.Need-space-requires
 space-requires c κs = search needs
 
--- src/lib.rt:374:25
 enum-told-2 : tie.Need-enum-told-2
 enum-told-2 c = search needs
 
--- src/lib.rt:366:1
 returns : tie.Need-returns
 unfolding nextOf
 returns c =
@@ -50,22 +36,18 @@ returns c =
     let c4 = c2 .before .before in
     ap next.Place (c .moved .ensures) ∙ sym (ap (nextOf (c4 .args .p)) (c2 .l .given .1))
 
--- src/lib.rt:366:1
 returns-2 : tie.Need-returns-2
 unfolding nextOf
 returns-2 c = c .origin .ensures ∙ sym (ap (nextOf (c .before .before .before .before .args .p)) (c .before .before .l2 .given .1))
 
--- src/lib.rt:366:1
 returns-3 : tie.Need-returns-3
 unfolding nextOf
 returns-3 c = sym (ap (nextOf (c .before .before .args .p)) (c .enum-told .given .1))
 
--- src/lib.rt:366:1
 returns-4 : tie.Need-returns-4
 unfolding nextOf
 returns-4 c = c .space .ensures ∙ sym (ap (nextOf (c .before .before .before .before .args .p)) (c .before .before .l3 .given .1))
 
--- src/lib.rt:366:1
 returns-5 : tie.Need-returns-5
 unfolding nextOf
 returns-5 c = sym (ap (nextOf (c .before .before .args .p)) (c .enum-told2 .given .1))

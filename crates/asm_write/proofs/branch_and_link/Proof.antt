@@ -13,21 +13,13 @@ use mathlib.Core.Path.{_≡_, refl, sym, ap, _∙_}
 use borrow.Author.Needs.{needs}
 use Rattle.asm_write.proofs.branch_and_link.Statement.{statement}
 use Rattle.asm_write.proofs.branch_and_link.Tie as tie
-use Rattle.asm_write.proofs.branch_and_link.Reads as reads
-use Rattle.asm_write.proofs.branch_and_link.Lts as lts
-use Rattle.asm_fits.proofs.branch.Reads as branch-reads
-use Rattle.asm_write.proofs.word_of.Reads as word-of-reads
-use Rattle.word.proofs.signed.Reads as signed-reads
 
--- src/lib.rt:50:11
 branch-requires : tie.Need-branch-requires
 branch-requires c κs = search needs
 
--- src/lib.rt:51:21
 enum-known-n : tie.Need-enum-known-n
 enum-known-n c = search needs
 
--- src/lib.rt:52:18
 signed-requires : tie.Need-signed-requires
 signed-requires c κs =
     let c1 = c .before in
@@ -35,19 +27,15 @@ signed-requires c κs =
     let h = number-below (4096 + 4096) (c1 .n .given .0 .0) (c3 .branch .result) (c1 .n .given .1) (c3 .branch .ensures .1) in
     (omega arith, omega (arith, h))
 
--- src/lib.rt:51:27
 word-of-requires : tie.Need-word-of-requires
 word-of-requires c κs = search needs
 
--- src/lib.rt:54:25
 enum-told : tie.Need-enum-told
 enum-told c = search needs
 
--- src/lib.rt:55:25
 enum-told-2 : tie.Need-enum-told-2
 enum-told-2 c = search needs
 
--- src/lib.rt:47:1
 returns : tie.Need-returns
 unfolding numberOf
 returns c =
@@ -61,7 +49,6 @@ returns c =
     (λ (n : ℕ). i.Bl (signedOf 4096 n)) (c3 .n .given .0 .0) (i.Bl (signed .result)) (c .word-of .result) (c3 .n .given .1)
     (rw e at (c .word-of .ensures)) (ap (λ (z : ℤ). i.Bl z) (signed .ensures))
 
--- src/lib.rt:47:1
 returns-2 : tie.Need-returns-2
 unfolding numberOf
 returns-2 c =
@@ -70,7 +57,6 @@ returns-2 c =
     coded-unknown (c2 .branch .result) (branchFit 4096 (c3 .args .p) (c3 .args .v)) (c2 .branch .ensures .0)
     (λ (n : ℕ). i.Bl (signedOf 4096 n)) (c .enum-told .given .1)
 
--- src/lib.rt:47:1
 returns-3 : tie.Need-returns-3
 unfolding numberOf
 returns-3 c =

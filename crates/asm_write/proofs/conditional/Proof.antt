@@ -10,74 +10,55 @@ use mathlib.Core.Path.{_≡_, refl, sym, ap, _∙_}
 use borrow.Author.Needs.{needs}
 use Rattle.asm_write.proofs.conditional.Statement.{statement}
 use Rattle.asm_write.proofs.conditional.Tie as tie
-use Rattle.asm_write.proofs.conditional.Reads as reads
-use Rattle.asm_write.proofs.conditional.Lts as lts
-use Rattle.asm_fits.proofs.count.Reads as count-reads
-use Rattle.asm_write.proofs.word_of.Reads as word-of-reads
 
--- src/lib.rt:120:9
 count-requires : tie.Need-count-requires
 count-requires c κs = search needs
 
--- src/lib.rt:121:9
 count-requires-2 : tie.Need-count-requires-2
 count-requires-2 c κs = search needs
 
--- src/lib.rt:123:21
 enum-known-a : tie.Need-enum-known-a
 enum-known-a c = search needs
 
--- src/lib.rt:124:25
 enum-known-b : tie.Need-enum-known-b
 enum-known-b c = search needs
 
--- src/lib.rt:126:29
 cast-t11 : tie.Need-cast-t11
 cast-t11 c =
     let c4 = c .before .before .before .before in
     let c7 = c4 .before .before .before in
     let h = number-below 8 (c4 .a .given .0 .0) (c7 .count .result) (c4 .a .given .1) (c7 .count .ensures .1) in omega (arith, h)
 
--- src/lib.rt:127:30
 cast-t12 : tie.Need-cast-t12
 cast-t12 c =
     let c1 = c .before in
     let c6 = c1 .before .before .before .before .before in
     let h = number-below 8 (c1 .b .given .0 .0) (c6 .count2 .result) (c1 .b .given .1) (c6 .count2 .ensures .1) in omega (arith, h)
 
--- src/lib.rt:124:31
 word-of-requires : tie.Need-word-of-requires
 word-of-requires c κs = search needs
 
--- src/lib.rt:129:29
 enum-told : tie.Need-enum-told
 enum-told c = search needs
 
--- src/lib.rt:130:29
 enum-told-2 : tie.Need-enum-told-2
 enum-told-2 c = search needs
 
--- src/lib.rt:132:25
 enum-told-3 : tie.Need-enum-told-3
 enum-told-3 c = search needs
 
--- src/lib.rt:133:25
 enum-told-4 : tie.Need-enum-told-4
 enum-told-4 c = search needs
 
--- src/lib.rt:134:31
 enum-told-5 : tie.Need-enum-told-5
 enum-told-5 c = search needs
 
--- src/lib.rt:135:29
 enum-told-6 : tie.Need-enum-told-6
 enum-told-6 c = search needs
 
--- src/lib.rt:136:29
 enum-told-7 : tie.Need-enum-told-7
 enum-told-7 c = search needs
 
--- src/lib.rt:117:1
 returns : tie.Need-returns
 unfolding numberOf
 returns c =
@@ -91,7 +72,6 @@ returns c =
     (c7 .count2 .ensures .0) (i.Cex (a .cond)) (c5 .a .given .0 .0) (c2 .b .given .0 .0) (c .word-of .result) (c5 .a .given .1)
     (c2 .b .given .1) (c .word-of .ensures)
 
--- src/lib.rt:117:1
 returns-2 : tie.Need-returns-2
 unfolding numberOf
 returns-2 c =
@@ -103,7 +83,6 @@ returns-2 c =
     both-unknown (c6 .count .result) (countFit 8 (a .t)) (c6 .count .ensures .0) (c5 .count2 .result) (countFit 8 (a .f))
     (c5 .count2 .ensures .0) (i.Cex (a .cond)) (c3 .a .given .0 .0) (c3 .a .given .1) (c .enum-told .given .1)
 
--- src/lib.rt:117:1
 returns-3 : tie.Need-returns-3
 unfolding numberOf
 returns-3 c =
@@ -115,7 +94,6 @@ returns-3 c =
     both-outside (c6 .count .result) (countFit 8 (a .t)) (c6 .count .ensures .0) (c5 .count2 .result) (countFit 8 (a .f))
     (c5 .count2 .ensures .0) (i.Cex (a .cond)) (c3 .a .given .0 .0) (c3 .a .given .1) (c .enum-told2 .given .1)
 
--- src/lib.rt:117:1
 returns-4 : tie.Need-returns-4
 unfolding numberOf
 returns-4 c =
@@ -126,7 +104,6 @@ returns-4 c =
     unknown-both (c3 .count .result) (countFit 8 (a .t)) (c3 .count .ensures .0) (c2 .count2 .result) (countFit 8 (a .f))
     (c2 .count2 .ensures .0) (i.Cex (a .cond)) (c .enum-told3 .given .1)
 
--- src/lib.rt:117:1
 returns-5 : tie.Need-returns-5
 unfolding numberOf
 returns-5 c =
@@ -138,7 +115,6 @@ returns-5 c =
     outside-number (c5 .count .result) (countFit 8 (a .t)) (c5 .count .ensures .0) (c4 .count2 .result) (countFit 8 (a .f))
     (c4 .count2 .ensures .0) (i.Cex (a .cond)) (c .enum-told5 .given .0 .0) (c2 .enum-told4 .given .1) (c .enum-told5 .given .1)
 
--- src/lib.rt:117:1
 returns-6 : tie.Need-returns-6
 unfolding numberOf
 returns-6 c =
@@ -150,7 +126,6 @@ returns-6 c =
     outside-unknown (c5 .count .result) (countFit 8 (a .t)) (c5 .count .ensures .0) (c4 .count2 .result) (countFit 8 (a .f))
     (c4 .count2 .ensures .0) (i.Cex (a .cond)) (c2 .enum-told4 .given .1) (c .enum-told6 .given .1)
 
--- src/lib.rt:117:1
 returns-7 : tie.Need-returns-7
 unfolding numberOf
 returns-7 c =

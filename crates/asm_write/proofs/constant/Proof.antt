@@ -13,39 +13,28 @@ use mathlib.Core.Path.{_≡_, refl, sym, ap, _∙_}
 use borrow.Author.Needs.{needs}
 use Rattle.asm_write.proofs.constant.Statement.{statement}
 use Rattle.asm_write.proofs.constant.Tie as tie
-use Rattle.asm_write.proofs.constant.Reads as reads
-use Rattle.asm_write.proofs.constant.Lts as lts
-use Rattle.asm_fits.proofs.constant.Reads as constant-reads
-use Rattle.asm_write.proofs.word_of.Reads as word-of-reads
 
--- src/lib.rt:77:11
 constant-requires : tie.Need-constant-requires
 constant-requires c κs = search needs
 
--- src/lib.rt:78:21
 enum-known-n : tie.Need-enum-known-n
 enum-known-n c = search needs
 
--- src/lib.rt:82:18
 cast-t9 : tie.Need-cast-t9
 cast-t9 c =
     let c1 = c .before in
     let c3 = c1 .before .before in
     let h = number-below 8 (c1 .n .given .0 .0) (c3 .constant .result) (c1 .n .given .1) (c3 .constant .ensures .1) in omega (arith, h)
 
--- src/lib.rt:78:27
 word-of-requires : tie.Need-word-of-requires
 word-of-requires c κs = search needs
 
--- src/lib.rt:85:25
 enum-told : tie.Need-enum-told
 enum-told c = search needs
 
--- src/lib.rt:86:25
 enum-told-2 : tie.Need-enum-told-2
 enum-told-2 c = search needs
 
--- src/lib.rt:74:1
 returns : tie.Need-returns
 unfolding numberOf
 returns c =
@@ -58,7 +47,6 @@ returns c =
     (n- .given .0 .0) (i.Alu (a .op) 1 (a .wb) (n- .given .0 .0) (a .dst)) (c .word-of .result) (n- .given .1) (c .word-of .ensures)
     refl
 
--- src/lib.rt:74:1
 returns-2 : tie.Need-returns-2
 unfolding numberOf
 returns-2 c =
@@ -68,7 +56,6 @@ returns-2 c =
     coded-unknown (c2 .constant .result) (constantFit (a .v)) (c2 .constant .ensures .0) (λ (n : ℕ). i.Alu (a .op) 1 (a .wb) n (a .dst))
     (c .enum-told .given .1)
 
--- src/lib.rt:74:1
 returns-3 : tie.Need-returns-3
 unfolding numberOf
 returns-3 c =

@@ -13,20 +13,13 @@ use mathlib.Core.Path.{_≡_, refl, sym, ap, _∙_}
 use borrow.Author.Needs.{needs}
 use Rattle.asm_write.proofs.immediate.Statement.{statement}
 use Rattle.asm_write.proofs.immediate.Tie as tie
-use Rattle.asm_write.proofs.immediate.Reads as reads
-use Rattle.asm_write.proofs.immediate.Lts as lts
-use Rattle.asm_fits.proofs.immediate.Reads as immediate-reads
-use Rattle.asm_write.proofs.word_of.Reads as word-of-reads
 
--- src/lib.rt:145:11
 immediate-requires : tie.Need-immediate-requires
 immediate-requires c κs = search needs
 
--- src/lib.rt:146:21
 enum-known-n : tie.Need-enum-known-n
 enum-known-n c = search needs
 
--- src/lib.rt:148:19
 cast-t9 : tie.Need-cast-t9
 cast-t9 c =
     let c1 = c .before in
@@ -34,19 +27,15 @@ cast-t9 c =
     let h = number-below 256 (c1 .n .given .0 .0) (c3 .immediate .result) (c1 .n .given .1) (c3 .immediate .ensures .1) in
     omega (arith, h)
 
--- src/lib.rt:146:27
 word-of-requires : tie.Need-word-of-requires
 word-of-requires c κs = search needs
 
--- src/lib.rt:151:25
 enum-told : tie.Need-enum-told
 enum-told c = search needs
 
--- src/lib.rt:152:25
 enum-told-2 : tie.Need-enum-told-2
 enum-told-2 c = search needs
 
--- src/lib.rt:142:1
 returns : tie.Need-returns
 unfolding numberOf
 returns c =
@@ -59,7 +48,6 @@ returns c =
     (λ (n : ℕ). i.MovImm (a .op) n (a .dst)) (n- .given .0 .0) (i.MovImm (a .op) (n- .given .0 .0) (a .dst)) (c .word-of .result)
     (n- .given .1) (c .word-of .ensures) refl
 
--- src/lib.rt:142:1
 returns-2 : tie.Need-returns-2
 unfolding numberOf
 returns-2 c =
@@ -69,7 +57,6 @@ returns-2 c =
     coded-unknown (c2 .immediate .result) (immediateFit (a .op) (a .plain) (a .v)) (c2 .immediate .ensures .0)
     (λ (n : ℕ). i.MovImm (a .op) n (a .dst)) (c .enum-told .given .1)
 
--- src/lib.rt:142:1
 returns-3 : tie.Need-returns-3
 unfolding numberOf
 returns-3 c =

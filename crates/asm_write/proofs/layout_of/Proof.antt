@@ -3,158 +3,122 @@ use mathlib.Core.Path.{_≡_, refl, sym, ap, _∙_}
 use borrow.Author.Needs.{needs}
 use Rattle.asm_write.proofs.layout_of.Statement.{statement}
 use Rattle.asm_write.proofs.layout_of.Tie as tie
-use Rattle.asm_write.proofs.layout_of.Reads as reads
-use Rattle.asm_write.proofs.layout_of.Lts as lts
 
--- src/lib.rt:227:31
 enum-told : tie.Need-enum-told
 enum-told c = search needs
 
--- src/lib.rt:228:24
 enum-known-x : tie.Need-enum-known-x
 enum-known-x c = search needs
 
--- src/lib.rt:229:24
 enum-known-x-2 : tie.Need-enum-known-x-2
 enum-known-x-2 c = search needs
 
--- src/lib.rt:230:24
 enum-known-x-3 : tie.Need-enum-known-x-3
 enum-known-x-3 c = search needs
 
--- src/lib.rt:231:27
 enum-told-2 : tie.Need-enum-told-2
 enum-told-2 c = search needs
 
--- src/lib.rt:232:31
 enum-told-3 : tie.Need-enum-told-3
 enum-told-3 c = search needs
 
--- src/lib.rt:233:31
 enum-told-4 : tie.Need-enum-told-4
 enum-told-4 c = search needs
 
--- src/lib.rt:234:32
 enum-told-5 : tie.Need-enum-told-5
 enum-told-5 c = search needs
 
--- src/lib.rt:235:29
 enum-told-6 : tie.Need-enum-told-6
 enum-told-6 c = search needs
 
--- src/lib.rt:236:53
 enum-told-7 : tie.Need-enum-told-7
 enum-told-7 c = search needs
 
--- src/lib.rt:242:14
 enum-told-8 : tie.Need-enum-told-8
 enum-told-8 c = search needs
 
--- src/lib.rt:243:33
 enum-told-9 : tie.Need-enum-told-9
 enum-told-9 c = search needs
 
--- src/lib.rt:244:30
 enum-told-10 : tie.Need-enum-told-10
 enum-told-10 c = search needs
 
--- src/lib.rt:249:14
 enum-told-11 : tie.Need-enum-told-11
 enum-told-11 c = search needs
 
--- src/lib.rt:255:14
 enum-told-12 : tie.Need-enum-told-12
 enum-told-12 c = search needs
 
--- src/lib.rt:261:14
 enum-told-13 : tie.Need-enum-told-13
 enum-told-13 c = search needs
 
--- src/lib.rt:267:14
 enum-told-14 : tie.Need-enum-told-14
 enum-told-14 c = search needs
 
--- src/lib.rt:223:1
 returns : tie.Need-returns
 unfolding layoutOf
 returns c = sym (ap layoutOf (c .enum-told .given .1))
 
--- src/lib.rt:223:1
 returns-2 : tie.Need-returns-2
 unfolding layoutOf
 returns-2 c = sym (ap layoutOf (c .before .x .given .1))
 
--- src/lib.rt:223:1
 returns-3 : tie.Need-returns-3
 unfolding layoutOf
 returns-3 c = sym (ap layoutOf (c .before .x2 .given .1))
 
--- src/lib.rt:223:1
 returns-4 : tie.Need-returns-4
 unfolding layoutOf
 returns-4 c = sym (ap layoutOf (c .before .x3 .given .1))
 
--- src/lib.rt:223:1
 returns-5 : tie.Need-returns-5
 unfolding layoutOf
 returns-5 c = sym (ap layoutOf (c .enum-told2 .given .1))
 
--- src/lib.rt:223:1
 returns-6 : tie.Need-returns-6
 unfolding layoutOf
 returns-6 c = sym (ap layoutOf (c .enum-told3 .given .1))
 
--- src/lib.rt:223:1
 returns-7 : tie.Need-returns-7
 unfolding layoutOf
 returns-7 c = sym (ap layoutOf (c .enum-told4 .given .1))
 
--- src/lib.rt:223:1
 returns-8 : tie.Need-returns-8
 unfolding layoutOf
 returns-8 c = sym (ap layoutOf (c .enum-told5 .given .1))
 
--- src/lib.rt:223:1
 returns-9 : tie.Need-returns-9
 unfolding layoutOf
 returns-9 c = sym (ap layoutOf (c .enum-told6 .given .1))
 
--- src/lib.rt:223:1
 returns-10 : tie.Need-returns-10
 unfolding layoutOf
 returns-10 c = sym (ap layoutOf (c .enum-told7 .given .1))
 
--- src/lib.rt:223:1
 returns-11 : tie.Need-returns-11
 unfolding layoutOf
 returns-11 c = sym (ap layoutOf (c .enum-told8 .given .1))
 
--- src/lib.rt:223:1
 returns-12 : tie.Need-returns-12
 unfolding layoutOf
 returns-12 c = sym (ap layoutOf (c .enum-told9 .given .1))
 
--- src/lib.rt:223:1
 returns-13 : tie.Need-returns-13
 unfolding layoutOf
 returns-13 c = sym (ap layoutOf (c .enum-told10 .given .1))
 
--- src/lib.rt:223:1
 returns-14 : tie.Need-returns-14
 unfolding layoutOf
 returns-14 c = sym (ap layoutOf (c .enum-told11 .given .1))
 
--- src/lib.rt:223:1
 returns-15 : tie.Need-returns-15
 unfolding layoutOf
 returns-15 c = sym (ap layoutOf (c .enum-told12 .given .1))
 
--- src/lib.rt:223:1
 returns-16 : tie.Need-returns-16
 unfolding layoutOf
 returns-16 c = sym (ap layoutOf (c .enum-told13 .given .1))
 
--- src/lib.rt:223:1
 returns-17 : tie.Need-returns-17
 unfolding layoutOf
 returns-17 c = sym (ap layoutOf (c .enum-told14 .given .1))

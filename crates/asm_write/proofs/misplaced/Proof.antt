@@ -3,14 +3,10 @@ use mathlib.Core.Path.{_≡_, refl, sym, ap, _∙_}
 use borrow.Author.Needs.{needs}
 use Rattle.asm_write.proofs.misplaced.Statement.{statement}
 use Rattle.asm_write.proofs.misplaced.Tie as tie
-use Rattle.asm_write.proofs.misplaced.Reads as reads
-use Rattle.asm_write.proofs.misplaced.Lts as lts
 
--- src/lib.rt:289:38
 add-past : tie.Need-add-past
 add-past c = search needs
 
--- src/lib.rt:285:1
 returns : tie.Need-returns
 unfolding misplaced?
 returns c = refl

@@ -3,67 +3,50 @@ use mathlib.Core.Path.{_≡_, refl, sym, ap, _∙_}
 use borrow.Author.Needs.{needs}
 use Rattle.asm_write.proofs.name_value.Statement.{statement}
 use Rattle.asm_write.proofs.name_value.Tie as tie
-use Rattle.asm_write.proofs.name_value.Reads as reads
-use Rattle.asm_write.proofs.name_value.Lts as lts
-use Rattle.asm_write.proofs.place_value.Reads as place-value-reads
 
--- src/lib.rt:393:29
 enum-told : tie.Need-enum-told
 enum-told c = search needs
 
--- src/lib.rt:393:29
 place-value-requires : tie.Need-place-value-requires
 place-value-requires c κs = search needs
 
--- src/lib.rt:394:30
 enum-told-2 : tie.Need-enum-told-2
 enum-told-2 c = search needs
 
--- src/lib.rt:394:30
 place-value-requires-2 : tie.Need-place-value-requires-2
 place-value-requires-2 c κs = search needs
 
--- src/lib.rt:395:23
 enum-known-l : tie.Need-enum-known-l
 enum-known-l c = search needs
 
--- src/lib.rt:396:29
 enum-told-3 : tie.Need-enum-told-3
 enum-told-3 c = search needs
 
--- src/lib.rt:396:29
 place-value-requires-3 : tie.Need-place-value-requires-3
 place-value-requires-3 c κs = search needs
 
--- src/lib.rt:397:25
 enum-told-4 : tie.Need-enum-told-4
 enum-told-4 c = search needs
 
--- src/lib.rt:397:25
 place-value-requires-4 : tie.Need-place-value-requires-4
 place-value-requires-4 c κs = search needs
 
--- src/lib.rt:389:1
 returns : tie.Need-returns
 unfolding nameValue
 returns c = c .place-value .ensures ∙ sym (ap (nameValue (c .before .before .before .args .p)) (c .before .enum-told .given .1))
 
--- src/lib.rt:389:1
 returns-2 : tie.Need-returns-2
 unfolding nameValue
 returns-2 c = c .place-value2 .ensures ∙ sym (ap (nameValue (c .before .before .before .args .p)) (c .before .enum-told2 .given .1))
 
--- src/lib.rt:389:1
 returns-3 : tie.Need-returns-3
 unfolding nameValue
 returns-3 c = sym (ap (nameValue (c .before .before .before .args .p)) (c .before .l .given .1))
 
--- src/lib.rt:389:1
 returns-4 : tie.Need-returns-4
 unfolding nameValue
 returns-4 c = c .place-value3 .ensures ∙ sym (ap (nameValue (c .before .before .before .args .p)) (c .before .enum-told3 .given .1))
 
--- src/lib.rt:389:1
 returns-5 : tie.Need-returns-5
 unfolding nameValue
 returns-5 c = c .place-value4 .ensures ∙ sym (ap (nameValue (c .before .before .before .args .p)) (c .before .enum-told4 .given .1))

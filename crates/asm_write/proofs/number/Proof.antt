@@ -3,178 +3,126 @@ use mathlib.Core.Path.{_≡_, refl, sym, ap, _∙_}
 use borrow.Author.Needs.{needs}
 use Rattle.asm_write.proofs.number.Statement.{statement}
 use Rattle.asm_write.proofs.number.Tie as tie
-use Rattle.asm_write.proofs.number.Reads as reads
-use Rattle.asm_write.proofs.number.Lts as lts
-use Rattle.asm_fits.proofs.byte.Reads as byte-reads
-use Rattle.asm_fits.proofs.word.Reads as word-reads
-use Rattle.asm_write.proofs.branch.Reads as branch-reads
-use Rattle.asm_write.proofs.branch_and_link.Reads as branch-and-link-reads
-use Rattle.asm_write.proofs.conditional.Reads as conditional-reads
-use Rattle.asm_write.proofs.constant.Reads as constant-reads
-use Rattle.asm_write.proofs.immediate.Reads as immediate-reads
-use Rattle.asm_write.proofs.load_relative.Reads as load-relative-reads
-use Rattle.asm_write.proofs.service.Reads as service-reads
-use Rattle.asm_write.proofs.set_priority.Reads as set-priority-reads
-use Rattle.asm_write.proofs.store_relative.Reads as store-relative-reads
-use Rattle.asm_write.proofs.word_of.Reads as word-of-reads
 
--- src/lib.rt:193:31
 enum-told : tie.Need-enum-told
 enum-told c = search needs
 
--- src/lib.rt:194:30
 enum-told-2 : tie.Need-enum-told-2
 enum-told-2 c = search needs
 
--- src/lib.rt:195:30
 enum-told-3 : tie.Need-enum-told-3
 enum-told-3 c = search needs
 
--- src/lib.rt:196:30
 enum-told-4 : tie.Need-enum-told-4
 enum-told-4 c = search needs
 
--- src/lib.rt:197:27
 enum-told-5 : tie.Need-enum-told-5
 enum-told-5 c = search needs
 
--- src/lib.rt:198:25
 enum-known-x : tie.Need-enum-known-x
 enum-known-x c = search needs
 
--- src/lib.rt:198:31
 byte-requires : tie.Need-byte-requires
 byte-requires c κs = search needs
 
--- src/lib.rt:199:25
 enum-known-x-2 : tie.Need-enum-known-x-2
 enum-known-x-2 c = search needs
 
--- src/lib.rt:199:31
 word-requires : tie.Need-word-requires
 word-requires c κs = search needs
 
--- src/lib.rt:200:26
 enum-known-x-3 : tie.Need-enum-known-x-3
 enum-known-x-3 c = search needs
 
--- src/lib.rt:200:32
 word-of-requires : tie.Need-word-of-requires
 word-of-requires c κs = search needs
 
--- src/lib.rt:201:23
 enum-known-x-4 : tie.Need-enum-known-x-4
 enum-known-x-4 c = search needs
 
--- src/lib.rt:201:29
 branch-and-link-requires : tie.Need-branch-and-link-requires
 branch-and-link-requires c κs = search needs
 
--- src/lib.rt:202:29
 enum-known-x-5 : tie.Need-enum-known-x-5
 enum-known-x-5 c = search needs
 
--- src/lib.rt:202:47
 branch-requires : tie.Need-branch-requires
 branch-requires c κs = search needs
 
--- src/lib.rt:203:31
 enum-known-x-6 : tie.Need-enum-known-x-6
 enum-known-x-6 c = search needs
 
--- src/lib.rt:203:55
 constant-requires : tie.Need-constant-requires
 constant-requires c κs = search needs
 
--- src/lib.rt:204:27
 enum-known-x-7 : tie.Need-enum-known-x-7
 enum-known-x-7 c = search needs
 
--- src/lib.rt:204:33
 set-priority-requires : tie.Need-set-priority-requires
 set-priority-requires c κs = search needs
 
--- src/lib.rt:205:24
 enum-known-x-8 : tie.Need-enum-known-x-8
 enum-known-x-8 c = search needs
 
--- src/lib.rt:205:30
 service-requires : tie.Need-service-requires
 service-requires c κs = search needs
 
--- src/lib.rt:207:13
 enum-known-x-9 : tie.Need-enum-known-x-9
 enum-known-x-9 c = search needs
 
--- src/lib.rt:210:14
 conditional-requires : tie.Need-conditional-requires
 conditional-requires c κs = search needs
 
--- src/lib.rt:212:13
 enum-known-x-10 : tie.Need-enum-known-x-10
 enum-known-x-10 c = search needs
 
--- src/lib.rt:216:14
 immediate-requires : tie.Need-immediate-requires
 immediate-requires c κs = search needs
 
--- src/lib.rt:217:26
 enum-known-x-11 : tie.Need-enum-known-x-11
 enum-known-x-11 c = search needs
 
--- src/lib.rt:217:49
 load-relative-requires : tie.Need-load-relative-requires
 load-relative-requires c κs = search needs
 
--- src/lib.rt:218:26
 enum-known-x-12 : tie.Need-enum-known-x-12
 enum-known-x-12 c = search needs
 
--- src/lib.rt:218:49
 store-relative-requires : tie.Need-store-relative-requires
 store-relative-requires c κs = search needs
 
--- src/lib.rt:189:1
 returns : tie.Need-returns
 unfolding numberOf
 returns c = sym (ap (numberOf (c .before .before .args .p)) (c .enum-told .given .1))
 
--- src/lib.rt:189:1
 returns-2 : tie.Need-returns-2
 unfolding numberOf
 returns-2 c = sym (ap (numberOf (c .before .before .args .p)) (c .enum-told2 .given .1))
 
--- src/lib.rt:189:1
 returns-3 : tie.Need-returns-3
 unfolding numberOf
 returns-3 c = sym (ap (numberOf (c .before .before .args .p)) (c .enum-told3 .given .1))
 
--- src/lib.rt:189:1
 returns-4 : tie.Need-returns-4
 unfolding numberOf
 returns-4 c = sym (ap (numberOf (c .before .before .args .p)) (c .enum-told4 .given .1))
 
--- src/lib.rt:189:1
 returns-5 : tie.Need-returns-5
 unfolding numberOf
 returns-5 c = sym (ap (numberOf (c .before .before .args .p)) (c .enum-told5 .given .1))
 
--- src/lib.rt:189:1
 returns-6 : tie.Need-returns-6
 unfolding numberOf
 returns-6 c = c .byte .ensures .0 ∙ sym (ap (numberOf (c .before .before .before .before .args .p)) (c .before .before .x .given .1))
 
--- src/lib.rt:189:1
 returns-7 : tie.Need-returns-7
 unfolding numberOf
 returns-7 c = c .word .ensures ∙ sym (ap (numberOf (c .before .before .before .before .args .p)) (c .before .before .x2 .given .1))
 
--- src/lib.rt:189:1
 returns-8 : tie.Need-returns-8
 unfolding numberOf
 returns-8 c = c .word-of .ensures ∙ sym (ap (numberOf (c .before .before .before .before .args .p)) (c .before .before .x3 .given .1))
 
--- src/lib.rt:189:1
 returns-9 : tie.Need-returns-9
 unfolding numberOf
 returns-9 c =
@@ -182,37 +130,30 @@ returns-9 c =
     let c4 = c2 .before .before in
     c .branch-and-link .ensures ∙ sym (ap (numberOf (c4 .args .p)) (c2 .x4 .given .1))
 
--- src/lib.rt:189:1
 returns-10 : tie.Need-returns-10
 unfolding numberOf
 returns-10 c = c .branch .ensures ∙ sym (ap (numberOf (c .before .before .before .before .args .p)) (c .before .before .x5 .given .1))
 
--- src/lib.rt:189:1
 returns-11 : tie.Need-returns-11
 unfolding numberOf
 returns-11 c = c .constant .ensures ∙ sym (ap (numberOf (c .before .before .before .before .args .p)) (c .before .before .x6 .given .1))
 
--- src/lib.rt:189:1
 returns-12 : tie.Need-returns-12
 unfolding numberOf
 returns-12 c = c .set-priority .ensures ∙ sym (ap (numberOf (c .before .before .before .before .args .p)) (c .before .before .x7 .given .1))
 
--- src/lib.rt:189:1
 returns-13 : tie.Need-returns-13
 unfolding numberOf
 returns-13 c = c .service .ensures ∙ sym (ap (numberOf (c .before .before .before .before .args .p)) (c .before .before .x8 .given .1))
 
--- src/lib.rt:189:1
 returns-14 : tie.Need-returns-14
 unfolding numberOf
 returns-14 c = c .conditional .ensures ∙ sym (ap (numberOf (c .before .before .before .before .args .p)) (c .before .before .x9 .given .1))
 
--- src/lib.rt:189:1
 returns-15 : tie.Need-returns-15
 unfolding numberOf
 returns-15 c = c .immediate .ensures ∙ sym (ap (numberOf (c .before .before .before .before .args .p)) (c .before .before .x10 .given .1))
 
--- src/lib.rt:189:1
 returns-16 : tie.Need-returns-16
 unfolding numberOf
 returns-16 c =
@@ -220,7 +161,6 @@ returns-16 c =
     let c4 = c2 .before .before in
     c .load-relative .ensures ∙ sym (ap (numberOf (c4 .args .p)) (c2 .x11 .given .1))
 
--- src/lib.rt:189:1
 returns-17 : tie.Need-returns-17
 unfolding numberOf
 returns-17 c =

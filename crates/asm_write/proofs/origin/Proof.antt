@@ -9,14 +9,10 @@ use mathlib.Core.Path.{_≡_, refl, sym, ap, _∙_}
 use borrow.Author.Needs.{needs}
 use Rattle.asm_write.proofs.origin.Statement.{statement}
 use Rattle.asm_write.proofs.origin.Tie as tie
-use Rattle.asm_write.proofs.origin.Reads as reads
-use Rattle.asm_write.proofs.origin.Lts as lts
 
--- src/lib.rt:326:22
 enum-known-v : tie.Need-enum-known-v
 enum-known-v c = search needs
 
--- src/lib.rt:328:17
 returns : tie.Need-returns
 returns c =
     let c2 = c .before .before in
@@ -25,21 +21,17 @@ returns c =
     let f : SFits w32 (v .given .0 .0) = search needs in
     org-minus (c4 .args .v) (v .given .0 .0) (v .given .1) (mag (v .given .0 .0)) (from-minus (v .given .0 .0) f (c .if1 .taken))
 
--- src/lib.rt:330:25
 cast-t5 : tie.Need-cast-t5
 cast-t5 c =
     let c2 = c .before .before in
     let f : SFits w32 (c2 .v .given .0 .0) = search needs in up-cast (c2 .v .given .0 .0) f (c .if1 .left)
 
--- src/lib.rt:332:27
 enum-told : tie.Need-enum-told
 enum-told c = search needs
 
--- src/lib.rt:333:27
 enum-told-2 : tie.Need-enum-told-2
 enum-told-2 c = search needs
 
--- src/lib.rt:322:1
 returns-2 : tie.Need-returns-2
 returns-2 c =
     let c2 = c .before .before in
@@ -49,11 +41,9 @@ returns-2 c =
     org-plus (c4 .args .v) (v .given .0 .0) (v .given .1) (natAbs (toZ w32 (ofZ w32 (v .given .0 .0))))
     (from-plus (v .given .0 .0) f (c .if1 .left))
 
--- src/lib.rt:322:1
 returns-3 : tie.Need-returns-3
 returns-3 c = search needs
 
--- src/lib.rt:322:1
 returns-4 : tie.Need-returns-4
 returns-4 c = search needs
 

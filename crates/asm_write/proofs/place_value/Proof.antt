@@ -6,18 +6,13 @@ use mathlib.Core.Path.{_≡_, refl, sym, ap, _∙_}
 use borrow.Author.Needs.{needs}
 use Rattle.asm_write.proofs.place_value.Statement.{statement}
 use Rattle.asm_write.proofs.place_value.Tie as tie
-use Rattle.asm_write.proofs.place_value.Reads as reads
-use Rattle.asm_write.proofs.place_value.Lts as lts
 
--- src/lib.rt:383:29
 cast-t3 : tie.Need-cast-t3
 cast-t3 c = search needs
 
--- src/lib.rt:383:9
 returns : tie.Need-returns
 returns c = ap v.Known (toZ-pos w32 (c .before .args .p) (c .if1 .taken)) ∙ value-in (c .before .args .p) (c .if1 .taken)
 
--- src/lib.rt:379:1
 returns-2 : tie.Need-returns-2
 returns-2 c = value-past (c .before .args .p) (c .if1 .left)
 

@@ -2,26 +2,19 @@ use Rattle.asm_write.proofs.Laws.{room-none, room-past, room-in}
 use borrow.Author.Needs.{needs}
 use Rattle.asm_write.proofs.room.Statement.{statement}
 use Rattle.asm_write.proofs.room.Tie as tie
-use Rattle.asm_write.proofs.room.Reads as reads
-use Rattle.asm_write.proofs.room.Lts as lts
 
--- src/lib.rt:342:9
 returns : tie.Need-returns
 returns c = room-none (c .before .args .p) (c .before .args .n) (c .if1 .taken)
 
--- src/lib.rt:344:16
 add-if2 : tie.Need-add-if2
 add-if2 c = search needs
 
--- src/lib.rt:345:9
 returns-2 : tie.Need-returns-2
 returns-2 c = room-past (c .before .before .args .p) (c .before .before .args .n) (c .before .if1 .left) (c .if2 .taken)
 
--- src/lib.rt:347:17
 add-t7 : tie.Need-add-t7
 add-t7 c = search needs
 
--- src/lib.rt:338:1
 returns-3 : tie.Need-returns-3
 returns-3 c = room-in (c .before .before .args .p) (c .before .before .args .n) (c .before .if1 .left) (c .if2 .left)
 

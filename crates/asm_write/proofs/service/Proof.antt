@@ -13,39 +13,28 @@ use mathlib.Core.Path.{_≡_, refl, sym, ap, _∙_}
 use borrow.Author.Needs.{needs}
 use Rattle.asm_write.proofs.service.Statement.{statement}
 use Rattle.asm_write.proofs.service.Tie as tie
-use Rattle.asm_write.proofs.service.Reads as reads
-use Rattle.asm_write.proofs.service.Lts as lts
-use Rattle.asm_fits.proofs.count.Reads as count-reads
-use Rattle.asm_write.proofs.word_of.Reads as word-of-reads
 
--- src/lib.rt:107:11
 count-requires : tie.Need-count-requires
 count-requires c κs = search needs
 
--- src/lib.rt:108:21
 enum-known-n : tie.Need-enum-known-n
 enum-known-n c = search needs
 
--- src/lib.rt:109:21
 cast-t6 : tie.Need-cast-t6
 cast-t6 c =
     let c1 = c .before in
     let c3 = c1 .before .before in
     let h = number-below 16 (c1 .n .given .0 .0) (c3 .count .result) (c1 .n .given .1) (c3 .count .ensures .1) in omega (arith, h)
 
--- src/lib.rt:108:27
 word-of-requires : tie.Need-word-of-requires
 word-of-requires c κs = search needs
 
--- src/lib.rt:111:25
 enum-told : tie.Need-enum-told
 enum-told c = search needs
 
--- src/lib.rt:112:25
 enum-told-2 : tie.Need-enum-told-2
 enum-told-2 c = search needs
 
--- src/lib.rt:104:1
 returns : tie.Need-returns
 unfolding numberOf
 returns c =
@@ -56,7 +45,6 @@ returns c =
     coded-number (c4 .count .result) (countFit 16 (c5 .args .v)) (c4 .count .ensures .0) i.Svc (n .given .0 .0) (i.Svc (n .given .0 .0))
     (c .word-of .result) (n .given .1) (c .word-of .ensures) refl
 
--- src/lib.rt:104:1
 returns-2 : tie.Need-returns-2
 unfolding numberOf
 returns-2 c =
@@ -64,7 +52,6 @@ returns-2 c =
     let c3 = c2 .before in
     coded-unknown (c2 .count .result) (countFit 16 (c3 .args .v)) (c2 .count .ensures .0) (i.Svc) (c .enum-told .given .1)
 
--- src/lib.rt:104:1
 returns-3 : tie.Need-returns-3
 unfolding numberOf
 returns-3 c =

@@ -9,15 +9,10 @@ use mathlib.Core.Path.{_≡_, refl, sym, ap, _∙_}
 use borrow.Author.Needs.{needs}
 use Rattle.asm_write.proofs.space.Statement.{statement}
 use Rattle.asm_write.proofs.space.Tie as tie
-use Rattle.asm_write.proofs.space.Reads as reads
-use Rattle.asm_write.proofs.space.Lts as lts
-use Rattle.asm_write.proofs.room.Reads as room-reads
 
--- src/lib.rt:354:22
 enum-known-v : tie.Need-enum-known-v
 enum-known-v c = search needs
 
--- src/lib.rt:356:17
 returns : tie.Need-returns
 returns c =
     let c2 = c .before .before in
@@ -27,25 +22,20 @@ returns c =
     bss-minus (c4 .args .v) (v .given .0 .0) (v .given .1) (c4 .args .p) (mag (v .given .0 .0))
     (from-minus (v .given .0 .0) f (c .if1 .taken))
 
--- src/lib.rt:358:21
 cast-room : tie.Need-cast-room
 cast-room c =
     let c2 = c .before .before in
     let f : SFits w32 (c2 .v .given .0 .0) = search needs in up-cast (c2 .v .given .0 .0) f (c .if1 .left)
 
--- src/lib.rt:358:13
 room-requires : tie.Need-room-requires
 room-requires c κs = search needs
 
--- src/lib.rt:360:27
 enum-told : tie.Need-enum-told
 enum-told c = search needs
 
--- src/lib.rt:361:27
 enum-told-2 : tie.Need-enum-told-2
 enum-told-2 c = search needs
 
--- src/lib.rt:350:1
 returns-2 : tie.Need-returns-2
 returns-2 c =
     let c1 = c .before in
@@ -56,11 +46,9 @@ returns-2 c =
     bss-plus (c5 .args .v) (v .given .0 .0) (v .given .1) (c5 .args .p) (natAbs (toZ w32 (ofZ w32 (v .given .0 .0)))) (c .room .result)
     (c .room .ensures) (from-plus (v .given .0 .0) f (c1 .if1 .left))
 
--- src/lib.rt:350:1
 returns-3 : tie.Need-returns-3
 returns-3 c = search needs
 
--- src/lib.rt:350:1
 returns-4 : tie.Need-returns-4
 returns-4 c = search needs
 

@@ -13,21 +13,13 @@ use mathlib.Core.Path.{_≡_, refl, sym, ap, _∙_}
 use borrow.Author.Needs.{needs}
 use Rattle.asm_write.proofs.store_relative.Statement.{statement}
 use Rattle.asm_write.proofs.store_relative.Tie as tie
-use Rattle.asm_write.proofs.store_relative.Reads as reads
-use Rattle.asm_write.proofs.store_relative.Lts as lts
-use Rattle.asm_fits.proofs.offset.Reads as offset-reads
-use Rattle.asm_write.proofs.word_of.Reads as word-of-reads
-use Rattle.word.proofs.signed.Reads as signed-reads
 
--- src/lib.rt:176:11
 offset-requires : tie.Need-offset-requires
 offset-requires c κs = search needs
 
--- src/lib.rt:177:21
 enum-known-n : tie.Need-enum-known-n
 enum-known-n c = search needs
 
--- src/lib.rt:178:18
 signed-requires : tie.Need-signed-requires
 signed-requires c κs =
     let c1 = c .before in
@@ -35,19 +27,15 @@ signed-requires c κs =
     let h = number-below 128 (c1 .n .given .0 .0) (c3 .offset .result) (c1 .n .given .1) (c3 .offset .ensures .1) in
     (omega arith, omega (arith, h))
 
--- src/lib.rt:177:27
 word-of-requires : tie.Need-word-of-requires
 word-of-requires c κs = search needs
 
--- src/lib.rt:183:25
 enum-told : tie.Need-enum-told
 enum-told c = search needs
 
--- src/lib.rt:184:25
 enum-told-2 : tie.Need-enum-told-2
 enum-told-2 c = search needs
 
--- src/lib.rt:173:1
 returns : tie.Need-returns
 unfolding numberOf
 returns c =
@@ -63,7 +51,6 @@ returns c =
     (i.Str (signed .result) (a .wb) (a .src) (a .dst)) (c .word-of .result) (c3 .n .given .1) (rw e at (c .word-of .ensures))
     (ap (λ (z : ℤ). i.Str z (a .wb) (a .src) (a .dst)) (signed .ensures))
 
--- src/lib.rt:173:1
 returns-2 : tie.Need-returns-2
 unfolding numberOf
 returns-2 c =
@@ -73,7 +60,6 @@ returns-2 c =
     coded-unknown (c2 .offset .result) (offsetFit (a .v)) (c2 .offset .ensures .0)
     (λ (n : ℕ). i.Str (signedOf 64 n) (a .wb) (a .src) (a .dst)) (c .enum-told .given .1)
 
--- src/lib.rt:173:1
 returns-3 : tie.Need-returns-3
 unfolding numberOf
 returns-3 c =

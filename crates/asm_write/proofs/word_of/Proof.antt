@@ -3,23 +3,16 @@ use Rattle.asm_write.proofs.Laws.{encoded-word, encoded-refused}
 use borrow.Author.Needs.{needs}
 use Rattle.asm_write.proofs.word_of.Statement.{statement}
 use Rattle.asm_write.proofs.word_of.Tie as tie
-use Rattle.asm_write.proofs.word_of.Reads as reads
-use Rattle.asm_write.proofs.word_of.Lts as lts
-use Rattle.isa.proofs.encode.Reads as encode-reads
 
--- src/lib.rt:40:11
 encode-requires : tie.Need-encode-requires
 encode-requires c κs = search needs
 
--- src/lib.rt:41:23
 enum-known-w : tie.Need-enum-known-w
 enum-known-w c = search needs
 
--- src/lib.rt:42:29
 enum-told : tie.Need-enum-told
 enum-told c = search needs
 
--- src/lib.rt:37:1
 returns : tie.Need-returns
 returns c =
     let c1 = c .before in
@@ -27,7 +20,6 @@ returns c =
     let c4 = c3 .before in
     encoded-word (c3 .encode .result) (encodeOf (c4 .args .x)) (c1 .w .given .0 .0) (c3 .encode .ensures) (c1 .w .given .1)
 
--- src/lib.rt:37:1
 returns-2 : tie.Need-returns-2
 returns-2 c =
     let c2 = c .before .before in

@@ -4,32 +4,24 @@ use Rattle.journal.specs.Call.{backVerdict}
 use borrow.Author.Needs.{needs}
 use Rattle.back.proofs.back_verdict.Statement.{statement}
 use Rattle.back.proofs.back_verdict.Tie as tie
-use Rattle.back.proofs.back_verdict.Reads as reads
-use Rattle.back.proofs.back_verdict.Lts as lts
-use Rattle.back.proofs.journal_fits.Reads as journal-fits-reads
 
--- src/lib.rt:92:9
 returns : tie.Need-returns
 unfolding backVerdict
 returns c = rw (ne-eqb _ _ (c .if1 .taken))
 
--- src/lib.rt:95:9
 returns-2 : tie.Need-returns-2
 unfolding backVerdict
 returns-2 c = rw (eq-eqb _ _ (c .before .if1 .left), ne-eqb _ _ (c .if2 .taken))
 
--- src/lib.rt:97:9
 journal-fits-requires : tie.Need-journal-fits-requires
 journal-fits-requires c κs = search needs
 
--- src/lib.rt:98:9
 returns-3 : tie.Need-returns-3
 unfolding backVerdict
 returns-3 c =
     let e3 = sym (c .before .journal-fits .ensures) ∙ not-true _ (c .if3 .taken) in
     rw (eq-eqb _ _ (c .before .before .before .if1 .left), eq-eqb _ _ (c .before .before .if2 .left), e3)
 
--- src/lib.rt:101:9
 returns-4 : tie.Need-returns-4
 unfolding backVerdict
 returns-4 c =
@@ -42,7 +34,6 @@ returns-4 c =
           (c .if4 .taken),
     )
 
--- src/lib.rt:80:1
 returns-5 : tie.Need-returns-5
 unfolding backVerdict
 returns-5 c =

@@ -9,53 +9,37 @@ use Rattle.back.proofs.Laws.{memory-copied}
 use borrow.Author.Needs.{needs}
 use Rattle.back.proofs.copy_out.Statement.{statement}
 use Rattle.back.proofs.copy_out.Tie as tie
-use Rattle.back.proofs.copy_out.Reads as reads
-use Rattle.back.proofs.copy_out.Lts as lts
-use Rattle.back.proofs.put_bytes.Reads as put-bytes-reads
-use Rattle.back.proofs.put_state.Reads as put-state-reads
-use Rattle.little_endian.proofs.two_at.Reads as two-at-reads
 
--- src/lib.rt:47:13
 mul-o : tie.Need-mul-o
 mul-o c = search needs
 
--- src/lib.rt:48:5
 put-state-requires : tie.Need-put-state-requires
 put-state-requires c κs = search needs
 
--- src/lib.rt:49:32
 add-put-bytes : tie.Need-add-put-bytes
 add-put-bytes c = search needs
 
--- src/lib.rt:49:5
 put-bytes-requires : tie.Need-put-bytes-requires
 put-bytes-requires c κs = search needs
 
--- src/lib.rt:50:43
 add-two-at : tie.Need-add-two-at
 add-two-at c = search needs
 
--- src/lib.rt:50:9
 two-at-requires : tie.Need-two-at-requires
 two-at-requires c κs = search needs
 
--- src/lib.rt:51:32
 add-put-bytes-2 : tie.Need-add-put-bytes-2
 add-put-bytes-2 c = search needs
 
--- src/lib.rt:51:5
 put-bytes-requires-2 : tie.Need-put-bytes-requires-2
 put-bytes-requires-2 c κs = search needs
 
--- src/lib.rt:40:1
 same-length : tie.Need-same-length
 same-length c = search needs
 
--- src/lib.rt:40:1
 same-length-2 : tie.Need-same-length-2
 same-length-2 c = search needs
 
--- src/lib.rt:40:1
 returns : tie.Need-returns
 returns c =
     let s = c .before .before .before .before .before .before .before .before .before .before .before .before .before .before .before

@@ -9,10 +9,6 @@ use Rattle.journal.specs.Back.{lentOf, backOf}
 use Rattle.back.proofs.Laws.{back-turn, back-end}
 use Rattle.back.proofs.go_back.Statement.{statement}
 use Rattle.back.proofs.go_back.Tie as tie
-use Rattle.back.proofs.go_back.Reads as reads
-use Rattle.back.proofs.go_back.Lts as lts
-use Rattle.back.proofs.copy_out.Reads as copy-out-reads
-use Rattle.back.proofs.place_before.Reads as place-before-reads
 
 abbrev Inv-loop : tie.InvT-loop
 Inv-loop memory₀ state₀ journal k places left₀ c₀ p₀ memory state left c p =
@@ -22,42 +18,33 @@ Inv-loop memory₀ state₀ journal k places left₀ c₀ p₀ memory state left
 abbrev μ-loop : tie.MeasureT-loop
 μ-loop memory₀ state₀ journal k places left₀ c₀ p₀ memory state left c p = left
 
--- src/lib.rt:126:18
 cast-places : tie.Need-cast-places Inv-loop μ-loop
 cast-places c = omega arith
 
--- src/lib.rt:130:5
 loop-holds : tie.Need-loop-holds Inv-loop μ-loop
 loop-holds c = let s = c .before .before .before in (s .pre .0, s .pre .1, s .pre .3, s .pre .4, refl)
 
--- src/lib.rt:131:9
 place-before-requires : tie.Need-place-before-requires Inv-loop μ-loop
 place-before-requires c κs = search needs
 
--- src/lib.rt:132:42
 cast-copy-out : tie.Need-cast-copy-out Inv-loop μ-loop
 cast-copy-out c = omega arith
 
--- src/lib.rt:132:9
 copy-out-requires : tie.Need-copy-out-requires Inv-loop μ-loop
 copy-out-requires c κs =
     let l = c .before .before .before .before .loop in
     let q = c .before .before .place-before .ensures .1 in
     (l .inv .0, l .inv .1, omega arith)
 
--- src/lib.rt:133:9
 sub-c : tie.Need-sub-c Inv-loop μ-loop
 sub-c c = omega arith
 
--- src/lib.rt:134:9
 sub-left : tie.Need-sub-left Inv-loop μ-loop
 sub-left c = omega arith
 
--- src/lib.rt:130:5
 loop-less : tie.Need-loop-less Inv-loop μ-loop
 loop-less c = omega arith
 
--- src/lib.rt:130:5
 loop-again : tie.Need-loop-again Inv-loop μ-loop
 loop-again c =
     let s = c .before .before .before .before .before .before .before .before .before .before .before .before .before in
@@ -73,15 +60,12 @@ loop-again c =
           (o .ensures .1) ∙ l .inv .4,
     )
 
--- src/lib.rt:118:1
 same-length : tie.Need-same-length Inv-loop μ-loop
 same-length c = c .before .loop .inv .0 ∙ sym (c .before .before .before .before .before .pre .0)
 
--- src/lib.rt:118:1
 same-length-2 : tie.Need-same-length-2 Inv-loop μ-loop
 same-length-2 c = c .before .loop .inv .1 ∙ sym (c .before .before .before .before .before .pre .1)
 
--- src/lib.rt:118:1
 returns : tie.Need-returns Inv-loop μ-loop
 returns c =
     let s = c .before .before .before .before .before in

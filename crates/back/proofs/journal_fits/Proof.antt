@@ -3,25 +3,19 @@ use borrow.Author.Tests.{eq-eqb, ne-eqb, lt-leb, le-leb}
 use Rattle.journal.specs.Ring.{journalFits}
 use Rattle.back.proofs.journal_fits.Statement.{statement}
 use Rattle.back.proofs.journal_fits.Tie as tie
-use Rattle.back.proofs.journal_fits.Reads as reads
-use Rattle.back.proofs.journal_fits.Lts as lts
 
--- src/lib.rt:62:9
 returns : tie.Need-returns
 unfolding journalFits
 returns c = rw (eq-eqb _ _ (c .if1 .taken))
 
--- src/lib.rt:65:9
 returns-2 : tie.Need-returns-2
 unfolding journalFits
 returns-2 c = rw (ne-eqb _ _ (c .before .if1 .left), lt-leb _ _ (c .if2 .taken))
 
--- src/lib.rt:68:9
 returns-3 : tie.Need-returns-3
 unfolding journalFits
 returns-3 c = rw (ne-eqb _ _ (c .before .before .if1 .left), le-leb _ _ (c .before .if2 .left), ne-eqb _ _ (c .if3 .taken))
 
--- src/lib.rt:71:9
 returns-4 : tie.Need-returns-4
 unfolding journalFits
 returns-4 c =
@@ -32,7 +26,6 @@ returns-4 c =
       lt-leb _ _ (c .if4 .taken),
     )
 
--- src/lib.rt:57:1
 returns-5 : tie.Need-returns-5
 unfolding journalFits
 returns-5 c =

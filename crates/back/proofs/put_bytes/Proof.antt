@@ -9,9 +9,6 @@ use lib.ListN.{length, length-set}
 use Rattle.back.proofs.Laws.{rest, bytes-start, bytes-turn, bytes-end}
 use Rattle.back.proofs.put_bytes.Statement.{statement}
 use Rattle.back.proofs.put_bytes.Tie as tie
-use Rattle.back.proofs.put_bytes.Reads as reads
-use Rattle.back.proofs.put_bytes.Lts as lts
-use Rattle.std.proofs.num.wrapping_add_u16.Reads as wrapping-add-u16-reads
 
 abbrev Inv-loop : tie.InvT-loop
 Inv-loop memory₀ journal from a n i₀ at₀ memory i at =
@@ -21,39 +18,30 @@ Inv-loop memory₀ journal from a n i₀ at₀ memory i at =
 abbrev μ-loop : tie.MeasureT-loop
 μ-loop memory₀ journal from a n i₀ at₀ memory i at = n - i
 
--- src/lib.rt:18:5
 loop-holds : tie.Need-loop-holds Inv-loop μ-loop
 loop-holds c = let s = c .before .before in (s .pre .0, omega arith, omega arith, refl)
 
--- src/lib.rt:19:17
 cast-x : tie.Need-cast-x Inv-loop μ-loop
 cast-x c = search needs
 
--- src/lib.rt:20:29
 add-memory : tie.Need-add-memory Inv-loop μ-loop
 add-memory c = search needs
 
--- src/lib.rt:20:21
 shared-slice-read-memory : tie.Need-shared-slice-read-memory Inv-loop μ-loop
 shared-slice-read-memory c = search needs
 
--- src/lib.rt:20:9
 slice-write-memory : tie.Need-slice-write-memory Inv-loop μ-loop
 slice-write-memory c = search needs
 
--- src/lib.rt:21:9
 wrapping-add-u16-requires : tie.Need-wrapping-add-u16-requires Inv-loop μ-loop
 wrapping-add-u16-requires c κs = search needs
 
--- src/lib.rt:22:9
 add-i : tie.Need-add-i Inv-loop μ-loop
 add-i c = search needs
 
--- src/lib.rt:18:5
 loop-less : tie.Need-loop-less Inv-loop μ-loop
 loop-less c = search needs
 
--- src/lib.rt:18:5
 loop-again : tie.Need-loop-again Inv-loop μ-loop
 loop-again c =
     let s = c .before .before .before .before .before .before in
@@ -67,11 +55,9 @@ loop-again c =
       bytes-turn (l .memory) b (s .args .from) (s .args .a) (s .args .n) (l .i) (l .at) (s .pre .1) t (w .2) ∙ w .3,
     )
 
--- src/lib.rt:11:1
 same-length : tie.Need-same-length Inv-loop μ-loop
 same-length c = c .before .loop .inv .0 ∙ sym (c .before .before .before .before .pre .0)
 
--- src/lib.rt:11:1
 returns : tie.Need-returns Inv-loop μ-loop
 returns c =
     let s = c .before .before .before .before in

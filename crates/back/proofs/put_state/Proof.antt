@@ -9,8 +9,6 @@ use Rattle.machine.specs.Memory.{byteAt}
 use Rattle.back.proofs.Laws.{state-turn, state-copied}
 use Rattle.back.proofs.put_state.Statement.{statement}
 use Rattle.back.proofs.put_state.Tie as tie
-use Rattle.back.proofs.put_state.Reads as reads
-use Rattle.back.proofs.put_state.Lts as lts
 
 abbrev Inv-loop : tie.InvT-loop
 Inv-loop state₀ journal p o i₀ state i =
@@ -19,35 +17,27 @@ Inv-loop state₀ journal p o i₀ state i =
 abbrev μ-loop : tie.MeasureT-loop
 μ-loop state₀ journal p o i₀ state i = 32 - i
 
--- src/lib.rt:31:13
 mul-o : tie.Need-mul-o Inv-loop μ-loop
 mul-o c = search needs
 
--- src/lib.rt:33:5
 loop-holds : tie.Need-loop-holds Inv-loop μ-loop
 loop-holds c = (c .pre .0, omega arith, refl, λ k h. absurd (omega arith))
 
--- src/lib.rt:34:28
 add-state : tie.Need-add-state Inv-loop μ-loop
 add-state c = search needs
 
--- src/lib.rt:34:20
 shared-slice-read-state : tie.Need-shared-slice-read-state Inv-loop μ-loop
 shared-slice-read-state c = search needs
 
--- src/lib.rt:34:9
 slice-write-state : tie.Need-slice-write-state Inv-loop μ-loop
 slice-write-state c = search needs
 
--- src/lib.rt:35:9
 add-i : tie.Need-add-i Inv-loop μ-loop
 add-i c = search needs
 
--- src/lib.rt:33:5
 loop-less : tie.Need-loop-less Inv-loop μ-loop
 loop-less c = search needs
 
--- src/lib.rt:33:5
 loop-again : tie.Need-loop-again Inv-loop μ-loop
 loop-again c =
     let s = c .before .before .before in
@@ -57,11 +47,9 @@ loop-again c =
     let t = c .before .loop-test .taken in
     (simp length-set (w .0), omega arith, refl, λ k h. state-turn (l .state) b (s .args .p) (l .i) (w .0) t (w .3) k h)
 
--- src/lib.rt:27:1
 same-length : tie.Need-same-length Inv-loop μ-loop
 same-length c = c .before .loop .inv .0 ∙ sym (c .before .before .pre .0)
 
--- src/lib.rt:27:1
 returns : tie.Need-returns Inv-loop μ-loop
 returns c =
     let s = c .before .before in

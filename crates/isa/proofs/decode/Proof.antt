@@ -3,12 +3,6 @@ use Rattle.isa.specs.Decode.{decodeOf}
 use borrow.Author.Needs.{needs}
 use Rattle.isa.proofs.decode.Statement.{statement}
 use Rattle.isa.proofs.decode.Tie as tie
-use Rattle.isa.proofs.decode.Reads as reads
-use Rattle.isa.proofs.decode.Lts as lts
-use Rattle.isa.proofs.memory.Reads as memory-reads
-use Rattle.isa.proofs.misc.Reads as misc-reads
-use Rattle.isa.proofs.relative.Reads as relative-reads
-use Rattle.word.proofs.signed.Reads as signed-reads
 
 signed-requires : tie.Need-signed-requires
 signed-requires c κs = search needs

@@ -7,20 +7,6 @@ use Rattle.isa.specs.Encode.{encodeOf}
 use borrow.Author.Needs.{needs}
 use Rattle.isa.proofs.encode.Statement.{statement}
 use Rattle.isa.proofs.encode.Tie as tie
-use Rattle.isa.proofs.encode.Reads as reads
-use Rattle.isa.proofs.encode.Lts as lts
-use Rattle.isa.proofs.encode_alu.Reads as encode-alu-reads
-use Rattle.isa.proofs.encode_bl.Reads as encode-bl-reads
-use Rattle.isa.proofs.encode_branch.Reads as encode-branch-reads
-use Rattle.isa.proofs.encode_cex.Reads as encode-cex-reads
-use Rattle.isa.proofs.encode_indexed.Reads as encode-indexed-reads
-use Rattle.isa.proofs.encode_mov.Reads as encode-mov-reads
-use Rattle.isa.proofs.encode_mov_imm.Reads as encode-mov-imm-reads
-use Rattle.isa.proofs.encode_one.Reads as encode-one-reads
-use Rattle.isa.proofs.encode_register.Reads as encode-register-reads
-use Rattle.isa.proofs.encode_relative.Reads as encode-relative-reads
-use Rattle.isa.proofs.encode_swap.Reads as encode-swap-reads
-use Rattle.isa.proofs.encode_unary.Reads as encode-unary-reads
 
 enum-told : tie.Need-enum-told
 enum-told c = search needs

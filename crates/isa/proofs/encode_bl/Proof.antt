@@ -9,10 +9,6 @@ use Rattle.isa.specs.Encode.{encodeOf}
 use borrow.Author.Needs.{needs}
 use Rattle.isa.proofs.encode_bl.Statement.{statement}
 use Rattle.isa.proofs.encode_bl.Tie as tie
-use Rattle.isa.proofs.encode_bl.Reads as reads
-use Rattle.isa.proofs.encode_bl.Lts as lts
-use Rattle.word.proofs.magnitude.Reads as magnitude-reads
-use Rattle.word.proofs.offset_bits.Reads as offset-bits-reads
 
 magnitude-requires : tie.Need-magnitude-requires
 magnitude-requires c κs = search needs

@@ -9,10 +9,6 @@ use Rattle.isa.specs.Encode.{encodeOf}
 use borrow.Author.Needs.{needs}
 use Rattle.isa.proofs.encode_branch.Statement.{statement}
 use Rattle.isa.proofs.encode_branch.Tie as tie
-use Rattle.isa.proofs.encode_branch.Reads as reads
-use Rattle.isa.proofs.encode_branch.Lts as lts
-use Rattle.word.proofs.magnitude.Reads as magnitude-reads
-use Rattle.word.proofs.offset_bits.Reads as offset-bits-reads
 
 returns : tie.Need-returns
 unfolding encodeOf

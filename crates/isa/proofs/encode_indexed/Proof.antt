@@ -2,8 +2,6 @@ use borrow.Author.Tests.{lt-ltb, le-ltb}
 use borrow.Author.Needs.{needs}
 use Rattle.isa.proofs.encode_indexed.Statement.{statement}
 use Rattle.isa.proofs.encode_indexed.Tie as tie
-use Rattle.isa.proofs.encode_indexed.Reads as reads
-use Rattle.isa.proofs.encode_indexed.Lts as lts
 
 returns : tie.Need-returns
 returns c = search (needs, lt-ltb, le-ltb)

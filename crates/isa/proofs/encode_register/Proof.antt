@@ -2,8 +2,6 @@ use borrow.Author.Tests.{lt-ltb, le-ltb}
 use borrow.Author.Needs.{needs}
 use Rattle.isa.proofs.encode_register.Statement.{statement}
 use Rattle.isa.proofs.encode_register.Tie as tie
-use Rattle.isa.proofs.encode_register.Reads as reads
-use Rattle.isa.proofs.encode_register.Lts as lts
 
 returns : tie.Need-returns
 returns c = search (needs, lt-ltb, le-ltb)

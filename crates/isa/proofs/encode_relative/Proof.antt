@@ -8,10 +8,6 @@ use borrow.Author.Tests.{lt-ltb, le-ltb}
 use borrow.Author.Needs.{needs}
 use Rattle.isa.proofs.encode_relative.Statement.{statement}
 use Rattle.isa.proofs.encode_relative.Tie as tie
-use Rattle.isa.proofs.encode_relative.Reads as reads
-use Rattle.isa.proofs.encode_relative.Lts as lts
-use Rattle.word.proofs.magnitude.Reads as magnitude-reads
-use Rattle.word.proofs.offset_bits.Reads as offset-bits-reads
 
 magnitude-requires : tie.Need-magnitude-requires
 magnitude-requires c κs = search needs

@@ -2,9 +2,6 @@ use borrow.Author.Tests.{lt-ltb, le-ltb}
 use borrow.Author.Needs.{needs}
 use Rattle.isa.proofs.relative.Statement.{statement}
 use Rattle.isa.proofs.relative.Tie as tie
-use Rattle.isa.proofs.relative.Reads as reads
-use Rattle.isa.proofs.relative.Lts as lts
-use Rattle.word.proofs.signed.Reads as signed-reads
 
 signed-requires : tie.Need-signed-requires
 signed-requires c κs = search needs

@@ -2,8 +2,6 @@ use borrow.Author.Needs.{needs}
 use borrow.Author.Tests.{lt-ltb, le-ltb}
 use Rattle.isa_card.proofs.at_least.Statement.{statement}
 use Rattle.isa_card.proofs.at_least.Tie as tie
-use Rattle.isa_card.proofs.at_least.Reads as reads
-use Rattle.isa_card.proofs.at_least.Lts as lts
 
 returns : tie.Need-returns
 returns c = search (needs, lt-ltb, le-ltb)

@@ -2,10 +2,6 @@ use borrow.Author.Tests.{lt-ltb, le-ltb}
 use borrow.Author.Needs.{needs}
 use Rattle.isa_card.proofs.block_of.Statement.{statement}
 use Rattle.isa_card.proofs.block_of.Tie as tie
-use Rattle.isa_card.proofs.block_of.Reads as reads
-use Rattle.isa_card.proofs.block_of.Lts as lts
-use Rattle.isa_card.proofs.misc_block.Reads as misc-block-reads
-use Rattle.isa_card.proofs.nth_block.Reads as nth-block-reads
 
 sub-nth-block : tie.Need-sub-nth-block
 sub-nth-block c = search needs

@@ -7,10 +7,6 @@ use Rattle.isa_card.proofs.Laws.{count-twice, count-once}
 use borrow.Author.Needs.{needs}
 use Rattle.isa_card.proofs.count_of.Statement.{statement}
 use Rattle.isa_card.proofs.count_of.Tie as tie
-use Rattle.isa_card.proofs.count_of.Reads as reads
-use Rattle.isa_card.proofs.count_of.Lts as lts
-use Rattle.isa_card.proofs.block_of.Reads as block-of-reads
-use Rattle.isa_card.proofs.is_twice.Reads as is-twice-reads
 
 returns : tie.Need-returns
 returns c =

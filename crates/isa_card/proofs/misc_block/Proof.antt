@@ -2,9 +2,6 @@ use borrow.Author.Tests.{lt-ltb, le-ltb}
 use borrow.Author.Needs.{needs}
 use Rattle.isa_card.proofs.misc_block.Statement.{statement}
 use Rattle.isa_card.proofs.misc_block.Tie as tie
-use Rattle.isa_card.proofs.misc_block.Reads as reads
-use Rattle.isa_card.proofs.misc_block.Lts as lts
-use Rattle.isa_card.proofs.nth_block.Reads as nth-block-reads
 
 sub-nth-block : tie.Need-sub-nth-block
 sub-nth-block c = search needs

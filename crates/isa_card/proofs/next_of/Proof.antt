@@ -8,11 +8,6 @@ use Rattle.isa_card.proofs.Laws.{next-first, next-past, next-second, ne
 use borrow.Author.Needs.{needs}
 use Rattle.isa_card.proofs.next_of.Statement.{statement}
 use Rattle.isa_card.proofs.next_of.Tie as tie
-use Rattle.isa_card.proofs.next_of.Reads as reads
-use Rattle.isa_card.proofs.next_of.Lts as lts
-use Rattle.isa_card.proofs.at_least.Reads as at-least-reads
-use Rattle.isa_card.proofs.block_of.Reads as block-of-reads
-use Rattle.isa_card.proofs.is_twice.Reads as is-twice-reads
 
 returns : tie.Need-returns
 returns c =

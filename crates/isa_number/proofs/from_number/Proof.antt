@@ -3,13 +3,6 @@ use Rattle.isa_number.specs.Number.{instrOf}
 use borrow.Author.Needs.{needs}
 use Rattle.isa_number.proofs.from_number.Statement.{statement}
 use Rattle.isa_number.proofs.from_number.Tie as tie
-use Rattle.isa_number.proofs.from_number.Reads as reads
-use Rattle.isa_number.proofs.from_number.Lts as lts
-use Rattle.isa_number.proofs.up_to_12.Reads as up-to-12-reads
-use Rattle.isa_number.proofs.up_to_15.Reads as up-to-15-reads
-use Rattle.isa_number.proofs.up_to_18.Reads as up-to-18-reads
-use Rattle.isa_number.proofs.up_to_3.Reads as up-to-3-reads
-use Rattle.isa_number.proofs.up_to_6.Reads as up-to-6-reads
 
 up-to-3-requires : tie.Need-up-to-3-requires
 up-to-3-requires c κs = search needs

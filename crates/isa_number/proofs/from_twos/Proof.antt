@@ -3,8 +3,6 @@ use Rattle.word.proofs.Offset.{from-high}
 use borrow.Author.Needs.{needs}
 use Rattle.isa_number.proofs.from_twos.Statement.{statement}
 use Rattle.isa_number.proofs.from_twos.Tie as tie
-use Rattle.isa_number.proofs.from_twos.Reads as reads
-use Rattle.isa_number.proofs.from_twos.Lts as lts
 
 cast-result : tie.Need-cast-result
 cast-result c = search needs

@@ -7,10 +7,6 @@ use Rattle.isa_number.specs.Number.{bytesOf, numberOf}
 use borrow.Author.Needs.{needs}
 use Rattle.isa_number.proofs.number.Statement.{statement}
 use Rattle.isa_number.proofs.number.Tie as tie
-use Rattle.isa_number.proofs.number.Reads as reads
-use Rattle.isa_number.proofs.number.Lts as lts
-use Rattle.isa_number.proofs.bytes.Reads as bytes-reads
-use Rattle.isa_number.proofs.twos.Reads as twos-reads
 
 enum-told : tie.Need-enum-told
 enum-told c = search needs

@@ -9,9 +9,6 @@ use Rattle.word.proofs.Offset.{down-bits, up-bits}
 use borrow.Author.Needs.{needs}
 use Rattle.isa_number.proofs.twos.Statement.{statement}
 use Rattle.isa_number.proofs.twos.Tie as tie
-use Rattle.isa_number.proofs.twos.Reads as reads
-use Rattle.isa_number.proofs.twos.Lts as lts
-use Rattle.word.proofs.magnitude.Reads as magnitude-reads
 
 magnitude-requires : tie.Need-magnitude-requires
 magnitude-requires c κs = search needs

@@ -2,8 +2,6 @@ use borrow.Author.Tests.{lt-ltb, le-ltb}
 use borrow.Author.Needs.{needs}
 use Rattle.isa_number.proofs.up_to_15.Statement.{statement}
 use Rattle.isa_number.proofs.up_to_15.Tie as tie
-use Rattle.isa_number.proofs.up_to_15.Reads as reads
-use Rattle.isa_number.proofs.up_to_15.Lts as lts
 
 cast-a : tie.Need-cast-a
 cast-a c = search needs

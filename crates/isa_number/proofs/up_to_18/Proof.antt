@@ -2,9 +2,6 @@ use borrow.Author.Tests.{lt-ltb, le-ltb}
 use borrow.Author.Needs.{needs}
 use Rattle.isa_number.proofs.up_to_18.Statement.{statement}
 use Rattle.isa_number.proofs.up_to_18.Tie as tie
-use Rattle.isa_number.proofs.up_to_18.Reads as reads
-use Rattle.isa_number.proofs.up_to_18.Lts as lts
-use Rattle.isa_number.proofs.from_twos.Reads as from-twos-reads
 
 cast-a : tie.Need-cast-a
 cast-a c = search needs

@@ -2,9 +2,6 @@ use borrow.Author.Tests.{lt-ltb, le-ltb}
 use borrow.Author.Needs.{needs}
 use Rattle.isa_number.proofs.up_to_3.Statement.{statement}
 use Rattle.isa_number.proofs.up_to_3.Tie as tie
-use Rattle.isa_number.proofs.up_to_3.Reads as reads
-use Rattle.isa_number.proofs.up_to_3.Lts as lts
-use Rattle.isa_number.proofs.from_twos.Reads as from-twos-reads
 
 returns : tie.Need-returns
 returns c = search (needs, lt-ltb, le-ltb)

@@ -2,8 +2,6 @@ use borrow.Author.Needs.{needs}
 use borrow.Author.Tests.{lt-ltb, le-ltb}
 use Rattle.isa_ranges.proofs.branch_operation.Statement.{statement}
 use Rattle.isa_ranges.proofs.branch_operation.Tie as tie
-use Rattle.isa_ranges.proofs.branch_operation.Reads as reads
-use Rattle.isa_ranges.proofs.branch_operation.Lts as lts
 
 returns : tie.Need-returns
 returns c = search (needs, lt-ltb, le-ltb)

@@ -2,9 +2,6 @@ use borrow.Author.Tests.{lt-ltb, le-ltb}
 use borrow.Author.Needs.{needs}
 use Rattle.isa_ranges.proofs.control_ends.Statement.{statement}
 use Rattle.isa_ranges.proofs.control_ends.Tie as tie
-use Rattle.isa_ranges.proofs.control_ends.Reads as reads
-use Rattle.isa_ranges.proofs.control_ends.Lts as lts
-use Rattle.isa_ranges.proofs.block.Reads as block-reads
 
 block-requires : tie.Need-block-requires
 block-requires c κs = search needs

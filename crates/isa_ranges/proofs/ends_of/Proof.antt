@@ -3,9 +3,6 @@ use Rattle.isa_ranges.proofs.Rows.{bits-rows}
 use borrow.Author.Needs.{needs}
 use Rattle.isa_ranges.proofs.ends_of.Statement.{statement}
 use Rattle.isa_ranges.proofs.ends_of.Tie as tie
-use Rattle.isa_ranges.proofs.ends_of.Reads as reads
-use Rattle.isa_ranges.proofs.ends_of.Lts as lts
-use Rattle.isa_ranges.proofs.bits_ends.Reads as bits-ends-reads
 
 bits-ends-requires : tie.Need-bits-ends-requires
 bits-ends-requires c κs = search needs

@@ -2,11 +2,6 @@ use borrow.Author.Tests.{lt-ltb, le-ltb}
 use borrow.Author.Needs.{needs}
 use Rattle.isa_ranges.proofs.misc_ends.Statement.{statement}
 use Rattle.isa_ranges.proofs.misc_ends.Tie as tie
-use Rattle.isa_ranges.proofs.misc_ends.Reads as reads
-use Rattle.isa_ranges.proofs.misc_ends.Lts as lts
-use Rattle.isa_ranges.proofs.block.Reads as block-reads
-use Rattle.isa_ranges.proofs.control_ends.Reads as control-ends-reads
-use Rattle.isa_ranges.proofs.one_ends.Reads as one-ends-reads
 
 block-requires : tie.Need-block-requires
 block-requires c κs = search needs

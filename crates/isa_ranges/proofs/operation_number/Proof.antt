@@ -3,8 +3,6 @@ use Rattle.isa_ranges.specs.Operation.{operationNumber}
 use borrow.Author.Needs.{needs}
 use Rattle.isa_ranges.proofs.operation_number.Statement.{statement}
 use Rattle.isa_ranges.proofs.operation_number.Tie as tie
-use Rattle.isa_ranges.proofs.operation_number.Reads as reads
-use Rattle.isa_ranges.proofs.operation_number.Lts as lts
 
 enum-told : tie.Need-enum-told
 enum-told c = search needs

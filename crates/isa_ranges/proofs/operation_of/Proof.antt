@@ -3,12 +3,6 @@ use Rattle.isa_ranges.specs.Operation.{operationIn}
 use borrow.Author.Needs.{needs}
 use Rattle.isa_ranges.proofs.operation_of.Statement.{statement}
 use Rattle.isa_ranges.proofs.operation_of.Tie as tie
-use Rattle.isa_ranges.proofs.operation_of.Reads as reads
-use Rattle.isa_ranges.proofs.operation_of.Lts as lts
-use Rattle.isa_ranges.proofs.alu_operation.Reads as alu-operation-reads
-use Rattle.isa_ranges.proofs.branch_operation.Reads as branch-operation-reads
-use Rattle.isa_ranges.proofs.mov_imm_operation.Reads as mov-imm-operation-reads
-use Rattle.isa_ranges.proofs.unary_operation.Reads as unary-operation-reads
 
 enum-told : tie.Need-enum-told
 enum-told c = search needs

@@ -6,134 +6,102 @@ use Rattle.journal.specs.Record.{addressOf}
 use borrow.Author.Needs.{needs}
 use Rattle.journal_record.proofs.address_of.Statement.{statement}
 use Rattle.journal_record.proofs.address_of.Tie as tie
-use Rattle.journal_record.proofs.address_of.Reads as reads
-use Rattle.journal_record.proofs.address_of.Lts as lts
-use Rattle.journal_record.proofs.frame_at.Reads as frame-at-reads
-use Rattle.journal_record.proofs.stored_at.Reads as stored-at-reads
 
--- src/lib.rt:48:25
 enum-told : tie.Need-enum-told
 enum-told c = search needs
 
--- src/lib.rt:49:22
 enum-told-2 : tie.Need-enum-told-2
 enum-told-2 c = search needs
 
--- src/lib.rt:50:27
 enum-told-3 : tie.Need-enum-told-3
 enum-told-3 c = search needs
 
--- src/lib.rt:51:28
 enum-told-4 : tie.Need-enum-told-4
 enum-told-4 c = search needs
 
--- src/lib.rt:51:28
 frame-at-requires : tie.Need-frame-at-requires
 frame-at-requires c κs = search needs
 
--- src/lib.rt:52:23
 enum-told-5 : tie.Need-enum-told-5
 enum-told-5 c = search needs
 
--- src/lib.rt:53:27
 enum-told-6 : tie.Need-enum-told-6
 enum-told-6 c = search needs
 
--- src/lib.rt:53:27
 frame-at-requires-2 : tie.Need-frame-at-requires-2
 frame-at-requires-2 c κs = search needs
 
--- src/lib.rt:54:22
 enum-told-7 : tie.Need-enum-told-7
 enum-told-7 c = search needs
 
--- src/lib.rt:55:22
 enum-told-8 : tie.Need-enum-told-8
 enum-told-8 c = search needs
 
--- src/lib.rt:56:26
 enum-told-9 : tie.Need-enum-told-9
 enum-told-9 c = search needs
 
--- src/lib.rt:56:26
 frame-at-requires-3 : tie.Need-frame-at-requires-3
 frame-at-requires-3 c κs = search needs
 
--- src/lib.rt:57:23
 enum-told-10 : tie.Need-enum-told-10
 enum-told-10 c = search needs
 
--- src/lib.rt:58:30
 enum-told-11 : tie.Need-enum-told-11
 enum-told-11 c = search needs
 
--- src/lib.rt:59:23
 enum-known-a : tie.Need-enum-known-a
 enum-known-a c = search needs
 
--- src/lib.rt:59:41
 stored-at-requires : tie.Need-stored-at-requires
 stored-at-requires c κs = search needs
 
--- src/lib.rt:44:1
 returns : tie.Need-returns
 unfolding addressOf
 returns c k q = ap (λ a. addressOf a k) (sym (c .enum-told .given .1))
 
--- src/lib.rt:44:1
 returns-2 : tie.Need-returns-2
 unfolding addressOf
 returns-2 c k q = ap (λ a. addressOf a k) (sym (c .enum-told2 .given .1))
 
--- src/lib.rt:44:1
 returns-3 : tie.Need-returns-3
 unfolding addressOf
 returns-3 c k q = ap (λ a. addressOf a k) (sym (c .enum-told3 .given .1))
 
--- src/lib.rt:44:1
 returns-4 : tie.Need-returns-4
 unfolding addressOf
 returns-4 c k q =
     c .frame-at .ensures ∙ ap (λ (s : ℕ). even (down s 8)) (sym q) ∙ ap (λ a. addressOf a k) (sym (c .before .enum-told4 .given .1))
 
--- src/lib.rt:44:1
 returns-5 : tie.Need-returns-5
 unfolding addressOf
 returns-5 c k q = ap (λ a. addressOf a k) (sym (c .enum-told5 .given .1))
 
--- src/lib.rt:44:1
 returns-6 : tie.Need-returns-6
 unfolding addressOf
 returns-6 c k q =
     c .frame-at2 .ensures ∙ ap (λ (s : ℕ). even (down s 8)) (sym q) ∙ ap (λ a. addressOf a k) (sym (c .before .enum-told6 .given .1))
 
--- src/lib.rt:44:1
 returns-7 : tie.Need-returns-7
 unfolding addressOf
 returns-7 c k q = ap (λ a. addressOf a k) (sym (c .enum-told7 .given .1))
 
--- src/lib.rt:44:1
 returns-8 : tie.Need-returns-8
 unfolding addressOf
 returns-8 c k q = ap (λ a. addressOf a k) (sym (c .enum-told8 .given .1))
 
--- src/lib.rt:44:1
 returns-9 : tie.Need-returns-9
 unfolding addressOf
 returns-9 c k q =
     c .frame-at3 .ensures ∙ ap (λ (s : ℕ). even (down s 8)) (sym q) ∙ ap (λ a. addressOf a k) (sym (c .before .enum-told9 .given .1))
 
--- src/lib.rt:44:1
 returns-10 : tie.Need-returns-10
 unfolding addressOf
 returns-10 c k q = ap (λ a. addressOf a k) (sym (c .enum-told10 .given .1))
 
--- src/lib.rt:44:1
 returns-11 : tie.Need-returns-11
 unfolding addressOf
 returns-11 c k q = ap (λ a. addressOf a k) (sym (c .enum-told11 .given .1))
 
--- src/lib.rt:44:1
 returns-12 : tie.Need-returns-12
 unfolding addressOf
 returns-12 c k q = c .stored-at .ensures ∙ ap (λ a. addressOf a k) (sym (c .before .before .a .given .1))

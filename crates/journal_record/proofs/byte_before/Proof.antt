@@ -3,22 +3,16 @@ use Rattle.journal_record.proofs.Laws.{device-byte}
 use borrow.Author.Needs.{needs}
 use Rattle.journal_record.proofs.byte_before.Statement.{statement}
 use Rattle.journal_record.proofs.byte_before.Tie as tie
-use Rattle.journal_record.proofs.byte_before.Reads as reads
-use Rattle.journal_record.proofs.byte_before.Lts as lts
 
--- src/lib.rt:71:16
 element-copy-out-result : tie.Need-element-copy-out-result
 element-copy-out-result c = search needs
 
--- src/lib.rt:71:9
 returns : tie.Need-returns
 returns c b w = device-byte b _ _ w _ (c .before .if1 .taken)
 
--- src/lib.rt:73:5
 shared-slice-read-result : tie.Need-shared-slice-read-result
 shared-slice-read-result c = search needs
 
--- src/lib.rt:64:1
 returns-2 : tie.Need-returns-2
 returns-2 c b w = w .others _ (omega arith) (omega arith)
 

@@ -3,70 +3,52 @@ use Rattle.journal_record.proofs.Laws.{eight-plain}
 use borrow.Author.Needs.{needs}
 use Rattle.journal_record.proofs.eight_at.Statement.{statement}
 use Rattle.journal_record.proofs.eight_at.Tie as tie
-use Rattle.journal_record.proofs.eight_at.Reads as reads
-use Rattle.journal_record.proofs.eight_at.Lts as lts
 
--- src/lib.rt:84:9
 shared-slice-read-t5 : tie.Need-shared-slice-read-t5
 shared-slice-read-t5 c = search needs
 
--- src/lib.rt:85:13
 add-t6 : tie.Need-add-t6
 add-t6 c = search needs
 
--- src/lib.rt:85:9
 shared-slice-read-t8 : tie.Need-shared-slice-read-t8
 shared-slice-read-t8 c = search needs
 
--- src/lib.rt:86:13
 add-t9 : tie.Need-add-t9
 add-t9 c = search needs
 
--- src/lib.rt:86:9
 shared-slice-read-t11 : tie.Need-shared-slice-read-t11
 shared-slice-read-t11 c = search needs
 
--- src/lib.rt:87:13
 add-t12 : tie.Need-add-t12
 add-t12 c = search needs
 
--- src/lib.rt:87:9
 shared-slice-read-t14 : tie.Need-shared-slice-read-t14
 shared-slice-read-t14 c = search needs
 
--- src/lib.rt:88:13
 add-t15 : tie.Need-add-t15
 add-t15 c = search needs
 
--- src/lib.rt:88:9
 shared-slice-read-t17 : tie.Need-shared-slice-read-t17
 shared-slice-read-t17 c = search needs
 
--- src/lib.rt:89:13
 add-t18 : tie.Need-add-t18
 add-t18 c = search needs
 
--- src/lib.rt:89:9
 shared-slice-read-t20 : tie.Need-shared-slice-read-t20
 shared-slice-read-t20 c = search needs
 
--- src/lib.rt:90:13
 add-t21 : tie.Need-add-t21
 add-t21 c = search needs
 
--- src/lib.rt:90:9
 shared-slice-read-t23 : tie.Need-shared-slice-read-t23
 shared-slice-read-t23 c = search needs
 
--- src/lib.rt:91:13
 add-t24 : tie.Need-add-t24
 add-t24 c = search needs
 
--- src/lib.rt:91:9
 shared-slice-read-t26 : tie.Need-shared-slice-read-t26
 shared-slice-read-t26 c = search needs
 
--- src/lib.rt:77:1
 returns : tie.Need-returns
 returns c b d w =
     let s = c .before .before .before .before .before .before .before .before in

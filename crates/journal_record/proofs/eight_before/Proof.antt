@@ -6,17 +6,10 @@ use Rattle.journal_record.proofs.Laws.{eight-wrapped}
 use borrow.Author.Needs.{needs}
 use Rattle.journal_record.proofs.eight_before.Statement.{statement}
 use Rattle.journal_record.proofs.eight_before.Tie as tie
-use Rattle.journal_record.proofs.eight_before.Reads as reads
-use Rattle.journal_record.proofs.eight_before.Lts as lts
-use Rattle.journal_record.proofs.byte_before.Reads as byte-before-reads
-use Rattle.journal_record.proofs.eight_at.Reads as eight-at-reads
-use Rattle.std.proofs.num.wrapping_add_u16.Reads as wrapping-add-u16-reads
 
--- src/lib.rt:102:9
 eight-at-requires : tie.Need-eight-at-requires
 eight-at-requires c κs = let b = between (c .before .before .args .a) (c .if1 .taken) in (c .before .before .pre, b .0, b .1)
 
--- src/lib.rt:102:9
 returns : tie.Need-returns
 returns c b w = c .eight-at .ensures b _ w
 
@@ -26,67 +19,51 @@ first-eight-requires c κs = search needs
 returns-2 : tie.Need-returns-2
 returns-2 c b w = subst (λ z. c .first-eight .result ≡ bytesFrom b z 8) (sym (c .before .if2 .taken)) (c .first-eight .ensures b _ w)
 
--- src/lib.rt:105:9
 byte-before-requires : tie.Need-byte-before-requires
 byte-before-requires c κs = search needs
 
--- src/lib.rt:106:35
 wrapping-add-u16-requires : tie.Need-wrapping-add-u16-requires
 wrapping-add-u16-requires c κs = search needs
 
--- src/lib.rt:106:9
 byte-before-requires-2 : tie.Need-byte-before-requires-2
 byte-before-requires-2 c κs = search needs
 
--- src/lib.rt:107:35
 wrapping-add-u16-requires-2 : tie.Need-wrapping-add-u16-requires-2
 wrapping-add-u16-requires-2 c κs = search needs
 
--- src/lib.rt:107:9
 byte-before-requires-3 : tie.Need-byte-before-requires-3
 byte-before-requires-3 c κs = search needs
 
--- src/lib.rt:108:35
 wrapping-add-u16-requires-3 : tie.Need-wrapping-add-u16-requires-3
 wrapping-add-u16-requires-3 c κs = search needs
 
--- src/lib.rt:108:9
 byte-before-requires-4 : tie.Need-byte-before-requires-4
 byte-before-requires-4 c κs = search needs
 
--- src/lib.rt:109:35
 wrapping-add-u16-requires-4 : tie.Need-wrapping-add-u16-requires-4
 wrapping-add-u16-requires-4 c κs = search needs
 
--- src/lib.rt:109:9
 byte-before-requires-5 : tie.Need-byte-before-requires-5
 byte-before-requires-5 c κs = search needs
 
--- src/lib.rt:110:35
 wrapping-add-u16-requires-5 : tie.Need-wrapping-add-u16-requires-5
 wrapping-add-u16-requires-5 c κs = search needs
 
--- src/lib.rt:110:9
 byte-before-requires-6 : tie.Need-byte-before-requires-6
 byte-before-requires-6 c κs = search needs
 
--- src/lib.rt:111:35
 wrapping-add-u16-requires-6 : tie.Need-wrapping-add-u16-requires-6
 wrapping-add-u16-requires-6 c κs = search needs
 
--- src/lib.rt:111:9
 byte-before-requires-7 : tie.Need-byte-before-requires-7
 byte-before-requires-7 c κs = search needs
 
--- src/lib.rt:112:35
 wrapping-add-u16-requires-7 : tie.Need-wrapping-add-u16-requires-7
 wrapping-add-u16-requires-7 c κs = search needs
 
--- src/lib.rt:112:9
 byte-before-requires-8 : tie.Need-byte-before-requires-8
 byte-before-requires-8 c κs = search needs
 
--- src/lib.rt:96:1
 returns-3 : tie.Need-returns-3
 returns-3 c b w =
     let s = c .before .before .before .before .before .before .before .before .before .before .before .before .before .before .before

@@ -10,60 +10,42 @@ use Rattle.journal_record.proofs.Laws.{zeros, filled-before}
 use borrow.Author.Needs.{needs}
 use Rattle.journal_record.proofs.fill.Statement.{statement}
 use Rattle.journal_record.proofs.fill.Tie as tie
-use Rattle.journal_record.proofs.fill.Reads as reads
-use Rattle.journal_record.proofs.fill.Lts as lts
-use Rattle.journal_record.proofs.eight_before.Reads as eight-before-reads
-use Rattle.journal_record.proofs.put_bytes.Reads as put-bytes-reads
-use Rattle.little_endian.proofs.put_two.Reads as put-two-reads
-use Rattle.state_record.proofs.write_record.Reads as write-record-reads
 
--- src/lib.rt:135:17
 eight-before-requires : tie.Need-eight-before-requires
 eight-before-requires c κs = search needs
 
--- src/lib.rt:137:32
 slice-relend-prefix-write-record : tie.Need-slice-relend-prefix-write-record
 slice-relend-prefix-write-record c = search needs
 
--- src/lib.rt:137:32
 slice-aggregate-write-record : tie.Need-slice-aggregate-write-record
 slice-aggregate-write-record c =
     sym (length-take-le 32 (now (c .before .before .before .before .args .e)) (omega (arith, c .before .before .before .before .pre .0)))
 
--- src/lib.rt:137:5
 write-record-requires : tie.Need-write-record-requires
 write-record-requires c κs =
     length-take-le 32 (now (c .before .before .before .before .args .e)) (omega (arith, c .before .before .before .before .pre .0))
 
--- src/lib.rt:138:5
 put-bytes-requires : tie.Need-put-bytes-requires
 put-bytes-requires c κs = search needs
 
--- src/lib.rt:139:5
 put-two-requires : tie.Need-put-two-requires
 put-two-requires c κs = search needs
 
--- src/lib.rt:140:22
 slice-aggregate-put-bytes : tie.Need-slice-aggregate-put-bytes
 slice-aggregate-put-bytes c = search needs
 
--- src/lib.rt:140:5
 put-bytes-requires-2 : tie.Need-put-bytes-requires-2
 put-bytes-requires-2 c κs = search needs
 
--- src/lib.rt:141:22
 slice-aggregate-put-bytes-2 : tie.Need-slice-aggregate-put-bytes-2
 slice-aggregate-put-bytes-2 c = search needs
 
--- src/lib.rt:141:5
 put-bytes-requires-3 : tie.Need-put-bytes-requires-3
 put-bytes-requires-3 c κs = search needs
 
--- src/lib.rt:129:1
 same-length : tie.Need-same-length
 same-length c = search needs
 
--- src/lib.rt:129:1
 returns : tie.Need-returns
 returns c b w =
     let s = c .before .before .before .before .before .before .before .before .before .before .before .before .before .before .before

@@ -2,8 +2,6 @@ use Rattle.journal_record.proofs.Laws.{eight-first}
 use borrow.Author.Needs.{needs}
 use Rattle.journal_record.proofs.first_eight.Statement.{statement}
 use Rattle.journal_record.proofs.first_eight.Tie as tie
-use Rattle.journal_record.proofs.first_eight.Reads as reads
-use Rattle.journal_record.proofs.first_eight.Lts as lts
 
 element-copy-out-t4 : tie.Need-element-copy-out-t4
 element-copy-out-t4 c = search needs

@@ -10,58 +10,43 @@ use Rattle.journal_record.proofs.Laws.{none-kept, one-kept, still-lends
 use borrow.Author.Needs.{needs}
 use Rattle.journal_record.proofs.keep_step.Statement.{statement}
 use Rattle.journal_record.proofs.keep_step.Tie as tie
-use Rattle.journal_record.proofs.keep_step.Reads as reads
-use Rattle.journal_record.proofs.keep_step.Lts as lts
-use Rattle.journal_record.proofs.address_of.Reads as address-of-reads
-use Rattle.journal_record.proofs.one_more.Reads as one-more-reads
-use Rattle.journal_record.proofs.place_after.Reads as place-after-reads
-use Rattle.journal_record.proofs.put_record.Reads as put-record-reads
 
--- src/lib.rt:204:9
 returns : tie.Need-returns
 returns c = let s = c .before .before .before in ((λ b k w q. none-kept (now (s .args .journal)) (s .args .r) _ (c .if1 .taken)), s .pre .1)
 
--- src/lib.rt:206:18
 cast-places : tie.Need-cast-places
 cast-places c =
     let s = c .before .before .before in
     let f = s .pre .1 (omega (arith, c .if1 .left)) in
     omega (arith, f .small)
 
--- src/lib.rt:209:9
 cast-put-record : tie.Need-cast-put-record
 cast-put-record c = search needs
 
--- src/lib.rt:213:9
 address-of-requires : tie.Need-address-of-requires
 address-of-requires c κs = search needs
 
--- src/lib.rt:207:5
 put-record-requires : tie.Need-put-record-requires
 put-record-requires c κs =
     let s = c .before .before .before .before .before .before in
     let f = s .pre .1 (omega (arith, c .before .before .before .if1 .left)) in
     (omega (arith, f .whole, f .place), s .pre .0)
 
--- src/lib.rt:216:15
 one-more-requires : tie.Need-one-more-requires
 one-more-requires c κs =
     let s = c .before .before .before .before .before .before .before .before .before in
     let f = s .pre .1 (omega (arith, c .before .before .before .before .before .before .if1 .left)) in
     f .kept
 
--- src/lib.rt:217:16
 place-after-requires : tie.Need-place-after-requires
 place-after-requires c κs =
     let s = c .before .before .before .before .before .before .before .before .before .before in
     let f = s .pre .1 (omega (arith, c .before .before .before .before .before .before .before .if1 .left)) in
     f .place
 
--- src/lib.rt:186:1
 same-length : tie.Need-same-length
 same-length c = search needs
 
--- src/lib.rt:186:1
 returns-2 : tie.Need-returns-2
 returns-2 c =
     let s = c .before .before .before .before .before .before .before .before .before .before .before in

@@ -2,18 +2,13 @@ use Rattle.journal_record.proofs.Laws.{one-more-below, one-more-full}
 use borrow.Author.Needs.{needs}
 use Rattle.journal_record.proofs.one_more.Statement.{statement}
 use Rattle.journal_record.proofs.one_more.Tie as tie
-use Rattle.journal_record.proofs.one_more.Reads as reads
-use Rattle.journal_record.proofs.one_more.Lts as lts
 
--- src/lib.rt:156:16
 add-result : tie.Need-add-result
 add-result c = search needs
 
--- src/lib.rt:156:9
 returns : tie.Need-returns
 returns c = one-more-below _ _ (c .if1 .taken)
 
--- src/lib.rt:151:1
 returns-2 : tie.Need-returns-2
 returns-2 c = one-more-full _ _ (c .if1 .left)
 

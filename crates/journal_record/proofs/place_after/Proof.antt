@@ -2,22 +2,16 @@ use Rattle.journal_record.proofs.Laws.{following-last, following-next}
 use borrow.Author.Needs.{needs}
 use Rattle.journal_record.proofs.place_after.Statement.{statement}
 use Rattle.journal_record.proofs.place_after.Tie as tie
-use Rattle.journal_record.proofs.place_after.Reads as reads
-use Rattle.journal_record.proofs.place_after.Lts as lts
 
--- src/lib.rt:166:8
 add-if1 : tie.Need-add-if1
 add-if1 c = search needs
 
--- src/lib.rt:167:9
 returns : tie.Need-returns
 returns c = following-last _ _ (c .if1 .taken)
 
--- src/lib.rt:169:5
 add-result : tie.Need-add-result
 add-result c = search needs
 
--- src/lib.rt:162:1
 returns-2 : tie.Need-returns-2
 returns-2 c = following-next _ _ (c .if1 .left)
 

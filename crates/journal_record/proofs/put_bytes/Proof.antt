@@ -7,8 +7,6 @@ use lib.ListN.{length, length-set}
 use Rattle.journal_record.proofs.Laws.{copied, copied-start, copied-turn, copied-end}
 use Rattle.journal_record.proofs.put_bytes.Statement.{statement}
 use Rattle.journal_record.proofs.put_bytes.Tie as tie
-use Rattle.journal_record.proofs.put_bytes.Reads as reads
-use Rattle.journal_record.proofs.put_bytes.Lts as lts
 
 abbrev Inv-loop : tie.InvT-loop
 Inv-loop e₀ at v i₀ e i =
@@ -17,31 +15,24 @@ Inv-loop e₀ at v i₀ e i =
 abbrev μ-loop : tie.MeasureT-loop
 μ-loop e₀ at v i₀ e i = length v - i
 
--- src/lib.rt:122:5
 loop-holds : tie.Need-loop-holds Inv-loop μ-loop
 loop-holds c = (refl, omega arith, refl)
 
--- src/lib.rt:123:21
 shared-slice-read-e : tie.Need-shared-slice-read-e Inv-loop μ-loop
 shared-slice-read-e c = search needs
 
--- src/lib.rt:123:11
 add-e : tie.Need-add-e Inv-loop μ-loop
 add-e c = search needs
 
--- src/lib.rt:123:9
 slice-write-e : tie.Need-slice-write-e Inv-loop μ-loop
 slice-write-e c = search needs
 
--- src/lib.rt:124:9
 add-i : tie.Need-add-i Inv-loop μ-loop
 add-i c = search needs
 
--- src/lib.rt:122:5
 loop-less : tie.Need-loop-less Inv-loop μ-loop
 loop-less c = search needs
 
--- src/lib.rt:122:5
 loop-again : tie.Need-loop-again Inv-loop μ-loop
 loop-again c =
     let s = c .before .before .before in
@@ -52,11 +43,9 @@ loop-again c =
       copied-turn (l .e) (s .args .at) (now (s .args .v)) (l .i) t ∙ l .inv .2,
     )
 
--- src/lib.rt:117:1
 same-length : tie.Need-same-length Inv-loop μ-loop
 same-length c = c .before .loop .inv .0
 
--- src/lib.rt:117:1
 returns : tie.Need-returns Inv-loop μ-loop
 returns c =
     let s = c .before .before in

@@ -8,39 +8,28 @@ use Rattle.journal_record.proofs.Laws.{fields-whole, part-put}
 use borrow.Author.Needs.{needs}
 use Rattle.journal_record.proofs.put_record.Statement.{statement}
 use Rattle.journal_record.proofs.put_record.Tie as tie
-use Rattle.journal_record.proofs.put_record.Reads as reads
-use Rattle.journal_record.proofs.put_record.Lts as lts
-use Rattle.journal_record.proofs.fill.Reads as fill-reads
 
--- src/lib.rt:151:16
 mul-from : tie.Need-mul-from
 mul-from c = search needs
 
--- src/lib.rt:152:14
 add-to : tie.Need-add-to
 add-to c = search needs
 
--- src/lib.rt:153:10
 sub-fill : tie.Need-sub-fill
 sub-fill c = search needs
 
--- src/lib.rt:153:10
 part-fill-start : tie.Need-part-fill-start
 part-fill-start c = search needs
 
--- src/lib.rt:153:10
 part-fill-end : tie.Need-part-fill-end
 part-fill-end c = search needs
 
--- src/lib.rt:153:5
 fill-requires : tie.Need-fill-requires
 fill-requires c κs = search needs
 
--- src/lib.rt:145:1
 same-length : tie.Need-same-length
 same-length c = search needs
 
--- src/lib.rt:145:1
 returns : tie.Need-returns
 returns c b w =
     let s = c .before .before .before .before .before .before in

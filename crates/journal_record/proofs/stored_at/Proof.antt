@@ -3,23 +3,17 @@ use Rattle.journal_record.proofs.Laws.{stored-device, stored-byte, stor
 use borrow.Author.Needs.{needs}
 use Rattle.journal_record.proofs.stored_at.Statement.{statement}
 use Rattle.journal_record.proofs.stored_at.Tie as tie
-use Rattle.journal_record.proofs.stored_at.Reads as reads
-use Rattle.journal_record.proofs.stored_at.Lts as lts
 
--- src/lib.rt:35:9
 returns : tie.Need-returns
 returns c = let a = c .before .before .args in stored-device (a .byte) (a .at .0) (c .if1 .taken)
 
--- src/lib.rt:38:9
 returns-2 : tie.Need-returns-2
 returns-2 c =
     let a = c .before .before .before .args in stored-byte (a .byte) (a .at .0) (omega (arith, c .before .if1 .left)) (c .if2 .taken)
 
--- src/lib.rt:40:5
 mul-result : tie.Need-mul-result
 mul-result c = search needs
 
--- src/lib.rt:30:1
 returns-3 : tie.Need-returns-3
 returns-3 c =
     let a = c .before .before .before .before .args in

@@ -3,19 +3,13 @@ use borrow.Author.Tests.{eq-eqb, ne-eqb}
 use borrow.Author.Needs.{needs}
 use Rattle.stretch_memory.proofs.adjust.Statement.{statement}
 use Rattle.stretch_memory.proofs.adjust.Tie as tie
-use Rattle.stretch_memory.proofs.adjust.Reads as reads
-use Rattle.stretch_memory.proofs.adjust.Lts as lts
-use Rattle.stretch_registers.proofs.set_reg.Reads as set-reg-reads
 
--- src/lib.rt:78:9
 returns : tie.Need-returns
 returns c = rw (eq-eqb _ _ (c .if1 .taken)) refl
 
--- src/lib.rt:80:5
 set-reg-requires : tie.Need-set-reg-requires
 set-reg-requires c κs = search needs
 
--- src/lib.rt:72:1
 returns-2 : tie.Need-returns-2
 returns-2 c = rw (ne-eqb _ _ (c .before .before .if1 .left)) (c .set-reg .ensures)
 

@@ -11,22 +11,13 @@ use Rattle.stretch_registers.proofs.Laws.{pc-set, cex-set}
 use borrow.Author.Needs.{needs}
 use Rattle.stretch_memory.proofs.load.Statement.{statement}
 use Rattle.stretch_memory.proofs.load.Tie as tie
-use Rattle.stretch_memory.proofs.load.Reads as reads
-use Rattle.stretch_memory.proofs.load.Lts as lts
-use Rattle.memory.proofs.load.Reads as load-reads
-use Rattle.stretch_registers.proofs.reg.Reads as reg-reads
-use Rattle.stretch_registers.proofs.set_reg.Reads as set-reg-reads
-use Rattle.word.proofs.with_low.Reads as with-low-reads
 
--- src/lib.rt:66:9
 load-requires : tie.Need-load-requires
 load-requires c κs = search needs
 
--- src/lib.rt:67:34
 reg-requires : tie.Need-reg-requires
 reg-requires c κs = search needs
 
--- src/lib.rt:67:9
 with-low-requires : tie.Need-with-low-requires
 with-low-requires c κs =
     let k = c .before .before .before .before .before .before in
@@ -34,15 +25,12 @@ with-low-requires c κs =
     let bytes : Bytes (now (a .mem)) = λ i. omega (arith, k .slice-known .given i) in
     value-lt (a .byte) (now (a .mem)) (a .at) _ bytes (c .before .before .before .before .load .ensures .0)
 
--- src/lib.rt:68:5
 set-reg-requires : tie.Need-set-reg-requires
 set-reg-requires c κs = search needs
 
--- src/lib.rt:58:1
 same-length : tie.Need-same-length
 same-length c = search needs
 
--- src/lib.rt:58:1
 returns : tie.Need-returns
 returns c =
     let w = c .before .before in

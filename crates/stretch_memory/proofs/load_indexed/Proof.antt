@@ -9,56 +9,37 @@ use Rattle.stretch_memory.proofs.Laws.{served-load, load-effect, pc-adj
 use borrow.Author.Needs.{needs}
 use Rattle.stretch_memory.proofs.load_indexed.Statement.{statement}
 use Rattle.stretch_memory.proofs.load_indexed.Tie as tie
-use Rattle.stretch_memory.proofs.load_indexed.Reads as reads
-use Rattle.stretch_memory.proofs.load_indexed.Lts as lts
-use Rattle.operands.proofs.address.Reads as address-reads
-use Rattle.operands.proofs.adjusted_by.Reads as adjusted-by-reads
-use Rattle.stretch_memory.proofs.adjust.Reads as adjust-reads
-use Rattle.stretch_memory.proofs.aligned.Reads as aligned-reads
-use Rattle.stretch_memory.proofs.load.Reads as load-reads
-use Rattle.stretch_registers.proofs.reg.Reads as reg-reads
 
--- src/lib.rt:102:9
 returns : tie.Need-returns
 returns c = λ psw cex. inl (refl, (refl, refl, refl, refl))
 
--- src/lib.rt:105:9
 returns-2 : tie.Need-returns-2
 returns-2 c = λ psw cex. inl (refl, (refl, refl, refl, refl))
 
--- src/lib.rt:107:9
 reg-requires : tie.Need-reg-requires
 reg-requires c κs = search needs
 
--- src/lib.rt:108:9
 adjusted-by-requires : tie.Need-adjusted-by-requires
 adjusted-by-requires c κs = search needs
 
--- src/lib.rt:109:9
 address-requires : tie.Need-address-requires
 address-requires c κs = search needs
 
--- src/lib.rt:110:9
 aligned-requires : tie.Need-aligned-requires
 aligned-requires c κs = search needs
 
--- src/lib.rt:111:9
 returns-3 : tie.Need-returns-3
 returns-3 c = λ psw cex. inl (refl, (refl, refl, refl, refl))
 
--- src/lib.rt:113:5
 adjust-requires : tie.Need-adjust-requires
 adjust-requires c κs = search needs
 
--- src/lib.rt:114:5
 load-requires : tie.Need-load-requires
 load-requires c κs = search needs
 
--- src/lib.rt:84:1
 same-length : tie.Need-same-length
 same-length c = search needs
 
--- src/lib.rt:84:1
 returns-4 : tie.Need-returns-4
 returns-4 c =
     let d = c .before .before .before .before .before in

@@ -8,42 +8,28 @@ use Rattle.stretch_memory.proofs.Laws.{served-load, load-relative-effec
 use borrow.Author.Needs.{needs}
 use Rattle.stretch_memory.proofs.load_relative.Statement.{statement}
 use Rattle.stretch_memory.proofs.load_relative.Tie as tie
-use Rattle.stretch_memory.proofs.load_relative.Reads as reads
-use Rattle.stretch_memory.proofs.load_relative.Lts as lts
-use Rattle.stretch_memory.proofs.aligned.Reads as aligned-reads
-use Rattle.stretch_memory.proofs.load.Reads as load-reads
-use Rattle.stretch_memory.proofs.relative.Reads as relative-reads
-use Rattle.stretch_registers.proofs.reg.Reads as reg-reads
 
--- src/lib.rt:167:9
 returns : tie.Need-returns
 returns c = λ psw cex. inl (refl, (refl, refl, refl, refl))
 
--- src/lib.rt:169:23
 reg-requires : tie.Need-reg-requires
 reg-requires c κs = search needs
 
--- src/lib.rt:169:9
 relative-requires : tie.Need-relative-requires
 relative-requires c κs = search needs
 
--- src/lib.rt:170:9
 aligned-requires : tie.Need-aligned-requires
 aligned-requires c κs = search needs
 
--- src/lib.rt:171:9
 returns-2 : tie.Need-returns-2
 returns-2 c = λ psw cex. inl (refl, (refl, refl, refl, refl))
 
--- src/lib.rt:173:5
 load-requires : tie.Need-load-requires
 load-requires c κs = search needs
 
--- src/lib.rt:158:1
 same-length : tie.Need-same-length
 same-length c = search needs
 
--- src/lib.rt:158:1
 returns-3 : tie.Need-returns-3
 returns-3 c =
     let d = c .before .before .before .before .before in

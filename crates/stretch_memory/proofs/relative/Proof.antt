@@ -4,26 +4,19 @@ use Rattle.stretch_memory.proofs.Laws.{relative-address}
 use borrow.Author.Needs.{needs}
 use Rattle.stretch_memory.proofs.relative.Statement.{statement}
 use Rattle.stretch_memory.proofs.relative.Tie as tie
-use Rattle.stretch_memory.proofs.relative.Reads as reads
-use Rattle.stretch_memory.proofs.relative.Lts as lts
 
--- src/lib.rt:153:16
 add-off : tie.Need-add-off
 add-off c = search needs
 
--- src/lib.rt:154:7
 add-result : tie.Need-add-result
 add-result c = search needs
 
--- src/lib.rt:154:7
 add-result-2 : tie.Need-add-result-2
 add-result-2 c = search needs
 
--- src/lib.rt:154:5
 cast-result : tie.Need-cast-result
 cast-result c = search needs
 
--- src/lib.rt:150:1
 returns : tie.Need-returns
 returns c =
     let a = c .args in relative-address (a .base) (a .w / 128 % 128) (omega arith) (omega arith)

@@ -9,57 +9,39 @@ use Rattle.stretch_memory.proofs.Laws.{served-store, store-effect, pc-a
 use borrow.Author.Needs.{needs}
 use Rattle.stretch_memory.proofs.store_indexed.Statement.{statement}
 use Rattle.stretch_memory.proofs.store_indexed.Tie as tie
-use Rattle.stretch_memory.proofs.store_indexed.Reads as reads
-use Rattle.stretch_memory.proofs.store_indexed.Lts as lts
-use Rattle.operands.proofs.address.Reads as address-reads
-use Rattle.operands.proofs.adjusted_by.Reads as adjusted-by-reads
-use Rattle.stretch_memory.proofs.adjust.Reads as adjust-reads
-use Rattle.stretch_memory.proofs.store.Reads as store-reads
-use Rattle.stretch_registers.proofs.reg.Reads as reg-reads
 
--- src/lib.rt:136:9
 returns : tie.Need-returns
 returns c = λ psw cex. inl (refl, (refl, refl, refl, refl))
 
--- src/lib.rt:138:9
 reg-requires : tie.Need-reg-requires
 reg-requires c κs = search needs
 
--- src/lib.rt:139:9
 reg-requires-2 : tie.Need-reg-requires-2
 reg-requires-2 c κs = search needs
 
--- src/lib.rt:140:9
 adjusted-by-requires : tie.Need-adjusted-by-requires
 adjusted-by-requires c κs = search needs
 
--- src/lib.rt:141:9
 address-requires : tie.Need-address-requires
 address-requires c κs = search needs
 
--- src/lib.rt:142:9
 store-requires : tie.Need-store-requires
 store-requires c κs = search needs
 
--- src/lib.rt:143:9
 same-length : tie.Need-same-length
 same-length c = search needs
 
--- src/lib.rt:143:9
 returns-2 : tie.Need-returns-2
 returns-2 c =
     let same = c .before .before .before .store .ensures .0 (not-true _ (c .if2 .taken)) in
     λ psw cex. inl (refl, (refl, refl, refl, same))
 
--- src/lib.rt:145:5
 adjust-requires : tie.Need-adjust-requires
 adjust-requires c κs = search needs
 
--- src/lib.rt:119:1
 same-length-2 : tie.Need-same-length-2
 same-length-2 c = search needs
 
--- src/lib.rt:119:1
 returns-3 : tie.Need-returns-3
 returns-3 c =
     let e = c .before .before in

@@ -8,43 +8,30 @@ use Rattle.stretch_memory.proofs.Laws.{served-store, store-relative-eff
 use borrow.Author.Needs.{needs}
 use Rattle.stretch_memory.proofs.store_relative.Statement.{statement}
 use Rattle.stretch_memory.proofs.store_relative.Tie as tie
-use Rattle.stretch_memory.proofs.store_relative.Reads as reads
-use Rattle.stretch_memory.proofs.store_relative.Lts as lts
-use Rattle.stretch_memory.proofs.relative.Reads as relative-reads
-use Rattle.stretch_memory.proofs.store.Reads as store-reads
-use Rattle.stretch_registers.proofs.reg.Reads as reg-reads
 
--- src/lib.rt:185:23
 reg-requires : tie.Need-reg-requires
 reg-requires c κs = search needs
 
--- src/lib.rt:185:9
 relative-requires : tie.Need-relative-requires
 relative-requires c κs = search needs
 
--- src/lib.rt:186:9
 reg-requires-2 : tie.Need-reg-requires-2
 reg-requires-2 c κs = search needs
 
--- src/lib.rt:187:9
 store-requires : tie.Need-store-requires
 store-requires c κs = search needs
 
--- src/lib.rt:188:9
 same-length : tie.Need-same-length
 same-length c = search needs
 
--- src/lib.rt:188:9
 returns : tie.Need-returns
 returns c =
     let same = c .before .before .before .store .ensures .0 (not-true _ (c .if1 .taken)) in
     λ psw cex. inl (refl, (refl, refl, refl, same))
 
--- src/lib.rt:178:1
 same-length-2 : tie.Need-same-length-2
 same-length-2 c = search needs
 
--- src/lib.rt:178:1
 returns-2 : tie.Need-returns-2
 returns-2 c =
     let s = c .before .before .before in

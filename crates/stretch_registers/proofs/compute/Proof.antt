@@ -10,29 +10,19 @@ use Rattle.alu.specs.Alu.{aluOf}
 use borrow.Author.Needs.{needs}
 use Rattle.stretch_registers.proofs.compute.Statement.{statement}
 use Rattle.stretch_registers.proofs.compute.Tie as tie
-use Rattle.stretch_registers.proofs.compute.Reads as reads
-use Rattle.stretch_registers.proofs.compute.Lts as lts
-use Rattle.alu.proofs.alu.Reads as alu-reads
-use Rattle.stretch_registers.proofs.reg.Reads as reg-reads
-use Rattle.stretch_registers.proofs.set_reg.Reads as set-reg-reads
 
--- src/lib.rt:49:9
 returns : tie.Need-returns
 returns c = inl (refl, refl, refl)
 
--- src/lib.rt:51:32
 reg-requires : tie.Need-reg-requires
 reg-requires c κs = search needs
 
--- src/lib.rt:51:9
 alu-requires : tie.Need-alu-requires
 alu-requires c κs = search needs
 
--- src/lib.rt:52:5
 set-reg-requires : tie.Need-set-reg-requires
 set-reg-requires c κs = search needs
 
--- src/lib.rt:35:1
 returns-2 : tie.Need-returns-2
 returns-2 c =
     let b = c .before .before in

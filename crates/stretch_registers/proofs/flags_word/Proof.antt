@@ -8,24 +8,16 @@ use Rattle.stretch_registers.proofs.Laws.{sets-flags, clears-flags}
 use borrow.Author.Needs.{needs}
 use Rattle.stretch_registers.proofs.flags_word.Statement.{statement}
 use Rattle.stretch_registers.proofs.flags_word.Tie as tie
-use Rattle.stretch_registers.proofs.flags_word.Reads as reads
-use Rattle.stretch_registers.proofs.flags_word.Lts as lts
-use Rattle.operands.proofs.flags_cleared.Reads as flags-cleared-reads
-use Rattle.operands.proofs.flags_set.Reads as flags-set-reads
 
--- src/lib.rt:157:9
 returns : tie.Need-returns
 returns c = λ regs cex past. inl (refl, refl, refl, refl)
 
--- src/lib.rt:159:13
 cast-f : tie.Need-cast-f
 cast-f c = search needs
 
--- src/lib.rt:161:16
 flags-set-requires : tie.Need-flags-set-requires
 flags-set-requires c κs = search needs
 
--- src/lib.rt:162:9
 returns-2 : tie.Need-returns-2
 returns-2 c =
     let b = c .before .before in
@@ -42,11 +34,9 @@ returns-2 c =
     )
     (inr (sets-flags l _ x _ (w % 32) past (omega arith) slp (c .flags-set .ensures)))
 
--- src/lib.rt:164:12
 flags-cleared-requires : tie.Need-flags-cleared-requires
 flags-cleared-requires c κs = search needs
 
--- src/lib.rt:151:1
 returns-3 : tie.Need-returns-3
 returns-3 c =
     let b = c .before .before in

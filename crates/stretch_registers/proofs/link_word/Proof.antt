@@ -8,30 +8,22 @@ use Rattle.stretch_registers.proofs.Laws.{links, link-target}
 use borrow.Author.Needs.{needs}
 use Rattle.stretch_registers.proofs.link_word.Statement.{statement}
 use Rattle.stretch_registers.proofs.link_word.Tie as tie
-use Rattle.stretch_registers.proofs.link_word.Reads as reads
-use Rattle.stretch_registers.proofs.link_word.Lts as lts
-use Rattle.stretch_registers.proofs.set_reg.Reads as set-reg-reads
 
 add-zero : (n : ℕ) → n ≡ n + 0
 add-zero n = omega arith
 
--- src/lib.rt:203:22
 cast-set-reg : tie.Need-cast-set-reg
 cast-set-reg c = search needs
 
--- src/lib.rt:203:5
 set-reg-requires : tie.Need-set-reg-requires
 set-reg-requires c κs = search needs
 
--- src/lib.rt:206:21
 mul-result : tie.Need-mul-result
 mul-result c = search needs
 
--- src/lib.rt:206:16
 add-result : tie.Need-add-result
 add-result c = search needs
 
--- src/lib.rt:206:9
 returns : tie.Need-returns
 returns c =
     let start = c .before .before .before in
@@ -45,19 +37,15 @@ returns c =
     (c .if1 .taken)) refl))
     (omega (arith, even)) (omega (arith, bound, start .pre .1)) refl
 
--- src/lib.rt:208:10
 mul-result-2 : tie.Need-mul-result-2
 mul-result-2 c = search needs
 
--- src/lib.rt:208:5
 add-result-2 : tie.Need-add-result-2
 add-result-2 c = search needs
 
--- src/lib.rt:208:5
 add-result-3 : tie.Need-add-result-3
 add-result-3 c = search needs
 
--- src/lib.rt:198:1
 returns-2 : tie.Need-returns-2
 returns-2 c =
     let start = c .before .before .before in

@@ -7,27 +7,16 @@ use Rattle.stretch_registers.proofs.Laws.{moves, moves-to-pc}
 use borrow.Author.Needs.{needs}
 use Rattle.stretch_registers.proofs.move_word.Statement.{statement}
 use Rattle.stretch_registers.proofs.move_word.Tie as tie
-use Rattle.stretch_registers.proofs.move_word.Reads as reads
-use Rattle.stretch_registers.proofs.move_word.Lts as lts
-use Rattle.stretch_registers.proofs.move_to_pc.Reads as move-to-pc-reads
-use Rattle.stretch_registers.proofs.reg.Reads as reg-reads
-use Rattle.stretch_registers.proofs.set_reg.Reads as set-reg-reads
-use Rattle.word.proofs.low_bits.Reads as low-bits-reads
-use Rattle.word.proofs.with_low.Reads as with-low-reads
 
--- src/lib.rt:99:9
 reg-requires : tie.Need-reg-requires
 reg-requires c κs = search needs
 
--- src/lib.rt:103:13
 returns : tie.Need-returns
 returns c = λ psw wb e. inl (refl, refl, refl, refl)
 
--- src/lib.rt:105:9
 move-to-pc-requires : tie.Need-move-to-pc-requires
 move-to-pc-requires c κs = search needs
 
--- src/lib.rt:105:9
 returns-2 : tie.Need-returns-2
 returns-2 c =
     let b = c .before .before in
@@ -38,23 +27,18 @@ returns-2 c =
     (moves-to-pc (now (start .args .regs)) psw _ _ (start .pre) wb _ _ (sym (b .if2 .left) ∙ e) (t .if1 .taken) (omega arith)
     (t .before .reg .ensures) (c .move-to-pc .ensures))
 
--- src/lib.rt:107:34
 reg-requires-2 : tie.Need-reg-requires-2
 reg-requires-2 c κs = search needs
 
--- src/lib.rt:107:50
 low-bits-requires : tie.Need-low-bits-requires
 low-bits-requires c κs = search needs
 
--- src/lib.rt:107:9
 with-low-requires : tie.Need-with-low-requires
 with-low-requires c κs = search needs
 
--- src/lib.rt:108:5
 set-reg-requires : tie.Need-set-reg-requires
 set-reg-requires c κs = search needs
 
--- src/lib.rt:88:1
 returns-3 : tie.Need-returns-3
 returns-3 c =
     let l = c .before .before in

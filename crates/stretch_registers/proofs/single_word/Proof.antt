@@ -8,31 +8,22 @@ use Rattle.stretch_registers.proofs.Laws.{unary-tried, swpb-tried, sxt-
 use borrow.Author.Needs.{needs}
 use Rattle.stretch_registers.proofs.single_word.Statement.{statement}
 use Rattle.stretch_registers.proofs.single_word.Tie as tie
-use Rattle.stretch_registers.proofs.single_word.Reads as reads
-use Rattle.stretch_registers.proofs.single_word.Lts as lts
-use Rattle.stretch_registers.proofs.compute.Reads as compute-reads
 
--- src/lib.rt:141:14
 compute-requires : tie.Need-compute-requires
 compute-requires c κs = search needs
 
--- src/lib.rt:142:14
 compute-requires-2 : tie.Need-compute-requires-2
 compute-requires-2 c κs = search needs
 
--- src/lib.rt:143:14
 compute-requires-3 : tie.Need-compute-requires-3
 compute-requires-3 c κs = search needs
 
--- src/lib.rt:144:14
 compute-requires-4 : tie.Need-compute-requires-4
 compute-requires-4 c κs = search needs
 
--- src/lib.rt:145:14
 compute-requires-5 : tie.Need-compute-requires-5
 compute-requires-5 c κs = search needs
 
--- src/lib.rt:134:1
 returns : tie.Need-returns
 unfolding unaryOp
 returns c =
@@ -40,7 +31,6 @@ returns c =
     let start = m .before in
     λ cex. unary-tried (now (start .args .regs)) _ cex _ (start .pre) _ 0 op.Sra (m .match .keys1) (omega arith) refl (c .compute .ensures)
 
--- src/lib.rt:134:1
 returns-2 : tie.Need-returns-2
 unfolding unaryOp
 returns-2 c =
@@ -48,7 +38,6 @@ returns-2 c =
     let start = m .before in
     λ cex. unary-tried (now (start .args .regs)) _ cex _ (start .pre) _ 1 op.Rrc (m .match .keys2) (omega arith) refl (c .compute2 .ensures)
 
--- src/lib.rt:134:1
 returns-3 : tie.Need-returns-3
 unfolding unaryOp
 returns-3 c =
@@ -57,21 +46,18 @@ returns-3 c =
     λ cex. unary-tried (now (start .args .regs)) _ cex _ (start .pre) _ 2 op.Comp (m .match .keys3) (omega arith) refl
     (c .compute3 .ensures)
 
--- src/lib.rt:134:1
 returns-4 : tie.Need-returns-4
 returns-4 c =
     let m = c .before .before .before in
     let start = m .before in
     λ cex. swpb-tried (now (start .args .regs)) _ cex _ (start .pre) _ (m .match .keys4) (c .compute4 .ensures)
 
--- src/lib.rt:134:1
 returns-5 : tie.Need-returns-5
 returns-5 c =
     let m = c .before .before .before in
     let start = m .before in
     λ cex. sxt-tried (now (start .args .regs)) _ cex _ (start .pre) _ (m .match .keys5) (c .compute5 .ensures)
 
--- src/lib.rt:134:1
 returns-6 : tie.Need-returns-6
 returns-6 c = λ cex. inl (refl, refl, refl, refl)
 

@@ -6,36 +6,25 @@ use Rattle.stretch_registers.proofs.Laws.{swaps}
 use borrow.Author.Needs.{needs}
 use Rattle.stretch_registers.proofs.swap_word.Statement.{statement}
 use Rattle.stretch_registers.proofs.swap_word.Tie as tie
-use Rattle.stretch_registers.proofs.swap_word.Reads as reads
-use Rattle.stretch_registers.proofs.swap_word.Lts as lts
-use Rattle.stretch_registers.proofs.reg.Reads as reg-reads
-use Rattle.stretch_registers.proofs.set_reg.Reads as set-reg-reads
 
--- src/lib.rt:121:9
 returns : tie.Need-returns
 returns c = λ psw cex b. inl (refl, refl, refl, refl)
 
--- src/lib.rt:124:9
 returns-2 : tie.Need-returns-2
 returns-2 c = λ psw cex b. inl (refl, refl, refl, refl)
 
--- src/lib.rt:126:9
 reg-requires : tie.Need-reg-requires
 reg-requires c κs = search needs
 
--- src/lib.rt:127:9
 reg-requires-2 : tie.Need-reg-requires-2
 reg-requires-2 c κs = search needs
 
--- src/lib.rt:128:5
 set-reg-requires : tie.Need-set-reg-requires
 set-reg-requires c κs = search needs
 
--- src/lib.rt:129:5
 set-reg-requires-2 : tie.Need-set-reg-requires-2
 set-reg-requires-2 c κs = search needs
 
--- src/lib.rt:113:1
 returns-3 : tie.Need-returns-3
 returns-3 c =
     let s = c .before .before in

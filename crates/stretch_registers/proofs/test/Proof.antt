@@ -7,20 +7,13 @@ use Rattle.alu.specs.Alu.{aluOf}
 use borrow.Author.Needs.{needs}
 use Rattle.stretch_registers.proofs.test.Statement.{statement}
 use Rattle.stretch_registers.proofs.test.Tie as tie
-use Rattle.stretch_registers.proofs.test.Reads as reads
-use Rattle.stretch_registers.proofs.test.Lts as lts
-use Rattle.alu.proofs.alu.Reads as alu-reads
-use Rattle.stretch_registers.proofs.reg.Reads as reg-reads
 
--- src/lib.rt:70:32
 reg-requires : tie.Need-reg-requires
 reg-requires c κs = search needs
 
--- src/lib.rt:70:9
 alu-requires : tie.Need-alu-requires
 alu-requires c κs = search needs
 
--- src/lib.rt:58:1
 returns : tie.Need-returns
 returns c =
     let a = c .before .before .before .args in

@@ -8,15 +8,10 @@ use Rattle.stretch_words.proofs.Laws.{constant-at}
 use borrow.Author.Needs.{needs}
 use Rattle.stretch_words.proofs.constant_of.Statement.{statement}
 use Rattle.stretch_words.proofs.constant_of.Tie as tie
-use Rattle.stretch_words.proofs.constant_of.Reads as reads
-use Rattle.stretch_words.proofs.constant_of.Lts as lts
-use Rattle.stretch_registers.proofs.reg.Reads as reg-reads
 
--- src/lib.rt:32:5
 reg-requires : tie.Need-reg-requires
 reg-requires c κs = search needs
 
--- src/lib.rt:28:1
 returns : tie.Need-returns
 returns c =
     let a = c .before .args in

@@ -6,42 +6,28 @@ use native.Mathlib.Omega.{arith}
 use borrow.Author.Needs.{needs}
 use Rattle.stretch_words.proofs.far_word.Statement.{statement}
 use Rattle.stretch_words.proofs.far_word.Tie as tie
-use Rattle.stretch_words.proofs.far_word.Reads as reads
-use Rattle.stretch_words.proofs.far_word.Lts as lts
-use Rattle.stretch_registers.proofs.immediate_word.Reads as immediate-word-reads
-use Rattle.stretch_words.proofs.jump_word.Reads as jump-word-reads
-use Rattle.stretch_words.proofs.relative_word.Reads as relative-word-reads
-use Rattle.stretch_words.proofs.single_word.Reads as single-word-reads
 
--- src/lib.rt:124:9
 jump-word-requires : tie.Need-jump-word-requires
 jump-word-requires c κs = search needs
 
--- src/lib.rt:124:9
 same-length : tie.Need-same-length
 same-length c = search needs
 
--- src/lib.rt:124:9
 returns : tie.Need-returns
 returns c = search needs
 
--- src/lib.rt:127:9
 relative-word-requires : tie.Need-relative-word-requires
 relative-word-requires c κs = search needs
 
--- src/lib.rt:127:9
 same-length-2 : tie.Need-same-length-2
 same-length-2 c = search needs
 
--- src/lib.rt:127:9
 returns-2 : tie.Need-returns-2
 returns-2 c = c .before .before .relative-word .ensures _ _
 
--- src/lib.rt:130:9
 immediate-word-requires : tie.Need-immediate-word-requires
 immediate-word-requires c κs = search needs
 
--- src/lib.rt:130:9
 returns-3 : tie.Need-returns-3
 returns-3 c =
     let d = c .before .before in
@@ -50,15 +36,12 @@ returns-3 c =
     means _ (a .w) (now (a .regs)) (now (a .mem)) _ (now (a .psw)) (now (a .cex)) (now (a .psw)) (now (a .cex)) _
     (decode-immediate (a .w) (d .if3 .taken) (d .before .if2 .left)) (c .immediate-word .ensures (now (a .psw)) (now (a .cex)))
 
--- src/lib.rt:132:5
 single-word-requires : tie.Need-single-word-requires
 single-word-requires c κs = search needs
 
--- src/lib.rt:109:1
 same-length-3 : tie.Need-same-length-3
 same-length-3 c = search needs
 
--- src/lib.rt:109:1
 returns-4 : tie.Need-returns-4
 returns-4 c = c .single-word .ensures _
 

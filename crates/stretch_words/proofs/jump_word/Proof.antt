@@ -8,17 +8,10 @@ use Rattle.stretch_words.proofs.Laws.{branches, decode-link, means, low
 use borrow.Author.Needs.{needs}
 use Rattle.stretch_words.proofs.jump_word.Statement.{statement}
 use Rattle.stretch_words.proofs.jump_word.Tie as tie
-use Rattle.stretch_words.proofs.jump_word.Reads as reads
-use Rattle.stretch_words.proofs.jump_word.Lts as lts
-use Rattle.operands.proofs.taken.Reads as taken-reads
-use Rattle.stretch_registers.proofs.branch.Reads as branch-reads
-use Rattle.stretch_registers.proofs.link_word.Reads as link-word-reads
 
--- src/lib.rt:53:9
 branch-requires : tie.Need-branch-requires
 branch-requires c κs = search needs
 
--- src/lib.rt:53:9
 returns : tie.Need-returns
 unfolding takenOf
 returns c =
@@ -30,130 +23,99 @@ returns c =
     branches (a .w) 7 1 (now (a .regs)) (now (a .mem)) (now (a .psw)) (now (a .cex)) (a .pc) (omega arith) (omega arith) e
     (s .pre .0 .1) (s .pre .0 .0) refl (c .branch .ensures)
 
--- src/lib.rt:56:34
 taken-requires : tie.Need-taken-requires
 taken-requires c κs = search needs
 
--- src/lib.rt:56:15
 branch-requires-2 : tie.Need-branch-requires-2
 branch-requires-2 c κs = search needs
 
--- src/lib.rt:57:34
 taken-requires-2 : tie.Need-taken-requires-2
 taken-requires-2 c κs = search needs
 
--- src/lib.rt:57:15
 branch-requires-3 : tie.Need-branch-requires-3
 branch-requires-3 c κs = search needs
 
--- src/lib.rt:58:34
 taken-requires-3 : tie.Need-taken-requires-3
 taken-requires-3 c κs = search needs
 
--- src/lib.rt:58:15
 branch-requires-4 : tie.Need-branch-requires-4
 branch-requires-4 c κs = search needs
 
--- src/lib.rt:59:34
 taken-requires-4 : tie.Need-taken-requires-4
 taken-requires-4 c κs = search needs
 
--- src/lib.rt:59:15
 branch-requires-5 : tie.Need-branch-requires-5
 branch-requires-5 c κs = search needs
 
--- src/lib.rt:60:34
 taken-requires-5 : tie.Need-taken-requires-5
 taken-requires-5 c κs = search needs
 
--- src/lib.rt:60:15
 branch-requires-6 : tie.Need-branch-requires-6
 branch-requires-6 c κs = search needs
 
--- src/lib.rt:61:34
 taken-requires-6 : tie.Need-taken-requires-6
 taken-requires-6 c κs = search needs
 
--- src/lib.rt:61:15
 branch-requires-7 : tie.Need-branch-requires-7
 branch-requires-7 c κs = search needs
 
--- src/lib.rt:62:34
 taken-requires-7 : tie.Need-taken-requires-7
 taken-requires-7 c κs = search needs
 
--- src/lib.rt:62:15
 branch-requires-8 : tie.Need-branch-requires-8
 branch-requires-8 c κs = search needs
 
--- src/lib.rt:63:34
 taken-requires-8 : tie.Need-taken-requires-8
 taken-requires-8 c κs = search needs
 
--- src/lib.rt:63:15
 branch-requires-9 : tie.Need-branch-requires-9
 branch-requires-9 c κs = search needs
 
--- src/lib.rt:64:34
 taken-requires-9 : tie.Need-taken-requires-9
 taken-requires-9 c κs = search needs
 
--- src/lib.rt:64:15
 branch-requires-10 : tie.Need-branch-requires-10
 branch-requires-10 c κs = search needs
 
--- src/lib.rt:65:34
 taken-requires-10 : tie.Need-taken-requires-10
 taken-requires-10 c κs = search needs
 
--- src/lib.rt:65:15
 branch-requires-11 : tie.Need-branch-requires-11
 branch-requires-11 c κs = search needs
 
--- src/lib.rt:66:34
 taken-requires-11 : tie.Need-taken-requires-11
 taken-requires-11 c κs = search needs
 
--- src/lib.rt:66:15
 branch-requires-12 : tie.Need-branch-requires-12
 branch-requires-12 c κs = search needs
 
--- src/lib.rt:67:34
 taken-requires-12 : tie.Need-taken-requires-12
 taken-requires-12 c κs = search needs
 
--- src/lib.rt:67:15
 branch-requires-13 : tie.Need-branch-requires-13
 branch-requires-13 c κs = search needs
 
--- src/lib.rt:68:34
 taken-requires-13 : tie.Need-taken-requires-13
 taken-requires-13 c κs = search needs
 
--- src/lib.rt:68:15
 branch-requires-14 : tie.Need-branch-requires-14
 branch-requires-14 c κs = search needs
 
--- src/lib.rt:69:34
 taken-requires-14 : tie.Need-taken-requires-14
 taken-requires-14 c κs = search needs
 
--- src/lib.rt:69:15
 branch-requires-15 : tie.Need-branch-requires-15
 branch-requires-15 c κs = search needs
 
--- src/lib.rt:70:15
 branch-requires-16 : tie.Need-branch-requires-16
 branch-requires-16 c κs = search needs
 
--- src/lib.rt:71:14
 link-word-requires : tie.Need-link-word-requires
 link-word-requires c κs =
     let d = c .before .before in
     let s = d .before .before .before in
     (s .pre .0 .0, low-half (s .args .w) (d .before .if1 .left) (d .match .rest))
 
--- src/lib.rt:38:1
 returns-2 : tie.Need-returns-2
 returns-2 c =
     let d = c .before .before .before .before in
@@ -162,7 +124,6 @@ returns-2 c =
     branches (a .w) 0 0 (now (a .regs)) (now (a .mem)) (now (a .psw)) (now (a .cex)) (a .pc) (omega arith) (omega arith) (d .match .keys1)
     (s .pre .0 .1) (s .pre .0 .0) (c .before .taken .ensures) (c .branch2 .ensures)
 
--- src/lib.rt:38:1
 returns-3 : tie.Need-returns-3
 returns-3 c =
     let d = c .before .before .before .before in
@@ -171,7 +132,6 @@ returns-3 c =
     branches (a .w) 0 1 (now (a .regs)) (now (a .mem)) (now (a .psw)) (now (a .cex)) (a .pc) (omega arith) (omega arith) (d .match .keys2)
     (s .pre .0 .1) (s .pre .0 .0) (c .before .taken2 .ensures) (c .branch3 .ensures)
 
--- src/lib.rt:38:1
 returns-4 : tie.Need-returns-4
 returns-4 c =
     let d = c .before .before .before .before in
@@ -180,7 +140,6 @@ returns-4 c =
     branches (a .w) 1 0 (now (a .regs)) (now (a .mem)) (now (a .psw)) (now (a .cex)) (a .pc) (omega arith) (omega arith) (d .match .keys3)
     (s .pre .0 .1) (s .pre .0 .0) (c .before .taken3 .ensures) (c .branch4 .ensures)
 
--- src/lib.rt:38:1
 returns-5 : tie.Need-returns-5
 returns-5 c =
     let d = c .before .before .before .before in
@@ -189,7 +148,6 @@ returns-5 c =
     branches (a .w) 1 1 (now (a .regs)) (now (a .mem)) (now (a .psw)) (now (a .cex)) (a .pc) (omega arith) (omega arith) (d .match .keys4)
     (s .pre .0 .1) (s .pre .0 .0) (c .before .taken4 .ensures) (c .branch5 .ensures)
 
--- src/lib.rt:38:1
 returns-6 : tie.Need-returns-6
 returns-6 c =
     let d = c .before .before .before .before in
@@ -198,7 +156,6 @@ returns-6 c =
     branches (a .w) 2 0 (now (a .regs)) (now (a .mem)) (now (a .psw)) (now (a .cex)) (a .pc) (omega arith) (omega arith) (d .match .keys5)
     (s .pre .0 .1) (s .pre .0 .0) (c .before .taken5 .ensures) (c .branch6 .ensures)
 
--- src/lib.rt:38:1
 returns-7 : tie.Need-returns-7
 returns-7 c =
     let d = c .before .before .before .before in
@@ -207,7 +164,6 @@ returns-7 c =
     branches (a .w) 2 1 (now (a .regs)) (now (a .mem)) (now (a .psw)) (now (a .cex)) (a .pc) (omega arith) (omega arith) (d .match .keys6)
     (s .pre .0 .1) (s .pre .0 .0) (c .before .taken6 .ensures) (c .branch7 .ensures)
 
--- src/lib.rt:38:1
 returns-8 : tie.Need-returns-8
 returns-8 c =
     let d = c .before .before .before .before in
@@ -216,7 +172,6 @@ returns-8 c =
     branches (a .w) 3 0 (now (a .regs)) (now (a .mem)) (now (a .psw)) (now (a .cex)) (a .pc) (omega arith) (omega arith) (d .match .keys7)
     (s .pre .0 .1) (s .pre .0 .0) (c .before .taken7 .ensures) (c .branch8 .ensures)
 
--- src/lib.rt:38:1
 returns-9 : tie.Need-returns-9
 returns-9 c =
     let d = c .before .before .before .before in
@@ -225,7 +180,6 @@ returns-9 c =
     branches (a .w) 3 1 (now (a .regs)) (now (a .mem)) (now (a .psw)) (now (a .cex)) (a .pc) (omega arith) (omega arith) (d .match .keys8)
     (s .pre .0 .1) (s .pre .0 .0) (c .before .taken8 .ensures) (c .branch9 .ensures)
 
--- src/lib.rt:38:1
 returns-10 : tie.Need-returns-10
 returns-10 c =
     let d = c .before .before .before .before in
@@ -234,7 +188,6 @@ returns-10 c =
     branches (a .w) 4 0 (now (a .regs)) (now (a .mem)) (now (a .psw)) (now (a .cex)) (a .pc) (omega arith) (omega arith) (d .match .keys9)
     (s .pre .0 .1) (s .pre .0 .0) (c .before .taken9 .ensures) (c .branch10 .ensures)
 
--- src/lib.rt:38:1
 returns-11 : tie.Need-returns-11
 returns-11 c =
     let d = c .before .before .before .before in
@@ -243,7 +196,6 @@ returns-11 c =
     branches (a .w) 4 1 (now (a .regs)) (now (a .mem)) (now (a .psw)) (now (a .cex)) (a .pc) (omega arith) (omega arith) (d .match .keys10)
     (s .pre .0 .1) (s .pre .0 .0) (c .before .taken10 .ensures) (c .branch11 .ensures)
 
--- src/lib.rt:38:1
 returns-12 : tie.Need-returns-12
 returns-12 c =
     let d = c .before .before .before .before in
@@ -252,7 +204,6 @@ returns-12 c =
     branches (a .w) 5 0 (now (a .regs)) (now (a .mem)) (now (a .psw)) (now (a .cex)) (a .pc) (omega arith) (omega arith) (d .match .keys11)
     (s .pre .0 .1) (s .pre .0 .0) (c .before .taken11 .ensures) (c .branch12 .ensures)
 
--- src/lib.rt:38:1
 returns-13 : tie.Need-returns-13
 returns-13 c =
     let d = c .before .before .before .before in
@@ -261,7 +212,6 @@ returns-13 c =
     branches (a .w) 5 1 (now (a .regs)) (now (a .mem)) (now (a .psw)) (now (a .cex)) (a .pc) (omega arith) (omega arith) (d .match .keys12)
     (s .pre .0 .1) (s .pre .0 .0) (c .before .taken12 .ensures) (c .branch13 .ensures)
 
--- src/lib.rt:38:1
 returns-14 : tie.Need-returns-14
 returns-14 c =
     let d = c .before .before .before .before in
@@ -270,7 +220,6 @@ returns-14 c =
     branches (a .w) 6 0 (now (a .regs)) (now (a .mem)) (now (a .psw)) (now (a .cex)) (a .pc) (omega arith) (omega arith) (d .match .keys13)
     (s .pre .0 .1) (s .pre .0 .0) (c .before .taken13 .ensures) (c .branch14 .ensures)
 
--- src/lib.rt:38:1
 returns-15 : tie.Need-returns-15
 returns-15 c =
     let d = c .before .before .before .before in
@@ -279,7 +228,6 @@ returns-15 c =
     branches (a .w) 6 1 (now (a .regs)) (now (a .mem)) (now (a .psw)) (now (a .cex)) (a .pc) (omega arith) (omega arith) (d .match .keys14)
     (s .pre .0 .1) (s .pre .0 .0) (c .before .taken14 .ensures) (c .branch15 .ensures)
 
--- src/lib.rt:38:1
 returns-16 : tie.Need-returns-16
 unfolding takenOf
 returns-16 c =
@@ -289,7 +237,6 @@ returns-16 c =
     branches (a .w) 7 0 (now (a .regs)) (now (a .mem)) (now (a .psw)) (now (a .cex)) (a .pc) (omega arith) (omega arith) (d .match .keys15)
     (s .pre .0 .1) (s .pre .0 .0) refl (c .branch16 .ensures)
 
--- src/lib.rt:38:1
 returns-17 : tie.Need-returns-17
 returns-17 c =
     let d = c .before .before .before in

@@ -4,60 +4,43 @@ use Rattle.stretch_words.proofs.Laws.{decode-load}
 use borrow.Author.Needs.{needs}
 use Rattle.stretch_words.proofs.load_word.Statement.{statement}
 use Rattle.stretch_words.proofs.load_word.Tie as tie
-use Rattle.stretch_words.proofs.load_word.Reads as reads
-use Rattle.stretch_words.proofs.load_word.Lts as lts
-use Rattle.stretch_memory.proofs.load_indexed.Reads as load-indexed-reads
-use Rattle.stretch_words.proofs.store_word.Reads as store-word-reads
 
--- src/lib.rt:170:18
 load-indexed-requires : tie.Need-load-indexed-requires
 load-indexed-requires c κs = search needs
 
--- src/lib.rt:171:18
 load-indexed-requires-2 : tie.Need-load-indexed-requires-2
 load-indexed-requires-2 c κs = search needs
 
--- src/lib.rt:172:18
 load-indexed-requires-3 : tie.Need-load-indexed-requires-3
 load-indexed-requires-3 c κs = search needs
 
--- src/lib.rt:173:18
 load-indexed-requires-4 : tie.Need-load-indexed-requires-4
 load-indexed-requires-4 c κs = search needs
 
--- src/lib.rt:174:18
 load-indexed-requires-5 : tie.Need-load-indexed-requires-5
 load-indexed-requires-5 c κs = search needs
 
--- src/lib.rt:175:18
 load-indexed-requires-6 : tie.Need-load-indexed-requires-6
 load-indexed-requires-6 c κs = search needs
 
--- src/lib.rt:176:18
 load-indexed-requires-7 : tie.Need-load-indexed-requires-7
 load-indexed-requires-7 c κs = search needs
 
--- src/lib.rt:177:18
 load-indexed-requires-8 : tie.Need-load-indexed-requires-8
 load-indexed-requires-8 c κs = search needs
 
--- src/lib.rt:178:18
 load-indexed-requires-9 : tie.Need-load-indexed-requires-9
 load-indexed-requires-9 c κs = search needs
 
--- src/lib.rt:179:18
 load-indexed-requires-10 : tie.Need-load-indexed-requires-10
 load-indexed-requires-10 c κs = search needs
 
--- src/lib.rt:180:14
 store-word-requires : tie.Need-store-word-requires
 store-word-requires c κs = search needs
 
--- src/lib.rt:155:1
 same-length : tie.Need-same-length
 same-length c = search needs
 
--- src/lib.rt:155:1
 returns : tie.Need-returns
 returns c =
     let d = c .before .before .before .before .before in
@@ -66,11 +49,9 @@ returns c =
     rw (decode-load (a .w) 0 0 0 0 (omega arith) (omega arith) (omega arith) (omega arith) (d .match .keys1))
     (c .before .before .load-indexed .ensures (now (a .psw)) (now (a .cex)))
 
--- src/lib.rt:155:1
 same-length-2 : tie.Need-same-length-2
 same-length-2 c = search needs
 
--- src/lib.rt:155:1
 returns-2 : tie.Need-returns-2
 returns-2 c =
     let d = c .before .before .before .before .before in
@@ -79,11 +60,9 @@ returns-2 c =
     rw (decode-load (a .w) 0 0 0 1 (omega arith) (omega arith) (omega arith) (omega arith) (d .match .keys2))
     (c .before .before .load-indexed2 .ensures (now (a .psw)) (now (a .cex)))
 
--- src/lib.rt:155:1
 same-length-3 : tie.Need-same-length-3
 same-length-3 c = search needs
 
--- src/lib.rt:155:1
 returns-3 : tie.Need-returns-3
 returns-3 c =
     let d = c .before .before .before .before .before in
@@ -92,11 +71,9 @@ returns-3 c =
     rw (decode-load (a .w) 0 0 1 0 (omega arith) (omega arith) (omega arith) (omega arith) (d .match .keys3))
     (c .before .before .load-indexed3 .ensures (now (a .psw)) (now (a .cex)))
 
--- src/lib.rt:155:1
 same-length-4 : tie.Need-same-length-4
 same-length-4 c = search needs
 
--- src/lib.rt:155:1
 returns-4 : tie.Need-returns-4
 returns-4 c =
     let d = c .before .before .before .before .before in
@@ -105,11 +82,9 @@ returns-4 c =
     rw (decode-load (a .w) 0 0 1 1 (omega arith) (omega arith) (omega arith) (omega arith) (d .match .keys4))
     (c .before .before .load-indexed4 .ensures (now (a .psw)) (now (a .cex)))
 
--- src/lib.rt:155:1
 same-length-5 : tie.Need-same-length-5
 same-length-5 c = search needs
 
--- src/lib.rt:155:1
 returns-5 : tie.Need-returns-5
 returns-5 c =
     let d = c .before .before .before .before .before in
@@ -118,11 +93,9 @@ returns-5 c =
     rw (decode-load (a .w) 0 1 0 0 (omega arith) (omega arith) (omega arith) (omega arith) (d .match .keys5))
     (c .before .before .load-indexed5 .ensures (now (a .psw)) (now (a .cex)))
 
--- src/lib.rt:155:1
 same-length-6 : tie.Need-same-length-6
 same-length-6 c = search needs
 
--- src/lib.rt:155:1
 returns-6 : tie.Need-returns-6
 returns-6 c =
     let d = c .before .before .before .before .before in
@@ -131,11 +104,9 @@ returns-6 c =
     rw (decode-load (a .w) 0 1 0 1 (omega arith) (omega arith) (omega arith) (omega arith) (d .match .keys6))
     (c .before .before .load-indexed6 .ensures (now (a .psw)) (now (a .cex)))
 
--- src/lib.rt:155:1
 same-length-7 : tie.Need-same-length-7
 same-length-7 c = search needs
 
--- src/lib.rt:155:1
 returns-7 : tie.Need-returns-7
 returns-7 c =
     let d = c .before .before .before .before .before in
@@ -144,11 +115,9 @@ returns-7 c =
     rw (decode-load (a .w) 1 0 1 0 (omega arith) (omega arith) (omega arith) (omega arith) (d .match .keys7))
     (c .before .before .load-indexed7 .ensures (now (a .psw)) (now (a .cex)))
 
--- src/lib.rt:155:1
 same-length-8 : tie.Need-same-length-8
 same-length-8 c = search needs
 
--- src/lib.rt:155:1
 returns-8 : tie.Need-returns-8
 returns-8 c =
     let d = c .before .before .before .before .before in
@@ -157,11 +126,9 @@ returns-8 c =
     rw (decode-load (a .w) 1 0 1 1 (omega arith) (omega arith) (omega arith) (omega arith) (d .match .keys8))
     (c .before .before .load-indexed8 .ensures (now (a .psw)) (now (a .cex)))
 
--- src/lib.rt:155:1
 same-length-9 : tie.Need-same-length-9
 same-length-9 c = search needs
 
--- src/lib.rt:155:1
 returns-9 : tie.Need-returns-9
 returns-9 c =
     let d = c .before .before .before .before .before in
@@ -170,11 +137,9 @@ returns-9 c =
     rw (decode-load (a .w) 1 1 0 0 (omega arith) (omega arith) (omega arith) (omega arith) (d .match .keys9))
     (c .before .before .load-indexed9 .ensures (now (a .psw)) (now (a .cex)))
 
--- src/lib.rt:155:1
 same-length-10 : tie.Need-same-length-10
 same-length-10 c = search needs
 
--- src/lib.rt:155:1
 returns-10 : tie.Need-returns-10
 returns-10 c =
     let d = c .before .before .before .before .before in
@@ -183,11 +148,9 @@ returns-10 c =
     rw (decode-load (a .w) 1 1 0 1 (omega arith) (omega arith) (omega arith) (omega arith) (d .match .keys10))
     (c .before .before .load-indexed10 .ensures (now (a .psw)) (now (a .cex)))
 
--- src/lib.rt:155:1
 same-length-11 : tie.Need-same-length-11
 same-length-11 c = search needs
 
--- src/lib.rt:155:1
 returns-11 : tie.Need-returns-11
 returns-11 c = search needs
 

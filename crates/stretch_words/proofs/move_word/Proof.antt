@@ -6,29 +6,19 @@ use native.Mathlib.Omega.{arith}
 use borrow.Author.Needs.{needs}
 use Rattle.stretch_words.proofs.move_word.Statement.{statement}
 use Rattle.stretch_words.proofs.move_word.Tie as tie
-use Rattle.stretch_words.proofs.move_word.Reads as reads
-use Rattle.stretch_words.proofs.move_word.Lts as lts
-use Rattle.stretch_registers.proofs.flags_word.Reads as flags-word-reads
-use Rattle.stretch_registers.proofs.move_word.Reads as move-word-reads
-use Rattle.stretch_words.proofs.load_word.Reads as load-word-reads
 
--- src/lib.rt:211:18
 move-word-requires : tie.Need-move-word-requires
 move-word-requires c κs = search needs
 
--- src/lib.rt:212:18
 move-word-requires-2 : tie.Need-move-word-requires-2
 move-word-requires-2 c κs = search needs
 
--- src/lib.rt:213:18
 flags-word-requires : tie.Need-flags-word-requires
 flags-word-requires c κs = search needs
 
--- src/lib.rt:214:14
 load-word-requires : tie.Need-load-word-requires
 load-word-requires c κs = search needs
 
--- src/lib.rt:196:1
 returns : tie.Need-returns
 returns c =
     let d = c .before .before .before in
@@ -37,7 +27,6 @@ returns c =
     means _ (a .w) (now (a .regs)) (now (a .mem)) _ (now (a .psw)) (now (a .cex)) (now (a .psw)) _ _
     (decode-move (a .w) 0 (omega arith) (d .match .keys1)) (c .move-word .ensures (now (a .psw)) 0 refl)
 
--- src/lib.rt:196:1
 returns-2 : tie.Need-returns-2
 returns-2 c =
     let d = c .before .before .before in
@@ -46,7 +35,6 @@ returns-2 c =
     means _ (a .w) (now (a .regs)) (now (a .mem)) _ (now (a .psw)) (now (a .cex)) (now (a .psw)) _ _
     (decode-move (a .w) 1 (omega arith) (d .match .keys2)) (c .move-word2 .ensures (now (a .psw)) 1 refl)
 
--- src/lib.rt:196:1
 returns-3 : tie.Need-returns-3
 returns-3 c =
     let d = c .before .before in
@@ -56,11 +44,9 @@ returns-3 c =
     means _ (a .w) (now (a .regs)) (now (a .mem)) _ (now (a .psw)) (now (a .cex)) _ (now (a .cex)) _
     (decode-control (a .w) (omega arith) (omega arith)) (c .flags-word .ensures (now (a .regs)) (now (a .cex)) (s .pre .0))
 
--- src/lib.rt:196:1
 same-length : tie.Need-same-length
 same-length c = search needs
 
--- src/lib.rt:196:1
 returns-4 : tie.Need-returns-4
 returns-4 c = search needs
 

@@ -4,20 +4,13 @@ use Rattle.stretch_words.proofs.Laws.{decode-ldr, decode-str, bit-clear
 use borrow.Author.Needs.{needs}
 use Rattle.stretch_words.proofs.relative_word.Statement.{statement}
 use Rattle.stretch_words.proofs.relative_word.Tie as tie
-use Rattle.stretch_words.proofs.relative_word.Reads as reads
-use Rattle.stretch_words.proofs.relative_word.Lts as lts
-use Rattle.stretch_memory.proofs.load_relative.Reads as load-relative-reads
-use Rattle.stretch_memory.proofs.store_relative.Reads as store-relative-reads
 
--- src/lib.rt:86:13
 load-relative-requires : tie.Need-load-relative-requires
 load-relative-requires c κs = search needs
 
--- src/lib.rt:86:13
 same-length : tie.Need-same-length
 same-length c = search needs
 
--- src/lib.rt:86:13
 returns : tie.Need-returns
 returns c =
     let d = c .before .before .before .before .before in
@@ -26,15 +19,12 @@ returns c =
     λ psw cex. rw (decode-ldr (a .w) (s .pre .1) 1 (eq-of (d .if2 .taken)) (d .before .if1 .taken))
     (c .before .before .load-relative .ensures psw cex)
 
--- src/lib.rt:88:9
 load-relative-requires-2 : tie.Need-load-relative-requires-2
 load-relative-requires-2 c κs = search needs
 
--- src/lib.rt:88:9
 same-length-2 : tie.Need-same-length-2
 same-length-2 c = search needs
 
--- src/lib.rt:88:9
 returns-2 : tie.Need-returns-2
 returns-2 c =
     let d = c .before .before .before .before .before in
@@ -43,15 +33,12 @@ returns-2 c =
     λ psw cex. rw (decode-ldr (a .w) (s .pre .1) 0 (bit-clear (a .w) (d .if2 .left)) (d .before .if1 .taken))
     (c .before .before .load-relative2 .ensures psw cex)
 
--- src/lib.rt:91:9
 store-relative-requires : tie.Need-store-relative-requires
 store-relative-requires c κs = search needs
 
--- src/lib.rt:91:9
 same-length-3 : tie.Need-same-length-3
 same-length-3 c = search needs
 
--- src/lib.rt:91:9
 returns-3 : tie.Need-returns-3
 returns-3 c =
     let d = c .before .before .before .before .before in
@@ -60,15 +47,12 @@ returns-3 c =
     λ psw cex. rw (decode-str (a .w) (s .pre .1) 1 (eq-of (d .if3 .taken)) (d .before .if1 .left))
     (c .before .before .store-relative .ensures psw cex)
 
--- src/lib.rt:93:5
 store-relative-requires-2 : tie.Need-store-relative-requires-2
 store-relative-requires-2 c κs = search needs
 
--- src/lib.rt:72:1
 same-length-4 : tie.Need-same-length-4
 same-length-4 c = search needs
 
--- src/lib.rt:72:1
 returns-4 : tie.Need-returns-4
 returns-4 c =
     let d = c .before .before .before .before .before in

@@ -7,20 +7,13 @@ use native.Mathlib.Omega.{arith}
 use borrow.Author.Needs.{needs}
 use Rattle.stretch_words.proofs.single_word.Statement.{statement}
 use Rattle.stretch_words.proofs.single_word.Tie as tie
-use Rattle.stretch_words.proofs.single_word.Reads as reads
-use Rattle.stretch_words.proofs.single_word.Lts as lts
-use Rattle.stretch_registers.proofs.single_word.Reads as single-word-reads
-use Rattle.stretch_registers.proofs.swap_word.Reads as swap-word-reads
 
--- src/lib.rt:99:9
 returns : tie.Need-returns
 returns c = λ cex. inl (refl, (refl, refl, refl, refl))
 
--- src/lib.rt:102:9
 swap-word-requires : tie.Need-swap-word-requires
 swap-word-requires c κs = search needs
 
--- src/lib.rt:102:9
 returns-2 : tie.Need-returns-2
 returns-2 c =
     let d = c .before .before in
@@ -31,11 +24,9 @@ returns-2 c =
     (decode-swap (a .w) (within (a .w) (d .before .if1 .left) .0) (d .if2 .taken)) (c .swap-word .ensures (now (a .psw)) cex
     (a .w / 64 % 2))
 
--- src/lib.rt:104:5
 single-word-requires : tie.Need-single-word-requires
 single-word-requires c κs = search needs
 
--- src/lib.rt:92:1
 returns-3 : tie.Need-returns-3
 returns-3 c =
     let d = c .before .before .before in

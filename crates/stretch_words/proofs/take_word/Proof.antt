@@ -8,211 +8,154 @@ use Rattle.stretch_words.proofs.Laws.{computing, testing}
 use borrow.Author.Needs.{needs}
 use Rattle.stretch_words.proofs.take_word.Statement.{statement}
 use Rattle.stretch_words.proofs.take_word.Tie as tie
-use Rattle.stretch_words.proofs.take_word.Reads as reads
-use Rattle.stretch_words.proofs.take_word.Lts as lts
-use Rattle.stretch_registers.proofs.compute.Reads as compute-reads
-use Rattle.stretch_registers.proofs.test.Reads as test-reads
-use Rattle.stretch_words.proofs.constant_of.Reads as constant-of-reads
-use Rattle.stretch_words.proofs.logic_word.Reads as logic-word-reads
-use Rattle.stretch_words.proofs.register_of.Reads as register-of-reads
 
--- src/lib.rt:269:60
 register-of-requires : tie.Need-register-of-requires
 register-of-requires c κs = search needs
 
--- src/lib.rt:269:18
 compute-requires : tie.Need-compute-requires
 compute-requires c κs = search needs
 
--- src/lib.rt:270:59
 register-of-requires-2 : tie.Need-register-of-requires-2
 register-of-requires-2 c κs = search needs
 
--- src/lib.rt:270:18
 compute-requires-2 : tie.Need-compute-requires-2
 compute-requires-2 c κs = search needs
 
--- src/lib.rt:271:60
 constant-of-requires : tie.Need-constant-of-requires
 constant-of-requires c κs = search needs
 
--- src/lib.rt:271:18
 compute-requires-3 : tie.Need-compute-requires-3
 compute-requires-3 c κs = search needs
 
--- src/lib.rt:272:59
 constant-of-requires-2 : tie.Need-constant-of-requires-2
 constant-of-requires-2 c κs = search needs
 
--- src/lib.rt:272:18
 compute-requires-4 : tie.Need-compute-requires-4
 compute-requires-4 c κs = search needs
 
--- src/lib.rt:273:61
 register-of-requires-3 : tie.Need-register-of-requires-3
 register-of-requires-3 c κs = search needs
 
--- src/lib.rt:273:18
 compute-requires-5 : tie.Need-compute-requires-5
 compute-requires-5 c κs = search needs
 
--- src/lib.rt:274:60
 register-of-requires-4 : tie.Need-register-of-requires-4
 register-of-requires-4 c κs = search needs
 
--- src/lib.rt:274:18
 compute-requires-6 : tie.Need-compute-requires-6
 compute-requires-6 c κs = search needs
 
--- src/lib.rt:275:61
 constant-of-requires-3 : tie.Need-constant-of-requires-3
 constant-of-requires-3 c κs = search needs
 
--- src/lib.rt:275:18
 compute-requires-7 : tie.Need-compute-requires-7
 compute-requires-7 c κs = search needs
 
--- src/lib.rt:276:60
 constant-of-requires-4 : tie.Need-constant-of-requires-4
 constant-of-requires-4 c κs = search needs
 
--- src/lib.rt:276:18
 compute-requires-8 : tie.Need-compute-requires-8
 compute-requires-8 c κs = search needs
 
--- src/lib.rt:277:60
 register-of-requires-5 : tie.Need-register-of-requires-5
 register-of-requires-5 c κs = search needs
 
--- src/lib.rt:277:18
 compute-requires-9 : tie.Need-compute-requires-9
 compute-requires-9 c κs = search needs
 
--- src/lib.rt:278:59
 register-of-requires-6 : tie.Need-register-of-requires-6
 register-of-requires-6 c κs = search needs
 
--- src/lib.rt:278:18
 compute-requires-10 : tie.Need-compute-requires-10
 compute-requires-10 c κs = search needs
 
--- src/lib.rt:279:60
 constant-of-requires-5 : tie.Need-constant-of-requires-5
 constant-of-requires-5 c κs = search needs
 
--- src/lib.rt:279:18
 compute-requires-11 : tie.Need-compute-requires-11
 compute-requires-11 c κs = search needs
 
--- src/lib.rt:280:59
 constant-of-requires-6 : tie.Need-constant-of-requires-6
 constant-of-requires-6 c κs = search needs
 
--- src/lib.rt:280:18
 compute-requires-12 : tie.Need-compute-requires-12
 compute-requires-12 c κs = search needs
 
--- src/lib.rt:281:61
 register-of-requires-7 : tie.Need-register-of-requires-7
 register-of-requires-7 c κs = search needs
 
--- src/lib.rt:281:18
 compute-requires-13 : tie.Need-compute-requires-13
 compute-requires-13 c κs = search needs
 
--- src/lib.rt:282:60
 register-of-requires-8 : tie.Need-register-of-requires-8
 register-of-requires-8 c κs = search needs
 
--- src/lib.rt:282:18
 compute-requires-14 : tie.Need-compute-requires-14
 compute-requires-14 c κs = search needs
 
--- src/lib.rt:283:61
 constant-of-requires-7 : tie.Need-constant-of-requires-7
 constant-of-requires-7 c κs = search needs
 
--- src/lib.rt:283:18
 compute-requires-15 : tie.Need-compute-requires-15
 compute-requires-15 c κs = search needs
 
--- src/lib.rt:284:60
 constant-of-requires-8 : tie.Need-constant-of-requires-8
 constant-of-requires-8 c κs = search needs
 
--- src/lib.rt:284:18
 compute-requires-16 : tie.Need-compute-requires-16
 compute-requires-16 c κs = search needs
 
--- src/lib.rt:285:61
 register-of-requires-9 : tie.Need-register-of-requires-9
 register-of-requires-9 c κs = search needs
 
--- src/lib.rt:285:18
 compute-requires-17 : tie.Need-compute-requires-17
 compute-requires-17 c κs = search needs
 
--- src/lib.rt:286:60
 register-of-requires-10 : tie.Need-register-of-requires-10
 register-of-requires-10 c κs = search needs
 
--- src/lib.rt:286:18
 compute-requires-18 : tie.Need-compute-requires-18
 compute-requires-18 c κs = search needs
 
--- src/lib.rt:287:61
 constant-of-requires-9 : tie.Need-constant-of-requires-9
 constant-of-requires-9 c κs = search needs
 
--- src/lib.rt:287:18
 compute-requires-19 : tie.Need-compute-requires-19
 compute-requires-19 c κs = search needs
 
--- src/lib.rt:288:60
 constant-of-requires-10 : tie.Need-constant-of-requires-10
 constant-of-requires-10 c κs = search needs
 
--- src/lib.rt:288:18
 compute-requires-20 : tie.Need-compute-requires-20
 compute-requires-20 c κs = search needs
 
--- src/lib.rt:289:57
 register-of-requires-11 : tie.Need-register-of-requires-11
 register-of-requires-11 c κs = search needs
 
--- src/lib.rt:289:18
 test-requires : tie.Need-test-requires
 test-requires c κs = search needs
 
--- src/lib.rt:290:56
 register-of-requires-12 : tie.Need-register-of-requires-12
 register-of-requires-12 c κs = search needs
 
--- src/lib.rt:290:18
 test-requires-2 : tie.Need-test-requires-2
 test-requires-2 c κs = search needs
 
--- src/lib.rt:291:57
 constant-of-requires-11 : tie.Need-constant-of-requires-11
 constant-of-requires-11 c κs = search needs
 
--- src/lib.rt:291:18
 test-requires-3 : tie.Need-test-requires-3
 test-requires-3 c κs = search needs
 
--- src/lib.rt:292:56
 constant-of-requires-12 : tie.Need-constant-of-requires-12
 constant-of-requires-12 c κs = search needs
 
--- src/lib.rt:292:18
 test-requires-4 : tie.Need-test-requires-4
 test-requires-4 c κs = search needs
 
--- src/lib.rt:293:14
 logic-word-requires : tie.Need-logic-word-requires
 logic-word-requires c κs = search needs
 
--- src/lib.rt:254:1
 returns : tie.Need-returns
 unfolding binaryOp
 returns c =
@@ -222,7 +165,6 @@ returns c =
     computing (a .w) 0 0 0 (omega arith) (omega arith) (omega arith) (d .match .keys1) (now (a .regs)) (now (a .mem)) (now (a .psw))
     (now (a .cex)) (a .pc) (s .pre .0) op.Add false refl refl (c .before .register-of .ensures) refl (c .compute .ensures)
 
--- src/lib.rt:254:1
 returns-2 : tie.Need-returns-2
 unfolding binaryOp
 returns-2 c =
@@ -232,7 +174,6 @@ returns-2 c =
     computing (a .w) 0 0 1 (omega arith) (omega arith) (omega arith) (d .match .keys2) (now (a .regs)) (now (a .mem)) (now (a .psw))
     (now (a .cex)) (a .pc) (s .pre .0) op.Add true refl refl (c .before .register-of2 .ensures) refl (c .compute2 .ensures)
 
--- src/lib.rt:254:1
 returns-3 : tie.Need-returns-3
 unfolding binaryOp
 returns-3 c =
@@ -242,7 +183,6 @@ returns-3 c =
     computing (a .w) 0 1 0 (omega arith) (omega arith) (omega arith) (d .match .keys3) (now (a .regs)) (now (a .mem)) (now (a .psw))
     (now (a .cex)) (a .pc) (s .pre .0) op.Add false refl refl (c .before .constant-of .ensures) refl (c .compute3 .ensures)
 
--- src/lib.rt:254:1
 returns-4 : tie.Need-returns-4
 unfolding binaryOp
 returns-4 c =
@@ -252,7 +192,6 @@ returns-4 c =
     computing (a .w) 0 1 1 (omega arith) (omega arith) (omega arith) (d .match .keys4) (now (a .regs)) (now (a .mem)) (now (a .psw))
     (now (a .cex)) (a .pc) (s .pre .0) op.Add true refl refl (c .before .constant-of2 .ensures) refl (c .compute4 .ensures)
 
--- src/lib.rt:254:1
 returns-5 : tie.Need-returns-5
 unfolding binaryOp
 returns-5 c =
@@ -262,7 +201,6 @@ returns-5 c =
     computing (a .w) 1 0 0 (omega arith) (omega arith) (omega arith) (d .match .keys5) (now (a .regs)) (now (a .mem)) (now (a .psw))
     (now (a .cex)) (a .pc) (s .pre .0) op.Addc false refl refl (c .before .register-of3 .ensures) refl (c .compute5 .ensures)
 
--- src/lib.rt:254:1
 returns-6 : tie.Need-returns-6
 unfolding binaryOp
 returns-6 c =
@@ -272,7 +210,6 @@ returns-6 c =
     computing (a .w) 1 0 1 (omega arith) (omega arith) (omega arith) (d .match .keys6) (now (a .regs)) (now (a .mem)) (now (a .psw))
     (now (a .cex)) (a .pc) (s .pre .0) op.Addc true refl refl (c .before .register-of4 .ensures) refl (c .compute6 .ensures)
 
--- src/lib.rt:254:1
 returns-7 : tie.Need-returns-7
 unfolding binaryOp
 returns-7 c =
@@ -282,7 +219,6 @@ returns-7 c =
     computing (a .w) 1 1 0 (omega arith) (omega arith) (omega arith) (d .match .keys7) (now (a .regs)) (now (a .mem)) (now (a .psw))
     (now (a .cex)) (a .pc) (s .pre .0) op.Addc false refl refl (c .before .constant-of3 .ensures) refl (c .compute7 .ensures)
 
--- src/lib.rt:254:1
 returns-8 : tie.Need-returns-8
 unfolding binaryOp
 returns-8 c =
@@ -292,7 +228,6 @@ returns-8 c =
     computing (a .w) 1 1 1 (omega arith) (omega arith) (omega arith) (d .match .keys8) (now (a .regs)) (now (a .mem)) (now (a .psw))
     (now (a .cex)) (a .pc) (s .pre .0) op.Addc true refl refl (c .before .constant-of4 .ensures) refl (c .compute8 .ensures)
 
--- src/lib.rt:254:1
 returns-9 : tie.Need-returns-9
 unfolding binaryOp
 returns-9 c =
@@ -302,7 +237,6 @@ returns-9 c =
     computing (a .w) 2 0 0 (omega arith) (omega arith) (omega arith) (d .match .keys9) (now (a .regs)) (now (a .mem)) (now (a .psw))
     (now (a .cex)) (a .pc) (s .pre .0) op.Sub false refl refl (c .before .register-of5 .ensures) refl (c .compute9 .ensures)
 
--- src/lib.rt:254:1
 returns-10 : tie.Need-returns-10
 unfolding binaryOp
 returns-10 c =
@@ -312,7 +246,6 @@ returns-10 c =
     computing (a .w) 2 0 1 (omega arith) (omega arith) (omega arith) (d .match .keys10) (now (a .regs)) (now (a .mem)) (now (a .psw))
     (now (a .cex)) (a .pc) (s .pre .0) op.Sub true refl refl (c .before .register-of6 .ensures) refl (c .compute10 .ensures)
 
--- src/lib.rt:254:1
 returns-11 : tie.Need-returns-11
 unfolding binaryOp
 returns-11 c =
@@ -322,7 +255,6 @@ returns-11 c =
     computing (a .w) 2 1 0 (omega arith) (omega arith) (omega arith) (d .match .keys11) (now (a .regs)) (now (a .mem)) (now (a .psw))
     (now (a .cex)) (a .pc) (s .pre .0) op.Sub false refl refl (c .before .constant-of5 .ensures) refl (c .compute11 .ensures)
 
--- src/lib.rt:254:1
 returns-12 : tie.Need-returns-12
 unfolding binaryOp
 returns-12 c =
@@ -332,7 +264,6 @@ returns-12 c =
     computing (a .w) 2 1 1 (omega arith) (omega arith) (omega arith) (d .match .keys12) (now (a .regs)) (now (a .mem)) (now (a .psw))
     (now (a .cex)) (a .pc) (s .pre .0) op.Sub true refl refl (c .before .constant-of6 .ensures) refl (c .compute12 .ensures)
 
--- src/lib.rt:254:1
 returns-13 : tie.Need-returns-13
 unfolding binaryOp
 returns-13 c =
@@ -342,7 +273,6 @@ returns-13 c =
     computing (a .w) 3 0 0 (omega arith) (omega arith) (omega arith) (d .match .keys13) (now (a .regs)) (now (a .mem)) (now (a .psw))
     (now (a .cex)) (a .pc) (s .pre .0) op.Subc false refl refl (c .before .register-of7 .ensures) refl (c .compute13 .ensures)
 
--- src/lib.rt:254:1
 returns-14 : tie.Need-returns-14
 unfolding binaryOp
 returns-14 c =
@@ -352,7 +282,6 @@ returns-14 c =
     computing (a .w) 3 0 1 (omega arith) (omega arith) (omega arith) (d .match .keys14) (now (a .regs)) (now (a .mem)) (now (a .psw))
     (now (a .cex)) (a .pc) (s .pre .0) op.Subc true refl refl (c .before .register-of8 .ensures) refl (c .compute14 .ensures)
 
--- src/lib.rt:254:1
 returns-15 : tie.Need-returns-15
 unfolding binaryOp
 returns-15 c =
@@ -362,7 +291,6 @@ returns-15 c =
     computing (a .w) 3 1 0 (omega arith) (omega arith) (omega arith) (d .match .keys15) (now (a .regs)) (now (a .mem)) (now (a .psw))
     (now (a .cex)) (a .pc) (s .pre .0) op.Subc false refl refl (c .before .constant-of7 .ensures) refl (c .compute15 .ensures)
 
--- src/lib.rt:254:1
 returns-16 : tie.Need-returns-16
 unfolding binaryOp
 returns-16 c =
@@ -372,7 +300,6 @@ returns-16 c =
     computing (a .w) 3 1 1 (omega arith) (omega arith) (omega arith) (d .match .keys16) (now (a .regs)) (now (a .mem)) (now (a .psw))
     (now (a .cex)) (a .pc) (s .pre .0) op.Subc true refl refl (c .before .constant-of8 .ensures) refl (c .compute16 .ensures)
 
--- src/lib.rt:254:1
 returns-17 : tie.Need-returns-17
 unfolding binaryOp
 returns-17 c =
@@ -382,7 +309,6 @@ returns-17 c =
     computing (a .w) 4 0 0 (omega arith) (omega arith) (omega arith) (d .match .keys17) (now (a .regs)) (now (a .mem)) (now (a .psw))
     (now (a .cex)) (a .pc) (s .pre .0) op.Dadd false refl refl (c .before .register-of9 .ensures) refl (c .compute17 .ensures)
 
--- src/lib.rt:254:1
 returns-18 : tie.Need-returns-18
 unfolding binaryOp
 returns-18 c =
@@ -392,7 +318,6 @@ returns-18 c =
     computing (a .w) 4 0 1 (omega arith) (omega arith) (omega arith) (d .match .keys18) (now (a .regs)) (now (a .mem)) (now (a .psw))
     (now (a .cex)) (a .pc) (s .pre .0) op.Dadd true refl refl (c .before .register-of10 .ensures) refl (c .compute18 .ensures)
 
--- src/lib.rt:254:1
 returns-19 : tie.Need-returns-19
 unfolding binaryOp
 returns-19 c =
@@ -402,7 +327,6 @@ returns-19 c =
     computing (a .w) 4 1 0 (omega arith) (omega arith) (omega arith) (d .match .keys19) (now (a .regs)) (now (a .mem)) (now (a .psw))
     (now (a .cex)) (a .pc) (s .pre .0) op.Dadd false refl refl (c .before .constant-of9 .ensures) refl (c .compute19 .ensures)
 
--- src/lib.rt:254:1
 returns-20 : tie.Need-returns-20
 unfolding binaryOp
 returns-20 c =
@@ -412,7 +336,6 @@ returns-20 c =
     computing (a .w) 4 1 1 (omega arith) (omega arith) (omega arith) (d .match .keys20) (now (a .regs)) (now (a .mem)) (now (a .psw))
     (now (a .cex)) (a .pc) (s .pre .0) op.Dadd true refl refl (c .before .constant-of10 .ensures) refl (c .compute20 .ensures)
 
--- src/lib.rt:254:1
 returns-21 : tie.Need-returns-21
 unfolding binaryOp
 returns-21 c =
@@ -422,7 +345,6 @@ returns-21 c =
     testing (a .w) 5 0 0 (omega arith) (omega arith) (omega arith) (d .match .keys21) (now (a .regs)) (now (a .mem)) (now (a .psw))
     (now (a .cex)) (a .pc) (s .pre .0) op.Cmp false refl refl (c .before .register-of11 .ensures) refl (c .test .ensures)
 
--- src/lib.rt:254:1
 returns-22 : tie.Need-returns-22
 unfolding binaryOp
 returns-22 c =
@@ -432,7 +354,6 @@ returns-22 c =
     testing (a .w) 5 0 1 (omega arith) (omega arith) (omega arith) (d .match .keys22) (now (a .regs)) (now (a .mem)) (now (a .psw))
     (now (a .cex)) (a .pc) (s .pre .0) op.Cmp true refl refl (c .before .register-of12 .ensures) refl (c .test2 .ensures)
 
--- src/lib.rt:254:1
 returns-23 : tie.Need-returns-23
 unfolding binaryOp
 returns-23 c =
@@ -442,7 +363,6 @@ returns-23 c =
     testing (a .w) 5 1 0 (omega arith) (omega arith) (omega arith) (d .match .keys23) (now (a .regs)) (now (a .mem)) (now (a .psw))
     (now (a .cex)) (a .pc) (s .pre .0) op.Cmp false refl refl (c .before .constant-of11 .ensures) refl (c .test3 .ensures)
 
--- src/lib.rt:254:1
 returns-24 : tie.Need-returns-24
 unfolding binaryOp
 returns-24 c =
@@ -452,11 +372,9 @@ returns-24 c =
     testing (a .w) 5 1 1 (omega arith) (omega arith) (omega arith) (d .match .keys24) (now (a .regs)) (now (a .mem)) (now (a .psw))
     (now (a .cex)) (a .pc) (s .pre .0) op.Cmp true refl refl (c .before .constant-of12 .ensures) refl (c .test4 .ensures)
 
--- src/lib.rt:254:1
 same-length : tie.Need-same-length
 same-length c = search needs
 
--- src/lib.rt:254:1
 returns-25 : tie.Need-returns-25
 returns-25 c = search needs
 

@@ -4,9 +4,6 @@ use Rattle.isa_card.specs.Words.{countReply}
 use borrow.Author.Needs.{needs}
 use Rattle.xm23.proofs.xm23_count.Statement.{statement}
 use Rattle.xm23.proofs.xm23_count.Tie as tie
-use Rattle.xm23.proofs.xm23_count.Reads as reads
-use Rattle.xm23.proofs.xm23_count.Lts as lts
-use Rattle.isa_card.proofs.count_of.Reads as count-of-reads
 
 count-of-requires : tie.Need-count-of-requires
 count-of-requires c κs = search needs

@@ -3,10 +3,6 @@ use Rattle.xm23.specs.Api.{numberOf}
 use borrow.Author.Needs.{needs}
 use Rattle.xm23.proofs.xm23_decode.Statement.{statement}
 use Rattle.xm23.proofs.xm23_decode.Tie as tie
-use Rattle.xm23.proofs.xm23_decode.Reads as reads
-use Rattle.xm23.proofs.xm23_decode.Lts as lts
-use Rattle.isa.proofs.decode.Reads as decode-reads
-use Rattle.isa_number.proofs.number.Reads as number-reads
 
 decode-requires : tie.Need-decode-requires
 decode-requires c κs = search needs

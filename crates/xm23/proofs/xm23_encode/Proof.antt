@@ -6,11 +6,6 @@ use Rattle.isa_number.proofs.Laws.{reply-other, reply-encoded}
 use borrow.Author.Needs.{needs}
 use Rattle.xm23.proofs.xm23_encode.Statement.{statement}
 use Rattle.xm23.proofs.xm23_encode.Tie as tie
-use Rattle.xm23.proofs.xm23_encode.Reads as reads
-use Rattle.xm23.proofs.xm23_encode.Lts as lts
-use Rattle.isa.proofs.encode.Reads as encode-reads
-use Rattle.isa_number.proofs.from_number.Reads as from-number-reads
-use Rattle.isa_number.proofs.number.Reads as number-reads
 
 from-number-requires : tie.Need-from-number-requires
 from-number-requires c κs = search needs

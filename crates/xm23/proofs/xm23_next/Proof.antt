@@ -3,9 +3,6 @@ use Rattle.isa_card.specs.Words.{foundReply, nextReply}
 use borrow.Author.Needs.{needs}
 use Rattle.xm23.proofs.xm23_next.Statement.{statement}
 use Rattle.xm23.proofs.xm23_next.Tie as tie
-use Rattle.xm23.proofs.xm23_next.Reads as reads
-use Rattle.xm23.proofs.xm23_next.Lts as lts
-use Rattle.isa_card.proofs.next_of.Reads as next-of-reads
 
 next-of-requires : tie.Need-next-of-requires
 next-of-requires c κs = search needs

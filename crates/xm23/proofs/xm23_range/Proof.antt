@@ -2,12 +2,6 @@ use Rattle.isa_ranges.specs.Ranges.{rangeReply}
 use borrow.Author.Needs.{needs}
 use Rattle.xm23.proofs.xm23_range.Statement.{statement}
 use Rattle.xm23.proofs.xm23_range.Tie as tie
-use Rattle.xm23.proofs.xm23_range.Reads as reads
-use Rattle.xm23.proofs.xm23_range.Lts as lts
-use Rattle.isa.proofs.decode.Reads as decode-reads
-use Rattle.isa_ranges.proofs.ends_of.Reads as ends-of-reads
-use Rattle.isa_ranges.proofs.operation_number.Reads as operation-number-reads
-use Rattle.isa_ranges.proofs.operation_of.Reads as operation-of-reads
 
 decode-requires : tie.Need-decode-requires
 decode-requires c κs = search needs

@@ -11,7 +11,7 @@ use mir.Syntax.{w32}
 use mir.Val.{toZ, ofZ, Fits, SFits}
 use mir.ValLaws.{toZ-pos, toZ-ofZ}
 use borrow.Author.Tests.{ltb-true}
-use Rattle.asm_value.proofs.Signed.{kept}
+use Rattle.word.proofs.Offset.{kept}
 use Rattle.asm_fits.specs.declared.Fit.{Fit}
 use Rattle.asm_fits.specs.declared.Fit.the-variants.{Number, Outside}
 use Rattle.asm_fits.specs.Fits.{residueOf, withinOf, constantNumber}

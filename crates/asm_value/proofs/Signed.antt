@@ -1,7 +1,7 @@
 -- Numbers with a sign: what the code's casts and `!` give, and that the operations on 32 bits fit 64. Assumes nothing.
 use mathlib.Core.Path.{_≡_, refl, sym, ap, _∙_, subst}
-use mathlib.Core.Bool.{Bool, true, false, cond}
-use Prim.Native.Nat.{ℕ, zero, suc, _+_, _-_, _*_, _/_, _^_, _<_, _≤_}
+use mathlib.Core.Bool.{true, false}
+use Prim.Native.Nat.{ℕ, zero, suc, _+_, _-_, _*_, _/_, _<_, _≤_}
 use native.Mathlib.Nat.{not-suc-le-zero, mul-le-mul, div-le-self, le-trans}
 use native.Mathlib.Omega.{arith}
 use lib.Dec.{T, ltb}
@@ -9,11 +9,12 @@ use lib.IntN.{ℤ, pos, negsuc, natAbs, negℤ, subℕ, _+ℤ_, _-ℤ_, _*ℤ_}
 use lib.Signed.{mag, ltZ, nonNeg, quotZ}
 use mir.Syntax.{w32, w64}
 use mir.Val.{toZ, ofZ, Fits, SFits}
-use mir.ValLaws.{toZ-pos, toZ-neg, toZ-ofZ}
+use mir.ValLaws.{toZ-pos, toZ-ofZ}
 use Rattle.asm_value.specs.Value.{fitted, quotient, towardsZero}
 use Rattle.asm_value.specs.declared.Value.the-variants.{Outside}
-use borrow.Author.Tests.{lt-ltb, le-ltb, ltb-true, ltb-false}
+use borrow.Author.Tests.{lt-ltb, ltb-true}
 use Rattle.word.proofs.Laws.{bool-cases}
+use Rattle.word.proofs.Offset.{kept}
 
 -- what a test of the sign says
 below : (z : ℤ) → SFits w64 z → ltZ (toZ w64 (ofZ w64 z)) (pos 0) ≡ true → ltZ z (pos 0) ≡ true
@@ -29,10 +30,6 @@ flipped (negsuc n) f e =
     let h : n < 9223372036854775808 = f .sfits in
     let k : 18446744073709551615 - (18446744073709551616 - suc n) ≡ n = omega arith in
     ap (toZ w64) k ∙ toZ-pos w64 n h
-
-pub kept : (z : ℤ) → ltZ z (pos 0) ≡ false → z ≡ pos (mag z)
-kept (pos n) e = refl
-kept (negsuc n) e = let z : _≡_ {A = Bool} true false = e in cc
 
 -- a number that is `pos m` may be cast
 cast : (z : ℤ) (m : ℕ) → z ≡ pos m → m < 9223372036854775808 → T (nonNeg z) × Fits w64 (natAbs z)

@@ -1,37 +1,37 @@
 -- The promises of a session. Assumes nothing.
-use Prim.Native.Nat.{ℕ, zero, suc, _+_, _-_, _/_, _%_, _<_, _≤_}
+use Prim.Native.Nat.{ℕ, zero, suc, _+_, _-_, _≤_}
 use native.Mathlib.Nat.{add-zero, suc-add}
 use native.Mathlib.Omega.{arith}
-use mathlib.Core.Bool.{Bool, true, false, cond, not}
+use mathlib.Core.Bool.{true, cond, not}
 use mathlib.Core.List.{List, [], _∷_, _++_}
 use mathlib.Core.Logic.{_≢_}
 use mathlib.Core.Path.{_≡_, refl, sym, ap, subst, _∙_}
 use lib.ListN.{length, drop}
 use Rattle.machine.specs.declared.Verdict.the-variants.{Accepted}
 use Rattle.machine.specs.State.{State}
-use Rattle.machine.specs.Record.{fourAt, stateIn, recordOf}
+use Rattle.machine.specs.Record.{stateIn, recordOf}
 use Rattle.machine.specs.Events.{Event, eventsOf}
-use Rattle.machine.specs.Run.{Run, ran, runOf}
+use Rattle.machine.specs.Run.{Run, runOf}
 use Rattle.machine.specs.Logged.{Logged, ranOf}
 use Rattle.machine.specs.Refusal.{verdictOf, callVerdict, refusalNumber, accepted?}
-use Rattle.machine.specs.Call.{Closing, closing, turnedBack, roomOf, runOn, runCallOf}
-use Rattle.machine_laws.specs.Bounds.{Each, Bytes, Tidy}
+use Rattle.machine.specs.Call.{Closing, closing, roomOf, runOn, runCallOf}
+use Rattle.machine_laws.specs.Bounds.{Each, Bytes}
 use Rattle.machine_laws.specs.Passed.{Passed}
 use Rattle.machine_laws.proofs.Cases.{bool-cases, eq-of, neq-of}
-use Rattle.machine_laws.proofs.Records.{passed, start-tidy, events-fit, record-written, record-bytes, is-accepted}
+use Rattle.machine_laws.proofs.Records.{passed, start-tidy, start-count, events-fit, record-written, record-bytes, is-accepted}
 use Rattle.machine_laws.proofs.Runs.{run-zero}
 use Rattle.machine_laws.proofs.Steps.{run-tidy, run-count}
 use Rattle.run_laws.proofs.Room.{logged-run, logged-le, records-enough, roomy-run}
 use Rattle.run_laws.proofs.Verdicts.{call-start, call-accepts}
 use Rattle.run_laws.proofs.Calls.{accepted-call, refused-call}
 use Rattle.journal.specs.Ring.{Journal, journalOf, placesOf, journalAfter, journalFits}
-use Rattle.journal.specs.Back.{Lent, lentOf, backOf, oneBack, loweredPlace}
+use Rattle.journal.specs.Back.{Lent, lentOf, backOf, loweredPlace}
 use Rattle.journal.specs.Call.{JournalClosing, BackClosing, journalVerdict, runJournalOf, backVerdict, backCallOf}
-use Rattle.journal.proofs.Ring.{RingFits, ring-fits, fits-ring, lowered-lt}
+use Rattle.journal.proofs.Ring.{fits-ring, lowered-lt}
 use Rattle.journal.proofs.Calls.{back-zero, back-suc, journal-call, journal-ring, journal-accepts, journal-answer, journal-refused}
 use Rattle.journal.proofs.Calls.{back-passed, back-answer, back-refused}
-use Rattle.journal_laws.specs.Past.{Past, past, next, Taken, Newest, rewound, Recalls, pastsOf, SameDue, earlier}
-use Rattle.journal_laws.specs.Session.{Call, runs, backs, ranWith, left, stepsAfter, lentAfter, stepsIn, CallBytes, Began}
+use Rattle.journal_laws.specs.Past.{Past, next, rewound, Recalls, pastsOf, SameDue, earlier}
+use Rattle.journal_laws.specs.Session.{Call, runs, backs, left, stepsAfter, lentAfter, stepsIn, CallBytes, Began}
 use Rattle.journal_laws.specs.Session.{GoesBack, LawfulEvents, LongEnough, Again, RunsOnAgain}
 use Rattle.journal_laws.proofs.Recall.{run-recalls, one-back, back-recalls, back-journal, back-to}
 use Rattle.journal_laws.proofs.Again.{next-tidy, next-count, back-earlier, earlier-tidy, again, back-again}
@@ -43,10 +43,6 @@ pub record Told (x : Lent) (h : List Past) : Type 0 where
   pub memory : Bytes (x .memory)
   pub state : Bytes (x .state)
   pub recalls : Recalls x h (x .journal .kept)
-
-start-count : (r memory : List ℕ) → stateIn r memory .count ≡ fourAt r 22
-unfolding stateIn
-start-count r memory = refl
 
 memory-in : (r memory : List ℕ) → stateIn r memory .mem ≡ memory
 unfolding stateIn

@@ -2,7 +2,7 @@
 -- Assumes nothing.
 use Prim.Native.Nat.{ℕ, suc, _+_, _-_, _≤_, _<_}
 use mathlib.Core.Path.{_≡_, refl, sym, ap, _∙_}
-use mathlib.Core.Bool.{Bool, true, false, cond, _&&_, false≢true}
+use mathlib.Core.Bool.{Bool, true, false, cond, _&&_, and-false, false≢true}
 use mathlib.Core.List.{List, [], _∷_, _++_, append-nil}
 use native.Mathlib.Numerals.{add-one}
 use native.Mathlib.Omega.{arith}
@@ -32,10 +32,6 @@ onto-all-nil (b ∷ []) h = refl
 onto-all-nil (b ∷ x ∷ p) h = ap (onto b) (onto-all-nil (x ∷ p) (omega arith))
 
 -- ---- the lines from a place on
-
-and-false : (x : Bool) → x && false ≡ false
-and-false true = refl
-and-false false = refl
 
 lf-first : (t : List ℕ) → linesOf (10 ∷ t) ≡ [] ∷ linesOf t
 unfolding linesOf

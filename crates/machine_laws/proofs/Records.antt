@@ -358,7 +358,8 @@ pub events-fit : (memory r events : List ℕ) (n : ℕ) → Passed memory r even
 events-fit memory r events n P be =
     from-fit events (eventCount events) 0 (λ j h. event-fits events j be (P .devices j (omega arith)))
 
-start-count : (r memory : List ℕ) → stateIn r memory .count ≡ fourAt r 22
+-- the count that a run starts from
+pub start-count : (r memory : List ℕ) → stateIn r memory .count ≡ fourAt r 22
 unfolding stateIn
 start-count r memory = refl
 

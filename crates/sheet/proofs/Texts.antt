@@ -1,12 +1,11 @@
 -- The printed line from its parts, and a part of the input copied byte by byte.
 -- Assumes nothing.
-use Prim.Native.Nat.{ℕ, _+_, _<_, _≤_}
+use Prim.Native.Nat.{ℕ, _+_, _≤_}
 use mathlib.Core.Path.{_≡_, refl, sym, ap, _∙_}
 use mathlib.Core.Bool.{Bool, true, false, cond}
 use mathlib.Core.List.{List, [], _∷_, _++_, append-assoc}
-use native.Mathlib.Numerals.{add-one}
-use lib.ListN.{length, getD, set, take, drop}
-use lib.Seq.{take-suc, take-suc-set, take-all}
+use lib.ListN.{length, getD, take, drop}
+use lib.Seq.{take-all}
 use mir.Syntax.{w8}
 use mir.Val.{Fits, boolByte}
 use mir.Facts.{fits-lit}
@@ -100,10 +99,6 @@ pub kept-thrice : (a b c : ℕ) (x y z w : List ℕ) → a ≤ b → b ≤ c
 kept-thrice a b c x y z w hb hc first second third = kept-twice b c x z w hc (kept-twice a b x y z hb first second) third
 
 -- ---- a list copied element by element
-
-pub copy-more : (src dst : List ℕ) (i : ℕ) → i < length dst → i < length src → take i dst ≡ take i src
-    → take (i + 1) (set dst i (getD src i 0)) ≡ take (i + 1) src
-copy-more src dst i hd hs e = rw (add-one i, take-suc-set dst i (getD src i 0) hd, take-suc src i 0 hs, e)
 
 pub copy-all : (src dst : List ℕ) (i : ℕ) → length dst ≤ i → length src ≤ i → take i dst ≡ take i src → dst ≡ src
 copy-all src dst i hd hs e = sym (take-all i dst hd) ∙ e ∙ take-all i src hs

@@ -2,7 +2,8 @@
 // awake, PC even, no line waiting above the priority, no event due. Every step of it is uneventful.
 // A word that could end any of this is left to the general way: SETPRI upwards or while a line
 // waits, SVC, SLP, an odd word access, a store to the device bytes or to the vectors, a write to R7
-// other than BL, branches and MOV. Where a CEX block is open, the steps are taken one by one.
+// other than BL, branches and MOV. Where a CEX block is open, the steps are taken one by one, and
+// CEX and SETPRI are left too.
 ghost use mathlib.Core.Bool.{true, false};
 ghost use mathlib.Core.List.{List};
 ghost use mathlib.Core.Logic.{_⊎_};

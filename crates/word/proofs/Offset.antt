@@ -39,7 +39,8 @@ flipped (negsuc n) f e =
     let k : 65535 - (65536 - suc n) ≡ n = omega arith in
     ap (toZ w16) k ∙ toZ-pos w16 n h
 
-kept : (z : ℤ) → ltZ z (pos 0) ≡ false → z ≡ pos (mag z)
+-- a number from zero on
+pub kept : (z : ℤ) → ltZ z (pos 0) ≡ false → z ≡ pos (mag z)
 kept (pos n) e = refl
 kept (negsuc n) e = let z : _≡_ {A = Bool} true false = e in cc
 

@@ -3,7 +3,8 @@ use mathlib.Core.Path.{_≡_, refl}
 use native.Mathlib.Omega.{arith}
 use lib.ListN.{length, length-set, take}
 use borrow.Author.Needs.{needs}
-use Rattle.sheet.proofs.Texts.{copy-more, copy-all}
+use Rattle.output_log.proofs.Laws.{keep-more}
+use Rattle.sheet.proofs.Texts.{copy-all}
 use Rattle.sheet.proofs.cut.copy.Statement.{statement}
 use Rattle.sheet.proofs.cut.copy.Tie as tie
 
@@ -34,7 +35,7 @@ loop-again c =
     let entry = at-loop .before in (
       omega arith,
       simp length-set (omega arith),
-      copy-more (entry .args .src .now) (at-loop .loop .dst) (at-loop .loop .i) (omega arith) (omega arith) (at-loop .loop .inv .2),
+      keep-more (entry .args .src .now) (at-loop .loop .dst) (at-loop .loop .i) (omega arith) (omega arith) (at-loop .loop .inv .2),
     )
 
 same-length : tie.Need-same-length Inv-loop μ-loop

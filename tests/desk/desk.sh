@@ -508,7 +508,9 @@ expect 'a whole marking' 0 '' '' "$xm23" mark -o "$room/whole" "$room/long.paper
 (exec nice -n 19 "$xm23" mark -j 2 -o "$room/killed" "$room/long.paper" "$room"/many/*.s19) 2> /dev/null &
 while [ "$(ls "$room/killed/pages" 2> /dev/null | wc -l)" -lt 20 ]; do sleep 0.01; done
 kill -9 $! && wait $! 2> /dev/null
-sleep 0.3
+# What works for it ends a moment later, and holds its lock till then.
+python3 -c 'import fcntl, sys
+fcntl.flock(open(sys.argv[1]), fcntl.LOCK_EX)' "$room/killed/.lock"
 some=$(ls "$room/killed/pages" | wc -l)
 same 'it was in the middle' "$([ "$some" -lt 300 ] && [ ! -e "$room/killed/results.csv" ] && echo yes)" yes
 kept=$(ls -i "$room/killed/pages" | grep -v part | head -1)

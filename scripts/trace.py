@@ -1,13 +1,14 @@
 #!/usr/bin/env python3
-"""Holds the definitions and docs/TRACE.md against documents 01 and 02: trace.py [ROOT].
+"""Holds the definitions and docs/TRACE.md against documents 01 and 02 and docs/CALLS.md: trace.py [ROOT].
 
 The comment of a definition ends with a tag, `[01 Heading, item; 003 section]`, or `[02 §5]` where a change request says
-it, `[02 §5, for 01 Arithmetic]` where the request replaces a rule of 01. This script fails
-- on a tag of a specs file that names no heading of 01 or no section of 02,
+it, `[02 §5, for 01 Arithmetic]` where the request replaces a rule of 01, or `[call places]` where it is a call that no
+paper asks for: docs/CALLS.md has a section for each, `## xm23_places: topic`. This script fails
+- on a tag of a specs file that names no heading of 01, no section of 02 and no call of docs/CALLS.md,
 - on a heading of 01 that no tag names (the misreadings aside, which no definition says), or that has no section in
   docs/TRACE.md,
 - on a section of 02 that a tag names and that has no section in docs/TRACE.md, `## 02 §5: topic`, and the other way
-  round,
+  round; on a call the same way, `## call places: topic`, and on one of docs/CALLS.md that no tag names,
 - on a name in docs/TRACE.md that is defined nowhere: `File.antt`: `name` (a file without a folder is of machine/specs),
   proof: `crate::function` and law: `crate/proofs/File.antt::law` and edit: `crate/edit` of a crate that is there,
   oracle: `file::test`, case: `name`,
@@ -37,7 +38,7 @@ def tags(text):
     """Each bracketed tag of the comments of a file, its lines joined."""
     lines = (line.strip() for line in text.split("\n"))
     comments = " ".join(line[2:].strip() if line.startswith("--") else "\0" for line in lines)
-    return re.findall(r"\[((?:01|02|003) [^\]\0]*)\]", comments)
+    return re.findall(r"\[((?:01|02|003|call) [^\]\0]*)\]", comments)
 
 
 def heading_of(part):
@@ -54,10 +55,10 @@ def request_of(part):
     return named and (named[2] is None or heading_of(named[2])) and f"02 §{named[1]}"
 
 
-def headings_in(tag):
-    """For each part of a tag that is about 01 or 02, the heading or the section that it names, or None."""
+def headings_in(tag, calls=()):
+    """For each part of a tag that is about 01, 02 or one of the calls, what it names, or None."""
     parts = [part.strip().partition(" ") for part in tag.split(";")]
-    naming = {"01": heading_of, "02": request_of}
+    naming = {"01": heading_of, "02": request_of, "call": lambda name: f"call {name}" if name in calls else None}
     return [naming[document](rest) for document, _, rest in parts if document in naming]
 
 
@@ -77,18 +78,26 @@ class Trace:
         file = self.root / path
         return file.is_file() and re.search(pattern % re.escape(name), file.read_text(), re.MULTILINE)
 
+    def calls(self):
+        """The calls that docs/CALLS.md has a section of."""
+        file = self.root / "docs/CALLS.md"
+        text = file.read_text() if file.is_file() else ""
+        return re.findall(r"^## xm23_(\w+): ", text, re.MULTILINE)
+
     def definitions(self):
         """The tags of all specs, and the headings that are owed."""
-        seen = set()
+        seen, calls = set(), self.calls()
         for path in sorted((self.root / "crates").glob("*/specs/*.antt")):
             for tag in tags(path.read_text()):
-                for heading in headings_in(tag):
+                for heading in headings_in(tag, calls):
                     seen.add(heading)
                     file = path.relative_to(self.root)
-                    self.check(heading, f"{file}: [{tag}] names no heading of 01, no section of 02")
+                    self.check(heading, f"{file}: [{tag}] names no heading of 01, no section of 02, no call")
         for heading in OWED:
             self.check(heading in seen, f'no definition has a tag of 01 "{heading}"')
         self.requests = {heading for heading in seen if heading and heading.startswith("02 ")}
+        self.requests |= {f"call {name}" for name in calls}
+        self.tagged = seen
 
     def document(self):
         """The sections of docs/TRACE.md, and every name in its rows."""
@@ -96,10 +105,10 @@ class Trace:
         sections = re.findall(r"^## (.*)$", text, re.MULTILINE)
         for heading in HEADINGS:
             self.check(heading in sections, f'docs/TRACE.md has no section "{heading}"')
-        written = {section.partition(":")[0] for section in sections if section.startswith("02 ")}
+        written = {section.partition(":")[0] for section in sections if section.startswith(("02 ", "call "))}
         for section in sorted(self.requests | written):
             self.check(section in written, f'docs/TRACE.md has no section "{section}: .."')
-            self.check(section in self.requests, f"no definition has a tag of {section}")
+            self.check(section in self.tagged, f"no definition has a tag of {section}")
         for row in re.findall(r"^\|(.*)\|$", text, re.MULTILINE):
             cells = row.split("|")
             if len(cells) != 3:

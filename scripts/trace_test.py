@@ -9,8 +9,11 @@ from trace import HEADINGS, OWED, Trace, tags
 SPECS = "".join(f"-- says {heading}. [01 {heading}; 003 6]\nabbrev pub d{i} : ℕ\n" for i, heading in enumerate(OWED))
 DOCUMENT = "".join(f"## {heading}\n\n| Sentence | `A.antt`: `d0` | case: `one` |\n" for heading in HEADINGS)
 
+CALLS = "# Calls\n\n## xm23_one: first\n"
+CALLED = "## 02 §5: bits\n## call one: first\n"
 
-def failures(specs=SPECS, document=DOCUMENT):
+
+def failures(specs=SPECS, document=DOCUMENT, calls="# Calls\n"):
     """What trace.py says of a repository with one file of definitions."""
     with tempfile.TemporaryDirectory() as name:
         root = pathlib.Path(name)
@@ -21,6 +24,7 @@ def failures(specs=SPECS, document=DOCUMENT):
             "oracle/tests/t.rs": "fn holds() {}\n",
             "tests/cases/one.txt": "",
             "docs/TRACE.md": document,
+            "docs/CALLS.md": calls,
         }.items():
             (root / path).parent.mkdir(parents=True, exist_ok=True)
             (root / path).write_text(text)
@@ -57,6 +61,11 @@ CASES = {
     "a section that 02 does not have": len(failures(SPECS + "-- x [02 §15]\n")) == 1,
     "a request with no section": len(failures(SPECS + "-- x [02 §5; 01 Entry]\n")) == 1,
     "a section with no request": len(failures(document=DOCUMENT + "## 02 §12: sources\n")) == 1,
+    "a call with its sections": failures(SPECS + "-- x [call one; 02 §5]\n", DOCUMENT + CALLED, CALLS) == [],
+    "a tag of a call that is not there": len(failures(SPECS + "-- x [call two]\n", DOCUMENT)) == 1,
+    "a call that no tag names": len(failures(SPECS + "-- x [02 §5]\n", DOCUMENT + CALLED, CALLS)) == 1,
+    "a call with no section": len(failures(SPECS + "-- x [call one]\n", DOCUMENT, CALLS)) == 1,
+    "a section with no call": len(failures(document=DOCUMENT + "## call one: first\n")) == 1,
     "a law that is not there": len(failures(document=row("", "law: `machine/specs/A.antt::gone`"))) == 1,
 }
 

@@ -37,6 +37,16 @@ static int put_start(const struct program *p, const char *start, struct assemble
     return !refusal;
 }
 
+/* Lines of strangers, as a terminal may have them. */
+static void add_lines(struct text *t, const struct program *p, const struct assembled *a)
+{
+    struct text lines = {0};
+    add_source_listing(&lines, p->bytes, p->length, a, 0);
+    add_plain_lines(t, lines.at, lines.length);
+    add(t, "start %04X\n", a->pc);
+    drop(&lines);
+}
+
 static int assemble_program(const struct program *p, const char *to, const char *start, int listing)
 {
     static struct assembled a;
@@ -46,12 +56,10 @@ static int assemble_program(const struct program *p, const char *to, const char 
     if (!assemble_source(p->bytes, p->length, &a, &f)) {
         say_fault(p->name, &f);
     } else if (put_start(p, start, &a)) {
-        if (listing) {
-            add_source_listing(&t, p->bytes, p->length, &a, 0);
-            add(&t, "start %04X\n", a.pc);
-        } else {
+        if (listing)
+            add_lines(&t, p, &a);
+        else
             add_spans(&t, &a);
-        }
         status = write_file(to, &t);
     }
     drop(&t);

@@ -28,15 +28,24 @@ void *room_for(void *old, size_t bytes);
 void add_bytes(struct text *t, const void *bytes, size_t length);
 void add(struct text *t, const char *format, ...);
 void add_byte(struct text *t, const char *mark, unsigned byte); /* the mark and two digits of base sixteen */
-void add_plain(struct text *t, const char *bytes, size_t length); /* bytes that are no printable character as \xHH */
-void add_html(struct text *t, const char *bytes, size_t length);
-void add_name(struct text *t, const char *name); /* for HTML, of a long one the first bytes */
-void add_csv(struct text *t, const char *bytes, size_t length); /* one field, quoted where it must be */
 void drop(struct text *t);
 
-/* Prints `xm23: ` or `name:line: ` (line 0: `name: `) and the text as one line on standard error. */
+/*
+ * Bytes of strangers, whatever they are, as text: those of no printable character, and a backslash, as \xHH. Each takes
+ * the bytes as they came: what has gone through one goes through no other.
+ */
+void add_plain(struct text *t, const char *bytes, size_t length);
+void add_html(struct text *t, const char *bytes, size_t length);
+void add_name(struct text *t, const char *name);                  /* for HTML, of a long one the first bytes */
+void add_csv(struct text *t, const char *bytes, size_t length);   /* one cell; ' before what could be a formula */
+void add_plain_lines(struct text *t, const char *bytes, size_t length); /* line feeds and tabs stay */
+void add_html_lines(struct text *t, const char *bytes, size_t length);
+
+/* Prints `xm23: ` or `name:line: ` (line 0: `name: `) and the text as one line on standard error, as add_plain has it;
+ * say_of begins it with a word in quotes, of a long one the first bytes. */
 void say(const char *format, ...);
 void say_at(const char *name, uint32_t line, const char *format, ...);
+void say_of(const char *name, uint32_t line, const char *word, size_t length, const char *what);
 
 /* ---- file.c */
 

@@ -65,7 +65,7 @@ static void add_verdict(struct text *t, const struct row *r)
 static void add_pre(struct text *t, const char *class, const char *bytes, size_t length)
 {
     add(t, "<pre%s>", class);
-    add_html(t, bytes, length);
+    add_html_lines(t, bytes, length);
     add(t, "</pre>\n");
 }
 

@@ -38,13 +38,10 @@ static int next_word(struct rest *r, struct word *w)
     return 1;
 }
 
-/* Tells what is wrong with a word, which is shown as far as a line has room for it. */
+/* Tells what is wrong with a word. */
 static int wrong(const struct rest *r, const struct word *w, const char *what)
 {
-    struct text shown = {0};
-    add_plain(&shown, w->at, w->length < 40 ? w->length : 40);
-    say_at(r->paper->name, r->line, "'%s%s' %s", shown.at, w->length < 40 ? "" : "..", what);
-    drop(&shown);
+    say_of(r->paper->name, r->line, w->at, w->length, what);
     return 0;
 }
 

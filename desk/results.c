@@ -10,7 +10,6 @@ struct tally {
 
 static void add_csv_row(struct text *t, const struct sitting *s, size_t i, const struct row *r)
 {
-    struct text screen = {0};
     (void)i;
     add_csv(t, r->name, strlen(r->name));
     add(t, ",");
@@ -18,9 +17,7 @@ static void add_csv_row(struct text *t, const struct sitting *s, size_t i, const
     add(t, ",");
     add_csv(t, r->says.at, r->says.length);
     add(t, ",%lu,%lu,", (unsigned long)r->steps, (unsigned long)r->deepest);
-    add_plain(&screen, r->screen.at, r->screen.length);
-    add_csv(t, screen.at, screen.length);
-    drop(&screen);
+    add_csv(t, r->screen.at, r->screen.length);
     add(t, ",%s,%s,%s\n", r->agrees < 0 ? "" : r->agrees ? "yes" : "no", r->digest, s->paper_digest);
 }
 
@@ -37,12 +34,9 @@ static const char *verdict(const struct row *r)
 /* The first bytes of a screen text. */
 static void add_screen(struct text *t, const struct text *screen)
 {
-    struct text plain = {0};
     size_t length = screen->length < 60 ? screen->length : 60;
-    add_plain(&plain, screen->at, length);
-    add_html(t, plain.at ? plain.at : "", plain.length);
+    add_html(t, screen->at, length);
     add(t, "%s", length < screen->length ? " .." : "");
-    drop(&plain);
 }
 
 static void add_html_row(struct text *t, const struct sitting *s, size_t i, const struct row *r)

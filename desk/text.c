@@ -6,6 +6,7 @@
 #include "desk.h"
 
 #define MOST_NAME 1000 /* bytes of a name or a title on a page */
+#define MOST_WORD 40   /* bytes of a word in a message */
 
 void *room_for(void *old, size_t bytes)
 {
@@ -59,20 +60,54 @@ void add(struct text *t, const char *format, ...)
     va_end(list);
 }
 
-/* How many bytes the character at the start of some has in UTF-8; 0 where it is none, or no printable one. */
-static size_t character(const char *bytes, size_t length)
+/*
+ * Characters that are not shown as they are, in order: controls, the backslash, those that have no shape of their own
+ * or turn, join or break what stands around them, surrogates, those of private use, and all from where nothing is
+ * assigned but tags and private use.
+ */
+static const struct {
+    uint32_t first, last;
+} hidden[] = {
+    {0, 0x1F}, {'\\', '\\'}, {0x7F, 0x9F}, {0xAD, 0xAD}, {0x34F, 0x34F}, {0x600, 0x605}, {0x61C, 0x61C},
+    {0x6DD, 0x6DD}, {0x70F, 0x70F}, {0x890, 0x891}, {0x8E2, 0x8E2}, {0x115F, 0x1160}, {0x17B4, 0x17B5},
+    {0x180B, 0x180F}, {0x200B, 0x200F}, {0x2028, 0x202E}, {0x2060, 0x206F}, {0x3164, 0x3164}, {0xD800, 0xF8FF},
+    {0xFDD0, 0xFDEF}, {0xFE00, 0xFE0F}, {0xFEFF, 0xFEFF}, {0xFFA0, 0xFFA0}, {0xFFF0, 0xFFFB}, {0xFFFE, 0xFFFF},
+    {0x110BD, 0x110BD}, {0x110CD, 0x110CD}, {0x13430, 0x1343F}, {0x1BCA0, 0x1BCA3}, {0x1D173, 0x1D17A},
+    {0x1FFFE, 0x1FFFF}, {0x2FFFE, 0x2FFFF}, {0x3FFFE, UINT32_MAX},
+};
+
+static int is_hidden(uint32_t code)
 {
-    const unsigned char *at = (const unsigned char *)bytes;
-    size_t size = at[0] < 0x80 ? 1 : at[0] < 0xC2 ? 0 : at[0] < 0xE0 ? 2 : at[0] < 0xF0 ? 3 : at[0] < 0xF5 ? 4 : 0;
-    if (at[0] < 32 || at[0] == 127 || size > length)
+    size_t i = 0;
+    while (hidden[i].last < code)
+        i++;
+    return hidden[i].first <= code;
+}
+
+/* The character that the first bytes are in UTF-8, and how many they are; 0 where they are none. */
+static size_t decoded(const unsigned char *at, size_t length, uint32_t *code)
+{
+    static const uint32_t least[] = {0, 0, 0x80, 0x800, 0x10000};
+    size_t size = at[0] < 0x80 ? 1 : at[0] < 0xC0 ? 0 : at[0] < 0xE0 ? 2 : at[0] < 0xF0 ? 3 : at[0] < 0xF8 ? 4 : 0;
+    if (!size || size > length)
         return 0;
-    for (size_t i = 1; i < size; i++)
+    *code = size == 1 ? at[0] : at[0] & 0x7Fu >> size;
+    for (size_t i = 1; i < size; i++) {
         if (at[i] >> 6 != 2)
             return 0;
-    if ((at[0] == 0xC2 && at[1] < 0xA0) || (at[0] == 0xE0 && at[1] < 0xA0) || (at[0] == 0xED && at[1] > 0x9F) ||
-        (at[0] == 0xF0 && at[1] < 0x90) || (at[0] == 0xF4 && at[1] > 0x8F))
-        return 0;
-    return size;
+        *code = *code << 6 | (at[i] & 63u);
+    }
+    return *code < least[size] ? 0 : size;
+}
+
+/* How many of the first bytes are a character that is shown as it is, one of `kept` too. */
+static size_t shown(const char *bytes, size_t length, const char *kept)
+{
+    uint32_t code = 0;
+    size_t size = decoded((const unsigned char *)bytes, length, &code);
+    if (size == 1 && code && strchr(kept, (int)code))
+        return 1;
+    return size && !is_hidden(code) ? size : 0;
 }
 
 void add_byte(struct text *t, const char *mark, unsigned byte)
@@ -83,30 +118,41 @@ void add_byte(struct text *t, const char *mark, unsigned byte)
     add_bytes(t, both, 2);
 }
 
-void add_plain(struct text *t, const char *bytes, size_t length)
+/* Every text of strangers comes through here. What is no character that is shown is \xHH, byte by byte. */
+static void add_shown(struct text *t, const char *bytes, size_t length, const char *kept, const char *coded)
 {
     for (size_t i = 0, size; i < length; i += size ? size : 1) {
-        size = character(bytes + i, length - i);
-        if (size)
-            add_bytes(t, bytes + i, size);
-        else
+        size = shown(bytes + i, length - i, kept);
+        if (!size)
             add_byte(t, "\\x", (unsigned char)bytes[i]);
+        else if (strchr(coded, bytes[i]))
+            add(t, "&#%u;", (unsigned char)bytes[i]);
+        else
+            add_bytes(t, bytes + i, size);
     }
 }
 
-/* As add_plain; line feeds stay. */
+#define KEPT "\n\t"      /* in a text of many lines */
+#define CODED "<>&\""    /* in HTML */
+
+void add_plain(struct text *t, const char *bytes, size_t length)
+{
+    add_shown(t, bytes, length, "", "");
+}
+
+void add_plain_lines(struct text *t, const char *bytes, size_t length)
+{
+    add_shown(t, bytes, length, KEPT, "");
+}
+
 void add_html(struct text *t, const char *bytes, size_t length)
 {
-    for (size_t i = 0, size; i < length; i += size) {
-        size = character(bytes + i, length - i);
-        size = size ? size : 1;
-        if (bytes[i] == '<' || bytes[i] == '>' || bytes[i] == '&' || bytes[i] == '"')
-            add(t, "&#%u;", (unsigned char)bytes[i]);
-        else if (bytes[i] == '\n')
-            add_bytes(t, "\n", 1);
-        else
-            add_plain(t, bytes + i, size);
-    }
+    add_shown(t, bytes, length, "", CODED);
+}
+
+void add_html_lines(struct text *t, const char *bytes, size_t length)
+{
+    add_shown(t, bytes, length, KEPT, CODED);
 }
 
 void add_name(struct text *t, const char *name)
@@ -117,19 +163,29 @@ void add_name(struct text *t, const char *name)
         add(t, " ..");
 }
 
+/* Whether a spreadsheet takes a cell for a formula by its first character, in either width; or it begins as one that
+ * is kept from it. */
+static int like_formula(const char *bytes, size_t length)
+{
+    static const char wide[][4] = {"\xEF\xBC\x9D", "\xEF\xBC\x8B", "\xEF\xBC\x8D", "\xEF\xBC\xA0"};
+    for (size_t i = 0; i < 4; i++)
+        if (length >= 3 && memcmp(bytes, wide[i], 3) == 0)
+            return 1;
+    return length && memchr("=+-@\t\r'", bytes[0], 7);
+}
+
 void add_csv(struct text *t, const char *bytes, size_t length)
 {
-    int quoted = 0;
-    for (size_t i = 0; i < length; i++)
-        quoted |= bytes[i] == ',' || bytes[i] == '"' || bytes[i] == '\n' || bytes[i] == '\r';
-    if (!quoted) {
-        add_bytes(t, bytes, length);
-        return;
-    }
-    add(t, "\"");
-    for (size_t i = 0; i < length; i++)
-        add_bytes(t, bytes[i] == '"' ? "\"\"" : bytes + i, bytes[i] == '"' ? 2 : 1);
-    add(t, "\"");
+    struct text cell = {0};
+    int quoted;
+    add(&cell, "%s", like_formula(bytes, length) ? "'" : "");
+    add_plain(&cell, bytes, length);
+    quoted = strpbrk(cell.at, ",\"") != NULL;
+    add(t, "%s", quoted ? "\"" : "");
+    for (size_t i = 0; i < cell.length; i++)
+        add_bytes(t, cell.at[i] == '"' ? "\"\"" : cell.at + i, cell.at[i] == '"' ? 2 : 1);
+    add(t, "%s", quoted ? "\"" : "");
+    drop(&cell);
 }
 
 void drop(struct text *t)
@@ -160,16 +216,31 @@ void say(const char *format, ...)
     tell(&t);
 }
 
+static void add_place(struct text *t, const char *name, uint32_t line)
+{
+    add(t, "%s:", name);
+    if (line)
+        add(t, "%lu:", (unsigned long)line);
+    add(t, " ");
+}
+
 void say_at(const char *name, uint32_t line, const char *format, ...)
 {
     struct text t = {0};
     va_list list;
-    add(&t, "%s:", name);
-    if (line)
-        add(&t, "%lu:", (unsigned long)line);
-    add(&t, " ");
+    add_place(&t, name, line);
     va_start(list, format);
     add_list(&t, format, list);
     va_end(list);
+    tell(&t);
+}
+
+void say_of(const char *name, uint32_t line, const char *word, size_t length, const char *what)
+{
+    struct text t = {0};
+    add_place(&t, name, line);
+    add(&t, "'");
+    add_bytes(&t, word, length < MOST_WORD ? length : MOST_WORD);
+    add(&t, "%s' %s", length < MOST_WORD ? "" : "..", what);
     tell(&t);
 }

@@ -104,6 +104,8 @@ static unsigned stored(const struct step *s)
 static void judge_step(struct step *s, const struct paper *p, size_t due, const uint8_t *memory)
 {
     unsigned line = line_taken(p, s, due, memory);
+    s->fetched = 0;
+    s->word = 0;
     if (!(psw_of(s->before) & XM23_FLAG_SLP) && pc_of(s->before) == 0xFFFF)
         put_act(s, line < 8 ? CHAINED : PULLED, line & 7);
     else if (line < 8)
@@ -161,8 +163,6 @@ static void go_back(struct walk *w, const struct paper *p, struct machine *m)
 /* Which steps showed a byte: the log tells a store of an equal one too. */
 static void find_shown(struct walk *w)
 {
-    for (uint32_t i = 0; i < w->many; i++)
-        w->steps[i].shown = 0;
     for (uint32_t i = 0; i < w->shown; i++) {
         const uint8_t *record = w->log + XM23_LOG_SIZE * i;
         uint32_t step = get_long(record, XM23_LOG_STEP) - step_count(&w->steps[0]);
@@ -173,7 +173,6 @@ static void find_shown(struct walk *w)
 static void find_frames(struct walk *w)
 {
     unsigned open = 0;
-    w->many_frames = w->strays = 0;
     for (uint32_t i = 0; i < w->many; i++) {
         struct step *s = &w->steps[i];
         if (s->act == ACCEPTED || s->act == TRAPPED || s->act == FAULTED) {
@@ -192,13 +191,14 @@ static void find_frames(struct walk *w)
     }
 }
 
+/* Of a walk that was there nothing stays: what is told of a run is its own. */
 void walk_run(struct walk *w, const struct paper *p, struct machine *m, uint32_t steps)
 {
     struct outcome o = {0};
     uint32_t deepest = 0, kept = 0, place = 0, last = steps < MOST_WALK ? steps : MOST_WALK;
     uint64_t reply;
+    memset(w, 0, sizeof *w);
     run_machine(m, p, steps - last, &o);
-    memset(w->journal, 0, sizeof w->journal);
     reply = xm23_run_journal(m->memory, sizeof m->memory, m->record, sizeof m->record, p->event_bytes,
                              XM23_EVENT_SIZE * p->many_events, w->log, sizeof w->log, &deepest, w->journal,
                              sizeof w->journal, &kept, &place, last);

@@ -120,7 +120,8 @@
   const showScreen = () => {
     let text = data.shown > 0 ? '(' + data.shown + ' bytes before)\n' : '';
     const all = [...bytes(data.screen), ...data.log.filter(([step]) => step < now).map(([, , byte]) => byte)];
-    for (const byte of all) text += byte === 10 || (byte > 31 && byte < 127) ? String.fromCharCode(byte) : '\\x' + hex(byte, 2);
+    const plain = (byte) => byte === 9 || byte === 10 || (byte > 31 && byte < 127 && byte !== 92);
+    for (const byte of all) text += plain(byte) ? String.fromCharCode(byte) : '\\x' + hex(byte, 2);
     get('screen').textContent = text;
   };
 

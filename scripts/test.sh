@@ -99,6 +99,10 @@ desk_checked() {
         tests/desk/desk.sh "$build/xm23_checked"
 }
 
+texts_checked() {
+    tests/desk/texts.sh "$build/xm23_checked"
+}
+
 listing() {
     "$build/xm23" dis examples/copy_words.s19 | diff examples/copy_words.lst -
 }
@@ -152,7 +156,9 @@ part 'example host' count_status example_host
 part 'reference card' count_line card
 part 'the program' count_line tests/shell/program.sh
 part 'desk: use and misuse' count_line tests/desk/desk.sh
+part 'desk: papers, texts and pages' count_line tests/desk/texts.sh
 part 'desk under the sanitizers' count_line desk_checked
+part 'texts under the sanitizers' count_line texts_checked
 if command -v valgrind > /dev/null; then
     part 'desk under valgrind' count_line tests/desk/valgrind.sh
 else

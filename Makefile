@@ -1,6 +1,7 @@
 # XM-23 examination machine. 'make help' lists what there is.
 
-.PHONY: help run line lib desk install uninstall input list card report test fuzz fuzz_words replay bench clean
+.PHONY: help run line lib desk install uninstall input list card report prove edits test fuzz fuzz_words replay bench
+.PHONY: clean headers
 
 CFLAGS = -std=c99 -pedantic -O2 -Wall -Wextra -Werror -Iinclude
 ORACLE = --offline --locked --manifest-path oracle/Cargo.toml --target-dir oracle/target
@@ -17,6 +18,7 @@ INPUTS = 100000
 SEED =
 FUZZ_SECONDS = 60
 FOUND =
+CRATE =
 
 # A word as one word of the shell, whatever is in it.
 quoted = '$(subst ','\'',$1)'
@@ -62,6 +64,14 @@ list: build/xm23
 
 card: build/xm23
 	@build/xm23 card -o $(call quoted,$(CARD)) && echo $(call quoted,$(CARD))
+
+# Crates, and crates or single edits: CRATE='run refusal/refuses_all'.
+prove:
+	@scripts/prove.py crates $(CRATE)
+
+edits:
+	@scripts/prove.py crates $(sort $(foreach word,$(CRATE),$(firstword $(subst /, ,$(word)))))
+	@scripts/edits.py $(CRATE)
 
 test:
 	@scripts/test.sh
@@ -124,6 +134,12 @@ sources = crates.txt $(shell find $(folders) ! -path '*/must-fail*')
 target/staticlib/libxm23.a: $(call sources,xm23)
 target/staticlib/libprobe.a: $(call sources,probe)
 target/bin/print_state: $(call sources,print_state)
+
+# What the desk program needs besides is looked for before anything is proved for it.
+$(ARCHIVE) target/bin/print_state: | $(if $(filter run desk install list card bench build/xm23,$(MAKECMDGOALS)),headers)
+
+headers:
+	@[ -e build/xm23 ] || scripts/crypto.sh > /dev/null
 
 target/staticlib/lib%.a:
 	@scripts/prove.py archive $*

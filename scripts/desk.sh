@@ -5,10 +5,7 @@ set -eu -o pipefail
 program=$1
 shift
 cd "$(dirname "$0")/.."
-if ! crypto=$(pkg-config --cflags --libs libcrypto 2> /dev/null); then
-    echo "desk.sh: libcrypto's headers are not here (Debian: libssl-dev)" >&2
-    exit 2
-fi
+crypto=$(scripts/crypto.sh)
 mkdir -p "$(dirname "$program")"
 
 # Each file as an array of its name, a 0 behind it.

@@ -1,13 +1,16 @@
 #!/usr/bin/env python3
-"""Tries the must-fail edits: each makes the code or a definition wrong in one way, and the prover must refuse it.
+"""Tries must-fail edits quickly: each makes the code or a definition wrong in one way, and the prover must refuse it.
 
     edits.py                 every edit
     edits.py CRATE ..        those of these crates
     edits.py CRATE/EDIT ..   these
+    edits.py --cost [LOG]    tries none: what the edits of each crate cost 'rt ci', by the seconds that rt printed
 
-The crates are proved already ('rt prove' or 'rt check'). A crate with several edits is first checked as it is, and each
-edit then over a copy of what that check kept, so that only what the edit reaches is checked again. The logs, whose
-first error is a fact that fails, are build/edits/CRATE/EDIT.log. The last line is 'N passed, M failed'.
+The crates are proved already ('rt check'). A crate with several edits is first checked as it is, and each edit then
+over a copy of what that check kept ('rt dev'), so that only what the edit reaches is checked again. That is for people
+at work: the gate is 'rt ci', which checks a whole crate for each edit. The logs, whose first error is a fact that
+fails, are build/edits/CRATE/EDIT.log. The last line is 'N passed, M failed'. LOG is what rt printed, as
+build/log/rt_ci.out; without one it is that file, or target/log.
 """
 import collections
 import glob
@@ -15,23 +18,25 @@ import os
 import queue
 import re
 import shutil
+import signal
 import subprocess
 import sys
+import tempfile
 import threading
 import time
 
-ROOT = os.path.dirname(os.path.dirname(os.path.abspath(__file__)))
+sys.dont_write_bytecode = True
+from progress import ROOT, SILENCE, crates, edits as all_edits
+
 LOGS = "build/edits"
-# Seconds without a line after which what is at work is told.
-SILENCE = 20
 
 
 def wanted(words):
     """The edits that the words name, by crate, dearest crate first."""
     edits = collections.defaultdict(list)
-    for path in sorted(glob.glob("crates/*/must-fail/*.edit")):
-        crate, edit = path.split("/")[1], os.path.basename(path)[: -len(".edit")]
-        if not words or crate in words or f"{crate}/{edit}" in words:
+    for name in all_edits():
+        crate, edit = name.split("/")
+        if not words or crate in words or name in words:
             edits[crate].append(edit)
     missing = [w for w in words if w not in edits and not any(w == f"{c}/{e}" for c in edits for e in edits[c])]
     if missing:
@@ -77,20 +82,28 @@ def edited(folder, path):
     return texts
 
 
-class Worker(threading.Thread):
-    """Tries the edits of one crate after another, in a repository of its own that holds what is proved."""
+def shared(source, place):
+    """One file at two places; a copy where that cannot be."""
+    try:
+        os.link(source, place)
+    except OSError:
+        shutil.copy2(source, place)
 
-    def __init__(self, number, crates, tally):
+
+class Worker(threading.Thread):
+    """Tries the edits of one crate after another, in a repository of its own that holds what is proved. It lies outside
+    this one, where a file of Rattle in no crate is a mistake."""
+
+    def __init__(self, place, crates, tally):
         super().__init__(daemon=True)
-        self.crates, self.tally, self.place = crates, tally, f"{LOGS}/.worker{number}"
+        self.crates, self.tally, self.place, self.rt = crates, tally, place, None
 
     def run(self):
-        shutil.rmtree(self.place, ignore_errors=True)
         os.makedirs(f"{self.place}/target")
         shutil.copy("crates.txt", self.place)
         shutil.copytree("crates", f"{self.place}/crates")
         # What rt writes anew at each check is a worker's own; the libraries, which it only reads, are shared.
-        for part, copy in (("rlib", os.link), ("stamp", shutil.copy2), ("log", shutil.copy2)):
+        for part, copy in (("rlib", shared), ("stamp", shutil.copy2), ("log", shutil.copy2)):
             shutil.copytree(f"target/{part}", f"{self.place}/target/{part}", copy_function=copy)
         while True:
             try:
@@ -98,12 +111,18 @@ class Worker(threading.Thread):
             except queue.Empty:
                 break
             self.crate(crate, edits)
-        shutil.rmtree(self.place, ignore_errors=True)
+
+    def stop(self):
+        """Ends what it has started, with all that this has started."""
+        if self.rt and self.rt.poll() is None:
+            os.killpg(self.rt.pid, signal.SIGKILL)
 
     def check(self, crate, log):
         """The status of a check of the crate as it stands here, and what was printed."""
         with open(log, "w", encoding="utf-8") as out:
-            status = subprocess.call(["rt", "dev", crate], cwd=self.place, stdout=out, stderr=subprocess.STDOUT)
+            self.rt = subprocess.Popen(["rt", "dev", crate], cwd=self.place, stdout=out, stderr=subprocess.STDOUT,
+                                       start_new_session=True)
+            status = self.rt.wait()
         with open(log, encoding="utf-8", errors="replace") as text:
             return status, text.read()
 
@@ -179,24 +198,78 @@ class Tally:
                 self.say(f"at work on {', '.join(sorted(name for name, _ in self.work.values()))}")
 
 
+def seconds_of(log):
+    """Seconds of each crate's check and of each edit, as rt printed them: in this file, or where it keeps them."""
+    paths = [log] if log else glob.glob("build/log/rt_ci.out") or glob.glob("target/log/*.out")
+    took = {}
+    for path in paths:
+        with open(path, encoding="utf-8", errors="replace") as lines:
+            for line in lines:
+                if found := re.match(r"rt: (?:must-fail )?([\w/]+)(?: proved \(|: refused, .*?)(\d+) s\)$", line):
+                    took[found.group(1)] = int(found.group(2))
+    return took
+
+
+def batches(names, took, jobs):
+    """Seconds of these one beside another, so many at a time; rt waits for all of a batch."""
+    return sum(max(took(name) for name in names[k : k + jobs]) for k in range(0, len(names), jobs))
+
+
+def cost(log):
+    """Prints what each crate's edits cost, dearest first, and what the whole of rt ci takes."""
+    took, deps, level = seconds_of(log), crates(), {}
+    missing = [crate for crate in deps if crate not in took]
+    if missing:
+        sys.exit(f"edits.py: no seconds of {', '.join(missing)} are known: 'rt ci', or a LOG of it")
+    for crate in deps:
+        level[crate] = 1 + max((level[d] for d in deps[crate] if d in level), default=0)
+    edits, seconds = wanted([]), lambda edit: took.get(edit, took[edit.split("/")[0]])
+    sums = {crate: sum(seconds(f"{crate}/{edit}") for edit in names) for crate, names in edits}
+    print(f"{'crate':20} {'check':>6} {'edits':>6} {'cost':>6}   seconds of one core")
+    for crate, names in sorted(edits, key=lambda item: -sums[item[0]]):
+        print(f"{crate:20} {took[crate]:6} {len(names):6} {sums[crate]:6}")
+    order = sorted(deps, key=lambda crate: level[crate])
+    tried = [f"{crate}/{edit}" for crate in order for edit in dict(edits).get(crate, [])]
+    for jobs in (1, 2, 4):
+        levels = [[c for c in order if level[c] == k] for k in range(1, max(level.values()) + 1)]
+        proof = sum(batches(names, took.get, jobs) for names in levels)
+        total = proof + batches(tried, seconds, jobs)
+        print(f"rt ci, {jobs} at a time: {proof / 60:.1f} min of proofs, {(total - proof) / 60:.1f} of {len(tried)} "
+              f"edits, {total / 60:.1f} in all")
+    return 0
+
+
+def stop(*_):
+    sys.exit("edits.py: stopped")
+
+
 def main():
     os.chdir(ROOT)
+    if sys.argv[1:2] == ["--cost"] and len(sys.argv) < 4:
+        return cost((sys.argv[2:] or [None])[0])
     if any(w.startswith("-") for w in sys.argv[1:]):
         print(__doc__.strip(), file=sys.stderr)
         return 2
     if not os.path.isdir("target/stamp"):
-        sys.exit("edits.py: nothing is proved yet: 'rt prove' first")
+        sys.exit("edits.py: nothing is proved yet: 'rt check' first")
+    for number in (signal.SIGINT, signal.SIGTERM, signal.SIGHUP):
+        signal.signal(number, stop)
     edits = wanted(sys.argv[1:])
-    crates, tally = queue.SimpleQueue(), Tally(sum(len(names) for _, names in edits))
+    queued, tally = queue.SimpleQueue(), Tally(sum(len(names) for _, names in edits))
     for item in edits:
-        crates.put(item)
+        queued.put(item)
     jobs = int(os.environ.get("RT_JOBS") or min(os.cpu_count() or 1, 4))
-    workers = [Worker(k, crates, tally) for k in range(min(jobs, len(edits)))]
-    for worker in workers:
-        worker.start()
-    while any(worker.is_alive() for worker in workers):
-        time.sleep(0.2)
-        tally.silence()
+    with tempfile.TemporaryDirectory(prefix="xm23_edits.", ignore_cleanup_errors=True) as room:
+        workers = [Worker(f"{room}/{k}", queued, tally) for k in range(min(jobs, len(edits)))]
+        try:
+            for worker in workers:
+                worker.start()
+            while any(worker.is_alive() for worker in workers):
+                time.sleep(0.2)
+                tally.silence()
+        finally:
+            for worker in workers:
+                worker.stop()
     print(f"{tally.passed} passed, {tally.failed} failed")
     return 0 if tally.failed == 0 and tally.passed == tally.total else 1
 

@@ -26,7 +26,7 @@ finish() {
 }
 trap finish EXIT
 
-# 'N passed, M failed', as the last such line of a part has it: proofs, edits, the trace and the C tests.
+# 'N passed, M failed', as the last such line of a part has it: rt ci, the trace and the C tests.
 count_line() {
     sed -n 's/^\([0-9][0-9]*\) passed, \([0-9][0-9]*\) failed$/\1 \2/p' "$1" | tail -n 1
 }
@@ -133,8 +133,11 @@ part 'trace to 01' count_line python3 -B scripts/trace.py
 part 'sentences of the refusals' count_line python3 -B scripts/refusals.py
 part 'legend of every line' count_line python3 -B scripts/legend_test.py
 part 'layout of proofs and code' count_status rt fmt --check
-part 'proofs' count_line scripts/prove.py all
-part 'must-fail edits' count_line scripts/edits.py
+part 'the gate itself' count_line tests/shell/gate.sh
+# What an older run that was interrupted may have left: no file of Rattle lies outside the crates.
+rm -rf build/edits/.worker*
+# Every crate from nothing, every must-fail edit, every program: the verdict is rt's, and so is the count.
+part 'proofs, must-fail edits and programs' count_line scripts/progress.py rt ci
 part 'static library xm23' count_status rt staticlib xm23
 part 'what the tables show' count_line python3 -B scripts/tables_test.py
 part 'tables of the decoder' count_line python3 -B scripts/tables.py

@@ -74,6 +74,8 @@ int drop_output(struct output *o); /* leaves what was there; UNREADABLE */
 
 /* ---- paper.c, paper_line.c: what a setter writes */
 
+enum { FIELDS = 14 }; /* of the line of the sheet */
+
 struct event {
     uint32_t line, step;
     unsigned device, byte;
@@ -85,7 +87,7 @@ struct paper {
     const char *name;
     char *bytes;
     size_t length;
-    char *title, *expected;                  /* empty, NULL: none */
+    char *title, *expected;                  /* NULL: none. expected: in capitals, a blank between two fields */
     uint8_t record[XM23_RECORD_SIZE];        /* the start; PC 0 where pc_line is 0 */
     uint8_t memory[XM23_MEMORY_SIZE];        /* what the paper lays over the program .. */
     uint8_t set[XM23_MEMORY_SIZE];           /* .. where this is not 0: DATA, or SRECORD, which may be code */
@@ -108,6 +110,17 @@ void drop_paper(struct paper *p);
 
 /* One line, by its bytes; 0 where it has a mistake, which has been told. */
 int paper_line(struct paper *p, uint32_t line, const char *at, const char *end);
+
+/* ---- expect.c: the line that a paper expects */
+
+/* What follows the word `expect`, into `expected`; 0 where it has a mistake, which has been told. */
+int take_expected(struct paper *p, uint32_t line, const char *at, const char *end);
+
+/* Whether a line is the expected one, * for any field: 1 yes, 0 no, as of an empty line, -1 where none is expected. */
+int as_expected(const struct paper *p, const char *line);
+
+/* Whether a field may have a value, and what is expected of it; of a paper that expects 14 fields. */
+int expects_field(const struct paper *p, int i, const char *value, char *expected, size_t room);
 
 /* The part of the start that a line names, by its number: R0 to R7, PSW, CEX, HALTED, COUNT, LINES. */
 enum { START_PSW = 8, START_CEX = 9, START_HALTED = 10, START_COUNT = 11, START_LINES = 12, STARTS = 13 };
@@ -186,8 +199,6 @@ void add_line(struct text *t, const uint8_t *record, const struct outcome *o);
 struct field {
     char name[8], value[12], says[192];
 };
-
-enum { FIELDS = 14 };
 
 /* Fills the rows, and gives how many: one where the run was refused. */
 int line_fields(const uint8_t *record, const struct outcome *o, struct field *rows);

@@ -50,7 +50,7 @@ int mark_program(const struct sitting *s, const char *name, int regular, struct 
         if (good)
             run_marked(s, m);
     }
-    r->agrees = !s->paper->expected ? -1 : strcmp(r->line.at, s->paper->expected) == 0;
+    r->agrees = as_expected(s->paper, r->line.at);
     return good;
 }
 

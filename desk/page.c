@@ -77,36 +77,21 @@ static void add_wide(struct text *t, const struct text *rows)
     add(t, "</div>\n");
 }
 
-/* The word of a line at a place among its fields, or none. */
-static void field_at(const char *line, int place, char *word, size_t room)
-{
-    word[0] = 0;
-    for (int i = 0; line && i < place; i++) {
-        line = strchr(line, ' ');
-        line += line ? 1 : 0;
-    }
-    if (line)
-        snprintf(word, room, "%.*s", (int)strcspn(line, " "), line);
-}
-
 /* The fields of the closing state; those that are not the expected ones are marked, in words too. */
 static void add_fields(struct text *t, const struct paper *p, const struct machine *m, const struct outcome *o)
 {
     struct field rows[FIELDS];
     char expected[16];
-    int many = line_fields(m->record, o, rows), other;
+    int many = line_fields(m->record, o, rows), beside = p->expected && p->expected[0] != 'R', other = 0;
     add(t, "<h2>Closing state</h2>\n");
-    open_table(t, p->expected ? "Field|Value|Expected|Says" : "Field|Value|Says");
+    open_table(t, beside ? "Field|Value|Expected|Says" : "Field|Value|Says");
     for (int i = 0; i < many; i++) {
-        field_at(p->expected, i, expected, sizeof expected);
-        other = p->expected && strcmp(expected, rows[i].value) != 0;
+        if (beside)
+            other = !expects_field(p, i, rows[i].value, expected, sizeof expected);
         add(t, "<tr%s><th>%s</th>", other ? " class=\"other\"" : "", rows[i].name);
         add(t, "<td class=\"n\">%s</td>", rows[i].value);
-        if (p->expected) {
-            add(t, "<td class=\"n\">%s", other ? "not " : "");
-            add_html(t, expected, strlen(expected));
-            add(t, "</td>");
-        }
+        if (beside)
+            add(t, "<td class=\"n\">%s%s</td>", other ? "not " : "", expected[0] == '*' ? "any" : expected);
         add(t, "<td>%s</td></tr>\n", rows[i].says);
     }
     close_table(t);

@@ -162,7 +162,7 @@ static int title(struct rest *r)
 
 static int expect(struct rest *r)
 {
-    return claim(r, &r->paper->expected_line, "the expected line") && take_text(r, &r->paper->expected);
+    return claim(r, &r->paper->expected_line, "the expected line") && take_expected(r->paper, r->line, r->at, r->end);
 }
 
 static int steps(struct rest *r)

@@ -1,5 +1,4 @@
 /* xm23 run: one program under a paper. */
-#include <string.h>
 #include <unistd.h>
 
 #include "desk.h"
@@ -31,7 +30,7 @@ static int agrees(const struct paper *p, const struct machine *m, const struct o
     struct text t = {0};
     int same;
     add_line(&t, m->record, o);
-    same = !p->expected || strcmp(t.at, p->expected) == 0;
+    same = as_expected(p, t.at) != 0;
     if (!same)
         say_at(p->name, p->expected_line, "another line was expected: %s", p->expected);
     drop(&t);

@@ -79,9 +79,9 @@ def undone(text):
 
 def random_bytes():
     dice = random.Random(23)
-    some = [bytes(dice.choice([dice.randrange(256), 0x5C, 0x78, 0xC3, 0xA9, 0x41]) for _ in range(40)).replace(b"\n", b"")
+    some = [bytes(dice.choice([dice.randrange(256), 0x5C, 0x78, 0xC3, 0xA9, 0x41]) for _ in range(40))
             for _ in range(2000)]
-    some = [line.rstrip(b"\r") for line in some]
+    some = [line.replace(b"\n", b"").rstrip(b"\r") for line in some]
     for line, text in zip(some, listed(some)):
         same(f"bytes back: {line!r}", undone(text), line)
 

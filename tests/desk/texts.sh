@@ -9,7 +9,8 @@ paper=$PWD/examples/sitting/sum.paper
 sound=$PWD/examples/sitting/programs/sound.s19
 
 # ---- bytes of strangers
-like 'every character, in a listing' "$(python3 -B tests/desk/printable.py "$xm23" | tail -40)" '[0-9]+ passed, 0 failed'
+like 'every character, in a listing' "$(python3 -B tests/desk/printable.py "$xm23" | tail -40)" \
+    '[0-9]+ passed, 0 failed'
 escape=$'no/\e]0;such\a\u202Egolden\u2066\xC0\x80\\'
 shown='no/\\x1B]0;such\\x07\\xE2\\x80\\xAEgolden\\xE2\\x81\\xA6\\xC0\\x80\\x5C'
 expect 'a name in a message' 3 '' "$shown: No such file.*" "$xm23" run "$paper" "$escape"
@@ -22,18 +23,17 @@ printf '; \e[2J\e]52;c;AAAA\a \xE2\x80\xAE\n END ; \x9B31m\n' > "$room/escape.as
 same 'comments in a listing' "$("$xm23" asm -l "$room/escape.asm" | cut -c20-)" \
     $'; \\x1B[2J\\x1B]52;c;AAAA\\x07 \\xE2\\x80\\xAE\n END ; \\x9B31m'
 printf 'steps 0\ntitle \e[2J <i>\xE2\x80\xAE & "\\" \x80\n' > "$room/title.paper"
-same 'a title on a page' \
-    "$("$xm23" report "$room/title.paper" "$room/escape.asm" | sed -n 's/^<\/h1>//; s/^<p>\(\\x1B.*\)<\/p>$/\1/p' | head -1)" \
+"$xm23" report -o "$room/title.html" "$room/title.paper" "$room/escape.asm"
+same 'a title on a page' "$(sed -n 's/^<p>\(\\x1B.*\)<\/p>$/\1/p' "$room/title.html")" \
     '\x1B[2J &#60;i&#62;\xE2\x80\xAE &#38; &#34;\x5C&#34; \x80'
-same 'no raw byte on a page' \
-    "$("$xm23" report "$room/title.paper" "$room/escape.asm" | LC_ALL=C grep -c $'[\x01-\x08\x0B-\x1F\x7F-\xFF]')" 0
+same 'no raw byte on a page' "$(LC_ALL=C grep -c $'[\x01-\x08\x0B-\x1F\x7F-\xFF]' "$room/title.html")" 0
 
 # ---- cells, read back by Python: what could be a formula has an apostrophe before it
 python3 - "$xm23" "$paper" "$room" << 'END' > "$room/cells"
 import csv, os, re, subprocess, sys
 xm23, paper, room = sys.argv[1:]
-names = [b"=1+1", b"+1", b"-1,\"2\"", b"@SUM(A1)", b"\t=1", b"\r=1", b"'=1", b" =1", b"a\nb\r\n", b"\x1B[2J", b"\xC0\x80",
-         "\u202Ecsv.s19".encode(), "\uFF1D1".encode(), "\uFF20x".encode(), b"a\\b", b"a,b", b'"', "Grüße".encode()]
+names = [b"=1+1", b"+1", b"-1,\"2\"", b"@SUM(A1)", b"\t=1", b"\r=1", b"'=1", b" =1", b"a\nb\r\n", b"\x1B[2J", b"a,b",
+         b'"', "\u202Ecsv.s19".encode(), "\uFF1D1".encode(), "\uFF20x".encode(), b"a\\b", b"\xC0\x80", "Grüße".encode()]
 subprocess.run([xm23.encode(), b"mark", b"-o", room.encode() + b"/cells.d", paper.encode(), *names], cwd=room)
 data = open(room + "/cells.d/results.csv", "rb").read()
 rows = list(csv.DictReader(data.decode().splitlines()))
@@ -47,12 +47,76 @@ print("quoted", sum(r["name"].startswith("'") for r in rows))
 END
 same 'names in cells' "$(cat "$room/cells")" $'rows 18\ncontrols []\nformulas []\nback True\ncolumns {9}\nquoted 9'
 
+# ---- the expected line, judged when the paper is read
+line='0 120 001F 0120 0000 0006 0000 FFFF 0800 1016 0003 00 00000000 1'
+unlined=$(grep -v ^expect "$paper")
+here="$room/e.paper:$(($(echo "$unlined" | wc -l) + 1)):"
+expecting() { # TEXT STATUS OUTPUT ERRORS: a paper that expects the text, and the program that closes with the line
+    printf '%s\nexpect%b\n' "$unlined" "$1" > "$room/e.paper"
+    expect "expect$1" "$2" "$3" "$4" "$xm23" run "$room/e.paper" "$sound"
+}
+for text in " $line" "   $line   " " ${line,,}" $'\t'"${line// /$'\t  '}" " $line ; as the model" " $line ;" \
+    ' * * * * * * * * * * * * * *' ' 0 120 001f * * * * * 0800 * * * * 1' " *${line#0}" " ${line% 1} *"; do
+    expecting "$text" 0 "$line" ''
+done
+for text in ' 1 120 * * * * * * * * * * * *' ' * * * * * * * * * * * * * 2' ' 0 120 001E * * * * * * * * * * *' ' R11' \
+    ' r 11 ; none'; do
+    expecting "$text" 1 "$line" "$here another line was expected: .*"
+done
+mistaken() { # TEXT ERRORS
+    expecting "$1" 1 '' "$here $2"
+}
+ends='the expected line ends before'
+mistaken '' "$ends reason: it has 14 fields, or is R and a number"
+mistaken '  ; later' "$ends reason: .*"
+mistaken ' see model' "'see' is no reason: 0 to 1, or \*"
+mistaken ' 2 1' "'2' is no reason: .*"
+mistaken ' 0 120' "$ends R0: .*"
+mistaken " ${line% *}" "$ends depth: .*"
+mistaken " $line 1" "'1' is one word too many"
+mistaken " $line *" "'\*' is one word too many"
+mistaken " ${line/ 1*}" "$ends steps: .*"
+mistaken " ${line/120/0120}" "'0120' is no steps: 0 to 4294967295, or \*"
+mistaken " ${line/120/4294967296}" "'4294967296' is no steps: .*"
+mistaken " ${line/001F/1F}" "'1F' is no R0: 4 digits of base sixteen, or \*"
+mistaken " ${line/001F/0001F}" "'0001F' is no R0: .*"
+mistaken " ${line/001F/\$01F}" "'\\\$01F' is no R0: .*"
+mistaken " ${line/001F/00?F}" "'00\?F' is no R0: .*"
+mistaken " ${line/001F/**}" "'\*\*' is no R0: .*"
+mistaken ' 0 120 00\00001F' "'00\\\\x001F' is no R0: .*"
+mistaken " ${line/ 00 / 0 }" "'0' is no CEX: 2 digits of base sixteen, or \*"
+mistaken " ${line/00000000/0000000}" "'0000000' is no lines: 8 digits .*"
+mistaken " $line; as the model" "'1;' is no depth: .*"
+for text in R R0 R20x 'R 99' R256 R011 'R*' R-1 'r ;'; do
+    mistaken " $text" "'${text//\*/\\*}' is no R and the number of a refusal"
+done
+mistaken ' R11 R12' "'R12' is one word too many"
+printf 'expect %s\nexpect %s\n' "$line" "$line" > "$room/e.paper"
+expect 'two of them' 1 '' "$room/e.paper:2: the expected line is on line 1 already" "$xm23" run "$room/e.paper" "$sound"
+
+# Marked by it: the model agrees, what cannot be read never does, a refusal does where it is expected.
+printf '%s\nexpect * * 001f * * * * * * * * * * * ; R0\n' "$unlined" > "$room/e.paper"
+expect 'marked by one field' 1 '' '' \
+    "$xm23" mark -o "$room/field" "$room/e.paper" "$sound" "${sound%/*}/unsound.s19" no/such
+agreeing() { # FOLDER
+    python3 -c 'import csv, sys
+print(*(row["agrees"] for row in csv.DictReader(open(sys.argv[1], newline=""))))' "$1/results.csv"
+}
+same 'one agrees' "$(agreeing "$room/field")" 'yes no no'
+same 'thirteen fields may be anything' "$(grep -c '<td class="n">any</td>' "$room"/field/pages/*-sound*)" 13
+same 'one may not' "$(grep -c 'not 001F' "$room"/field/pages/*-unsound*)" 1
+printf '%s\nexpect r11\n' "$unlined" > "$room/e.paper"
+expect 'marked by a refusal' 1 '' '' \
+    "$xm23" mark -o "$room/refusal" "$room/e.paper" "${sound%/*}/refused.s19" "$sound" no/such
+same 'the refused one agrees' "$(agreeing "$room/refusal")" 'yes no no'
+same 'pages are well-formed' "$(python3 -B tests/desk/pages.py "$room"/{refusal,field}/pages/*.html)" 'all well-formed'
+
 # ---- a page is of its own program alone, whichever were marked before it
 python3 - "$room" << 'END'
 import random, sys
 dice, room = random.Random(7), sys.argv[1]
-lines = ["ADD #1,R0", "SUB #1,R1", "ST R0,R4", "ST.B R1,R4+", "SVC #12", "CMP R0,R1", "SWPB R3", "WORD $4E00", "SVC #13",
-         "CEX EQ,#2,#1", "LD R4,R2", "MOVLZ $05,R4", "MOVLZ $40,R4", "SETCC S"]
+lines = ["ADD #1,R0", "SUB #1,R1", "ST R0,R4", "ST.B R1,R4+", "SVC #12", "CMP R0,R1", "SWPB R3", "WORD $4E00",
+         "SVC #13", "CEX EQ,#2,#1", "LD R4,R2", "MOVLZ $05,R4", "MOVLZ $40,R4", "SETCC S"]
 for i in range(40):
     some = lambda many: "".join(f" {dice.choice(lines)}\n" for _ in range(many))
     with open(f"{room}/walk{i}.asm", "w") as file:

@@ -481,7 +481,7 @@ with open(room + "/worst.asm", "w") as file:
     file.write("".join(line + " ;" + "<" * 40 + "\n" for line in lines) + " END ;" + "<" * 9000 + "\n")
 with open(room + "/worst.paper", "w") as file:
     file.write(f"title {'&' * 70000}\nsteps 1000000\ndevice 2 $10\nstart SP=$0F00 R1=$3000\nvector 12 $60 $0F00\n")
-    file.write(f"expect {'<' * 70000}\n")
+    file.write("expect" + " *" * 14 + "\n")
     for at in range(0x2000, 0xFF00, 256):
         file.write(f"bytes {at} {' '.join(str(dice.randrange(1, 256)) for _ in range(256))}\n")
 END

@@ -84,6 +84,8 @@ int xm23_desk_asm(int argc, char **argv)
     }
     if (argc - optind != 1)
         return misused("asm");
+    if (overwrites(to, argv[optind]))
+        return UNREADABLE;
     status = take_program(argv[optind], &p);
     if (status == DONE)
         status = assemble_program(&p, to, start, listing);

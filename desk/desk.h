@@ -72,6 +72,10 @@ void put_output(struct output *o, const struct text *t);
 int close_output(struct output *o);
 int drop_output(struct output *o); /* leaves what was there; UNREADABLE */
 
+/* ---- same.c: whether `to` is the file `from`, by whatever path or link, which is then told. */
+
+int overwrites(const char *to, const char *from);
+
 /* ---- paper.c, paper_line.c: what a setter writes */
 
 enum { FIELDS = 14 }; /* of the line of the sheet */

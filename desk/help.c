@@ -72,7 +72,9 @@ const struct subcommand subcommands[] = {
     {"stack", "xm23 stack PAPER [PROGRAM]", "tell the stack bytes that a paper's handlers can need",
      "Prints the stack bytes that the handlers of the devices with a line 'use DEVICE BYTES' can need together,\n"
      "above the priority of the line 'priority P' (0). The vectors are PAPER's, and those of PROGRAM where PAPER has\n"
-     "none.\n",
+     "none.\n"
+     "\n"
+     "Status 1: PROGRAM is refused, PAPER has a mistake or no use, or nobody states the vector of a device with one.\n",
      xm23_desk_stack},
     {"card", "xm23 card [-o FILE]", "write the reference card, for a screen and for A4",
      "Writes the reference card as one page of HTML: bits, words, flags and an example of each operation.\n"

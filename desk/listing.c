@@ -61,6 +61,8 @@ int xm23_desk_dis(int argc, char **argv)
     }
     if (argc - optind != 1)
         return misused("dis");
+    if (overwrites(to, argv[optind]))
+        return UNREADABLE;
     status = take_program(argv[optind], &p);
     if (status == DONE)
         status = list(&p, to);

@@ -240,7 +240,8 @@ static void add_screen_data(struct text *t, const struct walk *w, const struct t
 {
     size_t before = screen->length - w->shown, kept = before < SCREEN_BEFORE ? before : SCREEN_BEFORE;
     add(t, "\"shown\":%lu,\"screen\":\"", (unsigned long)(before - kept));
-    add_base64(t, (const uint8_t *)screen->at + before - kept, kept);
+    if (kept)
+        add_base64(t, (const uint8_t *)screen->at + before - kept, kept);
     add(t, "\",\"log\":[");
     for (uint32_t i = 0; i < w->shown; i++) {
         const uint8_t *record = w->log + XM23_LOG_SIZE * i;

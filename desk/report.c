@@ -46,6 +46,8 @@ int xm23_desk_report(int argc, char **argv)
     }
     if (argc - optind != 2)
         return misused("report");
+    if (overwrites(to, argv[optind]) || overwrites(to, argv[optind + 1]))
+        return UNREADABLE;
     status = read_paper(argv[optind], &p);
     if (status != DONE)
         return status;

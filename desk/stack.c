@@ -22,12 +22,42 @@ static uint32_t line_of(const struct paper *p)
     return p->priority_line;
 }
 
-static int tell_bytes(const struct paper *p, const struct machine *m)
+/* The vectors before the first step: the program's, and the paper's over them. */
+static void lay_vectors(const struct paper *p, const struct assembled *a, uint8_t *vectors)
 {
-    const uint8_t *vectors = m->memory + XM23_VECTORS;
-    uint32_t reply = xm23_stack(vectors, XM23_VECTORS_SIZE, p->devices, p->uses, XM23_USES_SIZE, (uint32_t)p->priority);
+    for (unsigned i = 0; i < XM23_VECTORS_SIZE; i++)
+        vectors[i] = p->set[XM23_VECTORS + i] ? p->memory[XM23_VECTORS + i] : a->memory[XM23_VECTORS + i];
+}
+
+/* The first device with a use whose vector's PSW, and so its priority, nobody lays; 8: none. */
+static unsigned without_vector(const struct paper *p, const struct assembled *a)
+{
+    for (unsigned d = 0; d < 8; d++)
+        for (unsigned at = XM23_VECTORS + 4 * d; p->devices >> d & 1 && at < XM23_VECTORS + 4 * d + 2; at++)
+            if (!p->set[at] && !a->set[at])
+                return d;
+    return 8;
+}
+
+static int no_vector(const struct paper *p, unsigned d, const char *program)
+{
+    if (program)
+        say_at(p->name, p->use_line[d], "the vector of device %u is neither in the paper nor in %s", d, program);
+    else
+        say_at(p->name, p->use_line[d], "the vector of device %u, which has its priority, is not in the paper; "
+               "'xm23 stack PAPER PROGRAM' takes it from a program", d);
+    return REFUSED;
+}
+
+/* `program` is the name of the one that was given, or NULL. */
+static int tell_bytes(const struct paper *p, const struct assembled *a, const char *program)
+{
+    uint8_t vectors[XM23_VECTORS_SIZE];
     struct text t = {0};
+    uint32_t reply;
     int status;
+    lay_vectors(p, a, vectors);
+    reply = xm23_stack(vectors, sizeof vectors, p->devices, p->uses, XM23_USES_SIZE, (uint32_t)p->priority);
     if (XM23_REFUSAL(reply)) {
         say_at(p->name, line_of(p), "R%u: %s", XM23_REFUSAL(reply), xm23_refusal_text(XM23_REFUSAL(reply)));
         return REFUSED;
@@ -36,43 +66,36 @@ static int tell_bytes(const struct paper *p, const struct machine *m)
         say_at(p->name, 0, "has no line 'use DEVICE BYTES'");
         return REFUSED;
     }
+    if (without_vector(p, a) < 8)
+        return no_vector(p, without_vector(p, a), program);
     add_rows(&t, p, vectors, XM23_STACK_BYTES(reply));
     status = write_file("-", &t);
     drop(&t);
     return status;
 }
 
-/* The vectors are the paper's, and the program's where the paper has none. */
-static int with_program(const struct paper *p, const struct program *program)
-{
-    static struct machine m;
-    struct fault f = {0};
-    int status = open_program(p, program, &m, &f) ? tell_bytes(p, &m) : say_fault(program->name, &f);
-    drop(&f.why);
-    return status;
-}
-
-static int with_file(const struct paper *p, const char *name)
+static int with_file(const struct paper *p, const char *name, struct assembled *a)
 {
     struct program program = {0};
+    struct fault f = {0};
     int status = take_program(name, &program);
     if (status == DONE)
-        status = with_program(p, &program);
+        status = load_program(&program, a, &f) ? tell_bytes(p, a, name) : say_fault(name, &f);
+    drop(&f.why);
     drop_program(&program);
     return status;
 }
 
 int xm23_desk_stack(int argc, char **argv)
 {
-    static char nothing[] = "S9030000FC\n";
-    const struct program none = {"", nothing, sizeof nothing - 1};
+    static struct assembled a;
     static struct paper p;
     int status;
     if (getopt(argc, argv, "+:") != -1 || argc - optind < 1 || argc - optind > 2)
         return misused("stack");
     status = read_paper(argv[optind], &p);
     if (status == DONE) {
-        status = argv[optind + 1] ? with_file(&p, argv[optind + 1]) : with_program(&p, &none);
+        status = argv[optind + 1] ? with_file(&p, argv[optind + 1], &a) : tell_bytes(&p, &a, NULL);
         drop_paper(&p);
     }
     return status;

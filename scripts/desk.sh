@@ -1,6 +1,7 @@
 #!/usr/bin/env bash
-# desk.sh PROGRAM [FLAG..]: compiles desk/ over target/staticlib/libxm23.a, with more flags where they are given;
-# SHA-256 is libcrypto's. What pages carry, desk/*.css, desk/*.html and desk/*.js, becomes build/assets.c.
+# desk.sh PROGRAM [FLAG..]: compiles desk/ over target/staticlib/libxm23.a, by gcc or by what CC names, with more flags
+# where they are given; SHA-256 is libcrypto's. What pages carry, desk/*.css, desk/*.html and desk/*.js, becomes
+# PROGRAM.assets.c.
 set -eu -o pipefail
 program=$1
 shift
@@ -15,6 +16,9 @@ for file in desk/*.css desk/*.html desk/*.js; do
     od -An -v -tx1 "$file" | sed 's/ \(..\)/0x\1,/g'
     echo '0};'
 done > "$program.assets.c"
+# What strangers hand in goes through it: canaries on the stack, checked calls of the C library, an image that lies
+# anywhere, tables that nothing writes to once they are bound.
+hardened='-fstack-protector-strong -U_FORTIFY_SOURCE -D_FORTIFY_SOURCE=2 -fPIE -pie -Wl,-z,relro,-z,now'
 # shellcheck disable=SC2086
-gcc -std=c99 -pedantic -D_XOPEN_SOURCE=700 -O2 -Wall -Wextra -Werror -Iinclude "$@" -o "$program" desk/*.c \
-    "$program.assets.c" target/staticlib/libxm23.a $crypto
+${CC:-gcc} -std=c99 -pedantic -D_XOPEN_SOURCE=700 -O2 -Wall -Wextra -Werror -Iinclude $hardened "$@" -o "$program" \
+    desk/*.c "$program.assets.c" target/staticlib/libxm23.a $crypto

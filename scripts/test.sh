@@ -93,14 +93,10 @@ desk() {
     scripts/desk.sh "$build/xm23"
 }
 
-# The desk program under the compiler's checks.
+# desk_checked COMPILER: the desk program with the compiler's checks of each access and operation in it.
 desk_checked() {
-    scripts/desk.sh "$build/xm23_checked" -g -fsanitize=address,undefined -fno-sanitize-recover=all &&
-        tests/desk/desk.sh "$build/xm23_checked"
-}
-
-texts_checked() {
-    tests/desk/texts.sh "$build/xm23_checked"
+    CC=$1 scripts/desk.sh "$build/xm23_$1" \
+        -g -U_FORTIFY_SOURCE -fsanitize=address,undefined -fno-sanitize-recover=all
 }
 
 listing() {
@@ -160,8 +156,17 @@ part 'reference card' count_line card
 part 'the program' count_line tests/shell/program.sh
 part 'desk: use and misuse' count_line tests/desk/desk.sh
 part 'desk: papers, texts and pages' count_line tests/desk/texts.sh
-part 'desk under the sanitizers' count_line desk_checked
-part 'texts under the sanitizers' count_line texts_checked
+part 'desk program with sanitizers of gcc' count_status desk_checked gcc
+part 'desk: use and misuse, sanitizers of gcc' count_line tests/desk/desk.sh "$build/xm23_gcc"
+part 'desk: papers, texts and pages, sanitizers of gcc' count_line tests/desk/texts.sh "$build/xm23_gcc"
+if clang -x c -fsanitize=address,undefined -o /dev/null - <<< 'int main(void) { return 0; }' 2> /dev/null; then
+    part 'desk program with sanitizers of clang' count_status desk_checked clang
+    part 'desk: use and misuse, sanitizers of clang' count_line tests/desk/desk.sh "$build/xm23_clang"
+    part 'desk: papers, texts and pages, sanitizers of clang' count_line tests/desk/texts.sh "$build/xm23_clang"
+else
+    echo '== left out: desk with sanitizers of clang, which are not here (Debian: clang and libclang-rt-14-dev)'
+    parts=$((parts - 3))
+fi
 if command -v valgrind > /dev/null; then
     part 'desk under valgrind' count_line tests/desk/valgrind.sh
 else

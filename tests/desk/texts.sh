@@ -33,7 +33,7 @@ python3 - "$xm23" "$paper" "$room" << 'END' > "$room/cells"
 import csv, os, re, subprocess, sys
 xm23, paper, room = sys.argv[1:]
 names = [b"=1+1", b"+1", b"-1,\"2\"", b"@SUM(A1)", b"\t=1", b"\r=1", b"'=1", b" =1", b"a\nb\r\n", b"\x1B[2J", b"a,b",
-         b'"', "\u202Ecsv.s19".encode(), "\uFF1D1".encode(), "\uFF20x".encode(), b"a\\b", b"\xC0\x80", "Grüße".encode()]
+         b'"', b"a\\b", b"\xC0\x80", *(name.encode() for name in ("\u202Ecsv.s19", "\uFF1D1", "\uFF20x", "Grüße"))]
 subprocess.run([xm23.encode(), b"mark", b"-o", room.encode() + b"/cells.d", paper.encode(), *names], cwd=room)
 data = open(room + "/cells.d/results.csv", "rb").read()
 rows = list(csv.DictReader(data.decode().splitlines()))
@@ -111,6 +111,57 @@ expect 'marked by a refusal' 1 '' '' \
 same 'the refused one agrees' "$(agreeing "$room/refusal")" 'yes no no'
 same 'pages are well-formed' "$(python3 -B tests/desk/pages.py "$room"/{refusal,field}/pages/*.html)" 'all well-formed'
 
+# ---- stack bytes: no figure without the vectors
+printf 'steps 5\nuse 2 6\nuse 5 2\nvector 5 $00A0 $2000\n' > "$room/s.paper"
+printf '        ORG $FFC8\n        WORD $0060\n        WORD $2000\n        END\n' > "$room/s.asm"
+printf '        END\n' > "$room/none.asm"
+printf '        ORG $FFC8\n        BYTE $60\n        END\n' > "$room/half.asm"
+expect 'stack without a vector' 1 '' \
+    "$room/s.paper:2: the vector of device 2, .*, is not in the paper; 'xm23 stack PAPER PROGRAM' takes it .*" \
+    "$xm23" stack "$room/s.paper"
+expect 'stack with that of a program' 0 '.*2       3         6.*5       5         2.*above priority 0: 24 bytes' '' \
+    "$xm23" stack "$room/s.paper" "$room/s.asm"
+for name in none half; do
+    expect "stack with a program that has it not: $name" 1 '' \
+        "$room/s.paper:2: the vector of device 2 is neither in the paper nor in $room/$name.asm" \
+        "$xm23" stack "$room/s.paper" "$room/$name.asm"
+done
+printf 'S107FFC860000020B1\n' >> "$room/s.paper"
+expect 'stack with that of an S-record of the paper' 0 '.*above priority 0: 24 bytes' '' "$xm23" stack "$room/s.paper"
+
+# ---- nothing is written over what is read
+{
+    printf '        ORG $1000\n        ADD #1,R0\n        END\n' > "$room/own.asm"
+    ln -s own.asm "$room/symbolic.asm"
+    ln "$room/own.asm" "$room/hard.asm"
+    mkdir "$room/other"
+    own=$(cat "$room/own.asm")
+    stays='.*: cannot be written: it is the file that is read'
+}
+for to in own.asm other/../own.asm symbolic.asm hard.asm; do
+    expect "asm -o $to" 3 '' "$stays" "$xm23" asm -o "$room/$to" "$room/own.asm"
+    expect "dis -o $to" 3 '' "$stays" "$xm23" dis -o "$room/$to" "$room/own.asm"
+    expect "report -o $to" 3 '' "$stays" "$xm23" report -o "$room/$to" "$paper" "$room/own.asm"
+done
+expect 'asm -l -o itself, by a link' 3 '' "$stays" "$xm23" asm -l -o "$room/own.asm" "$room/symbolic.asm"
+cp "$paper" "$room/own.paper"
+expect 'report over the paper' 3 '' "$stays" "$xm23" report -o "$room/own.paper" "$room/own.paper" "$room/own.asm"
+same 'the paper stays' "$(cat "$room/own.paper")" "$(cat "$paper")"
+same 'the source stays' "$(cat "$room/own.asm")" "$own"
+same 'its links stay' "$(readlink "$room/symbolic.asm") $(stat -c %h "$room/own.asm")" 'own.asm 2'
+expect 'to another file' 0 '' '' "$xm23" asm -o "$room/own.s19" "$room/own.asm"
+expect 'to a device that is read' 1 '' '.*: R10: .*' "$xm23" dis -o /dev/null /dev/null
+
+# ---- how the program is compiled
+if [ $# -eq 0 ]; then
+    same 'an image that lies anywhere' "$(readelf -hW "$xm23" | grep -c 'Type: *DYN')" 1
+    same 'bound before it starts' "$(readelf -dW "$xm23" | grep -c 'BIND_NOW')" 1
+    same 'tables that are closed then' "$(readelf -lW "$xm23" | grep -c 'GNU_RELRO')" 1
+    same 'no code on the stack' "$(readelf -lW "$xm23" | grep -c 'GNU_STACK .* RW ')" 1
+    same 'canaries' "$(readelf -W --dyn-syms "$xm23" | grep -c ' __stack_chk_fail@')" 1
+    same 'checked calls' "$(readelf -W --dyn-syms "$xm23" | grep -c ' __vsnprintf_chk@')" 1
+fi
+
 # ---- a page is of its own program alone, whichever were marked before it
 python3 - "$room" << 'END'
 import random, sys
@@ -143,4 +194,11 @@ same 'each is that of report' "$other" ''
 same 'with lines that were accepted' \
     "$(cat "$room"/walks1/pages/* | grep -c 'class="n pre">.*line of device 1 accepted')" \
     "$(cat "$room"/walks1/pages/* | grep -c '<td class="n"></td><td class="n pre">line of device 1 accepted')"
+
+# ---- the manual: a macro that changes letters word by word joins the words, and has few of them
+same 'no words are run together' "$(awk '/^\.(BR|RB|IR|RI|BI|IB) / {
+    gsub(/"[^"]*"/, "quoted")
+    if (NF > 7)
+        print FILENAME ":" FNR
+}' man/*.[15])" ''
 count

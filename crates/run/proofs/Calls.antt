@@ -1,9 +1,9 @@
 -- The run call from its parts: refused, or run. Assumes nothing.
-use Prim.Native.Nat.{ℕ, zero, suc, _+_, _*_, _<_, _≤_}
-use mathlib.Core.Bool.{true, cond}
+use Prim.Native.Nat.{ℕ, _≤_}
+use mathlib.Core.Bool.{cond}
 use mathlib.Core.List.{List}
 use mathlib.Core.Logic.{_≢_}
-use mathlib.Core.Path.{_≡_, refl, sym, ap, _∙_}
+use mathlib.Core.Path.{_≡_, sym, ap, _∙_}
 use native.Mathlib.Omega.{arith}
 use lib.ListN.{length}
 use Rattle.machine.specs.declared.Depth.{Depth}
@@ -11,51 +11,21 @@ use Rattle.machine.specs.declared.Machine.{Machine}
 use Rattle.machine.specs.declared.Reason.{Reason}
 use Rattle.machine.specs.declared.Verdict.{Verdict}
 use Rattle.machine.specs.declared.Verdict.the-variants.{Accepted}
-use Rattle.machine.specs.State.{State, stateOf}
-use Rattle.machine.specs.Record.{fourAt, stateIn, recordOf}
-use Rattle.machine.specs.Events.{eventAt, eventCount, eventsOf}
-use Rattle.machine.specs.Refusal.{eventFits, eventsFitBelow, inOrder, inOrderBelow, callVerdict, refusalNumber}
+use Rattle.machine.specs.State.{stateOf}
+use Rattle.machine.specs.Record.{stateIn, recordOf}
+use Rattle.machine.specs.Events.{eventsOf}
+use Rattle.machine.specs.Refusal.{callVerdict, refusalNumber}
 use Rattle.machine.specs.Run.{reasonNumber}
 use Rattle.machine.specs.Logged.{Logged, runLogged, reasonLogged}
 use Rattle.machine.specs.Call.{Closing, replyNumber, roomOf, logAfter, turnedBack, closing, closingOf, runOn, runCallOf}
 use Rattle.machine.specs.Depth.{depth, depthFrom, deepestFrom, callDeepest}
 use Rattle.machine_laws.specs.Passed.{Passed}
-use Rattle.machine_laws.proofs.Cases.{and-both, is-lt, is-eq, is-le, not-eq}
+use Rattle.machine_laws.proofs.Cases.{not-eq}
 use Rattle.machine_laws.proofs.Records.{passed, is-accepted}
 use Rattle.run_laws.proofs.Room.{logged-le, records-le}
 use Rattle.run_laws.proofs.Verdicts.{call-start}
 use Rattle.run_laws.proofs.Calls.{accepted-call}
 use Rattle.run_laws.proofs.Depth.{accepted-deepest, refused-deepest}
-use Rattle.devices.specs.Cursor.{Ordered}
-
--- ---- what an accepted run asks of its events
-
-fits-below : (b : List ℕ) (n : ℕ) → ((k : ℕ) → k < n → eventFits b k ≡ true) → eventsFitBelow b n ≡ true
-unfolding eventsFitBelow
-fits-below b zero h = refl
-fits-below b (suc n) h = and-both (fits-below b n (λ k l. h k (omega arith))) (h n (omega arith))
-
-ordered-below : (b : List ℕ) (n : ℕ) → ((k : ℕ) → suc k < n → inOrder b k ≡ true) → inOrderBelow b n ≡ true
-unfolding inOrderBelow
-ordered-below b zero h = refl
-ordered-below b (suc zero) h = refl
-ordered-below b (suc (suc n)) h = and-both (ordered-below b (suc n) (λ k l. h k (omega arith))) (h n (omega arith))
-
-module _ (memory r events : List ℕ) (n : ℕ) (p : Passed memory r events n) where
-  pub events-fit : eventsFitBelow events (eventCount events) ≡ true
-  unfolding eventFits eventAt
-  events-fit = fits-below events (eventCount events) (λ k h. and-both (is-lt (p .devices k h)) (is-eq (p .event-zeros k h)))
-
-  pub events-ordered : Ordered events
-  unfolding inOrder
-  events-ordered = ordered-below events (eventCount events) (λ k h. is-le (p .in-order k (suc k) (omega arith) h))
-
-  pub count-fits : (m : Machine) → ((mem : List ℕ) → stateOf m mem ≡ stateIn r mem) → m .count + n ≤ 4294967295
-  unfolding stateIn
-  count-fits m e =
-      let k : m .count ≡ fourAt r 22 = ap (λ (s : State). s .count) (e memory) in
-      let l : fourAt r 22 + n ≤ 4294967295 = p .count-fits in
-      rw k l
 
 -- ---- a verdict by its number
 

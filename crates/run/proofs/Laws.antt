@@ -1,7 +1,7 @@
 -- A run with its log and its journal as its loop goes: steps with no event due, one step that is taken or given up, a stretch, and
 -- the ways in which it ends; and a run that begins with a stretch. Assumes nothing.
-use Prim.Native.Nat.{ℕ, zero, suc, _+_, _-_, _*_, _/_, _<_, _≤_}
-use mathlib.Core.Bool.{Bool, true, false, cond, not, _&&_, _||_, true≢false}
+use Prim.Native.Nat.{ℕ, suc, _+_, _-_, _*_, _/_, _<_, _≤_}
+use mathlib.Core.Bool.{Bool, true, false, cond, not, _&&_, _||_}
 use mathlib.Core.List.{List, []}
 use mathlib.Core.Path.{_≡_, refl, sym, ap, subst, _∙_}
 use native.Mathlib.Numerals.{add-one}
@@ -10,14 +10,13 @@ use lib.Dec.{eqb, ltb, leb}
 use lib.ListN.{length, take, length-append}
 use lib.Seq.{sets, length-sets}
 use mathlib.Mathlib.Data.Bool.Basic.{or-eq-false-eq-eq-false-and-eq-false}
-use borrow.Author.Tests.{lt-ltb}
 use Rattle.machine.specs.declared.Depth.{Depth}
 use Rattle.machine.specs.declared.Machine.{Machine}
 use Rattle.machine.specs.declared.Rest.{Rest}
-use Rattle.machine.specs.State.{Core, State, coreOf, stateOf}
+use Rattle.machine.specs.State.{Core, State, stateOf}
 use Rattle.machine.specs.Record.{recordOf}
 use Rattle.machine.specs.Rest.{coreWith, stateWith}
-use Rattle.machine.specs.Events.{Event, eventAt, eventsFrom, eventCount, eventsOf}
+use Rattle.machine.specs.Events.{Event, eventCount, eventsOf}
 use Rattle.machine.specs.Devices.{deliver, deliverAt}
 use Rattle.machine.specs.Step.{Plan, planOf, perform, closed, finished}
 use Rattle.machine.specs.Run.{ran, runOf}
@@ -27,8 +26,7 @@ use Rattle.machine.specs.Refusal.{eventsFitBelow}
 use Rattle.machine.specs.Uneventful.{nextAct, Uneventful}
 use Rattle.machine.specs.Depth.{depthAfter, depthFrom}
 use Rattle.machine_laws.specs.Bounds.{Each}
-use Rattle.machine_laws.proofs.Cases.{bool-cases, eq-of, is-eq, gt-of, lt-of, ge-of, and-left, and-right, and-both}
-use Rattle.machine_laws.proofs.Runs.{run-zero}
+use Rattle.machine_laws.proofs.Cases.{bool-cases, eq-of, is-eq, gt-of, lt-of, ge-of}
 use Rattle.run_laws.proofs.Room.{logged-one, logged-run, logged-le, logged-slices, records-fit}
 use Rattle.run_laws.proofs.LogBytes.{log-stored}
 use Rattle.run_laws.proofs.Turns.{turn-start, turn-taken, turn-short, turn-stretch, turn-full, turn-halted, OfDevice, given-back}
@@ -36,49 +34,17 @@ use Rattle.run_laws.proofs.Turns.{uneventful-run}
 use Rattle.run_laws.proofs.Depth.{depth-next, depth-stretch, depth-slice, uneventful-depth, open-le}
 use Rattle.output_log.specs.declared.Showing.{Showing}
 use Rattle.output_log.specs.Showing.{listed}
-use Rattle.devices.specs.Cursor.{Behind, Ordered, stateFrom}
-use Rattle.devices.proofs.Laws.{behind-later, index-none-due, device-lt}
-use Rattle.stretch.specs.declared.Progress.{Progress}
-use Rattle.stretch.specs.Stretch.{Undisturbed, Passes}
+use Rattle.devices.specs.Cursor.{Ordered, stateFrom}
+use Rattle.stretch.specs.Stretch.{Passes}
 use Rattle.journal.specs.Record.{addressBy, bytesFrom, fieldsOf}
 use Rattle.journal.specs.Ring.{Journal}
 use Rattle.journal_record.specs.declared.Ring.{Ring}
 use Rattle.journal_record.specs.Ring.{journalWith, keptIn}
-use Rattle.run.specs.Due.{dueOf, Awaits}
+use Rattle.turn.specs.Due.{Awaits}
+use Rattle.turn.proofs.Laws.{restored}
 use Rattle.run.specs.Reached.{Reached}
 use Rattle.run.specs.Kept.{keptOver}
 use Rattle.run.proofs.Kept.{kept-next, record-kept}
-
-due-in : (b : List ℕ) (k : ℕ) → k < eventCount b → dueOf b k ≡ eventAt b k .step
-unfolding dueOf
-due-in b k h = rw (lt-ltb k (eventCount b) h)
-
--- no record is behind before the first
-pub behind-none : (b : List ℕ) (k : ℕ) → Behind b 0 k
-behind-none b k = (omega arith, λ j h. absurd (omega arith))
-
--- the record awaited, as it is looked up
-pub awaits-from : (b : List ℕ) (i next due k : ℕ) → Behind b i k → (next ≡ i) × (due ≡ dueOf b i) → Awaits b next due k
-awaits-from b i next due k h e = (subst (λ j. Behind b j k) (sym (e .0)) h, e .1 ∙ ap (dueOf b) (sym (e .0)))
-
-module _ (b : List ℕ) (next due k : ℕ) (a : Awaits b next due k) where
-  pub awaits-later : (j : ℕ) → k ≤ j → Awaits b next due j
-  awaits-later j h = (behind-later b next k j h (a .0), a .1)
-
-  -- before the step of the next record no event is due
-  pub undisturbed : Ordered b → Undisturbed (eventsOf b) k due
-  undisturbed o j h l s =
-      index-none-due b j next s o (awaits-later j h .0) (λ q. let e : due ≡ eventAt b next .step = a .1 ∙ due-in b next q in omega arith)
-
--- the devices of a list that rule 6 accepts
-from-devices : (b : List ℕ) (n k : ℕ) → ((j : ℕ) → j < k + n → OfDevice (eventAt b j)) → Each OfDevice (eventsFrom b k n)
-unfolding eventsFrom
-from-devices b zero k h = tt
-from-devices b (suc n) k h = (h k (omega arith), from-devices b n (suc k) (λ j l. h j (omega arith)))
-
-pub of-devices : (b : List ℕ) → eventsFitBelow b (eventCount b) ≡ true → Each OfDevice (eventsOf b)
-unfolding eventAt
-of-devices b f = from-devices b (eventCount b) 0 (λ j h. device-lt b (eventCount b) j f (omega arith))
 
 -- ---- what the loop holds
 
@@ -273,38 +239,7 @@ opened-fits ev s p d k n e h l =
     let q : d .opened ≡ depthFrom ev s p k .opened = ap (λ (x : Depth). x .opened) e in
     omega arith
 
--- a turn is begun: the machine is not halted, and there are steps to do
-pub goes-on : (h : Bool) (k n : ℕ) → (ltb k n && not h) ≡ true → (h ≡ false) × (k < n)
-goes-on true k n e = absurd (true≢false (sym (and-right (ltb k n) false e)))
-goes-on false k n e = (refl, lt-of (and-left (ltb k n) true e))
-
--- none is begun: the machine is halted, or all steps are done
-pub all-done : (h : Bool) (k n : ℕ) → k ≤ n → (ltb k n && not h) ≡ false → (h || eqb k n) ≡ true
-all-done true k n l e = refl
-all-done false k n l e =
-    bool-cases (ltb k n)
-    (λ q. absurd (true≢false (sym (and-both q refl) ∙ e)))
-    (λ q. let m : n ≤ k = ge-of q in is-eq {m = k} {n = n} (omega arith))
-
 -- ---- a step given up
-
--- The device bytes kept, where an event was due, give back the memory before the events of the step.
-pub restored : (b : List ℕ) (next due : ℕ) (s : State) → Awaits b next due (s .count) → Ordered b
-    → eventsFitBelow b (eventCount b) ≡ true → 16 ≤ length (s .mem)
-    → (wanted : Bool) → (wanted ≡ false → s .count < due)
-    → (kept m : List ℕ) → (wanted ≡ true → kept ≡ take 16 (s .mem)) → m ≡ deliver (eventsOf b) s .mem
-    → cond wanted (sets m 0 kept) m ≡ s .mem
-restored b next due s a o f l wanted ew kept m ek em =
-    bool-cases wanted
-    (λ y.
-    ap (λ c. cond c (sets m 0 kept) m) y
-    ∙ (λ i. sets (em i) 0 (ek y i))
-    ∙ given-back (eventsOf b) s (of-devices b f) l)
-    (λ y.
-    let late : s .count < due = ew y in
-    ap (λ c. cond c (sets m 0 kept) m) y
-    ∙ em
-    ∙ ap (λ t. t .mem) (undisturbed b next due (s .count) a o (s .count) (omega arith) late s))
 
 -- where they were not kept though the log is full, none was due
 late-of : (here : Bool) (full : Bool) (due n : ℕ) → full ≡ true → here || (full && leb due n) ≡ false → n < due
@@ -350,59 +285,10 @@ room-for n x added lent log lacks e b size =
 
 -- ---- a stretch
 
--- none is done by a machine that is halted, and none where a journal is lent
-pub halts-none : (lent halted : Bool) (u : ℕ) → (lent || halted ≡ true → u ≡ 0) → halted ≡ true → u ≡ 0
-halts-none true halted u none h = none refl
-halts-none false halted u none h = none h
-
+-- none is done where a journal is lent
 pub lends-none : (b : List ℕ) (halted : Bool) (u left : ℕ) → (not (eqb (length b) 0) || halted ≡ true → u ≡ 0)
     → eqb (length b) 0 ≡ false → u - left ≡ 0
 lends-none b halted u left none q = let z : u ≡ 0 = none (ap (λ c. not c || halted) q) in omega arith
-
--- a machine with the count n, taken apart
-abbrev machine : List ℕ → (psw cex l : ℕ) → Bool → (n : ℕ) → List ℕ → State
-machine regs psw cex l h n m = record { core = coreOf regs psw cex; lines = l; halted = h; count = n; mem = m }
-
--- What a stretch of at most u steps from a machine taken apart answers, no event being due in them and none being done if it is
--- halted: its steps are steps of the run, all uneventful.
-module _
-    (ev : List Event) (regs : List ℕ) (t : Rest) (mem regs′ : List ℕ) (p : Progress) (mem′ : List ℕ) (u due : ℕ)
-    (none : t .halted ≡ true → u ≡ 0) (undue : Undisturbed ev (t .count) due) (few : u ≤ due - t .count)
-    (passes : (es : List Event) (k : ℕ) → Undisturbed es k (k + u)
-    → Passes es (machine regs (t .psw) (t .cex) (t .lines) false k mem)
-    (machine regs′ (p .psw) (p .cex) (t .lines) false (k + (u - p .left)) mem′) (u - p .left))
-    (v : Rest)
-    (on : v ≡ record { psw = p .psw; cex = p .cex; lines = t .lines; halted = t .halted; count = t .count + (u - p .left) }) where
-  abbrev done : ℕ
-  done = u - p .left
-
-  abbrev before : Bool → State
-  before h = machine regs (t .psw) (t .cex) (t .lines) h (t .count) mem
-
-  abbrev after : Bool → State
-  after h = machine regs′ (p .psw) (p .cex) (t .lines) h (t .count + done) mem′
-
-  passed : Passes ev (before false) (after false) done
-  passed = passes ev (t .count) (λ k h l s. undue k h (omega arith) s)
-
-  -- none from a halted machine: nothing has changed
-  stood : t .halted ≡ true → Passes ev (before (t .halted)) (after (t .halted)) done
-  stood h =
-      let z : done ≡ 0 = let e = none h in omega arith in
-      let same : after false ≡ before false =
-      ap (λ r. r .state) (passed .0 ∙ ap (runOf ev (before false)) z ∙ run-zero ev (before false)) in
-      let same′ : after (t .halted) ≡ before (t .halted) =
-      ap (λ s. record { core = s .core; lines = s .lines; halted = t .halted; count = s .count; mem = s .mem }) same in (
-        (λ i. ran (same′ i) (z i)) ∙ sym (run-zero ev (before (t .halted))) ∙ ap (runOf ev (before (t .halted))) (sym z),
-        λ i l. absurd (omega arith),
-      )
-
-  pub stretch-passes : Passes ev (stateWith regs t mem) (stateWith regs′ v mem′) done
-  stretch-passes =
-      subst (λ w. Passes ev (stateWith regs t mem) (stateWith regs′ w mem′) done) (sym on)
-      (bool-cases (t .halted)
-      stood
-      (λ q. subst (λ h. Passes ev (before h) (after h) done) (sym q) passed))
 
 -- ---- a run whose first j steps are a stretch
 

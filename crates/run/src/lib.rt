@@ -1,98 +1,28 @@
 // A run of n steps with an output log, and the whole run call on its raw buffers.
 ghost use mathlib.Core.Path.{_≡_};
-ghost use mathlib.Core.Bool.{Bool, true, cond, _&&_, _||_};
+ghost use mathlib.Core.Bool.{true, cond, _&&_, _||_};
 ghost use mathlib.Core.List.{List};
 ghost use Prim.Native.Nat.{ℕ, _+_, _-_, _≤_};
 ghost use lib.Dec.{leb};
 ghost use lib.ListN.{length};
 ghost use Rattle.machine.specs.declared.Reason.the-variants.{Done, Halted, NoRoom};
-ghost use Rattle.machine.specs.State.{Core, stateOf};
+ghost use Rattle.machine.specs.State.{stateOf};
 ghost use Rattle.machine.specs.Events.{eventsOf, eventCount};
-ghost use Rattle.machine.specs.Devices.{deliverAt};
 ghost use Rattle.machine.specs.Refusal.{eventsFitBelow};
 ghost use Rattle.machine.specs.Run.{reasonNumber};
 ghost use Rattle.machine.specs.Logged.{runLogged, reasonLogged};
 ghost use Rattle.machine.specs.Call.{replyNumber, roomOf, logAfter, runCallOf};
 ghost use Rattle.machine.specs.Depth.{depthFrom, callDeepest};
-ghost use Rattle.devices.specs.Cursor.{Behind, Ordered, stateFrom};
+ghost use Rattle.devices.specs.Cursor.{Behind, Ordered};
 ghost use Rattle.machine.specs.Rest.{stateWith};
-ghost use Rattle.run.specs.Due.{dueOf, Awaits};
 ghost use Rattle.journal_record.specs.Ring.{Lends, journalWith};
 ghost use Rattle.run.specs.Kept.{keptOver};
 use journal_record::Ring;
 use journal_record::keep_step;
 use machine::Depth;
-use machine::Lines;
 use machine::Machine;
 use machine::Reason;
 use machine::Rest;
-use stretch::Progress;
-
-// The step of record k, past every step where there is none.
-fn due_at(events: &[u8], k: usize) -> u64
-    ensures { λ r. ⌜ r ≡ dueOf (now (events .entry)) k ⌝ }
-{
-    if k < events.len() / 8 {
-        return devices::step_at(events, k) as u64;
-    }
-    4294967296
-}
-
-// The first event record not behind, and its step.
-struct Awaited {
-    next: usize,
-    due: u64,
-}
-
-// The lines after the events of a step, and the record then awaited.
-struct Delivery {
-    lines: Lines,
-    at: Awaited,
-}
-
-// The record awaited from record k on.
-fn awaiting(events: &[u8], k: usize) -> Awaited
-    ensures { λ r. ⌜ (r .next ≡ k) × (r .due ≡ dueOf (now (events .entry)) k) ⌝ }
-{
-    Awaited {
-        next: k,
-        due: due_at(events, k),
-    }
-}
-
-// Point 1 of step `count`: applies the events that are due; where none is, looks at no record.
-fn deliver_due(memory: &mut [u8], events: &[u8], at: Awaited, count: u32, lines: Lines) -> Delivery
-    requires { ⌜ (length (now memory) ≡ 65536) × Awaits (now events) (at .next) (at .due) count
-        × Ordered (now events) × (eventsFitBelow (now events) (eventCount (now events)) ≡ true) ⌝ }
-    ensures state { λ r. ⌜ ((c : Core) (h : Bool)
-        → stateFrom c (r .lines) h count (now (memory .exit))
-        ≡ deliverAt count (eventsOf (now (events .entry)))
-        (stateFrom c lines h count (now (memory .entry)))) ⌝ }
-    ensures awaits { λ r. ⌜ Awaits (now (events .entry)) (r .at .next) (r .at .due) (count + 1) ⌝ }
-{
-    if (count as u64) < at.due {
-        return Delivery { lines, at };
-    }
-    let d = devices::deliver(memory, events, at.next, count, lines);
-    let next = awaiting(events, d.next);
-    Delivery {
-        lines: d.lines,
-        at: next,
-    }
-}
-
-// Why a run ended.
-fn reason_of(halted: bool, short: bool) -> Reason
-    ensures { λ r. ⌜ r ≡ cond short NoRoom (cond halted Halted Done) ⌝ }
-{
-    if short {
-        return Reason::NoRoom;
-    }
-    if halted {
-        return Reason::Halted;
-    }
-    Reason::Done
-}
 
 // The machine that a run leaves, why it ended, the steps done, the log records added, the first
 // event record that is not behind, how deep the run is and went, and the journal's two numbers.
@@ -104,52 +34,6 @@ pub struct Ran {
     pub next: usize,
     pub depth: Depth,
     pub ring: Ring,
-}
-
-// A machine taken apart: all but its registers.
-fn rest_of(m: Machine) -> Rest
-    ensures { λ r. ⌜ ((mem : List ℕ) → stateWith (m .regs) r mem ≡ stateOf m mem) ⌝ }
-{
-    Rest {
-        psw: m.psw,
-        cex: m.cex,
-        lines: m.lines,
-        halted: m.halted,
-        count: m.count,
-    }
-}
-
-// The same machine with other lines.
-fn with_lines(t: Rest, lines: Lines) -> Rest
-    ensures { λ r. ⌜ r ≡ record {
-      psw = t .psw;
-      cex = t .cex;
-      lines = lines;
-      halted = t .halted;
-      count = t .count;
-    } ⌝ }
-{
-    Rest {
-        psw: t.psw,
-        cex: t.cex,
-        lines,
-        halted: t.halted,
-        count: t.count,
-    }
-}
-
-// The machine put together again.
-fn machine_of(regs: [u16; 8], t: Rest) -> Machine
-    ensures { λ r. ⌜ ((mem : List ℕ) → stateOf r mem ≡ stateWith regs t mem) ⌝ }
-{
-    Machine {
-        regs,
-        psw: t.psw,
-        cex: t.cex,
-        lines: t.lines,
-        halted: t.halted,
-        count: t.count,
-    }
 }
 
 // What a run leaves: the machine put together again, and why it ended.
@@ -169,48 +53,13 @@ fn ended(
         × (r .depth ≡ depth) × (r .ring ≡ ring) ⌝ }
 {
     Ran {
-        machine: machine_of(regs, t),
-        reason: reason_of(t.halted, short),
+        machine: turn::machine_of(regs, t),
+        reason: turn::reason_of(t.halted, short),
         steps: done,
         added,
         next,
         depth,
         ring,
-    }
-}
-
-// How many steps a stretch may do at once, at most `left`: those before the next event is due, none
-// where there is to be no stretch.
-fn at_once(none: bool, count: u32, due: u64, left: u32) -> u32
-    ensures { λ r. ⌜ (r ≤ left) × (r ≤ due - count) × (none ≡ true → r ≡ 0) ⌝ }
-{
-    let c = count as u64;
-    if none | (due <= c) {
-        return 0;
-    }
-    if due - c < left as u64 {
-        return (due - c) as u32;
-    }
-    left
-}
-
-// The machine after a stretch that might have had n steps.
-fn gone_on(t: Rest, n: u32, p: Progress) -> Rest
-    requires { ⌜ (p .left ≤ n) × (t .count + n ≤ 4294967295) ⌝ }
-    ensures { λ r. ⌜ r ≡ record {
-      psw = p .psw;
-      cex = p .cex;
-      lines = t .lines;
-      halted = t .halted;
-      count = t .count + (n - p .left);
-    } ⌝ }
-{
-    Rest {
-        psw: p.psw,
-        cex: p.cex,
-        lines: t.lines,
-        halted: t.halted,
-        count: t.count + (n - p.left),
     }
 }
 
@@ -275,20 +124,20 @@ pub fn run_kept(
     let room = log.len() / 8;
     let lent = journal.len() != 0;
     let mut regs = m.regs;
-    let mut t = rest_of(m);
+    let mut t = turn::rest_of(m);
     let mut devices: [u8; 16] = [0; 16];
-    let mut at = awaiting(events, from);
+    let mut at = turn::awaiting(events, from);
     let mut done: u32 = 0;
     let mut added: usize = 0;
     let mut depth = begun;
     let mut ring = begins;
     let mut short = false;
     while (done < n) & !t.halted {
-        let held = machine_of(regs, t);
+        let held = turn::machine_of(regs, t);
         let wanted = wants(lent, added == room, at.due, t.count);
         output_log::keep(memory, wanted, &mut devices);
-        let d = deliver_due(memory, events, at, t.count, t.lines);
-        let p = step::plan(&mut regs, memory, with_lines(t, d.lines));
+        let d = turn::deliver_due(memory, events, at, t.count, t.lines);
+        let p = step::plan(&mut regs, memory, turn::with_lines(t, d.lines));
         let act = p.act;
         let shown = output_log::shown_by(memory, act);
         if output_log::lacks_room(shown, added, room) {
@@ -303,10 +152,10 @@ pub fn run_kept(
         t = step::perform(&mut regs, memory, d.lines, t.count, p);
         at = d.at;
         done += 1;
-        let u = at_once(lent | t.halted, t.count, at.due, n - done);
+        let u = turn::at_once(lent | t.halted, t.count, at.due, n - done);
         if 0 < u {
             let q = stretch::stretch(&mut regs, memory, t.psw, t.cex, t.lines, u);
-            t = gone_on(t, u, q);
+            t = turn::gone_on(t, u, q);
             done += u - q.left;
         }
     }
@@ -377,16 +226,16 @@ pub fn run(
     let mut nowhere: [u8; 0] = [0; 0];
     let none = Ring { kept: 0, place: 0 };
     let mut regs = m.regs;
-    let t = rest_of(m);
-    let u = at_once(t.halted, t.count, due_at(events, from), n);
+    let t = turn::rest_of(m);
+    let u = turn::at_once(t.halted, t.count, turn::due_at(events, from), n);
     let p = stretch::stretch(&mut regs, memory, t.psw, t.cex, t.lines, u);
     let done = u - p.left;
-    let s = gone_on(t, u, p);
+    let s = turn::gone_on(t, u, p);
     if done == n {
         return ended(regs, s, false, n, 0, from, begun, none);
     }
     let r = run_kept(
-        machine_of(regs, s),
+        turn::machine_of(regs, s),
         memory,
         events,
         from,
@@ -399,24 +248,13 @@ pub fn run(
     after_steps(done, r)
 }
 
-// The number of a reason.
-fn reason_number(x: Reason) -> u64
-    ensures { λ r. ⌜ (r ≡ reasonNumber x) × (r ≤ 2) ⌝ }
-{
-    match x {
-        Reason::Done => 0,
-        Reason::Halted => 1,
-        Reason::NoRoom => 2,
-    }
-}
-
 // What a run replies: reason, steps and log records, each in its bits.
 pub fn reply_of(r: Ran) -> u64
     requires { ⌜ (r .steps ≤ 1000000) × (r .added ≤ 1000000) ⌝ }
     ensures { λ x. ⌜ x ≡ replyNumber 0 (reasonNumber (r .reason)) (r .steps) (r .added) ⌝ }
 {
     let reason = r.reason;
-    256 * reason_number(reason) + 65536 * r.steps as u64 + 1099511627776 * r.added as u64
+    256 * turn::reason_number(reason) + 65536 * r.steps as u64 + 1099511627776 * r.added as u64
 }
 
 // The run call: refused, it replies the refusal's number and leaves every buffer as it was; else it

@@ -21,7 +21,7 @@ use Rattle.machine.specs.Depth.{deepestFrom}
 use Rattle.machine_laws.specs.Passed.{Passed}
 use Rattle.machine_laws.proofs.Cases.{not-eq, not-lt, ge-of}
 use Rattle.machine_laws.proofs.Records.{passed, not-met, is-accepted}
-use Rattle.run.proofs.Calls.{events-fit, events-ordered, count-fits}
+use Rattle.turn.proofs.Laws.{events-fit, events-ordered, count-fits}
 use Rattle.resume.specs.Deepest.{deepestOf}
 use Rattle.resume.proofs.Deepest.{depth-carried}
 use Rattle.sheet.specs.Sheet.{stepsIn, recordIn, memoryIn, eventsIn, inputVerdict, runIn, deepestIn}

@@ -10,8 +10,8 @@ use borrow.Author.Needs.{needs}
 use Rattle.machine.specs.State.{stateOf}
 use Rattle.machine.proofs.Machine as T
 use Rattle.machine.proofs.Machine.Laws as T′
-use Rattle.run.proofs.Laws.{behind-none}
-use Rattle.run.proofs.Calls.{events-fit, events-ordered, call-passed}
+use Rattle.turn.proofs.Laws.{behind-none, events-fit, events-ordered}
+use Rattle.run.proofs.Calls.{call-passed}
 use Rattle.open_machine.proofs.Laws.{count-fits, advance-refused, advance-ran, few-steps, few-records}
 use Rattle.open_machine.proofs.Laws.{figure-kept, figure-ran}
 use Rattle.open_machine.proofs.advance_by_value.Statement.{statement}

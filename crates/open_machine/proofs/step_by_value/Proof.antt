@@ -11,7 +11,7 @@ use Rattle.word.proofs.Laws.{bit-le}
 use Rattle.machine.specs.State.{stateOf}
 use Rattle.machine.proofs.Machine as T
 use Rattle.machine.proofs.Machine.Laws as T′
-use Rattle.run.proofs.Calls.{events-fit, events-ordered}
+use Rattle.turn.proofs.Laws.{events-fit, events-ordered}
 use Rattle.open_machine.proofs.Laws.{count-fits, step-passed, step-refused, step-ran, run-one}
 use Rattle.open_machine.proofs.step_by_value.Statement.{statement}
 use Rattle.open_machine.proofs.step_by_value.Tie as tie

@@ -20,7 +20,8 @@ use Rattle.stretch.specs.Stretch.{Passes}
 use Rattle.devices.specs.Cursor.{Behind}
 use Rattle.devices.proofs.Laws.{behind-later}
 use Rattle.run.specs.declared.Ran.{Ran}
-use Rattle.run.proofs.Laws.{undisturbed, stretch-passes, passed-run, passed-depth, run-on, depth-run-on}
+use Rattle.turn.proofs.Laws.{undisturbed, stretch-passes}
+use Rattle.run.proofs.Laws.{passed-run, passed-depth, run-on, depth-run-on}
 use Rattle.run.proofs.run.Statement.{statement}
 use Rattle.run.proofs.run.Tie as tie
 

@@ -3,9 +3,8 @@ use Prim.Native.Nat.{_≤_}
 use mathlib.Core.Path.{ap, sym, subst}
 use native.Mathlib.Omega.{arith}
 use borrow.Author.Needs.{needs}
-use Rattle.run.proofs.Laws.{behind-none}
-use Rattle.run.proofs.Calls.{events-fit, events-ordered, count-fits, call-passed, call-refused, call-ran, few-steps, few-records}
-use Rattle.run.proofs.Calls.{figure-kept, figure-ran}
+use Rattle.turn.proofs.Laws.{behind-none, events-fit, events-ordered, count-fits}
+use Rattle.run.proofs.Calls.{call-passed, call-refused, call-ran, few-steps, few-records, figure-kept, figure-ran}
 use Rattle.run.proofs.run_call.Statement.{statement}
 use Rattle.run.proofs.run_call.Tie as tie
 

@@ -24,13 +24,14 @@ use Rattle.stretch.specs.Stretch.{Passes}
 use Rattle.devices.specs.Cursor.{Behind}
 use Rattle.journal.specs.Ring.{Journal}
 use Rattle.journal_record.specs.Ring.{Lends, journalWith}
-use Rattle.run.specs.Due.{Awaits}
+use Rattle.turn.specs.Due.{Awaits}
+use Rattle.turn.proofs.Laws.{awaits-from, awaits-later, undisturbed, of-devices, goes-on, all-done, stretch-passes, halts-none}
 use Rattle.run.specs.Kept.{keptOver}
 use Rattle.run.specs.Reached.{Reached}
 use Rattle.run.proofs.Kept.{kept-start, kept-size, kept-stretch, before-kept}
-use Rattle.run.proofs.Laws.{awaits-from, awaits-later, undisturbed, of-devices, reached-start, added-fit, log-size, reached-stretch}
-use Rattle.run.proofs.Laws.{reached-left, carried, step-taken, goes-on, all-done, undone-memory, undone, room-for}
-use Rattle.run.proofs.Laws.{depth-on, step-depth, opened-fits, step-kept, stretch-passes, halts-none, lends-none}
+use Rattle.run.proofs.Laws.{reached-start, added-fit, log-size, reached-stretch}
+use Rattle.run.proofs.Laws.{reached-left, carried, step-taken, undone-memory, undone, room-for}
+use Rattle.run.proofs.Laws.{depth-on, step-depth, opened-fits, step-kept, lends-none}
 use Rattle.run.proofs.run_kept.Statement.{statement}
 use Rattle.run.proofs.run_kept.Tie as tie
 

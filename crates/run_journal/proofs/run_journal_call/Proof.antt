@@ -4,8 +4,7 @@ use mathlib.Core.Path.{refl, ap, sym, subst}
 use native.Mathlib.Omega.{arith}
 use borrow.Author.Needs.{needs}
 use denote.Ref.{now}
-use Rattle.run.proofs.Laws.{behind-none}
-use Rattle.run.proofs.Calls.{events-fit, events-ordered, count-fits}
+use Rattle.turn.proofs.Laws.{behind-none, events-fit, events-ordered, count-fits}
 use Rattle.run_journal.proofs.Laws.{passed-all, ring-passed, refused-closing, refused-journal, figure-kept, steps-few, records-few}
 use Rattle.run_journal.proofs.Laws.{figure-ran, closing-ran, journal-ran, some-length}
 use Rattle.run_journal.proofs.run_journal_call.Statement.{statement}

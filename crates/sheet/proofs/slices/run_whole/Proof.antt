@@ -15,7 +15,7 @@ use Rattle.machine.specs.Log.{logBytes}
 use Rattle.machine.specs.Depth.{depth, depthFrom}
 use Rattle.devices.specs.Cursor.{Behind}
 use Rattle.output_log.proofs.Laws.{is-not, is-so}
-use Rattle.run.proofs.Laws.{behind-none}
+use Rattle.turn.proofs.Laws.{behind-none}
 use Rattle.sheet.proofs.Sliced.{slices-start, slices-count, slices-full, slice-le, slice-on, slice-some, slice-ends}
 use Rattle.sheet.proofs.Sliced.{depth-begins, depth-few, slice-depth}
 use Rattle.sheet.proofs.slices.run_whole.Statement.{statement}

@@ -7,8 +7,8 @@ use native.Mathlib.Omega.{arith}
 use borrow.Author.Needs.{needs}
 use Rattle.machine_laws.proofs.Cases.{gt-of}
 use Rattle.run_laws.proofs.Room.{neither}
-use Rattle.run.proofs.at_once.Statement.{statement}
-use Rattle.run.proofs.at_once.Tie as tie
+use Rattle.turn.proofs.at_once.Statement.{statement}
+use Rattle.turn.proofs.at_once.Tie as tie
 
 on : (c : tie.Else1) → (c .before .args .none ≡ false) × (c .before .args .count < c .before .args .due)
 on c =

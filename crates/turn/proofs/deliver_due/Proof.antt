@@ -1,9 +1,9 @@
 use mathlib.Core.Path.{sym}
 use native.Mathlib.Omega.{arith}
 use borrow.Author.Needs.{needs}
-use Rattle.run.proofs.Laws.{awaits-from, undisturbed, awaits-later}
-use Rattle.run.proofs.deliver_due.Statement.{statement}
-use Rattle.run.proofs.deliver_due.Tie as tie
+use Rattle.turn.proofs.Laws.{awaits-from, undisturbed, awaits-later}
+use Rattle.turn.proofs.deliver_due.Statement.{statement}
+use Rattle.turn.proofs.deliver_due.Tie as tie
 
 returns : tie.Need-returns
 returns c =

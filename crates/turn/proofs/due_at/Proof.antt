@@ -1,8 +1,8 @@
 use borrow.Author.Tests.{lt-ltb, le-ltb}
 use borrow.Author.Needs.{needs}
-use Rattle.run.specs.Due.{dueOf}
-use Rattle.run.proofs.due_at.Statement.{statement}
-use Rattle.run.proofs.due_at.Tie as tie
+use Rattle.turn.specs.Due.{dueOf}
+use Rattle.turn.proofs.due_at.Statement.{statement}
+use Rattle.turn.proofs.due_at.Tie as tie
 
 returns : tie.Need-returns
 unfolding dueOf

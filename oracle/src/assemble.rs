@@ -207,13 +207,13 @@ fn offset(target: i32, place: i64) -> Option<i16> {
     (distance % 2 == 0).then_some(distance / 2)
 }
 
-/// 003's byte of a value: a number is the byte itself; of a name or an expression MOVH takes the high byte, the others
-/// take the low one.
+/// 003's byte of a value: a number is the byte itself, in brackets too; of a value in which a name stands MOVH takes the
+/// high byte, the others take the low one.
 fn immediate(op: u8, factor: &Factor, value: i32) -> Option<u8> {
-    match factor {
-        Factor::Number(_) => byte(value),
-        _ => word(value).map(|w| if op == 3 { w >> 8 } else { w & 0xFF } as u8),
+    if factor.names().is_empty() {
+        return byte(value);
     }
+    word(value).map(|w| if op == 3 { w >> 8 } else { w & 0xFF } as u8)
 }
 
 /// The instruction of a statement at a place, where its values fit.

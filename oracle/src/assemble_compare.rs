@@ -33,26 +33,27 @@ pub enum Item {
     Twice, TooMany, Unknown, OrgBelow, EquBelow, BssBelow, OfItself, NameAfterValue,
     // 19
     NumberLeaves, ResultLeaves, ByZero, OrgNegative, BssNegative, BssPast, NameFar, ByteMisfit, WordMisfit, Constant,
-    SetPri, Svc, Cex, Ldr, Str, MovNumber, MovWord, TargetWord, TargetOdd, TargetFar, LinkFar, OddCode, OddWord,
-    PastByte, PastWord, PastCode, PlaceAfterValue,
+    SetPri, Svc, Cex, Ldr, Str, MovNumber, MovBracket, MovWord, TargetWord, TargetOdd, TargetFar, LinkFar, OddCode,
+    OddWord, PastByte, PastWord, PastCode, PlaceAfterValue,
     // accepted
     NamedEnd, Forward, Wraps, Farthest, LinkFarthest, NegativeTarget, Overlap, NameBeyond, Plus, Minus, Times, Divided,
     Depth16, CrLf, Lf, BothEndings, NoEnding, AfterEnd, CommentBytes, Tab, Names1024, HighOfName, HighOfNumber,
-    LowOfBracket, EmptyImage, LastByte,
+    HighOfBracket, LowOfBracket, EmptyImage, LastByte,
 }
 
 use Item::*;
 
 /// Everything that must be reached, besides each operation.
 #[rustfmt::skip]
-pub const OWED: [Item; 78] = [
+pub const OWED: [Item; 80] = [
     NoMemory, NoSource, EndMissing, LoneCr, LowerCase, OtherByte, TooDeep, NoDigits, Suffix, EndValue, EquUnnamed,
     WordAsName, TwoNames, Flags, MovConstant, OtherForm, FormAfterOthers, Twice, TooMany, Unknown, OrgBelow, EquBelow,
     BssBelow, OfItself, NameAfterValue, NumberLeaves, ResultLeaves, ByZero, OrgNegative, BssNegative, BssPast, NameFar,
-    ByteMisfit, WordMisfit, Constant, SetPri, Svc, Cex, Ldr, Str, MovNumber, MovWord, TargetWord, TargetOdd, TargetFar,
-    LinkFar, OddCode, OddWord, PastByte, PastWord, PastCode, PlaceAfterValue, NamedEnd, Forward, Wraps, Farthest,
-    LinkFarthest, NegativeTarget, Overlap, NameBeyond, Plus, Minus, Times, Divided, Depth16, CrLf, Lf, BothEndings,
-    NoEnding, AfterEnd, CommentBytes, Tab, Names1024, HighOfName, HighOfNumber, LowOfBracket, EmptyImage, LastByte,
+    ByteMisfit, WordMisfit, Constant, SetPri, Svc, Cex, Ldr, Str, MovNumber, MovBracket, MovWord, TargetWord, TargetOdd,
+    TargetFar, LinkFar, OddCode, OddWord, PastByte, PastWord, PastCode, PlaceAfterValue, NamedEnd, Forward, Wraps,
+    Farthest, LinkFarthest, NegativeTarget, Overlap, NameBeyond, Plus, Minus, Times, Divided, Depth16, CrLf, Lf,
+    BothEndings, NoEnding, AfterEnd, CommentBytes, Tab, Names1024, HighOfName, HighOfNumber, HighOfBracket, LowOfBracket,
+    EmptyImage, LastByte,
 ];
 
 #[derive(Default)]
@@ -233,6 +234,7 @@ impl Reached {
             Statement::Ldr { .. } => Ldr,
             Statement::Str { .. } => Str,
             Statement::MovImm { value: Factor::Number(_), .. } => MovNumber,
+            Statement::MovImm { value: v, .. } if v.names().is_empty() => MovBracket,
             _ => MovWord,
         };
         self.mark(true, item);
@@ -307,6 +309,7 @@ impl Reached {
             }
             MovImm { op: 3, value: Factor::Number(_), .. } => self.mark(true, HighOfNumber),
             MovImm { op: 3, value: Factor::Name(_), .. } => self.mark(true, HighOfName),
+            MovImm { op: 3, value: v, .. } if v.names().is_empty() => self.mark(value(v, names) > Some(0), HighOfBracket),
             MovImm { value: v @ Factor::Bracket(_), .. } => self.mark(value(v, names) > Some(255), LowOfBracket),
             Statement::Alu { source: Source::Register(_), .. } => {}
             _ => {}

@@ -224,7 +224,7 @@ fn rounded_down(factor: Factor) -> Factor {
 type Wrong = (&'static str, Kind, Assembler);
 
 #[rustfmt::skip]
-const WRONG: [Wrong; 20] = [
+const WRONG: [Wrong; 21] = [
     ("reads # in base sixteen", Kind::Lawful, |i| handed(i, base_sixteen)),
     ("takes minus from the right", Kind::Crafted, |i| said(i, |_, _, line| vec![brackets(line, &from_the_right)])),
     ("rounds a quotient down", Kind::Crafted, |i| said(i, |_, _, line| vec![brackets(line, &rounded_down)])),
@@ -280,6 +280,13 @@ const WRONG: [Wrong; 20] = [
     ("takes the low byte of a name for MOVH", Kind::Lawful, |i| said(i, |made, _, mut line| {
         if let Some(Statement::MovImm { op: 3, value: v @ Factor::Name(_), .. }) = &mut line.statement {
             *v = Factor::Number(Some(value(v, &made.names).expect("accepted") & 0xFF));
+        }
+        vec![line]
+    })),
+    ("takes the high byte of a bracket of numbers for MOVH", Kind::Lawful, |i| said(i, |made, _, mut line| {
+        if let Some(Statement::MovImm { op: 3, value: v @ Factor::Bracket(_), .. }) = &mut line.statement {
+            let high = value(v, &made.names).expect("accepted") >> 8 & 0xFF;
+            *v = Factor::Number(Some(high));
         }
         vec![line]
     })),

@@ -44,7 +44,7 @@ struct line {
 /* What is still to be read of a line, and what is wrong with it so far. */
 static struct {
     const uint8_t *at, *end;
-    int malformed, unknown, outside;
+    int malformed, unknown, outside, named;
 } now;
 
 static int is_letter(int c) { return c >= 'A' && c <= 'Z'; }
@@ -158,6 +158,7 @@ static int64_t number(void)
 static int64_t look_up(struct word w)
 {
     size_t i;
+    now.named = 1;
     for (i = 0; i < given; i++)
         if (same(w, (const char *)names[i].name.text, names[i].name.length))
             return names[i].value;
@@ -217,9 +218,9 @@ static int64_t expression(int left)
 
 static void value(struct line *line)
 {
-    blanks();
-    line->plain = peek() == '#' || peek() == '$';
+    now.named = 0;
     line->value = factor(DEEPEST);
+    line->plain = !now.named;
 }
 
 static unsigned indexed(void)

@@ -21,6 +21,12 @@ pub data Expr : Type 0 where
   name : List ℕ → Expr
   binary : ℕ → Expr → Expr → Expr
 
+-- a name stands in the expression. [02 §12]
+unfoldable pub named? : Expr → Bool
+named? (number z) = false
+named? (name n) = true
+named? (binary op a b) = named? a || named? b
+
 -- what stands at a place, and the place after it; or nothing that fits, 17. [02 §12]
 pub data Parse : Type 0 where
   parsed : Expr → ℕ → Parse

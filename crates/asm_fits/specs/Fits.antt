@@ -57,8 +57,8 @@ countFit limit = fitOf 0 limit
 abbrev pub offsetFit : Value → Fit
 offsetFit v = mapFit (λ (n : ℕ). n % 128) (fitOf 64 64 v)
 
--- MOVL, MOVLZ, MOVLS (op 0, 1, 2) and MOVH (op 3): a number is the byte itself; of a name or an expression, a word,
--- "the lower 8-bits of Value for MOVL, MOVLZ, and MOVLS and the higher 8-bits for MOVH". [02 §12; 003 6]
+-- MOVL, MOVLZ, MOVLS (op 0, 1, 2) and MOVH (op 3): a number is the byte itself; of a value in which a name stands, a
+-- word, "the lower 8-bits of Value for MOVL, MOVLZ, and MOVLS and the higher 8-bits for MOVH". [02 §12; 003 6]
 abbrev pub immediateFit : (op : ℕ) (number : Bool) → Value → Fit
 immediateFit op number v =
     cond number (byteFit v)

@@ -11,9 +11,10 @@ use Rattle.asm_value.specs.Value.{fitted, applied, joined}
 use Rattle.asm_text.specs.Text.{blank?, letter?, nameByte?, digitOf, digit?, span, after, numeral, word, spelled, spelledFrom}
 use Rattle.asm_words.specs.Words.{numberIn, words, wordNumber, directives, mnemonics, registers, conditionWords, emulated}
 use Rattle.asm_words.specs.Words.{registerNumber, registerOf, conditions, conditionOf, addFlag, flagsFrom, flagsOf}
-use Rattle.asm_expr.specs.Grammar.{digitsAt, nameAt, plainAt, closed, plus?, times?, chain, partsOf, factorWith, factorOf}
+use Rattle.asm_expr.specs.Grammar.{named?, digitsAt, nameAt, plainAt, closed, plus?, times?, chain, partsOf, factorWith, factorOf}
 use Rattle.asm_expr.specs.Meaning.{valueOf, answerOf}
-use Rattle.asm_operands.specs.Operands.{over?, wordBelow, registerAt, conditionAt, flagsAt, widthAt, valueAt, number?, comma?}
+use Rattle.asm_operands.specs.Operands.{over?, wordBelow, registerAt, conditionAt, flagsAt, widthAt, valueAt}
+use Rattle.asm_operands.specs.Operands.{nameless?, number?, comma?}
 use Rattle.asm_operands.specs.Operands.{commaRegister, commaValue, changedAfter, addressAt, commaAddress}
 use Rattle.asm_line.specs.declared.Statement.the-variants.{Nothing, Equ, Fixed, Constant, Cex, MovImm}
 use Rattle.asm_line.specs.declared.Reading.{Reading}
@@ -39,9 +40,11 @@ pub lines :
     -- A EQU $A; without its name it is 17
     × (reads (65 ∷ 32 ∷ 69 ∷ 81 ∷ 85 ∷ 32 ∷ 36 ∷ 65 ∷ []) ≡ Line true 0 (Equ (Known (pos 10))))
     × (reads (69 ∷ 81 ∷ 85 ∷ 32 ∷ 36 ∷ 65 ∷ []) ≡ Fault)
-    -- a plain number, and the same in brackets
+    -- MOVH #32,R1; the same in brackets, which is the same; and MOVH (#32+X),R1, where a name stands
     × (reads (77 ∷ 79 ∷ 86 ∷ 72 ∷ 32 ∷ 35 ∷ 51 ∷ 50 ∷ 44 ∷ 82 ∷ 49 ∷ []) ≡ Line false 0 (MovImm 3 true (Known (pos 32)) 1))
-    × (reads (77 ∷ 79 ∷ 86 ∷ 72 ∷ 32 ∷ 40 ∷ 35 ∷ 51 ∷ 50 ∷ 41 ∷ 44 ∷ 82 ∷ 49 ∷ []) ≡ Line false 0 (MovImm 3 false (Known (pos 32)) 1))
+    × (reads (77 ∷ 79 ∷ 86 ∷ 72 ∷ 32 ∷ 40 ∷ 35 ∷ 51 ∷ 50 ∷ 41 ∷ 44 ∷ 82 ∷ 49 ∷ []) ≡ Line false 0 (MovImm 3 true (Known (pos 32)) 1))
+    × (reads (77 ∷ 79 ∷ 86 ∷ 72 ∷ 32 ∷ 40 ∷ 35 ∷ 51 ∷ 50 ∷ 43 ∷ 88 ∷ 41 ∷ 44 ∷ 82 ∷ 49 ∷ [])
+    ≡ Line false 0 (MovImm 3 false Unknown 1))
     -- LD.B + R1,SP: the register changes first
     × (reads (76 ∷ 68 ∷ 46 ∷ 66 ∷ 32 ∷ 43 ∷ 32 ∷ 82 ∷ 49 ∷ 44 ∷ 83 ∷ 80 ∷ []) ≡ Line false 0 (Fixed (instr.Ld 1 0 1 1 1 6)))
     -- ST R1,R2-
@@ -69,11 +72,12 @@ pub lines :
     × (reads (59 ∷ 13 ∷ 128 ∷ []) ≡ Line false 0 Nothing)
 unfolding fitted applied joined blank? letter? nameByte? digitOf digit? span after numeral word spelled spelledFrom numberIn words
     wordNumber directives mnemonics registers conditionWords emulated registerNumber registerOf conditions conditionOf addFlag flagsFrom
-    flagsOf digitsAt nameAt plainAt closed plus? times? chain partsOf factorWith factorOf valueOf answerOf over? wordBelow registerAt
-    conditionAt flagsAt widthAt valueAt number? comma? commaRegister commaValue changedAfter addressAt commaAddress withValue oneValue
-    arithmetic move exchange unary oneRegister onRegisters onFlags conditional onControl load store moveByte loadRelative storeRelative
-    onMemory directiveOf statementOf statementAt afterName lineFrom lineOf
+    flagsOf named? digitsAt nameAt plainAt closed plus? times? chain partsOf factorWith factorOf valueOf answerOf over? wordBelow registerAt
+    conditionAt flagsAt widthAt valueAt nameless? number? comma? commaRegister commaValue changedAfter addressAt commaAddress withValue
+    oneValue arithmetic move exchange unary oneRegister onRegisters onFlags conditional onControl load store moveByte loadRelative
+    storeRelative onMemory directiveOf statementOf statementAt afterName lineFrom lineOf
 lines = (
+  refl,
   refl,
   refl,
   refl,

@@ -122,7 +122,7 @@ store s i =
     having (widthAt s i) (λ w j. having (registerAt s j) (λ r k. addressed (commaAddress s k) (λ prpo dec inc d l.
     Fits (Fixed (instr.St prpo dec inc w r d)) l)))
 
--- MOVL, MOVLZ, MOVLS, MOVH V,R: a plain number is told from a name or an expression. [02 §12; 003 6]
+-- MOVL, MOVLZ, MOVLS, MOVH V,R: a number, in brackets too, is told from a value in which a name stands. [02 §12; 003 6]
 unfoldable pub moveByte : (List ℕ → Value) → List ℕ → (op i : ℕ) → Stated
 moveByte look s op i =
     valued (valueAt look s i) (λ v j. having (commaRegister s j) (λ d k. Fits (MovImm op (number? s i) v d) k))

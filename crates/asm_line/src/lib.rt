@@ -57,8 +57,7 @@ pub enum Statement {
         true_count: Value,
         false_count: Value,
     },
-    // MOVL, MOVLZ, MOVLS, MOVH by op; plain: the value is a plain number, not a name or an
-    // expression
+    // MOVL, MOVLZ, MOVLS, MOVH by op; plain: the value is a number, no name stands in it
     MovImm {
         op: u8,
         plain: bool,

@@ -1,19 +1,29 @@
 -- Laws of the operands: what the code finds at a place, after blanks, is what the definitions say. In each law q is the
 -- place after the blanks from i on, b the byte there. Assumes nothing.
 use mathlib.Core.Path.{_≡_, refl, sym, ap, _∙_}
-use mathlib.Core.Bool.{Bool, true, false, cond, _||_, not}
-use mathlib.Core.List.{List}
-use Prim.Native.Nat.{ℕ, _+_, _<_, _≤_}
+use mathlib.Core.Bool.{Bool, true, false, cond, _||_, _&&_, not}
+use mathlib.Core.List.{List, []}
+use Prim.Native.Nat.{ℕ, zero, suc, _+_, _<_, _≤_, _^_}
 use native.Mathlib.Omega.{arith}
+use Rattle.word.proofs.Laws.{bool-cases}
 use lib.Dec.{ltb, leb, eqb}
 use lib.ListN.{length, drop}
 use borrow.Author.Tests.{lt-ltb, le-ltb, eq-eqb, ne-eqb}
-use Rattle.asm_text.specs.Text.{byteAt, blank?, nameByte?, after, word}
+use lib.IntN.{ℤ, pos, negsuc, _+ℤ_, _-ℤ_, _*ℤ_}
+use lib.Signed.{mag}
+use Rattle.asm_value.specs.declared.Value.{Value}
+use Rattle.asm_value.specs.declared.Value.the-variants.{Known, Unknown, Outside}
+use Rattle.asm_value.specs.Value.{fitted, towardsZero, quotient, applied, joined}
+use Rattle.asm_text.specs.Text.{byteAt, blank?, nameByte?, after, word, lookUpAt}
+use Rattle.asm_expr.specs.declared.Answer.{Answer}
+use Rattle.asm_expr.specs.declared.Answer.the-variants.{Parsed, Malformed}
+use Rattle.asm_expr.specs.Grammar.{Expr, number, name, binary, Parse, parsed, malformed, named?, factorOf}
+use Rattle.asm_expr.specs.Meaning.{valueOf, answerOf}
 use Rattle.asm_operands.specs.declared.Found.{Found}
 use Rattle.asm_operands.specs.declared.Found.the-variants.{At, Missing}
 use Rattle.asm_operands.specs.declared.Address.{Address}
 use Rattle.asm_operands.specs.declared.Address.the-variants.{Of, NoAddress}
-use Rattle.asm_operands.specs.Operands.{wordBelow, number?, comma?, changedAfter, widthAt}
+use Rattle.asm_operands.specs.Operands.{wordBelow, nameless?, number?, comma?, changedAfter, widthAt}
 
 -- ---- a word
 module _ (limit : ℕ) (number : List ℕ → ℕ) (s : List ℕ) (i q n : ℕ) (e : q ≡ after blank? s i)
@@ -52,10 +62,6 @@ module _ (s : List ℕ) (i q b : ℕ) (e : q ≡ after blank? s i) (f : b ≡ by
   pub no-comma : (b ≡ 44 → ⊥) → comma? s i ≡ false
   unfolding comma?
   no-comma h = no-byte 44 h
-
-  pub number-test : eqb b 35 || eqb b 36 ≡ number? s i
-  unfolding number?
-  number-test = ap (λ x. eqb x 35 || eqb x 36) byte-there
 
   -- a register r ends before i
   pub changed-plus : (r : ℕ) → b ≡ 43 → Of 0 0 1 r (q + 1) ≡ changedAfter s (At r i)
@@ -97,3 +103,68 @@ module _ (s : List ℕ) (i b : ℕ) (e : b ≡ byteAt s i) where
       unfolding widthAt
       width-other g l =
           rw (dot, k, ne-eqb (byteAt s (i + 1)) 66 (λ z. g (f ∙ z)), ne-eqb (byteAt s (i + 1)) 87 (λ z. l (f ∙ z)))
+
+-- ---- a number
+
+-- it is not that a name is unknown
+abbrev pub known? : Value → Bool
+known? Unknown = false
+known? (Known z) = true
+known? Outside = true
+
+-- an answer whose value is not that of an unknown name
+abbrev pub told? : Answer → Bool
+told? Malformed = false
+told? (Parsed v i) = known? v
+
+known-fitted : (z : ℤ) → known? (fitted z) ≡ true
+unfolding fitted
+known-fitted z = bool-cases (ltb (mag z) (2 ^ 31)) (λ q. rw q refl) (λ q. rw q refl)
+
+known-quotient : (x y : ℤ) → known? (quotient x y) ≡ true
+known-quotient x (pos zero) = refl
+known-quotient x (pos (suc n)) = known-fitted (towardsZero x (pos (suc n)))
+known-quotient x (negsuc n) = known-fitted (towardsZero x (negsuc n))
+
+known-applied : (op : ℕ) (x y : ℤ) → known? (applied op x y) ≡ true
+unfolding applied
+known-applied op x y =
+    bool-cases (eqb op 43) (λ q. rw q (known-fitted (x +ℤ y)))
+    (λ q. rw q (bool-cases (eqb op 45) (λ r. rw r (known-fitted (x -ℤ y)))
+    (λ r. rw r (bool-cases (eqb op 42) (λ t. rw t (known-fitted (x *ℤ y)))
+    (λ t. rw t (known-quotient x y))))))
+
+known-joined : (op : ℕ) (a b : Value) → known? (joined op a b) ≡ known? a && known? b
+unfolding joined
+known-joined op Unknown b = refl
+known-joined op Outside Unknown = refl
+known-joined op Outside Outside = refl
+known-joined op Outside (Known y) = refl
+known-joined op (Known x) Unknown = refl
+known-joined op (Known x) Outside = refl
+known-joined op (Known x) (Known y) = known-applied op x y
+
+not-either : (a b : Bool) → not a && not b ≡ not (a || b)
+not-either true b = refl
+not-either false b = refl
+
+-- where no name has a value, a value is known exactly if no name stands in it
+module _ (t : List ℕ) where
+  known-value : (e : Expr) → known? (valueOf (lookUpAt t [] [] []) e) ≡ not (named? e)
+  unfolding valueOf named? lookUpAt
+  known-value (number z) = known-fitted z
+  known-value (name n) = refl
+  known-value (binary op a b) =
+      known-joined op (valueOf (lookUpAt t [] [] []) a) (valueOf (lookUpAt t [] [] []) b)
+      ∙ ap (λ x. x && known? (valueOf (lookUpAt t [] [] []) b)) (known-value a)
+      ∙ ap (λ x. not (named? a) && x) (known-value b)
+      ∙ not-either (named? a) (named? b)
+
+  told-parse : (p : Parse) → told? (answerOf (lookUpAt t [] [] []) p) ≡ nameless? p
+  unfolding answerOf nameless?
+  told-parse malformed = refl
+  told-parse (parsed e i) = known-value e
+
+  pub number-told : (s : List ℕ) (i : ℕ) {a : Answer} → a ≡ answerOf (lookUpAt t [] [] []) (factorOf 16 s i) → told? a ≡ number? s i
+  unfolding number?
+  number-told s i e = ap told? e ∙ told-parse (factorOf 16 s i)

@@ -10,7 +10,7 @@ use Rattle.asm_text.specs.Text.{byteAt, blank?, nameByte?, after, word}
 use Rattle.asm_words.specs.Words.{registerOf, conditionOf, flagsOf}
 use Rattle.asm_expr.specs.declared.Answer.{Answer}
 use Rattle.asm_expr.specs.declared.Answer.the-variants.{Parsed, Malformed}
-use Rattle.asm_expr.specs.Grammar.{factorOf}
+use Rattle.asm_expr.specs.Grammar.{Parse, parsed, malformed, named?, factorOf}
 use Rattle.asm_expr.specs.Meaning.{answerOf}
 use Rattle.asm_operands.specs.declared.Found.{Found}
 use Rattle.asm_operands.specs.declared.Found.the-variants.{At, Missing}
@@ -54,9 +54,15 @@ widthAt s i =
 unfoldable pub valueAt : (List ℕ → Value) → List ℕ → ℕ → Answer
 valueAt look s i = answerOf look (factorOf 16 s i)
 
--- a plain number stands at i, # (35) or $ (36). [02 §12]
+-- something stands there, and no name in it
+unfoldable pub nameless? : Parse → Bool
+nameless? malformed = false
+nameless? (parsed e i) = not (named? e)
+
+-- the value at i is a number, plain or as an expression in which no name stands: "A bracketed expression may stand
+-- wherever a number may". [02 §12]
 unfoldable pub number? : List ℕ → ℕ → Bool
-number? s i = eqb (byteAt s (after blank? s i)) 35 || eqb (byteAt s (after blank? s i)) 36
+number? s i = nameless? (factorOf 16 s i)
 
 -- a comma at i, byte 44, and what follows it
 unfoldable pub comma? : List ℕ → ℕ → Bool

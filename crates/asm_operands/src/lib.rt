@@ -2,6 +2,7 @@
 // condition, an address. Places are of one line's bytes, a slice without the line's end; the table
 // of names is three slices.
 use asm_expr::Answer;
+use asm_value::Value;
 ghost use mathlib.Core.Path.{_≡_};
 ghost use mathlib.Core.List.{List};
 ghost use Prim.Native.Nat.{ℕ};
@@ -95,12 +96,20 @@ pub fn read_width(line: &[u8], at: usize) -> Found
     Found::Missing
 }
 
-// A plain number stands there.
+// The value there is a number, plain or in brackets: read with an empty table, a value is unknown
+// exactly if a name stands in it.
 pub fn is_number(line: &[u8], at: usize) -> bool
     ensures { λ r. ⌜ r ≡ number? (now (line .entry)) at ⌝ }
 {
-    let b = asm_text::byte_at(line, asm_text::skip_blanks(line, at));
-    (b == b'#') | (b == b'$')
+    let read = asm_expr::factor(line, &[], &[], &[], line, at, 16);
+    let Answer::Parsed(value, _) = read else {
+        return false;
+    };
+    match value {
+        Value::Unknown => false,
+        Value::Known(_) => true,
+        Value::Outside => true,
+    }
 }
 
 // A comma and a register.

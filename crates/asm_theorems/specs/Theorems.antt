@@ -75,8 +75,8 @@ RefusedKeeps = (m s : List ℕ) → (Accepted m s → ⊥) → assembleCallOf m 
 abbrev pub Leads : (p : ℕ) (off z : ℤ) → Type 0
 Leads p off z = (p + 2 + 2 * bitsOf 32768 off) % 65536 ≡ residueOf z
 
--- the byte that MOVL, MOVLZ, MOVLS and MOVH (op 3) take: of a number the byte itself; of a name or an expression "the
--- lower 8-bits .. and the higher 8-bits for MOVH". [02 §12; 003 6]
+-- the byte that MOVL, MOVLZ, MOVLS and MOVH (op 3) take: of a number the byte itself; of a value in which a name stands
+-- "the lower 8-bits .. and the higher 8-bits for MOVH". [02 §12; 003 6]
 abbrev pub byteTaken : (op : ℕ) (number : Bool) → ℤ → ℕ
 byteTaken op number z = cond (not number && eqb op 3) (residueOf z / 256) (residueOf z % 256)
 

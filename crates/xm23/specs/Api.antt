@@ -41,4 +41,4 @@ pub use Rattle.asm_call.specs.Call.{Assembled, assembleCallOf}
 
 -- xm23_version replies versionNumber: major, minor and patch, which are those of the header.
 abbrev pub versionNumber : ℕ
-versionNumber = 0 * 65536 + 17 * 256 + 0
+versionNumber = 0 * 65536 + 17 * 256 + 1

@@ -363,8 +363,12 @@ fn values_that_do_not_fit() {
         ("MOVLZ #V,R0", -128, 255),
         ("MOVLS #V,R0", -128, 255),
         ("MOVH #V,R0", -128, 255),
-        ("MOVL (#V),R0", -32_768, 65_535),
-        ("MOVH (#V),R0", -32_768, 65_535),
+        ("MOVL (#V),R0", -128, 255),
+        ("MOVLZ (#2-#V-#2),R0", -255, 128),
+        ("MOVLS ((#V)),R0", -128, 255),
+        ("MOVH (#V),R0", -128, 255),
+        ("A MOVL (#V+A*#0),R0", -32_768, 65_535),
+        ("A MOVH (A-A+(#V)),R0", -32_768, 65_535),
     ] {
         for (value, number) in
             [(i64::from(least) - 1, 19), (least.into(), 0), (greatest.into(), 0), (i64::from(greatest) + 1, 19)]
@@ -378,7 +382,8 @@ fn values_that_do_not_fit() {
     }
 }
 
-/// 003: of a label MOVL, MOVLZ and MOVLS take the lower eight bits, MOVH the higher.
+/// 003: of a label MOVL, MOVLZ and MOVLS take the lower eight bits, MOVH the higher. "A bracketed expression may stand
+/// wherever a number may": of one without a name the byte is the number's.
 #[test]
 fn bytes_of_names() {
     let byte = |text: &str| coded(text) >> 3 & 0xFF;
@@ -387,8 +392,9 @@ fn bytes_of_names() {
         [0x34, 0x34, 0x34, 0x12]
     );
     assert_eq!([byte("MOVH (A),R0"), byte("MOVH B,R0"), byte("MOVL B,R0")], [0x12, 0xFF, 0xFE]);
-    assert_eq!([byte("MOVH #32,R0"), byte("MOVH (#32),R0"), byte("MOVL #-1,R0")], [32, 0, 255]);
-    assert_eq!(line("MOVL #300,R0"), 19);
+    assert_eq!([byte("MOVH #32,R0"), byte("MOVH (#32),R0"), byte("MOVL #-1,R0")], [32, 32, 255]);
+    assert_eq!([byte("MOVH (#2*(#20-#4)),R0"), byte("MOVH (#32+A-A),R0"), byte("MOVL (#-1),R0")], [32, 0, 255]);
+    assert_eq!([line("MOVL #300,R0"), line("MOVL (#300),R0"), line("MOVL #65535,R0"), line("MOVL (#65535),R0")], [19; 4]);
 }
 
 /// "branches naming their target (offsets wrap)".

@@ -426,9 +426,11 @@ uint64_t xm23_next(uint32_t operation, uint32_t word);
  * interrupts         where the premises of crates/resume/specs/Resume.antt hold of a call, its application does not
  *                    notice the devices' handlers: before and after each of its steps, those of its own SVC handlers
  *                    among them, and at the close, its registers, PSW, CEX state and bytes are those of the run with
- *                    no events, which takes the same traps and has a log long enough. The run is the steps done,
- *                    where the log had no room too. docs/RESUMPTION.md says it in words. The call does not check the
- *                    premises.
+ *                    no events, which takes the same traps and has a log long enough. One step is apart: where a
+ *                    line is chained onto the return of an SVC handler, that step counts as the return, and the two
+ *                    runs agree before it and again after the pull that closes the frame, not in between. The run
+ *                    is the steps done, where the log had no room too. docs/RESUMPTION.md says it in words. The call
+ *                    does not check the premises.
  * defined            crates/machine/specs/Call.antt, runCallOf, and crates/resume/specs/Deepest.antt, deepestLeft,
  *                    for every length, content and number.
  */

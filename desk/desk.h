@@ -108,8 +108,10 @@ struct paper {
         use_line[8];
 };
 
-/* Reads and judges a paper. DONE, or a status that has been told. */
+/* Reads and judges a paper. DONE, or a status that has been told. take_paper has its bytes already, which it keeps or
+ * frees. */
 int read_paper(const char *name, struct paper *p);
+int take_paper(const char *name, char *bytes, size_t length, struct paper *p);
 void drop_paper(struct paper *p);
 
 /* One line, by its bytes; 0 where it has a mistake, which has been told. */

@@ -125,17 +125,12 @@ static int judge(const struct paper *p)
     return refusal == XM23_ACCEPTED;
 }
 
-int read_paper(const char *name, struct paper *p)
+int take_paper(const char *name, char *bytes, size_t length, struct paper *p)
 {
-    struct text why = {0};
     memset(p, 0, sizeof *p);
     p->name = name;
-    p->bytes = read_file(name, 0, &p->length, &why);
-    if (!p->bytes) {
-        say_at(name, 0, "%s", why.at);
-        drop(&why);
-        return UNREADABLE;
-    }
+    p->bytes = bytes;
+    p->length = length;
     if (take_lines(p) && (!p->many_srec || lay_srec(p))) {
         pack_events(p);
         if (judge(p))
@@ -143,6 +138,18 @@ int read_paper(const char *name, struct paper *p)
     }
     drop_paper(p);
     return REFUSED;
+}
+
+int read_paper(const char *name, struct paper *p)
+{
+    struct text why = {0};
+    size_t length = 0;
+    char *bytes = read_file(name, 0, &length, &why);
+    if (bytes)
+        return take_paper(name, bytes, length, p);
+    say_at(name, 0, "%s", why.at);
+    drop(&why);
+    return UNREADABLE;
 }
 
 void drop_paper(struct paper *p)

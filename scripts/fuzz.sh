@@ -1,8 +1,9 @@
 #!/usr/bin/env bash
 # Coverage-guided fuzzing of the calls of libxm23.a by libFuzzer, for so many seconds: fuzz.sh [SECONDS [SEED]]. What is
 # new is told by a C judge compiled with the fuzzer's counters (tests/fuzz). The corpus starts from the example and the
-# readable cases, that of S-records from tests/srec, that of sources from tests/sources; all are kept in build/fuzz. A
-# difference is saved there too, and the exit status is then 1.
+# readable cases, that of S-records from tests/srec, that of sources from tests/sources; all are kept in build/fuzz. Then
+# what the desk reads and writes: papers, programs and pages, under clang's sanitizers. A difference is saved in
+# build/fuzz too, and the exit status is then 1.
 set -eu -o pipefail
 cd "$(dirname "$0")/.."
 
@@ -111,4 +112,46 @@ for case in tests/sources/*.txt; do
 done
 "$clang" $warn -fsanitize=fuzzer -o "$out/source" tests/fuzz/assemble.c target/staticlib/libxm23.a
 search source $((seconds / 6 + 1)) "$out/corpus_sources" "$out/sources"
+# desk_search NAME: a target over the whole desk program, of whose seeds the function NAME_seeds makes a folder.
+desk_search() {
+    local seeds=$out/seeds_$1
+    rm -rf "$seeds"
+    mkdir -p "$seeds" "$out/corpus_$1"
+    "$1_seeds" "$seeds"
+    CC=$clang scripts/desk.sh "$out/$1" -g -U_FORTIFY_SOURCE -fsanitize=fuzzer,address,undefined \
+        -fno-sanitize-recover=all -Dmain=desk_main "tests/fuzz/$1.c" tests/fuzz/desk_judge.c
+    search "$1" $((seconds / 6 + 1)) "$out/corpus_$1" "$seeds"
+}
+
+desk_paper_seeds() {
+    cp examples/sitting/sum.paper "$1"
+    printf 'steps 9\npriority 2\nbytes 7 $1 #-2 %s\nstart CEX=1 LINES=$12\nexpect R11 ; x\n' "'a'" > "$1/more.paper"
+}
+
+# The first byte says what the rest is.
+desk_program_seeds() {
+    for file in tests/srec/*; do
+        { printf 0; cat "$file"; } > "$1/$(basename "$file")"
+    done
+    for file in "$out"/sources/*; do
+        { printf 1; cat "$file"; } > "$1/$(basename "$file").asm"
+    done
+}
+
+# What the page shows of the run, then a name and a title, each after its length.
+desk_page_seeds() {
+    for file in "$out"/sources/*; do
+        { printf '5\4<a>&\5"\xE2\x80\xAE\\'; cat "$file"; } > "$1/$(basename "$file")"
+    done
+    { printf '2\1=\1a'; head -c 700 target/staticlib/libxm23.a; } > "$1/words"
+}
+
+options=(-max_len=2000)
+if scripts/crypto.sh > /dev/null 2>&1; then
+    desk_search desk_paper
+    desk_search desk_program
+    desk_search desk_page
+else
+    echo "coverage-guided fuzzing: papers, programs and pages are left out, libcrypto's headers are not here"
+fi
 echo "coverage-guided fuzzing: no difference"

@@ -558,9 +558,11 @@ uint64_t xm23_write_srec(const uint8_t *memory, size_t memory_len, uint16_t star
  * priority             in: the lowest priority that the application holds, 0 to 7.
  * result               one reply: XM23_REFUSAL in bits 7-0, XM23_STACK_BYTES in bits 31-8, at most 7,224.
  * refusals             XM23_REFUSED_STACK, for a use of a device that is not chosen too. The reply is then 16.
- * runs                 where the premises of crates/stack_need/specs/Stack.antt hold of a run, no handler's SP and no
- *                      pushed byte lies further below the application's SP when the outermost frame opened, downwards
- *                      modulo 65,536. The call does not check the premises.
+ * runs                 where StackPremises of crates/stack_need/specs/Stack.antt hold of a run, no handler's SP and
+ *                      no pushed byte lies further below the application's SP when the outermost frame opened,
+ *                      downwards modulo 65,536, by which SP above where entry left it lies nearly 65,536 below.
+ *                      Where PlainPremises hold, which let a handler hold SP above (LD SP+,R0, and SP put back), none
+ *                      lies further below in plain numbers. The call does not check the premises.
  * defined              crates/stack_need/specs/Need.antt, needReply, for every length, content and number.
  */
 uint32_t xm23_stack(const uint8_t *vectors, size_t vectors_len, uint8_t devices, const uint8_t *uses, size_t uses_len,

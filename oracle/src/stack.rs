@@ -80,10 +80,12 @@ impl Stack {
     }
 }
 
-/// How far x lies below y: downwards, modulo 65,536; or as a signed number of 16 bits.
+/// How far x lies below y: downwards, modulo 65,536; as plain numbers, below 0 where x lies above; or as a signed number
+/// of 16 bits.
 #[derive(Clone, Copy, Debug, PartialEq, Eq)]
 pub enum Below {
     Wrapping,
+    Plain,
     Signed,
 }
 
@@ -91,6 +93,7 @@ impl Below {
     fn far(self, y: u16, x: u16) -> i64 {
         match self {
             Below::Wrapping => i64::from(y.wrapping_sub(x)),
+            Below::Plain => i64::from(y) - i64::from(x),
             Below::Signed => i64::from(y.wrapping_sub(x) as i16),
         }
     }
@@ -164,8 +167,9 @@ pub fn judge(setup: &Setup, call: &Stack, below: Below) -> Judged {
     judged
 }
 
-/// A run at random with handlers that push and pull, and the call that asks for its figure.
-pub fn random_run(random: &mut Random) -> (Setup, Stack) {
+/// A run at random with handlers that push and pull, some of which, if `above`, also read their frame by LD SP+ and put SP
+/// back; and the call that asks for its figure.
+pub fn random_run(random: &mut Random, above: bool) -> (Setup, Stack) {
     let mut source = String::from(" ORG $1000\nLOOP ADD #1,R0\n BRA LOOP\n");
     let mut uses = Vec::new();
     for d in 0..8 {
@@ -174,6 +178,10 @@ pub fn random_run(random: &mut Random) -> (Setup, Stack) {
         source += &" ST R0,-SP\n".repeat(words);
         source += &" ADD #1,R1\n".repeat(random.below(5) as usize);
         source += &" LD SP+,R0\n".repeat(words);
+        if above {
+            let read = [0, 1, 2, 4][random.below(4) as usize];
+            source += &(" LD SP+,R0\n".repeat(read) + &" SUB #2,SP\n".repeat(read));
+        }
         source += [" MOV LR,PC\n", " ADD #1,R0\n MOV LR,PC\n"][random.below(2) as usize];
         let spare = if random.one_in(12) { random.below(4) as u16 } else { 0 };
         uses.extend((2 * words as u16 + spare).to_le_bytes());

@@ -88,7 +88,7 @@ fn no_run_passes_the_figure() {
     let mut random = Random::new(11);
     let (mut met, mut exact, mut nested, mut chained) = (0, 0, 0, 0);
     for _ in 0..RUNS {
-        let (setup, call) = random_run(&mut random);
+        let (setup, call) = random_run(&mut random, false);
         let judged = judge(&setup, &call, Below::Wrapping);
         if !judged.meets {
             continue;
@@ -102,6 +102,29 @@ fn no_run_passes_the_figure() {
     }
     println!("{met} of {RUNS} runs meet the premises, {exact} the figure, {nested} nest, {chained} chain");
     assert!(met > 1_000 && exact > 100 && nested > 500 && chained > 200, "{met} {exact} {nested} {chained}");
+}
+
+/// The same in plain numbers, of handlers that hold SP above where entry left it too: most such runs are outside the
+/// premises downwards modulo 65,536.
+#[test]
+fn no_run_passes_the_figure_in_plain_numbers() {
+    let mut random = Random::new(12);
+    let (mut met, mut exact, mut nested, mut above) = (0, 0, 0, 0);
+    for _ in 0..RUNS {
+        let (setup, call) = random_run(&mut random, true);
+        let judged = judge(&setup, &call, Below::Plain);
+        if !judged.meets {
+            continue;
+        }
+        let figure = i64::from(library::stack(&call) >> 8);
+        assert!(judged.furthest <= figure, "{judged:?}, figure {figure}, {call:?}, {:?}", setup.events);
+        met += 1;
+        exact += u32::from(judged.furthest == figure && figure > 0);
+        nested += u32::from(judged.nested > 1);
+        above += u32::from(!judge(&setup, &call, Below::Wrapping).meets);
+    }
+    println!("{met} of {RUNS} runs meet the premises, {exact} the figure, {nested} nest, {above} hold SP above");
+    assert!(met > 1_000 && exact > 100 && nested > 200 && above > 500, "{met} {exact} {nested} {above}");
 }
 
 /// Devices 0 and 1 of priorities 1 and 2, with handlers; the application at #1000, SP #0800.
@@ -124,7 +147,7 @@ fn setup(source: &str, n: u32, events: &[(u32, u8)]) -> (Setup, Stack) {
     (Setup { machine, memory, events, n }, Stack { vectors, devices: 3, uses: vec![0; 16], priority: 0 })
 }
 
-/// "Below" is downwards, modulo 65,536: with signed distances the claim is false.
+/// "Below" is downwards, modulo 65,536, or in plain numbers: with signed distances the claim is false.
 #[test]
 fn signed_distances_are_false() {
     // Each handler adds R2, 30,000, to SP and takes it back: SP wraps past the application's.
@@ -135,6 +158,23 @@ fn signed_distances_are_false() {
     assert_eq!(library::stack(&call) >> 8, 16);
     assert!(judged.meets && judged.furthest == 5_552, "{judged:?}");
     assert!(!judge(&setup, &call, Below::Wrapping).meets);
+    // In plain numbers SP is then far above.
+    let judged = judge(&setup, &call, Below::Plain);
+    assert!(judged.meets && judged.furthest == 8, "{judged:?}");
+}
+
+/// A handler that reads its frame by LD SP+ and puts SP back: within its figure in plain numbers, 65,534 below downwards.
+/// The run of crates/stack_example, and one in which it takes more than its figure.
+#[test]
+fn a_handler_that_reads_its_frame() {
+    let (run, call) = setup("H0 LD SP+,R0\n SUB #2,SP\n MOV LR,PC\n", 6, &[(0, 0)]);
+    let call = Stack { devices: 1, ..call };
+    let judged = judge(&run, &call, Below::Plain);
+    assert!(judged.meets && judged.furthest == 8 && library::stack(&call) >> 8 == 8, "{judged:?}");
+    assert!(!judge(&run, &call, Below::Wrapping).meets);
+    let (more, _) = setup("H0 LD SP+,R0\n SUB #4,SP\n ADD #2,SP\n MOV LR,PC\n", 6, &[(0, 0)]);
+    let judged = judge(&more, &call, Below::Plain);
+    assert!(!judged.meets && judged.furthest == 10, "{judged:?}");
 }
 
 /// A run that breaks one condition passes the figure.

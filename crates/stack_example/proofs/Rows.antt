@@ -34,7 +34,7 @@ abbrev pub s : State
 s = stateIn r memory
 
 -- what the two entries push
-abbrev firstPush : List Write
+abbrev pub firstPush : List Write
 firstPush =
     write 1022 0 ∷ write 1023 1 ∷ write 1020 5 ∷ write 1021 0 ∷ write 1018 0 ∷ write 1019 0 ∷ write 1016 0 ∷ write 1017 0 ∷ []
 

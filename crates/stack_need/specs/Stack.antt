@@ -99,8 +99,8 @@ module _ (memory r events vectors : List ℕ) (devices : ℕ) (uses : List ℕ) 
   abbrev start : State
   start = stateIn r memory
 
-  -- What a run of n is to keep. [02 §9]
-  pub record StackPremises (n : ℕ) : Type 0 where
+  -- What a run of n is to keep, however "below" is measured. [02 §9]
+  pub record RunPremises (n : ℕ) : Type 0 where
     -- "meet document 01's conditions on depth"
     pub depth : DepthPremises memory r events n
     -- the call gives a figure
@@ -113,14 +113,26 @@ module _ (memory r events vectors : List ℕ) (devices : ℕ) (uses : List ℕ) 
     pub only-given : (k d : ℕ) → k < n → Enters (act list start k) d → given? devices d ≡ true
     -- "document 01's p not below this one"
     pub not-below : p ≤ lowest list start n
-    -- "handlers that hold SP no further below where entry left it than their figure": after each step of their own
-    pub held : (k : ℕ) (h : Handler) (hs : List Handler) → k < n → works? (act list start k) ≡ true
-        → handlers list start k ≡ h ∷ hs
-        → below (h .left) (sp (after list start (suc k) .core)) ≤ useOf uses (h .vector)
     -- "hand SP back at each return", chaining ones included
     pub handed-back : (k : ℕ) (h : Handler) (hs : List Handler) → k < n → return? (act list start k) ≡ true
         → handlers list start k ≡ h ∷ hs
         → sp (due list start k .core) ≡ h .left
+
+  -- "handlers that hold SP no further below where entry left it than their figure", after each step of their own,
+  -- downwards modulo 65,536: SP above where entry left it lies nearly 65,536 below. [02 §9]
+  pub record StackPremises (n : ℕ) : Type 0 where
+    pub run : RunPremises n
+    pub held : (k : ℕ) (h : Handler) (hs : List Handler) → k < n → works? (act list start k) ≡ true
+        → handlers list start k ≡ h ∷ hs
+        → below (h .left) (sp (after list start (suc k) .core)) ≤ useOf uses (h .vector)
+
+  -- The same in plain numbers: SP may stand above where entry left it, by any number of bytes, as where a handler reads
+  -- its frame by LD SP+,R0. An SP that has passed 0 is a great number, and lies below nothing. [02 §9]
+  pub record PlainPremises (n : ℕ) : Type 0 where
+    pub run : RunPremises n
+    pub held-plainly : (k : ℕ) (h : Handler) (hs : List Handler) → k < n → works? (act list start k) ≡ true
+        → handlers list start k ≡ h ∷ hs
+        → h .left ≤ useOf uses (h .vector) + sp (after list start (suc k) .core)
 
   -- What then holds of it. [02 §9]
   pub record Within (n : ℕ) : Type 0 where
@@ -132,3 +144,11 @@ module _ (memory r events vectors : List ℕ) (devices : ℕ) (uses : List ℕ) 
     pub pushes : (k d a : ℕ) → k < n → act list start k ≡ acts.Accept d
         → writes? (outcomeOf (due list start k) .writes) a ≡ true
         → below (opened list start (suc k)) a ≤ needOf vectors devices uses p
+
+  -- The same in plain numbers. [02 §9]
+  pub record PlainWithin (n : ℕ) : Type 0 where
+    pub stack : (k : ℕ) → k ≤ n → none? (frames list start k) ≡ false
+        → opened list start k ≤ needOf vectors devices uses p + sp (after list start k .core)
+    pub pushes : (k d a : ℕ) → k < n → act list start k ≡ acts.Accept d
+        → writes? (outcomeOf (due list start k) .writes) a ≡ true
+        → opened list start (suc k) ≤ needOf vectors devices uses p + a

@@ -1,20 +1,30 @@
 -- Every row of the starred cases holds: one test, which antt computes over the list. Assumes nothing.
-use mathlib.Core.Path.{subst⁻¹}
+use Prim.Native.Nat.{ℕ, suc, _+_}
+use mathlib.Core.Path.{_≡_, subst⁻¹, _∙_}
 use mathlib.Core.Bool.{Bool, true, false, _&&_}
 use mathlib.Core.List.{List, [], _∷_, List·Memᴰ, List·Memᴰ·cases-cons, List·Memᴰ·not-nil}
 use mathlib.Core.Logic.{⊎-elim}
 use lib.Dec.{T, eqb, eqb→eq}
+use lib.ListN.{length, replicate, length-append, length-replicate}
 use Rattle.word.specs.Width.{widthOf}
 use Rattle.alu.specs.Sums.{addWithCarry, overflowOf}
 use Rattle.alu.specs.Decimal.{decimalSum, digitOf, digitCarry}
 use Rattle.alu.specs.Alu.{aluOf}
 use Rattle.isa.specs.Decode.{decodeOf}
 use Rattle.machine.specs.State.{reg, sp, pc}
+use Rattle.machine.specs.Memory.{lowByte, highByte}
 use Rattle.machine.specs.Devices.{deliverAt}
 use Rattle.machine.specs.Entry.{bestFrom, vectored, enteredPsw}
 use Rattle.machine.specs.Effect.{binaryOp, unaryOp, effectOf, takenOf}
 use Rattle.machine.specs.Step.{advanced, granted, interruptOf, instructionOf, planOf, perform, stepOf}
-use Rattle.cases.specs.Cases.{Row, arithmetic, entry, branch, cases, Says, test, after}
+use Rattle.cases.specs.Cases.{Row, arithmetic, entry, branch, cases, memory, Says, test, after}
+
+-- the memory of a case is one that a run takes. [01 State and memory]
+pub memory-whole : (word : ℕ) → length (memory word) ≡ 65536
+unfolding memory
+memory-whole word =
+    length-append (replicate 0x1000 0) (lowByte word ∷ highByte word ∷ replicate 0xEFFE 0)
+    ∙ (λ i. length-replicate {A = ℕ} 0x1000 0 i + suc (suc (length-replicate {A = ℕ} 0xEFFE 0 i)))
 
 both : (a b : Bool) → T (a && b) → T a × T b
 both true b t = (tt, t)
@@ -35,7 +45,7 @@ every [] = true
 every (r ∷ rs) = test r && every rs
 
 all : T (every cases)
-unfolding test after stepOf deliverAt planOf interruptOf bestFrom instructionOf advanced decodeOf effectOf granted perform
+unfolding test memory after stepOf deliverAt planOf interruptOf bestFrom instructionOf advanced decodeOf effectOf granted perform
     binaryOp unaryOp takenOf widthOf aluOf addWithCarry overflowOf decimalSum digitOf digitCarry vectored enteredPsw
 all = tt
 

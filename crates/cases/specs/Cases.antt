@@ -2,8 +2,9 @@
 use mathlib.Core.Path.{_≡_}
 use mathlib.Core.Bool.{Bool, false, _&&_}
 use mathlib.Core.List.{List, [], _∷_, _++_}
-use Prim.Native.Nat.{ℕ, zero, suc, _+_}
+use Prim.Native.Nat.{ℕ, _+_}
 use lib.Dec.{eqb}
+use lib.ListN.{replicate}
 use Rattle.machine.specs.State.{Core, coreOf, reg, sp, pc}
 use Rattle.machine.specs.Memory.{lowByte, highByte}
 use Rattle.machine.specs.Step.{stepOf}
@@ -47,12 +48,12 @@ cases =
     ∷ branch 0x3fff 0x1000
     ∷ []
 
-abbrev pub zeros : ℕ → List ℕ
-zeros zero = []
-zeros (suc n) = 0 ∷ zeros n
+-- The memory, 65,536 bytes: the word at #1000, all else zero. [01 State and memory]
+unfoldable pub memory : (word : ℕ) → List ℕ
+memory word = replicate 0x1000 0 ++ lowByte word ∷ highByte word ∷ replicate 0xEFFE 0
 
--- What one step leaves of a machine at #1000, the word there; all else is zero but R0, R1, SP and the PSW. Bytes past
--- the end of the list read as zero. [01 One step, in order]
+-- What one step leaves of a machine at #1000, the word there; all else is zero but R0, R1, SP and the PSW.
+-- [01 One step, in order]
 unfoldable pub after : (word r0 r1 stack psw : ℕ) → Core
 after word r0 r1 stack psw =
     stepOf []
@@ -61,7 +62,7 @@ after word r0 r1 stack psw =
       lines = 0;
       halted = false;
       count = 0;
-      mem = zeros 0x1000 ++ lowByte word ∷ highByte word ∷ [];
+      mem = memory word;
     })
     .core
 

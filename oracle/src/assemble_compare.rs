@@ -309,7 +309,9 @@ impl Reached {
             }
             MovImm { op: 3, value: Factor::Number(_), .. } => self.mark(true, HighOfNumber),
             MovImm { op: 3, value: Factor::Name(_), .. } => self.mark(true, HighOfName),
-            MovImm { op: 3, value: v, .. } if v.names().is_empty() => self.mark(value(v, names) > Some(0), HighOfBracket),
+            MovImm { op: 3, value: v, .. } if v.names().is_empty() => {
+                self.mark(value(v, names) > Some(0), HighOfBracket)
+            }
             MovImm { value: v @ Factor::Bracket(_), .. } => self.mark(value(v, names) > Some(255), LowOfBracket),
             Statement::Alu { source: Source::Register(_), .. } => {}
             _ => {}

@@ -394,7 +394,10 @@ fn bytes_of_names() {
     assert_eq!([byte("MOVH (A),R0"), byte("MOVH B,R0"), byte("MOVL B,R0")], [0x12, 0xFF, 0xFE]);
     assert_eq!([byte("MOVH #32,R0"), byte("MOVH (#32),R0"), byte("MOVL #-1,R0")], [32, 32, 255]);
     assert_eq!([byte("MOVH (#2*(#20-#4)),R0"), byte("MOVH (#32+A-A),R0"), byte("MOVL (#-1),R0")], [32, 0, 255]);
-    assert_eq!([line("MOVL #300,R0"), line("MOVL (#300),R0"), line("MOVL #65535,R0"), line("MOVL (#65535),R0")], [19; 4]);
+    assert_eq!(
+        [line("MOVL #300,R0"), line("MOVL (#300),R0"), line("MOVL #65535,R0"), line("MOVL (#65535),R0")],
+        [19; 4]
+    );
 }
 
 /// "branches naming their target (offsets wrap)".

@@ -88,13 +88,14 @@ fn back_verdict(
     ensures { λ r. ⌜ r ≡ backVerdict k (lentOf (now (memory .entry)) (now (state .entry))
         (journalOf (now (journal .entry)) kept place)) ⌝ }
 {
+    let fits = journal_fits(journal, kept, place);
     if memory.len() != 65536 {
         return Verdict::MemoryLength;
     }
     if state.len() != 32 {
         return Verdict::RecordLength;
     }
-    if !journal_fits(journal, kept, place) {
+    if !fits {
         return Verdict::JournalFit;
     }
     if (kept as u64) < k {

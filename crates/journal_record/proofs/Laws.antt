@@ -38,12 +38,11 @@ stored-byte false a h e = absurd (true-false e)
     true-false q = subst (λ (b : Bool). cond b ⊥ (Unit {0})) q tt
 
 pub stored-word : (byte : Bool) (a : ℕ) → 16 ≤ a → byte ≡ false
-    → a / 2 * 2 ≡ cond (device? (firstStored byte a)) 0 (firstStored byte a)
+    → even a ≡ cond (device? (firstStored byte a)) 0 (firstStored byte a)
 stored-word true a h e = absurd (subst (λ (b : Bool). cond b (Unit {0}) ⊥) e tt)
 stored-word false a h e =
     let l : 16 ≤ even a = omega arith in
-    let q : a / 2 * 2 ≡ even a = omega arith in
-    q ∙ sym (ap (λ b. cond b 0 (even a)) (not-lt l))
+    sym (ap (λ b. cond b 0 (even a)) (not-lt l))
 
 -- ---- the two numbers
 

@@ -19,11 +19,18 @@ use machine::Act;
 use machine::ByteAddr;
 use machine::Machine;
 
+// The address of the word that a byte lies in: bit 0 dropped.
+fn word_at(a: ByteAddr) -> u16
+    ensures { λ r. ⌜ r ≡ even (a .0) ⌝ }
+{
+    memory::byte_of(memory::word_of(a)).0
+}
+
 // The address of the last word that an entry pushes, bit 0 dropped.
 fn frame_at(stack: u16) -> u16
     ensures { λ r. ⌜ r ≡ even (down stack 8) ⌝ }
 {
-    std::num::wrapping_sub_u16(stack, 8) / 2 * 2
+    word_at(ByteAddr(std::num::wrapping_sub_u16(stack, 8)))
 }
 
 // The first byte of a store where it is outside the device bytes, else 0.
@@ -37,7 +44,7 @@ fn stored_at(byte: bool, at: ByteAddr) -> u16
     if byte {
         return at.0;
     }
-    at.0 / 2 * 2
+    word_at(at)
 }
 
 // The address of a step that does this act, SP being what the act starts from.

@@ -21,13 +21,15 @@ fn journal_verdict(
         (journalOf (now (journal .entry)) (ring .kept) (ring .place)) n ⌝ }
 {
     let call = refusal::call_verdict(memory, state, events, log, n);
-    if refusal::refusal_number(call) != 0 {
+    let told = refusal::refusal_number(call);
+    let fits = back::journal_fits(journal, ring.kept, ring.place);
+    if told != 0 {
         return call;
     }
-    if back::journal_fits(journal, ring.kept, ring.place) {
-        return Verdict::Accepted;
+    if !fits {
+        return Verdict::JournalFit;
     }
-    Verdict::JournalFit
+    Verdict::Accepted
 }
 
 // The run call, each step kept: refused, it replies the refusal's number and leaves every buffer

@@ -1,5 +1,6 @@
 -- Assumes nothing.
 use borrow.Author.Needs.{needs}
+use borrow.Author.Tests.{not-true, not-false}
 use Rattle.run_journal.proofs.Laws.{stays-refused, then-accepted, then-fourteen}
 use Rattle.run_journal.proofs.journal_verdict.Statement.{statement}
 use Rattle.run_journal.proofs.journal_verdict.Tie as tie
@@ -10,23 +11,25 @@ call-verdict-requires c κs = search needs
 refusal-number-requires : tie.Need-refusal-number-requires
 refusal-number-requires c κs = search needs
 
-returns : tie.Need-returns
-returns c = stays-refused _ _ _ _ _ _ _ _ (c .before .before .call-verdict .ensures) (c .before .refusal-number .ensures .0) (c .if1 .taken)
-
 journal-fits-requires : tie.Need-journal-fits-requires
 journal-fits-requires c κs = search needs
 
+returns : tie.Need-returns
+returns c =
+    stays-refused _ _ _ _ _ _ _ _ (c .before .before .before .call-verdict .ensures) (c .before .before .refusal-number .ensures .0)
+    (c .if1 .taken)
+
 returns-2 : tie.Need-returns-2
 returns-2 c =
-    then-accepted _ _ _ _ _ _ _ _ (c .before .before .before .before .call-verdict .ensures)
-    (c .before .before .before .refusal-number .ensures .0) (c .before .before .if1 .left) _ (c .before .journal-fits .ensures)
-    (c .if2 .taken)
+    then-fourteen _ _ _ _ _ _ _ _ (c .before .before .before .before .call-verdict .ensures)
+    (c .before .before .before .refusal-number .ensures .0) (c .before .if1 .left) _ (c .before .before .journal-fits .ensures)
+    (not-true _ (c .if2 .taken))
 
 returns-3 : tie.Need-returns-3
 returns-3 c =
-    then-fourteen _ _ _ _ _ _ _ _ (c .before .before .before .before .call-verdict .ensures)
-    (c .before .before .before .refusal-number .ensures .0) (c .before .before .if1 .left) _ (c .before .journal-fits .ensures)
-    (c .if2 .left)
+    then-accepted _ _ _ _ _ _ _ _ (c .before .before .before .before .call-verdict .ensures)
+    (c .before .before .before .refusal-number .ensures .0) (c .before .if1 .left) _ (c .before .before .journal-fits .ensures)
+    (not-false _ (c .if2 .left))
 
 pub journal-verdict-spec : {M : Type 1} → statement M
 journal-verdict-spec =
@@ -34,7 +37,7 @@ journal-verdict-spec =
     (tie.spec
     call-verdict-requires
     refusal-number-requires
-    returns
     journal-fits-requires
+    returns
     returns-2
     returns-3)

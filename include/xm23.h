@@ -457,8 +457,8 @@ uint64_t xm23_run(uint8_t *memory, size_t memory_len, uint8_t *record, size_t re
  * The journal is a ring of records, XM23_JOURNAL_SIZE bytes each, with no header. A record is written at the next
  * place for each step done, a halting one and one asleep too, a step that the log had no room for not; the place after
  * the last is the first, and the oldest record is overwritten where all are kept. To begin, hand over kept 0 and any
- * place; from then on hand over journal, kept and place as the last call left them, with the memory and record that it
- * left.
+ * place below the records that there is room for (another is refused with 14); from then on hand over journal, kept and
+ * place as the last call left them, with the memory and record that it left.
  *
  * A record's address is that of the last word that the step pushed (an accepted line, SVC, a fault), bit 0 dropped; or
  * of the first byte that it stored outside the device bytes; or 0. What a step does to memory besides is in the device

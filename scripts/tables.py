@@ -1,12 +1,12 @@
 #!/usr/bin/env python3
-"""No array above 128 elements in the decoder (document 02 §4): tables.py [ARCHIVE].
+"""No array above 128 elements in the decoder (document 02 §4), nor anywhere in a run: tables.py [ARCHIVE].
 
-In source: the .rt files of the crates that xm23_decode and xm23_range are made of, and of those below them. An array
-is a type [T; N], or a list or string of that length.
-In the archive: every section that the two calls reach through relocations. A read-only byte belongs to a jump table if
-a relocation puts the place of an instruction there; jump tables count as code. All other read-only bytes are data, and
-data that stands together, or one constant of a section of such, is one array of bytes: it may have no more than 128.
-Prints what each call needs. The last line is 'N passed, M failed'.
+In source: the .rt files of the crates that the four calls below are made of, and of those below them. An array is a
+type [T; N], or a list or string of that length.
+In the archive: every section that the calls reach through relocations. A read-only byte belongs to a jump table if a
+relocation puts the place of an instruction there; a table begins where code refers to one, and may have no more than
+128 places. All other read-only bytes are data, and data that stands together, or one constant of a section of such, is
+one array of bytes: it may have no more than 128. Prints what each call needs. The last line is 'N passed, M failed'.
 """
 import pathlib
 import re
@@ -15,8 +15,8 @@ import subprocess
 import sys
 
 ROOT = pathlib.Path(__file__).resolve().parent.parent
-CALLS = ["xm23_decode", "xm23_range"]
-CRATES = ["isa", "isa_number", "isa_ranges"]
+CALLS = ["xm23_decode", "xm23_range", "xm23_run", "xm23_run_journal"]
+CRATES = ["isa", "isa_number", "isa_ranges", "run", "run_journal"]
 MOST = 128
 
 # ---- source
@@ -25,7 +25,13 @@ MOST = 128
 def below(names, lines):
     """The crates of crates.txt that these stand on, themselves included."""
     deps = dict(line.split(":") for line in lines.splitlines() if ":" in line and not line.startswith("#"))
-    return sorted(set(names) | {dep for name in names for dep in deps[name].split()})
+    found, todo = set(), list(names)
+    while todo:
+        name = todo.pop()
+        if name in deps and name not in found:
+            found.add(name)
+            todo += deps[name].split()
+    return sorted(found)
 
 
 def elements(text):
@@ -64,12 +70,14 @@ def arrays(source):
 ALLOCATED, EXECUTABLE, WRITABLE, MERGED = 2, 4, 1, 16
 RELA, NOBITS = 4, 8
 WIDTHS = {1: 8, 2: 4, 10: 4, 11: 4, 24: 8}
+# Relocations by the distance from the four bytes that they fill.
+NEAR = {2, 4}
 
 
 class Section:
     def __init__(self, name, kind, flags, data, size, info, each):
         self.name, self.kind, self.flags, self.data, self.size = name, kind, flags, data, size
-        self.info, self.each, self.to = info, each, []
+        self.info, self.each, self.to, self.begun = info, each, [], set()
 
     def code(self):
         return bool(self.flags & EXECUTABLE)
@@ -80,6 +88,16 @@ class Section:
     def table_bytes(self):
         """The places that hold the place of an instruction."""
         return {at + i for at, width, target in self.to if target.code() for i in range(width)}
+
+    def table_lengths(self):
+        """How many places each jump table has: one begins where code refers to it, or data ends before it."""
+        lengths, end = [], None
+        for at, width, _ in sorted((place for place in self.to if place[2].code()), key=lambda place: place[0]):
+            if at in self.begun or at != end:
+                lengths.append(0)
+            lengths[-1] += 1
+            end = at + width
+        return lengths
 
     def data_runs(self):
         """The lengths of what is no jump table: constants of one size each, or bytes that stand together."""
@@ -111,10 +129,12 @@ def object_sections(data):
     for section in sections:
         if section.kind == RELA:
             for at in range(0, section.size, 24):
-                place, info, _ = struct.unpack_from("<QQq", section.data, at)
-                target = symbols[info >> 32]
+                place, info, offset = struct.unpack_from("<QQq", section.data, at)
+                target, kind = symbols[info >> 32], info & 0xFFFFFFFF
                 if target:
-                    sections[section.info].to.append((place, WIDTHS.get(info & 0xFFFFFFFF, 4), target))
+                    sections[section.info].to.append((place, WIDTHS.get(kind, 4), target))
+                    if sections[section.info].code():
+                        target.begun.add(offset + 4 if kind in NEAR else offset)
     return functions
 
 
@@ -140,12 +160,14 @@ def functions_of(archive):
 
 
 def need(section):
-    """Bytes of code and of read-only data of a function and what it leads to: text, tables, data; the longest array."""
+    """Bytes of code and of read-only data of a function and what it leads to: text, tables, data; the longest array; the
+    places of the longest table."""
     sections = reached(section)
     read_only = [s for s in sections if s.read_only()]
     runs = [run for s in read_only for run in s.data_runs()]
     text = sum(s.size for s in sections if s.code())
-    return text, sum(len(s.table_bytes()) for s in read_only), sum(runs), max(runs, default=0)
+    places = max((length for s in read_only for length in s.table_lengths()), default=0)
+    return text, sum(len(s.table_bytes()) for s in read_only), sum(runs), max(runs, default=0), places
 
 
 def main():
@@ -158,10 +180,12 @@ def main():
             failures += [f"{path.relative_to(ROOT)}: an array of {length or '?'} elements" for length in wrong]
     functions = functions_of(archive)
     for call in CALLS:
-        text, tables, data, longest = need(functions[call])
-        print(f"{call}: .text {text} bytes, .rodata {tables + data} bytes: jump tables {tables}, data {data}")
-        passed += longest <= MOST
+        text, tables, data, longest, places = need(functions[call])
+        print(f"{call}: .text {text} bytes, .rodata {tables + data} bytes: jump tables {tables}, the longest of {places} "
+              f"places, data {data}")
+        passed += (longest <= MOST) + (places <= MOST)
         failures += [f"{call}: {longest} bytes of data stand together"] if longest > MOST else []
+        failures += [f"{call}: a jump table of {places} places"] if places > MOST else []
     for failure in failures:
         print(failure)
     print(f"{passed} passed, {len(failures)} failed")

@@ -27,8 +27,8 @@ extern "C" {
 /* ---- version: of this header, as one number; xm23_version gives that of the library */
 
 #define XM23_VERSION_MAJOR 0
-#define XM23_VERSION_MINOR 17
-#define XM23_VERSION_PATCH 1
+#define XM23_VERSION_MINOR 18
+#define XM23_VERSION_PATCH 0
 #define XM23_VERSION (XM23_VERSION_MAJOR * 65536 + XM23_VERSION_MINOR * 256 + XM23_VERSION_PATCH)
 
 /* ---- sizes and limits */
@@ -38,6 +38,7 @@ extern "C" {
 #define XM23_EVENT_SIZE 8      /* bytes of an event record */
 #define XM23_LOG_SIZE 8        /* bytes of a log record */
 #define XM23_JOURNAL_SIZE 64   /* bytes of a journal record */
+#define XM23_PLACE_SIZE 8      /* bytes of a place record */
 #define XM23_MAX_JOURNAL 65536 /* bytes of a journal: 1,024 records */
 #define XM23_MAX_EVENTS 4096   /* event records of one run */
 #define XM23_MAX_STEPS 1000000 /* steps of one run */
@@ -96,7 +97,24 @@ extern "C" {
 #define XM23_JOURNAL_BYTES 50   /* eight bytes: those at the address and after it, addresses wrapping */
 #define XM23_JOURNAL_ZERO 58    /* six bytes, all 0 */
 
-/* ---- refusals: the papers' numbers; xm23_refusal_text has the sentence of each */
+/* ---- a place record: 8 bytes, little-endian; where each part begins. One for each line of a source, to END's. */
+
+#define XM23_PLACE_NUMBER 0 /* four bytes: the place before the statement; of an EQU its value, two's complement */
+#define XM23_PLACE_KIND 4   /* one byte: XM23_PLACE_NOTHING to XM23_PLACE_END */
+#define XM23_PLACE_BYTES 5  /* one byte: how many bytes the statement puts into memory, 0, 1 or 2 */
+#define XM23_PLACE_NAMED 6  /* one byte: 1 where the line has a name, else 0 */
+#define XM23_PLACE_ZERO 7   /* one byte, 0 */
+
+#define XM23_PLACE_NOTHING 0 /* no statement: empty, a comment, or a name alone */
+#define XM23_PLACE_INSTRUCTION 1
+#define XM23_PLACE_BYTE 2
+#define XM23_PLACE_WORD 3
+#define XM23_PLACE_ORG 4
+#define XM23_PLACE_EQU 5
+#define XM23_PLACE_BSS 6
+#define XM23_PLACE_END 7
+
+/* ---- refusals: the papers' numbers to 19, then our own; xm23_refusal_text has the sentence of each */
 
 #define XM23_ACCEPTED 0
 #define XM23_REFUSED_MEMORY 1
@@ -118,8 +136,9 @@ extern "C" {
 #define XM23_REFUSED_SOURCE_FORM 17
 #define XM23_REFUSED_SOURCE_NAME 18
 #define XM23_REFUSED_SOURCE_VALUE 19
+#define XM23_REFUSED_ROOM 22
 
-/* What a refusal says, in the papers' words. Every number gives a text, which is there for good and never NULL. */
+/* What a refusal says, to 19 in the papers' words. Every number gives a text, there for good and never NULL. */
 static inline const char *xm23_refusal_text(unsigned refusal)
 {
     switch (refusal) {
@@ -143,6 +162,7 @@ static inline const char *xm23_refusal_text(unsigned refusal)
     case XM23_REFUSED_SOURCE_FORM: return "a line fits no statement, brackets go deeper than 16, or END is missing";
     case XM23_REFUSED_SOURCE_NAME: return "a name is unknown, already given or the 1,025th";
     case XM23_REFUSED_SOURCE_VALUE: return "a value leaves 32 bits, divides by zero or does not fit, or an address is odd or past #FFFF";
+    case XM23_REFUSED_ROOM: return "the text or table lent is too short";
     default: return "no refusal has this number";
     }
 }
@@ -590,6 +610,33 @@ uint64_t xm23_assemble(uint8_t *memory, size_t memory_len, const uint8_t *source
 
 /* The line at fault, from 1, in a reply of xm23_assemble, 0 for none; 4,294,967,295 stands for a line beyond it. */
 #define XM23_ASSEMBLE_LINE(reply) ((uint32_t)((reply) >> 32))
+
+/*
+ * Tells what stands where in a source: a record of XM23_PLACE_SIZE bytes for each line up to and with END, in the order
+ * of the lines. What xm23_assemble writes are the statements of the records that tell of bytes, in their order, each at
+ * the number of its record; the name of a line stands for that number.
+ *
+ * source, source_len in: the source, of any length and content.
+ * places, places_len in-out: where the records go, at the buffer's start; of any length. Eight bytes for each LF of the
+ *                    source and eight more are always enough. Bytes past the records stay.
+ * result             one reply: XM23_REFUSAL in bits 7-0, 0 in 31-8; in 63-32 XM23_PLACES where accepted, and where
+ *                    the source is at fault XM23_ASSEMBLE_LINE, exactly as xm23_assemble gives it.
+ * refusals           XM23_REFUSED_SOURCE_FORM; XM23_REFUSED_SOURCE_NAME; XM23_REFUSED_SOURCE_VALUE; then, of a source
+ *                    without a fault, XM23_REFUSED_ROOM where places is shorter than the records: the reply is then 22.
+ *                    Refused: places is as it was.
+ * defined            crates/asm_places/specs/Call.antt, placesCallOf, for every length and content; what the records
+ *                    tell: crates/asm_places_laws/specs/Theorems.antt.
+ */
+uint64_t xm23_places(const uint8_t *source, size_t source_len, uint8_t *places, size_t places_len);
+
+/* The number of records in a reply of xm23_places that refuses nothing; 4,294,967,295 stands for more. */
+#define XM23_PLACES(reply) ((uint32_t)((reply) >> 32))
+
+/* The number of a place record, as it stands and as the value of an EQU. */
+#define XM23_PLACE_NUMBER_OF(place) \
+    ((uint32_t)(place)[0] | (uint32_t)(place)[1] << 8 | (uint32_t)(place)[2] << 16 | (uint32_t)(place)[3] << 24)
+#define XM23_PLACE_VALUE_OF(place) \
+    ((int64_t)(XM23_PLACE_NUMBER_OF(place) ^ 0x80000000u) - INT64_C(0x80000000))
 
 #ifdef __cplusplus
 }

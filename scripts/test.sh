@@ -156,6 +156,7 @@ part 'reference card' count_line card
 part 'the program' count_line tests/shell/program.sh
 part 'desk: use and misuse' count_line tests/desk/desk.sh
 part 'desk: papers, texts and pages' count_line tests/desk/texts.sh
+part 'desk: long sources' count_line tests/desk/sources.sh
 part 'desk program with sanitizers of gcc' count_status desk_checked gcc
 part 'desk: use and misuse, sanitizers of gcc' count_line tests/desk/desk.sh "$build/xm23_gcc"
 part 'desk: papers, texts and pages, sanitizers of gcc' count_line tests/desk/texts.sh "$build/xm23_gcc"

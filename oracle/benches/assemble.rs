@@ -1,16 +1,19 @@
 //! Time of assembling 65,536 bytes of source in 3,000 lines with 1,024 names: the proved library beside the oracle, in
-//! this process, and xm23 asm as a program; and of 65,536 lines that use a name each. Every outcome is compared before
-//! it is timed. Last, instructions of the host per byte of the first source, where valgrind is here. The run fails where
+//! this process, and xm23 asm as a program; of 65,536 lines that use a name each; and of telling what stands where in
+//! both. Every outcome is compared before it is timed. Last, instructions of the host per byte of the first source, where valgrind is here. The run fails where
 //! the library takes 10 ms or more for it.
 //!
 //! `assemble once` makes one call, for `valgrind --tool=callgrind --toggle-collect=xm23_assemble`.
 
 #[path = "../tests/library/assemble.rs"]
 mod library;
+#[path = "../tests/library/places.rs"]
+mod library_places;
 
 use oracle::assemble_compare::{oracle_assemble, Assembler};
 use oracle::assemble_inputs::Input;
 use oracle::machine::MEMORY;
+use oracle::places::{oracle_places, Lent, Lister, RECORD};
 use std::hint::black_box;
 use std::path::Path;
 use std::process::{Command, Stdio};
@@ -93,6 +96,18 @@ fn time(call: Assembler, source: &[u8]) -> (f64, Vec<u8>) {
     (best, memory)
 }
 
+/// The same of a call that lists a source, and the records that it leaves.
+fn time_places(call: Lister, source: &[u8]) -> (f64, Vec<u8>) {
+    let lines = source.iter().filter(|&&b| b == b'\n').count();
+    let mut lent = Lent { source: source.to_vec(), places: vec![0; RECORD * (lines + 1)] };
+    assert_eq!(call(&mut lent), (lines as u64) << 32);
+    let places = lent.places.clone();
+    let best = best(|| {
+        black_box(call(black_box(&mut lent)));
+    });
+    (best, places)
+}
+
 /// The desk program, from a file to a file; None where it is not built.
 fn as_program() -> Option<f64> {
     let build = Path::new(env!("CARGO_MANIFEST_DIR")).join("../build");
@@ -137,6 +152,13 @@ fn main() {
     };
     let ours = row("65,536 bytes in 3,000 lines", &source);
     row("65,536 lines, a name in each", &long_program());
+    let listed = |name: &str, source: &[u8]| {
+        let (ours, oracle) = (time_places(library_places::places, source), time_places(oracle_places, source));
+        assert!(ours.1 == oracle.1, "other records");
+        println!("{name:34} {:10.3} {:10.3} {:8.2}", ours.0, oracle.0, ours.0 / oracle.0);
+    };
+    listed("places: 65,536 bytes, 3,000 lines", &source);
+    listed("places: 65,536 lines", &long_program());
     match as_program() {
         Some(time) => println!("{:34} {time:10.3}", "as a program, xm23 asm"),
         None => println!("{:34} {:>10}", "as a program, xm23 asm", "not here"),

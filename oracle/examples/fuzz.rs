@@ -1,7 +1,8 @@
 //! Compares the library with the oracle on more inputs than the gate does. `fuzz INPUTS [SEED]` runs so many of each
-//! kind, a tenth as many sessions with a journal, a quarter as many of each kind of S-record file and of source, and as
-//! many calls for stack bytes, from a seed of the clock if none is given, and saves the first difference under
-//! build/fuzz. `fuzz replay FOLDER` runs a saved input again, or a saved call on a journal, for S-records or source.
+//! kind, a tenth as many sessions with a journal, a quarter as many of each kind of S-record file and of source,
+//! assembled and listed, and as many calls for stack bytes, from a seed of the clock if none is given, and saves the
+//! first difference under build/fuzz. `fuzz replay FOLDER` runs a saved input again, or a saved call on a journal, for
+//! S-records, source or places.
 //! The exit status is 1 where there is a difference, and 2, with one line, where the command cannot be carried out.
 
 #[path = "../tests/library/mod.rs"]
@@ -10,6 +11,8 @@ mod library;
 mod library_assemble;
 #[path = "../tests/library/journal.rs"]
 mod library_journal;
+#[path = "../tests/library/places.rs"]
+mod library_places;
 #[path = "../tests/library/srec.rs"]
 mod library_srec;
 #[path = "../tests/library/stack.rs"]
@@ -22,6 +25,7 @@ use oracle::compare::{compare, compare_many, folder, saved, Found};
 use oracle::coverage::Coverage;
 use oracle::inputs::KINDS;
 use oracle::journal_compare;
+use oracle::places;
 use oracle::random::Random;
 use oracle::srec_compare::{self, Reached};
 use oracle::srec_inputs;
@@ -82,7 +86,11 @@ fn fuzz(inputs: u64, seed: u64) -> bool {
         }
         println!("{kind:?}: {inputs} of {inputs}, no difference, {:.1} s", start.elapsed().as_secs_f64());
     }
-    journal(inputs / 10, seed) && srec(inputs / 4, seed) && sources(inputs / 4, seed) && stack(inputs, seed)
+    journal(inputs / 10, seed)
+        && srec(inputs / 4, seed)
+        && sources(inputs / 4, seed)
+        && listed(inputs / 4, seed)
+        && stack(inputs, seed)
 }
 
 /// Compares sessions of runs and goings-back.
@@ -117,6 +125,27 @@ fn sources(inputs: u64, seed: u64) -> bool {
     println!("{}: {}", found.name, found.difference.what);
     match found.difference.save(&folder(), &found.name) {
         Ok(place) => println!("saved in {}", place.display()),
+        Err(e) => println!("not saved: {e}"),
+    }
+    false
+}
+
+/// Compares what stands where in sources of every kind, with buffers of every length.
+fn listed(inputs: u64, seed: u64) -> bool {
+    let (start, mut reached) = (Instant::now(), places::Reached::default());
+    let kinds = assemble_inputs::KINDS;
+    let mut one = |kind| {
+        let many = if kind == assemble_inputs::Kind::Names { inputs / 10 } else { inputs };
+        places::compare_many(library_places::places, kind, seed, many, &mut reached)
+    };
+    let Some((name, difference)) = kinds.into_iter().find_map(|kind| one(kind).err()) else {
+        let time = start.elapsed().as_secs_f64();
+        println!("places: {inputs} of each of {} kinds, no difference, {time:.1} s", kinds.len());
+        return true;
+    };
+    println!("{name}: {}", difference.what);
+    match difference.save(&folder(), &name) {
+        Ok(_) => println!("saved in build/fuzz/{name} (again: make replay FOUND=build/fuzz/{name})"),
         Err(e) => println!("not saved: {e}"),
     }
     false
@@ -170,6 +199,9 @@ fn replay(place: &Path) -> Outcome {
     if assemble_compare::is_saved(place) {
         return replay_source(place);
     }
+    if places::is_saved(place) {
+        return replay_places(place);
+    }
     if srec_compare::is_saved(place) {
         return replay_srec(place);
     }
@@ -206,6 +238,19 @@ fn replay_journal(place: &Path) -> Outcome {
 fn replay_source(place: &Path) -> Outcome {
     let input = assemble_compare::saved(place).map_err(|e| format!("{}: {e}", place.display()))?;
     match assemble_compare::compare(library_assemble::assemble, &input, &mut assemble_compare::Reached::default()) {
+        Ok(reply) => println!("no difference; both reply {reply:016X}"),
+        Err(difference) => {
+            println!("{}", difference.what);
+            return Ok(false);
+        }
+    }
+    Ok(true)
+}
+
+/// Lists a saved source again, and tells where the two differ.
+fn replay_places(place: &Path) -> Outcome {
+    let lent = places::saved(place).map_err(|e| format!("{}: {e}", place.display()))?;
+    match places::compare(library_places::places, &lent, &mut places::Reached::default()) {
         Ok(reply) => println!("no difference; both reply {reply:016X}"),
         Err(difference) => {
             println!("{}", difference.what);

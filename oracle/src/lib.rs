@@ -20,6 +20,7 @@ pub mod nests;
 pub mod number;
 pub mod operation;
 pub mod page;
+pub mod places;
 pub mod programs;
 pub mod random;
 pub mod report;

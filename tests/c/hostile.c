@@ -606,6 +606,38 @@ static uint64_t assemble(void)
     return reply;
 }
 
+/* Lists what is lent as a source into a table that is long enough, or not, and checks what must hold of any call:
+ * `assembled` is the reply of xm23_assemble on the same source. The table stands in the room of the journal. */
+static void list(uint64_t assembled, int at_end)
+{
+    uint64_t pick = draw(), reply, wanted;
+    size_t enough = XM23_PLACE_SIZE, used, i;
+    calls++;
+    for (i = 0; i < text.length; i++)
+        enough += text.at[i] == '\n' ? XM23_PLACE_SIZE : 0;
+    used = enough < ROOM ? enough : ROOM;
+    lend(&journal, pick % 3 ? used : pick / 3 % (used + 1), at_end);
+    scatter(&journal);
+    memcpy(journal_before, journal.at, journal.length);
+    memcpy(text_before, text.at, text.length);
+    reply = xm23_places(text.at, text.length, journal.at, journal.length);
+    used = XM23_REFUSAL(reply) ? 0 : XM23_PLACE_SIZE * (size_t)XM23_PLACES(reply);
+    wanted = XM23_REFUSAL(assembled) ? assembled : XM23_REFUSAL(reply) ? XM23_REFUSED_ROOM : reply;
+    check("guard bytes", guarded(&journal) && guarded(&text));
+    check("source", memcmp(text.at, text_before, text.length) == 0);
+    check("reply", reply == wanted && (reply >> 8 & 0xFFFFFF) == 0);
+    check("room", XM23_REFUSAL(reply) != XM23_REFUSED_ROOM || journal.length < enough);
+    check("records", used <= journal.length);
+    check("past the records", memcmp(journal.at + used, journal_before + used, journal.length - used) == 0);
+    for (i = 0; i < used; i += XM23_PLACE_SIZE) {
+        const uint8_t *r = journal.at + i;
+        check("record", r[XM23_PLACE_KIND] <= XM23_PLACE_END && r[XM23_PLACE_BYTES] <= 2 && r[XM23_PLACE_NAMED] <= 1 &&
+                            r[XM23_PLACE_ZERO] == 0);
+        check("END", (r[XM23_PLACE_KIND] == XM23_PLACE_END) == (i + XM23_PLACE_SIZE == used));
+        check("in memory", r[XM23_PLACE_BYTES] == 0 || XM23_PLACE_NUMBER_OF(r) + r[XM23_PLACE_BYTES] <= 65536);
+    }
+}
+
 /* Sources of junk, of characters and of words that sources have, and of brackets and digits without end. */
 static void sources(int at_end, int rounds)
 {
@@ -615,7 +647,7 @@ static void sources(int at_end, int rounds)
         "))))))))", "+", "/", "-", "\n", "\r\n", ";", "A", "SETCC VC\n", "MOVH A,R1\n", "LD R1+,R2"};
     int i;
     for (i = 0; i < rounds; i++) {
-        uint64_t pick = draw();
+        uint64_t pick = draw(), reply;
         size_t k;
         lend(&memory, pick % 8 ? 65536 : 65535 + pick / 8 % 3, at_end);
         lend(&text, pick / 64 % 600, at_end);
@@ -630,7 +662,9 @@ static void sources(int at_end, int rounds)
         }
         if (pick >> 43 & 1 && text.length >= 4)
             memcpy(text.at + text.length - 4, "\nEND", 4);
-        assemble();
+        reply = assemble();
+        if (memory.length == 65536)
+            list(reply, at_end);
     }
 }
 
@@ -644,8 +678,9 @@ static void long_lines(int at_end)
         lend(&text, TEXT_ROOM, at_end);
         memset(text.at, bytes[i], text.length);
         check("no END", XM23_REFUSAL(assemble()) == XM23_REFUSED_SOURCE_FORM);
+        list(assemble(), at_end);
         memcpy(text.at + text.length - 4, "\nEND", 4);
-        assemble();
+        list(assemble(), at_end);
     }
 }
 

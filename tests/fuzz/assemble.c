@@ -1,7 +1,7 @@
 /*
- * A target of libFuzzer: xm23_assemble beside an assembler in C, written from 02 and compiled with the fuzzer's
- * counters. The string is a source. Held: both give one reply and leave one memory, and each word of an accepted source
- * that no later statement overlaps is one that xm23_decode takes.
+ * A target of libFuzzer: xm23_assemble and xm23_places beside an assembler in C, written from 02 and docs/CALLS.md and
+ * compiled with the fuzzer's counters. The string is a source. Held: both give one reply and leave one memory and one
+ * list of places, lent with room for all, for none and for one byte too few.
  */
 #include <inttypes.h>
 #include <stdio.h>
@@ -14,7 +14,7 @@ int LLVMFuzzerTestOneInput(const uint8_t *data, size_t size);
 
 /* ---- the judge: each sweep reads the lines anew */
 
-enum { NAMES = 1024, DEEPEST = 16 };
+enum { NAMES = 1024, DEEPEST = 16, LONGEST = 1 << 16 };
 
 struct word {
     const uint8_t *text;
@@ -500,6 +500,27 @@ static int64_t bytes_of(const struct line *line)
     return line->kind == BYTE ? 1 : line->kind == WORD || line->kind == CODE ? 2 : line->kind == BSS ? line->value : 0;
 }
 
+/* The record of a line at the end of the list, once its source is known to be without a fault. */
+static struct {
+    uint8_t *at;
+    size_t many;
+} list;
+
+static void add_record(const struct line *line, int64_t place)
+{
+    static const uint8_t kinds[] = {0, 4, 5, 6, 2, 3, 7, 1};
+    uint32_t shown = (uint32_t)(line->kind == EQU ? line->value : place);
+    uint8_t *record = list.at + XM23_PLACE_SIZE * list.many++;
+    record[0] = (uint8_t)shown;
+    record[1] = (uint8_t)(shown >> 8);
+    record[2] = (uint8_t)(shown >> 16);
+    record[3] = (uint8_t)(shown >> 24);
+    record[4] = kinds[line->kind];
+    record[5] = line->kind == BSS ? 0 : (uint8_t)bytes_of(line);
+    record[6] = line->name.length > 0;
+    record[7] = 0;
+}
+
 /* One sweep over the lines up to END: names and places, or uses, or, where a memory is given, the image. */
 static void sweep(const uint8_t *source, size_t end, int uses, uint8_t *memory, struct faults *faults)
 {
@@ -536,6 +557,8 @@ static void sweep(const uint8_t *source, size_t end, int uses, uint8_t *memory, 
             if (memory && bytes_of(&line) > 1)
                 memory[place + 1] = (uint8_t)((line.kind == CODE ? line.code : (uint64_t)line.value) >> 8);
         }
+        if (memory)
+            add_record(&line, place);
         place = line.kind == ORG ? line.value : place + bytes_of(&line);
     }
 }
@@ -568,12 +591,33 @@ static void must(int holds, const char *what, uint64_t got, uint64_t expected)
     }
 }
 
+/* What xm23_places makes of a source in so many bytes, of a room that has more. */
+static void listed(const uint8_t *data, size_t size, uint64_t right, size_t length)
+{
+    static uint8_t places[XM23_PLACE_SIZE * (LONGEST + 2)];
+    size_t used = XM23_PLACE_SIZE * list.many, room = XM23_PLACE_SIZE * (size + 2);
+    uint64_t wanted = right ? right : length < used ? XM23_REFUSED_ROOM : (uint64_t)list.many << 32, reply;
+    memset(places, 0xEE, room);
+    reply = xm23_places(data, size, places, length);
+    must(reply == wanted, "places", reply, wanted);
+    if (XM23_REFUSAL(wanted))
+        used = 0;
+    must(memcmp(places, list.at, used) == 0, "records", reply, wanted);
+    for (; used < room; used++)
+        must(places[used] == 0xEE, "past the records", reply, wanted);
+}
+
 int LLVMFuzzerTestOneInput(const uint8_t *data, size_t size)
 {
+    static uint8_t records[XM23_PLACE_SIZE * (LONGEST + 1)];
     static uint8_t ours[XM23_MEMORY_SIZE], theirs[XM23_MEMORY_SIZE];
     uint64_t reply, right;
     memset(ours, 0xEE, sizeof ours);
     memset(theirs, 0xEE, sizeof theirs);
+    if (size > LONGEST)
+        return 0;
+    list.at = records;
+    list.many = 0;
     right = assemble(theirs, data, size);
     reply = xm23_assemble(ours, sizeof ours, data, size);
 #ifdef WRONG
@@ -582,5 +626,9 @@ int LLVMFuzzerTestOneInput(const uint8_t *data, size_t size)
 #endif
     must(reply == right, "assemble", reply, right);
     must(memcmp(ours, theirs, sizeof ours) == 0, "memory", reply, right);
+    listed(data, size, right, XM23_PLACE_SIZE * (size + 1));
+    listed(data, size, right, XM23_PLACE_SIZE * list.many);
+    listed(data, size, right, list.many ? XM23_PLACE_SIZE * list.many - 1 : 0);
+    listed(data, size, right, 0);
     return 0;
 }

@@ -1,13 +1,13 @@
 -- The names of a source without a fault have the places of their statements. Assumes nothing.
 use mathlib.Core.Path.{_≡_, refl, sym, ap, _∙_, subst}
-use mathlib.Core.Bool.{Bool, true, false, cond, not, _||_, _&&_}
+use mathlib.Core.Bool.{Bool, true, false, cond, _||_, _&&_}
 use mathlib.Core.List.{List, [], _∷_, _++_}
-use Prim.Native.Nat.{ℕ, suc, _+_, _<_, _≤_, min}
+use Prim.Native.Nat.{ℕ, suc, _+_, _<_, _≤_}
 use native.Mathlib.Omega.{arith}
-use lib.Dec.{eqb, leb}
+use lib.Dec.{leb}
 use lib.IntN.{ℤ, pos, negsuc}
 use lib.ListN.{length, drop, length-append}
-use borrow.Author.Tests.{eqb-true, eqb-false, eq-eqb, not-false}
+use borrow.Author.Tests.{eq-eqb}
 use Rattle.lines.specs.Lines.{linesOf}
 use Rattle.asm_value.specs.declared.Value.{Value}
 use Rattle.asm_value.specs.declared.Value.the-variants.{Known, Unknown, Outside}
@@ -26,8 +26,9 @@ use Rattle.asm_sweeps.specs.declared.Tally.{Tally}
 use Rattle.asm_sweeps.specs.Form.{stops?, end?, formOf}
 use Rattle.asm_sweeps.specs.Places.{Table, table, noteUnknown, noteOutside, placedAt, noteValue, nextLine, nextOn, noTally}
 use Rattle.asm_sweeps.specs.Places.{known?, storedOf, oneMore, namedOf, lineAfter, readAbove, tableFrom, tableOf}
-use Rattle.asm_sweeps.specs.Uses.{usesOf, namesOf, placeAfter, verdictFor, verdictOf, verdict, leastOf}
+use Rattle.asm_sweeps.specs.Uses.{usesOf, namesOf, placeAfter, verdictOf}
 use Rattle.asm_sweeps.proofs.Laws.{Clean, first-noted, placed-line}
+use Rattle.asm_sweeps.proofs.NoFault.{verdict-clean}
 use Rattle.asm_image.specs.Image.{placeOn}
 use Rattle.asm_labels.specs.Labels.{Given, given, givenAt, givenFrom, givenOf, Valued, AllValued, NamesPlaced}
 use Rattle.asm_labels.proofs.Alike.{Up, sure, Onto, AlikeLines, line-up}
@@ -426,39 +427,10 @@ all-valued f (l ∷ ls) b p ev h hp c up =
     let known : (n : List ℕ) → Up (look b n) (f n) = λ n z e. up n z (table-up (l ∷ ls) b n z e) in
     step f l ls b p ev h hp (all-valued f ls) (readAbove l b) (lineOf f l) (line-up (look b) f known l) c up
 
--- ---- the verdict
-least-none : (a b : ℕ) → leastOf a b ≡ 0 → a ≡ 0
-unfolding leastOf
-least-none a b e =
-    bool-cases (eqb a 0) (λ q. eqb-true a 0 q)
-    (λ q. bool-cases (eqb b 0)
-    (λ r. let z : a ≡ 0 = (rw (q, r) at e) in z)
-    (λ r. let z : min a b ≡ 0 = (rw (q, r) at e) in
-    let n = eqb-false a 0 q in let m = eqb-false b 0 r in absurd (omega (arith, n, m, z))))
-
-module _ (form : ℕ) (t u : Tally) where
-  abbrev arm : (a d c e : Bool) → ℕ
-  arm a d c e =
-      cond a (verdict 17 form) (cond d (verdict 18 (leastOf (t .unknown) (u .unknown)))
-      (cond c (verdict 19 (t .outside)) (cond e (verdict 19 (u .outside)) (verdict 0 0)))) .refusal
-
-  arms : (a d c e : Bool) → arm a d c e ≡ 0 → (d ≡ false) × (c ≡ false)
-  arms true d c e h = absurd (omega (arith, h))
-  arms false true c e h = absurd (omega (arith, h))
-  arms false false true e h = absurd (omega (arith, h))
-  arms false false false e h = (refl, refl)
-
-  verdict-clean : verdictFor form t u .refusal ≡ 0 → Clean t
-  unfolding verdictFor
-  verdict-clean e =
-      let k = arms (not (eqb form 0)) (not (eqb (leastOf (t .unknown) (u .unknown)) 0)) (not (eqb (t .outside) 0))
-      (not (eqb (u .outside) 0)) e in (
-        least-none (t .unknown) (u .unknown) (eqb-true _ 0 (not-false (eqb (leastOf (t .unknown) (u .unknown)) 0) (k .0))),
-        eqb-true _ 0 (not-false (eqb (t .outside) 0) (k .1)),
-      )
+-- ---- the names of a source without a fault
 
 pub names-placed : NamesPlaced
 unfolding verdictOf
 names-placed s e =
     all-valued (namesOf s) (linesOf s) (table [] [] noTally) 0 refl (omega arith) refl
-    (verdict-clean (formOf s) (tableOf s .tally) (usesOf (namesOf s) s) e) (λ n z h. h)
+    (verdict-clean (formOf s) (tableOf s .tally) (usesOf (namesOf s) s) e .1) (λ n z h. h)

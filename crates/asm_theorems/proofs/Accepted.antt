@@ -1,12 +1,12 @@
 -- What acceptance says: every statement of an accepted source has its number. Assumes nothing.
 use mathlib.Core.Path.{_≡_, refl, sym, ap, _∙_, subst}
-use mathlib.Core.Bool.{Bool, true, false, cond, not}
+use mathlib.Core.Bool.{Bool, true, false, cond}
 use mathlib.Core.List.{List, [], _∷_, _++_}
 use Prim.Native.Nat.{ℕ, _+_, _%_, _<_, min}
 use native.Mathlib.Omega.{arith}
 use lib.Dec.{eqb}
 use lib.ListN.{length, getD}
-use borrow.Author.Tests.{eqb-true, eqb-false, eq-eqb, not-false}
+use borrow.Author.Tests.{eqb-true, eq-eqb}
 use Rattle.asm_value.specs.declared.Value.{Value}
 use Rattle.asm_fits.specs.declared.Fit.{Fit}
 use Rattle.asm_fits.specs.declared.Fit.the-variants.{Number, Unknown, Outside}
@@ -20,8 +20,9 @@ use Rattle.asm_sweeps.specs.declared.Tally.{Tally}
 use Rattle.asm_sweeps.specs.declared.Verdict.{Verdict}
 use Rattle.asm_sweeps.specs.Form.{end?, formOf}
 use Rattle.asm_sweeps.specs.Places.{nextLine, noTally, tableOf}
-use Rattle.asm_sweeps.specs.Uses.{noteUse, useAfter, usesFrom, usesOf, namesOf, leastOf, verdict, verdictFor, verdictOf}
+use Rattle.asm_sweeps.specs.Uses.{noteUse, useAfter, usesFrom, usesOf, namesOf, verdict, verdictOf}
 use Rattle.asm_sweeps.proofs.Laws.{Clean, first-noted, use-count-line}
+use Rattle.asm_sweeps.proofs.NoFault.{verdict-small, verdict-clean}
 use Rattle.asm_image.specs.Image.{Placed, statementsAt, placeOn, placedFrom, placedOf, imageOf}
 use Rattle.asm_call.specs.Call.{assembled, assembleReply, assembleVerdict, assembleCallOf}
 use Rattle.asm_theorems.specs.Theorems.{Accepted, CallKeeps, CallLength, RefusedKeeps, Assembles}
@@ -94,64 +95,11 @@ sweep-good look (l ∷ ls) t h c =
           (subst (λ (p : ℕ). AllGood (placedFrom look ls p)) (place-on r t) (v .1))),
     ))
 
--- ---- the verdict
-least-none : (a b : ℕ) → leastOf a b ≡ 0 → b ≡ 0
-unfolding leastOf
-least-none a b e =
-    bool-cases (eqb a 0)
-    (λ q. ap (λ (x : Bool). cond x b (cond (eqb b 0) a (min a b))) (sym q) ∙ e)
-    (λ q. bool-cases (eqb b 0) (λ r. eqb-true b 0 r)
-    (λ r. let z : min a b ≡ 0 = (rw (q, r) at e) in
-    let n = eqb-false a 0 q in let m = eqb-false b 0 r in absurd (omega (arith, n, m, z))))
-
--- the arms of the verdict, by their tests
-module _ (form : ℕ) (t u : Tally) where
-  abbrev at4 : Bool → Verdict
-  at4 b = cond b (verdict 19 (u .outside)) (verdict 0 0)
-
-  abbrev at3 : Bool → Bool → Verdict
-  at3 a b = cond a (verdict 19 (t .outside)) (at4 b)
-
-  abbrev at2 : Bool → Bool → Bool → Verdict
-  at2 d a b = cond d (verdict 18 (leastOf (t .unknown) (u .unknown))) (at3 a b)
-
-  abbrev at1 : Bool → Bool → Bool → Bool → Verdict
-  at1 f d a b = cond f (verdict 17 form) (at2 d a b)
-
-  arms : (f d a b : Bool) → at1 f d a b .refusal ≡ 0 → (d ≡ false) × (b ≡ false)
-  arms true d a b e = absurd (omega (arith, e))
-  arms false true a b e = absurd (omega (arith, e))
-  arms false false true b e = absurd (omega (arith, e))
-  arms false false false true e = absurd (omega (arith, e))
-  arms false false false false e = (refl, refl)
-
-  small : (f d a b : Bool) → at1 f d a b .refusal < 256
-  small true d a b = omega arith
-  small false true a b = omega arith
-  small false false true b = omega arith
-  small false false false true = omega arith
-  small false false false false = omega arith
-
-  verdict-small : verdictFor form t u .refusal < 256
-  unfolding verdictFor
-  verdict-small =
-      small (not (eqb form 0)) (not (eqb (leastOf (t .unknown) (u .unknown)) 0)) (not (eqb (t .outside) 0))
-      (not (eqb (u .outside) 0))
-
-  verdict-clean : verdictFor form t u .refusal ≡ 0 → Clean u
-  unfolding verdictFor
-  verdict-clean e =
-      let k = arms (not (eqb form 0)) (not (eqb (leastOf (t .unknown) (u .unknown)) 0)) (not (eqb (t .outside) 0))
-      (not (eqb (u .outside) 0)) e in (
-        least-none (t .unknown) (u .unknown) (eqb-true _ 0 (not-false (eqb (leastOf (t .unknown) (u .unknown)) 0) (k .0))),
-        eqb-true _ 0 (not-false (eqb (u .outside) 0) (k .1)),
-      )
-
 -- every statement of a source without a fault is good
 placed-good : (s : List ℕ) → verdictOf s .refusal ≡ 0 → AllGood (placedOf (namesOf s) s)
 unfolding verdictOf
 placed-good s e =
-    sweep-good (namesOf s) _ noTally (omega arith) (verdict-clean (formOf s) (tableOf s .tally) (usesOf (namesOf s) s) e) .1
+    sweep-good (namesOf s) _ noTally (omega arith) (verdict-clean (formOf s) (tableOf s .tally) (usesOf (namesOf s) s) e .2) .1
 
 -- ---- the call
 

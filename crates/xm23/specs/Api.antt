@@ -38,7 +38,11 @@ pub use Rattle.stack_need.specs.Need.{needOf, needReply}
 pub use Rattle.asm_sweeps.specs.Uses.{verdictOf}
 pub use Rattle.asm_image.specs.Image.{placedOf, imageOf}
 pub use Rattle.asm_call.specs.Call.{Assembled, assembleCallOf}
+-- xm23_places replies and leaves what placesCallOf gives: verdictOf judges the source, listedOf has its lines up to and
+-- with END, recordOf the eight bytes of each. What the records tell of the image is in asm_places_laws. [call places]
+pub use Rattle.asm_places.specs.Listing.{Listed, listedOf, recordOf, recordsOf}
+pub use Rattle.asm_places.specs.Call.{Recorded, placesCallOf}
 
 -- xm23_version replies versionNumber: major, minor and patch, which are those of the header.
 abbrev pub versionNumber : ℕ
-versionNumber = 0 * 65536 + 17 * 256 + 1
+versionNumber = 0 * 65536 + 18 * 256 + 0

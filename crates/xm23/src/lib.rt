@@ -8,7 +8,7 @@ ghost use Rattle.xm23.specs.Api.{runCallOf, deepestLeft, Resumption};
 ghost use Rattle.xm23.specs.Api.{loadCallOf, writeCallOf, Restores, needReply};
 ghost use Rattle.xm23.specs.Api.{journalOf, runJournalOf, journalDeepestLeft};
 ghost use Rattle.xm23.specs.Api.{JournalResumption, lentOf, backCallOf};
-ghost use Rattle.xm23.specs.Api.{assembleCallOf};
+ghost use Rattle.xm23.specs.Api.{assembleCallOf, placesCallOf};
 use isa::Encoded;
 use isa::decode;
 use isa::encode;
@@ -26,7 +26,7 @@ use isa_ranges::operation_of;
 pub extern "C" fn xm23_version() -> u32
     ensures reply { λ r. ⌜ r ≡ versionNumber ⌝ }
 {
-    0x001101
+    0x001200
 }
 
 // The number of the instruction that a word means; that of the illegal one is 0.
@@ -254,4 +254,17 @@ pub extern "C" fn xm23_assemble(memory: &mut [u8], source: &[u8]) -> u64
         ≡ assembleCallOf (now (memory .entry)) (now (source .entry)) .memory ⌝ }
 {
     asm_call::assemble_call(memory, source)
+}
+
+// What stands where in a source, a record of eight bytes for each line up to and with END: refusal
+// in bits 7-0, the line at fault or the number of records in bits 63-32. Refused, places stays as
+// it was; bytes past the records are kept.
+#[no_mangle]
+pub extern "C" fn xm23_places(source: &[u8], places: &mut [u8]) -> u64
+    ensures reply { λ r. ⌜ r
+        ≡ placesCallOf (now (source .entry)) (now (places .entry)) .reply ⌝ }
+    ensures places { λ r. ⌜ now (places .exit)
+        ≡ placesCallOf (now (source .entry)) (now (places .entry)) .places ⌝ }
+{
+    asm_places::places_call(source, places)
 }

@@ -507,9 +507,11 @@ uint64_t xm23_run_journal(uint8_t *memory, size_t memory_len, uint8_t *record, s
  * journal's bytes stay. What is copied is not looked at: a record of any bytes comes out as it is.
  *
  * Where kept began at 0, and memory, record, journal, its length and its two numbers were changed by these two calls
- * alone, over any runs and goings-back: memory and record are as they were k steps earlier, of steps taken and not
- * taken back; and a run of k steps with the same events due and a log long enough gives the same memory and record
- * again.
+ * alone, over any runs and goings-back: there are k steps that were taken and not taken back, and memory and record are
+ * as they were k of these steps earlier. Once j of the k are done again, each with the same events due, by any runs of
+ * xm23_run or xm23_run_journal, each with its own list and log, memory and record are as they were k - j steps earlier;
+ * after all k, as before going back. With k above 0, runs whose lists are lawful and whose logs are long enough are
+ * accepted and do all their steps.
  *
  * memory, memory_len   in-out: the machine's memory, XM23_MEMORY_SIZE bytes.
  * record, record_len   in-out: its state record, XM23_RECORD_SIZE bytes.
@@ -519,7 +521,8 @@ uint64_t xm23_run_journal(uint8_t *memory, size_t memory_len, uint8_t *record, s
  * result               one reply: XM23_REFUSAL in bits 7-0, 0 above.
  * refusals             in the order tested: XM23_REFUSED_MEMORY; XM23_REFUSED_RECORD; XM23_REFUSED_JOURNAL;
  *                      XM23_REFUSED_BACK. Refused: memory, record, kept and place are as they were.
- * defined              crates/journal/specs/Call.antt, backCallOf, for every length, content and number.
+ * defined              crates/journal/specs/Call.antt, backCallOf, for every length, content and number; over
+ *                      sessions crates/journal_laws/specs, Session.antt, GoesBack, and On.antt, RunsOn, RunsOnAgain.
  */
 uint32_t xm23_back(uint8_t *memory, size_t memory_len, uint8_t *record, size_t record_len, const uint8_t *journal,
                    size_t journal_len, uint32_t *kept, uint32_t *place, uint64_t k);

@@ -1,13 +1,13 @@
 //! The calls on a journal beside the oracle, over sessions: runs and goings-back in turn on one machine and one
 //! journal, with other lists, other n, logs that are too short, machines that halt, and calls that are refused. After
 //! each call reply, record, all of memory, the log, the depth, the journal's bytes, the number kept and the next place
-//! are compared; and what 02 promises is held: going back k gives what was k steps earlier, and running k on gives the
-//! same again.
+//! are compared; and what 02 promises is held: going back k gives what was k steps earlier, and running k on, by one run
+//! or by several, gives the same again.
 
 use crate::inputs::{input, lines, Input, Kind};
 use crate::journal::{address, Held, Journal, KEPT};
 use crate::machine::{event_record, events_of, long_log, reply, steps_of, without_twins};
-use crate::machine::{Act, Event, Machine, Trace, DEVICES, MEMORY};
+use crate::machine::{Act, Event, Machine, Trace, DEVICES, MAX_EVENTS, MEMORY};
 use crate::random::Random;
 use std::collections::BTreeMap;
 use std::fs;
@@ -44,7 +44,7 @@ pub struct Difference {
 pub struct Reached(BTreeMap<String, u64>);
 
 /// What every set of sessions must have reached.
-pub const OWED: [&str; 54] = [
+pub const OWED: [&str; 55] = [
     "9 before 14",
     "14 before 15",
     "run refused 1",
@@ -99,6 +99,7 @@ pub const OWED: [&str; 54] = [
     "back out of records of any bytes",
     "an unlawful record comes out",
     "run on after a back",
+    "run on by several runs",
 ];
 
 impl Reached {
@@ -331,18 +332,39 @@ impl<'a> Session<'a> {
         if (self.held.input.record.clone(), self.held.input.memory.clone()) != first.state() {
             return self.differ(format!("{k} steps back is another state"), Call::Back(k), given);
         }
-        let mut again = self.held.clone();
-        let due: Vec<Event> = taken_back.iter().flat_map(|past| past.due.clone()).collect();
-        again.input.events = due.into_iter().flat_map(event_record).collect();
-        (again.input.n, again.input.log) = (k, long_log(k));
-        let on = again.clone();
-        let replied = (self.engine.run)(&mut again);
-        self.reached.mark("run on after a back");
-        let same = again.input.record == given.input.record && again.input.memory == given.input.memory;
-        if steps_of(replied) != k || !same || again.journal.kept != given.journal.kept {
-            return self.differ(format!("{k} steps on again is another state"), Call::Run, &on);
+        let runs: Vec<&[Past]> = taken_back.chunk_by(|a, b| std::rc::Rc::ptr_eq(&a.start, &b.start)).collect();
+        let (front, rest) = taken_back.split_at(taken_back.len() / 2);
+        self.on_again(&runs, given)?;
+        self.on_again(&[front, rest], given)?;
+        if taken_back.iter().map(|past| past.due.len()).sum::<usize>() <= MAX_EVENTS {
+            self.on_again(&[&taken_back], given)?;
         }
         self.last = "done";
+        Ok(())
+    }
+
+    /// The steps again, in parts: a run for each, with the events due in its steps and a log of its own. Where a part
+    /// begins the state is the one that its first step found, and after the last it is the one before going back.
+    fn on_again(&mut self, parts: &[&[Past]], given: &Held) -> Result<(), Box<Difference>> {
+        let mut again = self.held.clone();
+        for part in parts.iter().filter(|part| !part.is_empty()) {
+            let k = part.len() as u64;
+            if (again.input.record.clone(), again.input.memory.clone()) != part[0].state() {
+                return self.differ(format!("running on, before {k} steps, is another state"), Call::Run, &again);
+            }
+            again.input.events = part.iter().flat_map(|past| past.due.clone()).flat_map(event_record).collect();
+            (again.input.n, again.input.log) = (k, long_log(k));
+            let on = again.clone();
+            if steps_of((self.engine.run)(&mut again)) != k {
+                return self.differ(format!("{k} steps on again are not done"), Call::Run, &on);
+            }
+        }
+        self.reached.mark("run on after a back");
+        self.reached.mark_if(parts.len() > 1, "run on by several runs");
+        let same = again.input.record == given.input.record && again.input.memory == given.input.memory;
+        if !same || again.journal.kept != given.journal.kept {
+            return self.differ("running on again gives another state".into(), Call::Run, &self.held.clone());
+        }
         Ok(())
     }
 }

@@ -310,6 +310,29 @@ fn a_thousand_steps_back() {
     assert_eq!(session.back(1).map_err(|d| d.what), Ok(15));
 }
 
+/// Two runs of 512 steps with 4,096 events each, back over both, and on again: no one list that is accepted has all their
+/// events, so that running on takes two runs as well.
+#[test]
+fn on_again_by_two_runs() {
+    let mut held = program(" ORG $1000\nLOOP LD.B R2,R3\n ST.B R3,R4+\n BRA LOOP", &[], 512, 1_024);
+    set_register(&mut held, 2, 0x0001);
+    set_register(&mut held, 4, 0x2000);
+    for device in 0..8 {
+        held.input.memory[2 * device] = 0x12;
+    }
+    let list = |first: u32| -> Vec<u8> {
+        let event = |i: u32| Event { step: first + i / 8, device: (i % 8) as u8, data: (i * 7 + first) as u8 };
+        (0..4_096).map(event).flat_map(event_record).collect()
+    };
+    let mut reached = Reached::default();
+    let mut session = Session::new(LIBRARY, held, &mut reached);
+    for first in [0, 512] {
+        session.held.input.events = list(first);
+        assert_eq!(session.run().map_err(|d| d.what), Ok(512 << 16));
+    }
+    assert_eq!(session.back(1_024).map_err(|d| d.what), Ok(0));
+}
+
 /// The readable cases that say something of a journal.
 #[test]
 fn readable_cases() {

@@ -1,9 +1,9 @@
--- The session, computed: what is in the journal after the run, and what going back leaves. Assumes nothing.
-use Prim.Native.Nat.{ℕ, zero, suc, _<_}
-use mathlib.Core.Bool.{Bool, true, _&&_}
+-- The session, computed: what is in the journal after the run, and what going back leaves. Each fact is the definitions worked
+-- out on these bytes. Assumes nothing.
+use Prim.Native.Nat.{ℕ}
 use mathlib.Core.List.{List, [], _∷_}
 use mathlib.Core.Path.{_≡_, refl}
-use lib.Dec.{ltb, lit<}
+use lib.Dec.{lit<}
 use lib.ListN.{take, drop, replicate}
 use Rattle.machine.specs.Memory.{byteAt, write, commit}
 use Rattle.machine.specs.Record.{twoAt, stateIn, recordOf}
@@ -19,15 +19,10 @@ use Rattle.journal.specs.Record.{addressOf, bytesFrom, fieldsOf, journalRecord,
 use Rattle.journal.specs.Ring.{Journal, recordAt, keep, journalAfter, journalFits}
 use Rattle.journal.specs.Back.{Lent, oneBack, backOf}
 use Rattle.journal.specs.Call.{journalVerdict, runJournalOf, backVerdict, backCallOf}
-use Rattle.machine_laws.specs.Bounds.{Each, Bytes}
-use Rattle.machine_laws.proofs.Cases.{lt-of, and-left, and-right}
 use Rattle.machine_laws.proofs.Memory.{commit-bytes}
 use Rattle.journal_laws.specs.Session.{lentAfter, Began}
+use Rattle.journal_laws.proofs.Bytes.{low?, zeros-bytes, bytes-of}
 use Rattle.journal_example.specs.Example.{memory, r, x, run, session}
-
-all-low : List ℕ → Bool
-all-low [] = true
-all-low (v ∷ b) = ltb v 256 && all-low b
 
 -- what is lent after the run, and after going back too
 abbrev y : Lent
@@ -82,28 +77,13 @@ back = (refl, refl, refl, refl)
 
 -- ---- the premises of the promises
 
-zero-at : (n a : ℕ) → byteAt (replicate n 0) a < 256
-zero-at zero a = lit< tt
-zero-at (suc n) zero = lit< tt
-zero-at (suc n) (suc a) = zero-at n a
-
-each-bytes : (b : List ℕ) → Each (λ v. v < 256) b → Bytes b
-each-bytes [] e i = lit< tt
-each-bytes (v ∷ b) e zero = e .0
-each-bytes (v ∷ b) e (suc i) = each-bytes b (e .1) i
-
-none-high : (b : List ℕ) → all-low b ≡ true → Each (λ v. v < 256) b
-unfolding all-low
-none-high [] e = tt
-none-high (v ∷ b) e = (lt-of (and-left (ltb v 256) (all-low b) e), none-high b (and-right (ltb v 256) (all-low b) e))
-
 pub began : Began x run
-unfolding all-low
+unfolding low?
 began =
     record {
       nothing-kept = refl;
       memory-bytes = commit-bytes (write 0xFFE6 1 ∷ write 0xFFFD 7 ∷ write 1 9 ∷ []) (replicate 65536 0)
-          (lit< tt, (lit< tt, (lit< tt, tt))) (zero-at 65536);
-      state-bytes = each-bytes r (none-high r refl);
+          (lit< tt, (lit< tt, (lit< tt, tt))) (zeros-bytes 65536);
+      state-bytes = bytes-of r refl;
       calls-bytes = ((λ i. lit< tt), tt);
     }

@@ -1,4 +1,5 @@
--- The record and the memory of a tidy state are accepted again, with any event list that is lawful. Assumes nothing.
+-- The record and the memory of a tidy state are accepted again, with any event list that is lawful: the record has the
+-- zero bits that rule 4 asks for, and the count is the state's. Assumes nothing.
 use Prim.Native.Nat.{ℕ, _+_, _*_, _/_, _%_, _<_, _≤_}
 use native.Mathlib.Omega.{arith}
 use mathlib.Core.Bool.{Bool, true, false, cond, not, _&&_}
@@ -17,7 +18,7 @@ use Rattle.machine.specs.Refusal.{Rule, rulesOf, firstBroken, recordFits, verdi
 use Rattle.machine_laws.specs.Bounds.{Each, Tidy}
 use Rattle.machine_laws.proofs.Cases.{is-eq, is-lt, not-lt, and-both}
 use Rattle.machine_laws.proofs.Records.{record-read}
-use Rattle.journal_laws.specs.Session.{LawfulEvents}
+use Rattle.journal_laws.specs.On.{LawfulEvents}
 
 none-broken : (xs : List Rule) → Each (λ (x : Rule). x .broken ≡ false) xs → firstBroken xs ≡ Accepted
 none-broken [] e = refl

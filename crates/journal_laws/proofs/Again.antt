@@ -1,27 +1,28 @@
--- Running on again after going back: a step depends on its due events alone. Assumes nothing.
-use Prim.Native.Nat.{ℕ, zero, suc, _+_, _<_, _≤_}
-use native.Mathlib.Nat.{add-zero, add-suc, suc-add, zero-add}
+-- Running on again after going back: a step depends on its due events alone, so from the state that the journal gives
+-- back the same steps lead through the same states. Assumes nothing.
+use Prim.Native.Nat.{ℕ, zero, suc, _+_, _≤_}
+use native.Mathlib.Nat.{add-zero, suc-add, zero-add}
 use native.Mathlib.Omega.{arith}
-use mathlib.Core.Bool.{Bool, true, false, cond}
+use mathlib.Core.Bool.{cond}
 use mathlib.Core.List.{List, [], _∷_}
 use mathlib.Core.Path.{_≡_, refl, sym, ap, subst, _∙_}
 use lib.Dec.{eqb}
+use lib.ListN.{drop}
 use Rattle.machine.specs.State.{State}
 use Rattle.machine.specs.Record.{stateIn, recordOf}
 use Rattle.machine.specs.Events.{Event}
-use Rattle.machine.specs.Devices.{eventOn, deliverAt, deliver}
+use Rattle.machine.specs.Devices.{eventOn, deliverAt}
 use Rattle.machine.specs.Step.{stepOf, finished}
 use Rattle.machine.specs.Run.{Run, ran, runOf}
-use Rattle.machine_laws.specs.Bounds.{Each, Tidy, EventFits}
+use Rattle.machine_laws.specs.Bounds.{Tidy}
 use Rattle.machine_laws.proofs.Cases.{bool-cases}
 use Rattle.machine_laws.proofs.Runs.{step-halted, step-live, run-zero, run-next}
 use Rattle.machine_laws.proofs.Records.{record-read}
 use Rattle.machine_laws.proofs.Steps.{step-tidy, step-count}
 use Rattle.journal.specs.Ring.{Journal}
-use Rattle.journal.specs.Back.{Lent, lentOf, lowered, oneBack, backOf}
-use Rattle.journal_laws.specs.Past.{Past, next, Taken, Newest, rewound, Recalls, dueAt, SameDue, earlier}
-use Rattle.journal.proofs.Calls.{back-zero, back-suc}
-use Rattle.journal_laws.proofs.Recall.{one-back}
+use Rattle.journal.specs.Back.{Lent, lentOf, lowered}
+use Rattle.journal_laws.specs.Past.{Past, next, Taken, Newest, Recalls, dueAt, SameDue, earlier}
+use Rattle.journal_laws.specs.Session.{Course, without}
 
 -- ---- due events
 
@@ -67,18 +68,13 @@ module _ (t : Past) (k : Taken t) where
 came-from : (s : State) (j : Journal) (t : Past) → Tidy s → s .count ≤ 4294967295 → Newest (lentOf (s .mem) (recordOf s) j) t → s ≡ next t
 came-from s j t a b w = same-state s (next t) a b (next-tidy t (w .taken)) (next-count t (w .taken)) (w .state) (w .memory)
 
--- going back reaches the earlier state, which is in bounds
-pub back-earlier : (k n : ℕ) (s : State) (j : Journal) (h : List Past) → Recalls (lentOf (s .mem) (recordOf s) j) h (k + n)
-    → (backOf k (lentOf (s .mem) (recordOf s) j) .memory ≡ earlier s h k .mem)
-    × (backOf k (lentOf (s .mem) (recordOf s) j) .state ≡ recordOf (earlier s h k))
-back-earlier zero n s j h w = let e = back-zero (lentOf (s .mem) (recordOf s) j) in (ap (λ y. y .memory) e, ap (λ y. y .state) e)
-back-earlier (suc k) n s j [] w = absurd (subst (Recalls (lentOf (s .mem) (recordOf s) j) []) (suc-add k n) w)
-back-earlier (suc k) n s j (t ∷ h) w =
-    let x = lentOf (s .mem) (recordOf s) j in
-    let v = subst (Recalls x (t ∷ h)) (suc-add k n) w in
-    let e = back-suc k x ∙ ap (backOf k) (one-back x t (v .0)) in
-    let g = back-earlier k n (t .state) (lowered j) h (v .1) in
-    (ap (λ y. y .memory) e ∙ g .0, ap (λ y. y .state) e ∙ g .1)
+-- the course k steps earlier has the earlier state, which is in bounds, and k steps less are counted
+pub earlier-found : (k : ℕ) (s : State) (h : List Past)
+    → (without k (s .mem) (recordOf s) h .memory ≡ earlier s h k .mem)
+    × (without k (s .mem) (recordOf s) h .state ≡ recordOf (earlier s h k))
+earlier-found zero s h = (refl, refl)
+earlier-found (suc k) s [] = (refl, refl)
+earlier-found (suc k) s (t ∷ h) = earlier-found k (t .state) h
 
 pub earlier-tidy : (k n : ℕ) (s : State) (j : Journal) (h : List Past) → Tidy s → s .count ≤ 4294967295
     → Recalls (lentOf (s .mem) (recordOf s) j) h (k + n) → Tidy (earlier s h k) × (earlier s h k .count ≤ 4294967295)
@@ -89,6 +85,17 @@ earlier-tidy (suc k) n s j (u ∷ h) t c w =
     let a = v .0 .taken in
     let b = a .countable in
     earlier-tidy k n (u .state) (lowered j) h (a .tidy) (omega arith) (v .1)
+
+pub earlier-count : (k : ℕ) (s : State) (j : Journal) (h : List Past) → Tidy s → s .count ≤ 4294967295
+    → Recalls (lentOf (s .mem) (recordOf s) j) h k → earlier s h k .count + k ≡ s .count
+earlier-count zero s j h t c w = add-zero (s .count)
+earlier-count (suc k) s j [] t c w = absurd w
+earlier-count (suc k) s j (u ∷ h) t c w =
+    let a = w .0 .taken in
+    let b = a .countable in
+    let g = earlier-count k (u .state) (lowered j) h (a .tidy) (omega arith) (w .1) in
+    let e = ap (λ v. v .count) (came-from s j u t c (w .0)) ∙ step-count (u .events) (u .state) (a .live) in
+    omega arith
 
 -- "running k on, each step's due events the same, .. gives the same state and memory again"
 pub again : (ev : List Event) (k : ℕ) (s : State) (j : Journal) (h : List Past) → Tidy s → s .count ≤ 4294967295
@@ -104,13 +111,17 @@ again ev (suc k) s j (u ∷ h) t c w d =
     ∙ ap (λ y. ran (stepOf ev (y .state)) (suc (y .steps))) g
     ∙ ap (λ y. ran y (suc k)) (step-due ev (u .events) (u .state) (d .0) ∙ sym (came-from s j u t c (w .0)))
 
--- the same of what is lent: back k, and a run of k from the record and the memory then found
-pub back-again : (ev : List Event) (k : ℕ) (s : State) (j : Journal) (h : List Past) → Tidy s → s .count ≤ 4294967295
-    → Recalls (lentOf (s .mem) (recordOf s) j) h k → SameDue ev h k
-    → runOf ev (stateIn (backOf k (lentOf (s .mem) (recordOf s) j) .state) (backOf k (lentOf (s .mem) (recordOf s) j) .memory)) k ≡ ran s k
-back-again ev k s j h t c w d =
-    let v = subst (Recalls (lentOf (s .mem) (recordOf s) j) h) (sym (add-zero k)) w in
-    let g = back-earlier k 0 s j h v in
-    let b = earlier-tidy k 0 s j h t c v in
-    ap (λ u. runOf ev u k) ((λ i. stateIn (g .1 i) (g .0 i)) ∙ record-read (earlier s h k) (b .0) (b .1))
-    ∙ again ev k s j h t c w d
+-- d of the steps, newer ones left out: from i + d steps earlier to i steps earlier
+pub again-part : (ev : List Event) (i d : ℕ) (s : State) (j : Journal) (h : List Past) → Tidy s → s .count ≤ 4294967295
+    → Recalls (lentOf (s .mem) (recordOf s) j) h (i + d) → SameDue ev (drop i h) d
+    → runOf ev (earlier s h (i + d)) d ≡ ran (earlier s h i) d
+again-part ev zero d s j h t c w e =
+    ap (λ k. runOf ev (earlier s h k) d) (zero-add d)
+    ∙ again ev d s j h t c (subst (Recalls (lentOf (s .mem) (recordOf s) j) h) (zero-add d) w) e
+again-part ev (suc i) d s j [] t c w e = absurd (subst (Recalls (lentOf (s .mem) (recordOf s) j) []) (suc-add i d) w)
+again-part ev (suc i) d s j (u ∷ h) t c w e =
+    let v = subst (Recalls (lentOf (s .mem) (recordOf s) j) (u ∷ h)) (suc-add i d) w in
+    let a = v .0 .taken in
+    let b = a .countable in
+    ap (λ k. runOf ev (earlier s (u ∷ h) k) d) (suc-add i d)
+    ∙ again-part ev i d (u .state) (lowered j) h (a .tidy) (omega arith) (v .1) e

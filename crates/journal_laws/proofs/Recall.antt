@@ -1,27 +1,29 @@
--- The journal stands for the steps taken: at none kept, after a step, after going back. Assumes nothing.
+-- The journal stands for the steps taken: at none kept, after a step, after going back. By one step the newest record is
+-- that of the step and the others stay; by going back k the newest k are copied out, which are the states that those
+-- steps found. Assumes nothing.
 use Prim.Native.Nat.{ℕ, zero, suc, _+_, _-_, _*_, _/_, _<_, _≤_}
 use native.Mathlib.Nat.{add-zero, add-suc, suc-add, zero-add}
 use native.Mathlib.Omega.{arith}
-use mathlib.Core.Bool.{Bool, true, false, cond}
-use mathlib.Core.List.{List, [], _∷_, _++_}
-use mathlib.Core.Logic.{_≢_}
+use mathlib.Core.Bool.{false, cond}
+use mathlib.Core.List.{List, [], _∷_}
 use mathlib.Core.Path.{_≡_, refl, sym, ap, subst, _∙_}
-use lib.Dec.{eqb, ltb}
+use lib.Dec.{ltb}
 use lib.ListN.{length, drop}
 use lib.Seq.{sets, length-sets}
 use Rattle.machine.specs.State.{State}
 use Rattle.machine.specs.Record.{recordOf}
 use Rattle.machine.specs.Events.{Event}
 use Rattle.machine.specs.Step.{stepOf}
-use Rattle.machine.specs.Run.{Run, ran, runOf}
+use Rattle.machine.specs.Run.{Run, runOf}
 use Rattle.machine_laws.specs.Bounds.{Each, Tidy, EventFits}
-use Rattle.machine_laws.proofs.Cases.{bool-cases, lt-of, ge-of}
+use Rattle.machine_laws.proofs.Cases.{bool-cases, lt-of}
 use Rattle.machine_laws.proofs.Runs.{run-zero, run-next, run-stays, steps-le}
 use Rattle.machine_laws.proofs.Steps.{run-tidy, run-count}
 use Rattle.journal.specs.Record.{journalRecord, stateOut, memoryOut}
-use Rattle.journal.specs.Ring.{Journal, journalOf, placesOf, recordAt, following, preceding, oneMore, keep, journalAfter}
+use Rattle.journal.specs.Ring.{Journal, journalOf, placesOf, recordAt, preceding, keep, journalAfter}
 use Rattle.journal.specs.Back.{Lent, lentOf, lowered, oneBack, backOf, loweredPlace}
-use Rattle.journal_laws.specs.Past.{Past, past, next, Taken, Newest, rewound, Recalls, pastsOf}
+use Rattle.journal_laws.specs.Past.{Past, past, Taken, Newest, rewound, Recalls, pastsOf}
+use Rattle.journal_laws.specs.Session.{Course, courseOf, without, Found, WentBack}
 use Rattle.journal.proofs.Restore.{record-whole, state-back, memory-back}
 use Rattle.journal.proofs.Calls.{after-zero, after-next, back-zero, back-suc}
 use Rattle.journal.proofs.Ring.{record-same, record-other, RingFits, preceding-following, lowered-zero, preceding-lowered}
@@ -36,6 +38,12 @@ pub recalls-fewer : (k : ℕ) (x : Lent) (h : List Past) → Recalls x h (suc k)
 recalls-fewer zero x h w = tt
 recalls-fewer (suc k) x [] w = absurd w
 recalls-fewer (suc k) x (t ∷ h) w = (w .0, recalls-fewer k (rewound x t) h (w .1))
+
+pub recalls-most : (k n : ℕ) (x : Lent) (h : List Past) → Recalls x h (k + n) → Recalls x h k
+recalls-most zero n x h w = tt
+recalls-most (suc k) n x [] w = absurd (subst (Recalls x []) (suc-add k n) w)
+recalls-most (suc k) n x (t ∷ h) w =
+    let v = subst (Recalls x (t ∷ h)) (suc-add k n) w in (v .0, recalls-most k n (rewound x t) h (v .1))
 
 -- ---- a step
 
@@ -232,15 +240,28 @@ back-journal k x h l =
     (λ i. journalOf (j .bytes) (sym c i) (sym (lowered-zero r (j .place)) i))
     ∙ ap (λ c. journalOf (j .bytes) (j .kept - c) (loweredPlace r (j .place) c)) (zero-add k)
 
--- "going back k steps gives the state and all memory bytes as they were k steps earlier"
-pub back-to : (front : List Past) (t : Past) (h : List Past) (n : ℕ) (x : Lent) → Recalls x (front ++ t ∷ h) (suc (length front) + n)
-    → (backOf (suc (length front)) x .memory ≡ t .state .mem) × (backOf (suc (length front)) x .state ≡ recordOf (t .state))
-back-to [] t h n x w =
-    let v = subst (Recalls x (t ∷ h)) (suc-add 0 n) w in
-    let e = back-suc 0 x ∙ back-zero (oneBack x) ∙ one-back x t (v .0) in
-    (ap (λ y. y .memory) e, ap (λ y. y .state) e)
-back-to (u ∷ front) t h n x w =
-    let v = subst (Recalls x (u ∷ (front ++ t ∷ h))) (suc-add (suc (length front)) n) w in
-    let e = back-suc (suc (length front)) x ∙ ap (backOf (suc (length front))) (one-back x u (v .0)) in
-    let g = back-to front t h n (rewound x u) (v .1) in
-    (ap (λ y. y .memory) e ∙ g .0, ap (λ y. y .state) e ∙ g .1)
+-- "going back k steps gives the state and all memory bytes as they were k steps earlier": what a journal recalls are steps of
+-- the course, and copying k records out is taking k of them off
+pub back-earlier : (k n : ℕ) (x : Lent) (h : List Past) → Recalls x h (k + n) → WentBack k (courseOf (x .memory) (x .state) h) (backOf k x)
+back-earlier zero n x h w =
+    let e = back-zero x in
+    record { enough = omega arith; found = record { memory = ap (λ y. y .memory) e; state = ap (λ y. y .state) e } }
+back-earlier (suc k) n x [] w = absurd (subst (Recalls x []) (suc-add k n) w)
+back-earlier (suc k) n x (t ∷ h) w =
+    let v = subst (Recalls x (t ∷ h)) (suc-add k n) w in
+    let e = back-suc k x ∙ ap (backOf k) (one-back x t (v .0)) in
+    let g = back-earlier k n (rewound x t) h (v .1) in
+    let l = g .enough in
+    record {
+      enough = omega arith;
+      found = record {
+        memory = ap (λ y. y .memory) e ∙ g .found .memory;
+        state = ap (λ y. y .state) e ∙ g .found .state;
+      };
+    }
+
+-- the steps of the course k steps earlier
+pub earlier-steps : (k : ℕ) (memory state : List ℕ) (h : List Past) → without k memory state h .steps ≡ drop k h
+earlier-steps zero memory state h = refl
+earlier-steps (suc k) memory state [] = refl
+earlier-steps (suc k) memory state (t ∷ h) = earlier-steps k (t .state .mem) (recordOf (t .state)) h

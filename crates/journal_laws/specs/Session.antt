@@ -1,23 +1,23 @@
--- A session: calls on one journal, one after the other, nothing touched in between; and the steps that they took and
--- took back (document 02, §8). The promises of going back are stated here, of the raw buffers and numbers; the proofs
--- are proofs/Session.antt.
+-- A session: calls on one journal, one after the other, nothing touched in between; and its course, which is what its
+-- caller knows of it, the journal's bytes left out (document 02, §8). The promise of going back is stated here, of the
+-- raw buffers and numbers, and that of running on in On.antt; the proofs are proofs/Session.antt and proofs/On.antt.
 -- Assumes nothing.
-use Prim.Native.Nat.{ℕ, suc, _*_, _%_, _<_, _≤_}
-use mathlib.Core.Bool.{Bool, true, false, cond}
-use mathlib.Core.List.{List, [], _∷_, _++_}
+use Prim.Native.Nat.{ℕ, zero, suc, _≤_}
+use mathlib.Core.Bool.{Bool, cond}
+use mathlib.Core.List.{List, [], _∷_}
 use mathlib.Core.Path.{_≡_}
-use lib.ListN.{length, drop}
+use lib.ListN.{length}
 use Rattle.machine.specs.declared.Verdict.the-variants.{Accepted}
-use Rattle.machine.specs.Events.{eventsOf, eventCount}
+use Rattle.machine.specs.Events.{eventsOf}
 use Rattle.machine.specs.Record.{stateIn, recordOf}
-use Rattle.machine.specs.Refusal.{eventsFit, eventsFitBelow, inOrderBelow, twinsBelow, callVerdict, accepted?}
-use Rattle.machine.specs.Logged.{recordsOf}
-use Rattle.machine.specs.Call.{Closing, roomOf, runOn, runCallOf}
+use Rattle.machine.specs.Refusal.{accepted?}
+use Rattle.machine.specs.Logged.{Logged}
+use Rattle.machine.specs.Call.{Closing, runOn}
 use Rattle.machine_laws.specs.Bounds.{Each, Bytes}
 use Rattle.journal.specs.Ring.{Journal}
 use Rattle.journal.specs.Back.{Lent, lentOf}
 use Rattle.journal.specs.Call.{journalVerdict, JournalClosing, runJournalOf, backVerdict, BackClosing, backCallOf}
-use Rattle.journal_laws.specs.Past.{Past, pastsOf, SameDue}
+use Rattle.journal_laws.specs.Past.{Past, pastsOf}
 
 -- one call: a run whose steps are kept, with its event list, log and n, or going back k. [02 §8]
 pub data Call : Type 0 where
@@ -34,23 +34,55 @@ left (runs events log n) x =
     lentOf (y .closing .memory) (y .closing .state) (y .journal)
 left (backs k) x = backCallOf k x .lent
 
--- The steps taken so far and not taken back, newest first: a run adds the steps that it did, halted or short of room or
--- not, going back k takes k off, and a call that is refused does neither. [02 §8]
-abbrev pub stepsAfter : Call → Lent → List Past → List Past
-stepsAfter (runs events log n) x h =
-    cond (accepted? (journalVerdict (x .memory) (x .state) events log (x .journal) n))
-    (pastsOf (eventsOf events) (stateIn (x .state) (x .memory)) (runOn (x .memory) (x .state) events log n .steps) h)
-    h
-stepsAfter (backs k) x h = cond (accepted? (backVerdict k x)) (drop k h) h
+-- whether a call is accepted, which its reply tells. [02 §8]
+abbrev pub taken? : Call → Lent → Bool
+taken? (runs events log n) x = accepted? (journalVerdict (x .memory) (x .state) events log (x .journal) n)
+taken? (backs k) x = accepted? (backVerdict k x)
 
 -- a session, first call first. [02 §8]
 unfoldable pub lentAfter : List Call → Lent → Lent
 lentAfter [] x = x
 lentAfter (c ∷ cs) x = lentAfter cs (left c x)
 
-unfoldable pub stepsIn : List Call → Lent → List Past → List Past
-stepsIn [] x h = h
-stepsIn (c ∷ cs) x h = stepsIn cs (left c x) (stepsAfter c x h)
+-- ---- its course
+
+-- Memory and state record as they are, and the steps taken and not taken back, newest first. [02 §8]
+pub record Course : Type 0 where
+  pub memory : List ℕ
+  pub state : List ℕ
+  pub steps : List Past
+
+abbrev pub courseOf : (memory state : List ℕ) → List Past → Course
+courseOf memory state h = record { memory = memory; state = state; steps = h }
+
+-- "as they were k steps earlier": without the newest k steps. Each step has the state that it found. [02 §8]
+abbrev pub without : ℕ → (memory state : List ℕ) → List Past → Course
+without zero memory state h = courseOf memory state h
+without (suc k) memory state [] = courseOf memory state []
+without (suc k) memory state (t ∷ h) = without k (t .state .mem) (recordOf (t .state)) h
+
+abbrev pub earlierBy : ℕ → Course → Course
+earlierBy k c = without k (c .memory) (c .state) (c .steps)
+
+-- What an accepted call makes of it: a run adds the steps that it did, halted or short of room or not, and ends where
+-- they lead; going back k is k steps earlier. [02 §8]
+abbrev pub courseAfter : Call → Course → Course
+courseAfter (runs events log n) c =
+    let y = runOn (c .memory) (c .state) events log n in
+    courseOf (y .state .mem) (recordOf (y .state))
+    (pastsOf (eventsOf events) (stateIn (c .state) (c .memory)) (y .steps) (c .steps))
+courseAfter (backs k) c = earlierBy k c
+
+-- The course of a session: a call that is refused does nothing to it. Of what is lent it is told memory and record at
+-- the start, and from then on which calls were accepted. [02 §8]
+unfoldable pub courseIn : List Call → Lent → Course → Course
+courseIn [] x c = c
+courseIn (a ∷ cs) x c = courseIn cs (left a x) (cond (taken? a x) (courseAfter a c) c)
+
+abbrev pub courseFrom : List Call → Lent → Course
+courseFrom cs x = courseIn cs x (courseOf (x .memory) (x .state) [])
+
+-- ---- the promise
 
 -- C's buffers are bytes. [01 State and memory]
 abbrev pub CallBytes : Call → Type 0
@@ -64,46 +96,24 @@ pub record Began (x : Lent) (cs : List Call) : Type 0 where
   pub state-bytes : Bytes (x .state)
   pub calls-bytes : Each CallBytes cs
 
--- "going back k steps gives the state and all memory bytes as they were k steps earlier": t is the k-th newest step.
+-- memory and state record lent are those of a course. [02 §8]
+pub record Found (z : Lent) (c : Course) : Type 0 where
+  pub memory : z .memory ≡ c .memory
+  pub state : z .state ≡ c .state
+
+-- At every moment of a session memory and state record are those of its course. [02 §8]
+abbrev pub KeepsCourse : Type 0
+KeepsCourse = (x : Lent) (cs : List Call) → Began x cs → Found (lentAfter cs x) (courseFrom cs x)
+
+-- going back k: there are k steps to take back, and what is lent is what the session had k steps earlier. [02 §8]
+pub record WentBack (k : ℕ) (c : Course) (z : Lent) : Type 0 where
+  pub enough : k ≤ length (c .steps)
+  pub found : Found z (earlierBy k c)
+
+-- "going back k steps gives the state and all memory bytes as they were k steps earlier": wherever it is accepted.
 -- [02 §8]
 abbrev pub GoesBack : Type 0
 GoesBack =
     (x : Lent) (cs : List Call) → Began x cs →
-    (newer : List Past) (t : Past) (older : List Past) → stepsIn cs x [] ≡ newer ++ t ∷ older →
-    (k : ℕ) → k ≡ suc (length newer) → backVerdict k (lentAfter cs x) ≡ Accepted →
-    (backCallOf k (lentAfter cs x) .lent .memory ≡ t .state .mem)
-    × (backCallOf k (lentAfter cs x) .lent .state ≡ recordOf (t .state))
-
--- An event list that rules 5, 6, 7 and 13 accept. [01 Who can be turned back; 02 §3]
-pub record LawfulEvents (events : List ℕ) : Type 0 where
-  pub bytes : Bytes events
-  pub whole : eventsFit (length events) ≡ true
-  pub fields : eventsFitBelow events (eventCount events) ≡ true
-  pub order : inOrderBelow events (eventCount events) ≡ true
-  pub twins : twinsBelow events (eventCount events) ≡ false
-
--- A new log that k steps from what is lent do not fill: "new logs long enough". [02 §8; 02 §1]
-pub record LongEnough (log events : List ℕ) (k : ℕ) (z : Lent) : Type 0 where
-  pub whole : length log % 8 ≡ 0
-  pub enough : length (recordsOf (eventsOf events) (stateIn (z .state) (z .memory)) k) ≤ roomOf log
-
--- z is what going back k left of y: running k on is accepted and "gives the same state and memory again", by the run
--- call and by the run with a journal. [02 §8]
-pub record Again (events log : List ℕ) (k : ℕ) (y z : Lent) : Type 0 where
-  pub accepted : 0 < k → callVerdict (z .memory) (z .state) events log k ≡ Accepted
-  pub memory : runCallOf (z .memory) (z .state) events log k .memory ≡ y .memory
-  pub state : runCallOf (z .memory) (z .state) events log k .state ≡ y .state
-  pub journal-accepted : 0 < k → journalVerdict (z .memory) (z .state) events log (z .journal) k ≡ Accepted
-  pub journal-memory : ranWith events log k z .closing .memory ≡ y .memory
-  pub journal-state : ranWith events log k z .closing .state ≡ y .state
-
--- "running k on, each step's due events the same and new logs long enough, gives the same state and memory again".
--- That the second run is accepted follows. (A run of no steps may be refused, as at a state record that no run has
--- accepted yet; it leaves the same state and memory all the same.) [02 §8]
-abbrev pub RunsOnAgain : Type 0
-RunsOnAgain =
-    (x : Lent) (cs : List Call) → Began x cs →
     (k : ℕ) → backVerdict k (lentAfter cs x) ≡ Accepted →
-    (events log : List ℕ) → LawfulEvents events → SameDue (eventsOf events) (stepsIn cs x []) k →
-    LongEnough log events k (backCallOf k (lentAfter cs x) .lent) →
-    Again events log k (lentAfter cs x) (backCallOf k (lentAfter cs x) .lent)
+    WentBack k (courseFrom cs x) (backCallOf k (lentAfter cs x) .lent)

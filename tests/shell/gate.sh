@@ -21,16 +21,26 @@ rm "$tiny/crates/first/must-fail/same.edit"
 expect 'the cost of one edit' 0 'crate .*first +[0-9]+ +1 .*rt ci, 2 at a time: .* of 1 edits, .*' '' \
     "$tiny/scripts/edits.py" --cost
 
-# stopped SCRIPT WORD..: begun, stopped after a second; what it started has ended, and it has left no file of Rattle.
+# The checks of crate first that are at work.
+at_work() {
+    for line in /proc/[0-9]*/cmdline; do
+        { tr '\0' ' ' < "$line" | grep -q "crate-name first $room" && echo "$line"; } 2> /dev/null
+    done | wc -l
+}
+
+# stopped SCRIPT WORD..: stopped while a check is at work; that has ended then, and no file of Rattle is left.
 stopped() {
     TMPDIR=$room/tmp "$tiny/scripts/$@" > "$room/out" 2>&1 &
     local begun=$!
-    sleep 1
+    for _ in {1..200}; do
+        [ "$(at_work)" -eq 0 ] || break
+        sleep 0.1
+    done
     kill "$begun"
     wait "$begun" 2> /dev/null
     same "$1 stopped" "$?" "$([ "$1" = edits.py ] && echo 1 || echo 130)"
     sleep 0.2
-    same "$1 stopped: what it started" "$(pgrep -f "crate-name first $room" | wc -l)" 0
+    same "$1 stopped: what it started" "$(at_work)" 0
     same "$1 stopped: copies outside" "$(find "$room/tmp" -name '*.rt')" ''
     same "$1 stopped: copies inside" "$(find "$tiny" -name '*.rt' ! -path '*/target/*')" "$tiny/crates/first/src/lib.rt"
 }

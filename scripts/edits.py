@@ -4,6 +4,7 @@
     edits.py                 every edit
     edits.py CRATE ..        those of these crates
     edits.py CRATE/EDIT ..   these
+    edits.py --texts         tries none: whether each finds the texts that it replaces, each exactly once in its file
     edits.py --cost [LOG]    tries none: what the edits of each crate cost 'rt ci', by the seconds that rt printed
 
 The crates are proved already ('rt check'). A crate with several edits is first checked as it is, and each edit then
@@ -239,6 +240,20 @@ def cost(log):
     return 0
 
 
+def texts():
+    """Tells the edits whose texts have gone, which rt would tell late."""
+    names, bad = all_edits(), 0
+    for name in names:
+        crate, edit = name.split("/")
+        try:
+            edited(f"crates/{crate}", f"crates/{crate}/must-fail/{edit}.edit")
+        except BadEdit as why:
+            bad += 1
+            print(f"{name}: BAD EDIT: {why}")
+    print(f"{len(names) - bad} passed, {bad} failed")
+    return 1 if bad else 0
+
+
 def stop(*_):
     sys.exit("edits.py: stopped")
 
@@ -247,6 +262,8 @@ def main():
     os.chdir(ROOT)
     if sys.argv[1:2] == ["--cost"] and len(sys.argv) < 4:
         return cost((sys.argv[2:] or [None])[0])
+    if sys.argv[1:] == ["--texts"]:
+        return texts()
     if any(w.startswith("-") for w in sys.argv[1:]):
         print(__doc__.strip(), file=sys.stderr)
         return 2

@@ -17,6 +17,9 @@ printf 'file: src/lib.rt\nold:     7\nnew:     7 + 0\n' > "$tiny/crates/first/mu
 nl=$'\n'
 told='proved first \(1 of 1, .*refused first/eight \(edit 1 of 2, .*first/same: NOT REFUSED.*'
 expect 'an edit that is not refused' 1 "$told${nl}2 passed, 1 failed" '' "$tiny/scripts/progress.py" rt ci
+printf 'file: src/lib.rt\nold: no such text\nnew:     8\n' > "$tiny/crates/first/must-fail/same.edit"
+gone="first/same: BAD EDIT: an 'old:' text stands 0 times in src/lib.rt"
+expect 'an edit whose text has gone' 1 "$gone${nl}1 passed, 1 failed" '' "$tiny/scripts/edits.py" --texts
 rm "$tiny/crates/first/must-fail/same.edit"
 expect 'the cost of one edit' 0 'crate .*first +[0-9]+ +1 .*rt ci, 2 at a time: .* of 1 edits, .*' '' \
     "$tiny/scripts/edits.py" --cost

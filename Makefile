@@ -32,6 +32,7 @@ help:
 
 # Of the example sitting one program is as expected and four are not: status 1 is what it ends with.
 run: build/xm23
+	@rm -rf build/sitting
 	@cd examples/sitting && ../../build/xm23 mark -o ../../build/sitting sum.paper programs/* || [ $$? -eq 1 ]
 	@echo 'build/sitting/index.html     the table, for a browser: a page for each program'
 	@echo 'build/sitting/results.csv    the same, for a spreadsheet'

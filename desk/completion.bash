@@ -9,7 +9,7 @@ _xm23() {
     fi
     case ${COMP_WORDS[1]} in
         run) options='-l --help' ;;
-        mark) options='-j -o -0 --help' ;;
+        mark) options='-j -o -0 -L --help' ;;
         back) options='-n -w --help' ;;
         asm) options='-l -o -s --help' ;;
         report | dis | card) options='-o --help' ;;

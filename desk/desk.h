@@ -49,28 +49,21 @@ void say_of(const char *name, uint32_t line, const char *word, size_t length, co
 
 /* ---- file.c */
 
-#define MOST_TEXT ((size_t)16 << 20) /* bytes of a file that is read */
+#define MOST_TEXT ((size_t)16 << 20)   /* bytes of a file that is read */
+#define MOST_PROGRAM ((size_t)1 << 20) /* of a program of a sitting: 65,536 S1 lines of one byte, CR LF, have room */
 
-/* All bytes of a file, 0 behind them, or NULL with the reason in `why`. `regular`: no folder, pipe or device. */
-char *read_file(const char *name, int regular, size_t *length, struct text *why);
+/* What is read: anything but a folder; regular files that no link names; regular files. Nothing else is opened. */
+enum reading { ANY_FILE, REGULAR_FILE, LINKED_FILE };
 
-/* The first bytes of a regular file, at most `room` less one, and a 0; 0 where there are none. */
-int read_start(const char *name, char *bytes, size_t room);
+/* All bytes of a file, 0 behind them, or NULL with the reason in `why`; one by its name in an open folder. */
+char *read_file(const char *name, enum reading kind, size_t most, size_t *length, struct text *why);
+char *read_file_at(int folder, const char *name, enum reading kind, size_t most, size_t *length, struct text *why);
+
+/* Writes all of a text to an open file. 0 with errno. */
+int write_all(int file, const struct text *t);
 
 /* Puts a file in its place whole, or leaves what was there; the reason is told. `-` is standard output. */
 int write_file(const char *name, const struct text *t);
-
-/* The same part by part: close_output tells the first reason, and puts the file in its place where there is none. */
-struct output {
-    const char *name;
-    struct text beside;
-    int file, problem;
-};
-
-void open_output(struct output *o, const char *name);
-void put_output(struct output *o, const struct text *t);
-int close_output(struct output *o);
-int drop_output(struct output *o); /* leaves what was there; UNREADABLE */
 
 /* ---- same.c: whether `to` is the file `from`, by whatever path or link, which is then told. */
 
@@ -167,8 +160,8 @@ struct program {
     size_t length;
 };
 
-/* Reads a program; `regular` as for read_file. 0 with the reason in `why`. */
-int read_program(const char *name, int regular, struct program *p, struct text *why);
+/* Reads a program, of a sitting where it is not ANY_FILE. 0 with the reason in `why`. */
+int read_program(const char *name, enum reading kind, struct program *p, struct text *why);
 int take_program(const char *name, struct program *p); /* DONE, or UNREADABLE, which has been told */
 void drop_program(struct program *p);
 
@@ -264,10 +257,11 @@ void add_left(struct text *t, const struct step *s); /* registers and bytes that
 
 #define SHA256_TEXT 65
 
-/* The digest as 64 digits. 0 where the library fails. */
+/* The digest as 64 digits. 0 where the library fails; of an open file also where it cannot be read. */
 int sha256(const void *bytes, size_t length, char *digits);
+int sha256_file(int file, char *digits);
 
-/* ---- row.c, page.c, results.c, mark.c: a sitting */
+/* ---- row.c, marking.c, page.c: a sitting; folder.h and workers.h have what only mark needs */
 
 #define MOST_SCREEN 8192 /* bytes of screen text that are kept of one program */
 
@@ -276,24 +270,26 @@ struct row {
     const char *name;
     struct text line, says, screen; /* line: empty where it could not be read; says: why it has no closing state */
     char digest[SHA256_TEXT];       /* of the program; empty where it could not be read */
+    char page[SHA256_TEXT];         /* of its page, where mark has written it */
     uint32_t steps, deepest;
-    int agrees; /* 1 yes, 0 no, -1 no line was expected */
+    int agrees;  /* 1 yes, 0 no, -1 no line was expected */
+    int problem; /* errno where its page could not be written; UNMARKED */
 };
+
+enum { UNMARKED = -1 }; /* what could not be marked has a row and a page that say so */
 
 struct sitting {
     struct paper *paper;
     char paper_digest[SHA256_TEXT];
-    const char *folder;
     char **names;
     size_t many;
     unsigned workers;
-    int fresh; /* pages that are there are not taken over */
+    int links; /* links are followed */
 };
 
 void drop_row(struct row *r);
-void add_row(struct text *t, const struct sitting *s, const struct row *r);           /* in one line, for a page */
-int take_row(const char *line, const struct sitting *s, size_t i, struct row *r);     /* 0: it is of another */
-int row_of_page(const struct sitting *s, size_t i, struct row *r);                    /* 0: there is no such page */
+void pack_row(struct text *t, size_t number, const struct row *r);
+int unpack_row(const char *bytes, size_t length, size_t number, struct row *r); /* 0: they are no row of this number */
 
 /* One program of a sitting, run. `before` and `after` are there where it ran. */
 struct marked {
@@ -306,8 +302,10 @@ struct marked {
     int ran;
 };
 
-/* Runs a program, or tells in its row why it has no closing state. 0 where that could not be done. */
-int mark_program(const struct sitting *s, const char *name, int regular, struct marked *m);
+/* Runs a program, or tells in its row why it has no closing state. 0 where that could not be done. What `m` held
+ * before counts for nothing. */
+int mark_program(const struct sitting *s, const char *name, enum reading kind, struct marked *m);
+void leave_unmarked(const struct sitting *s, const char *name, const char *why, struct marked *m); /* its row says so */
 void drop_marked(struct marked *m);
 
 void add_page_path(struct text *t, const struct sitting *s, size_t i); /* below the folder */
@@ -315,7 +313,6 @@ void add_page_head(struct text *t, const char *title);
 void open_table(struct text *t, const char *heads); /* names of columns, a bar between two */
 void close_table(struct text *t);
 void add_page(struct text *t, const struct sitting *s, const struct marked *m);
-int write_results(const struct sitting *s);
 
 /* The walk on a page: tables that are there without scripts, and the data with the script that walks through it. */
 void add_walk_tables(struct text *t, const struct walk *w, const struct machine *after);

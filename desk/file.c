@@ -8,27 +8,44 @@
 
 #include "desk.h"
 
-/* Opened without waiting for the other end of a pipe where only regular files are read. */
-static int open_file(const char *name, int regular, struct text *why)
+/* ---- reading */
+
+/* What stands against reading it, or NULL. */
+static const char *wrong_kind(const struct stat *is, enum reading kind)
 {
+    if (S_ISDIR(is->st_mode))
+        return "is a folder";
+    if (S_ISLNK(is->st_mode))
+        return "is a link";
+    return kind != ANY_FILE && !S_ISREG(is->st_mode) ? "is no regular file" : NULL;
+}
+
+/* Where only regular files are read, nothing else is opened; should a name change its meaning meanwhile, nobody waits
+ * for the other end of a pipe. */
+static int open_file(int folder, const char *name, enum reading kind, struct text *why)
+{
+    int follow = kind == REGULAR_FILE ? AT_SYMLINK_NOFOLLOW : 0, file = -1, good;
+    int how = O_RDONLY | O_CLOEXEC | (kind == ANY_FILE ? 0 : O_NONBLOCK) | (follow ? O_NOFOLLOW : 0);
+    const char *wrong = NULL;
     struct stat is;
-    int file = open(name, O_RDONLY | O_CLOEXEC | (regular ? O_NONBLOCK : 0));
-    if (file < 0 || fstat(file, &is) != 0) {
-        add(why, "%s", strerror(errno));
-    } else if (S_ISDIR(is.st_mode)) {
-        add(why, "is a folder");
-    } else if (regular && !S_ISREG(is.st_mode)) {
-        add(why, "is no regular file");
-    } else {
-        return file;
+    good = fstatat(folder, name, &is, follow) == 0;
+    if (good)
+        wrong = wrong_kind(&is, kind);
+    if (good && !wrong) {
+        file = openat(folder, name, how);
+        good = file >= 0 && fstat(file, &is) == 0;
+        wrong = good ? wrong_kind(&is, kind) : NULL;
     }
+    if (good && !wrong)
+        return file;
+    add(why, "%s", wrong ? wrong : strerror(errno));
     if (file >= 0)
         close(file);
     return -1;
 }
 
-/* Reads to the end, or one byte more than is allowed. */
-static int read_all(int file, struct text *t)
+/* Reads to the end, or one byte more than is allowed at least. */
+static int read_all(int file, size_t most, struct text *t)
 {
     char part[65536];
     ssize_t many;
@@ -36,21 +53,21 @@ static int read_all(int file, struct text *t)
         many = read(file, part, sizeof part);
         if (many > 0)
             add_bytes(t, part, (size_t)many);
-    } while ((many > 0 || (many < 0 && errno == EINTR)) && t->length <= MOST_TEXT);
-    return many >= 0 || t->length > MOST_TEXT;
+    } while ((many > 0 || (many < 0 && errno == EINTR)) && t->length <= most);
+    return many >= 0 || t->length > most;
 }
 
-char *read_file(const char *name, int regular, size_t *length, struct text *why)
+char *read_file_at(int folder, const char *name, enum reading kind, size_t most, size_t *length, struct text *why)
 {
     struct text t = {0};
-    int file = open_file(name, regular, why);
+    int file = open_file(folder, name, kind, why);
     if (file < 0)
         return NULL;
     add_bytes(&t, "", 0);
-    if (!read_all(file, &t))
+    if (!read_all(file, most, &t))
         add(why, "%s", strerror(errno));
-    else if (t.length > MOST_TEXT)
-        add(why, "is longer than %lu bytes", (unsigned long)MOST_TEXT);
+    else if (t.length > most)
+        add(why, "is longer than %lu bytes", (unsigned long)most);
     close(file);
     if (why->length) {
         drop(&t);
@@ -60,23 +77,14 @@ char *read_file(const char *name, int regular, size_t *length, struct text *why)
     return t.at;
 }
 
-int read_start(const char *name, char *bytes, size_t room)
+char *read_file(const char *name, enum reading kind, size_t most, size_t *length, struct text *why)
 {
-    struct text why = {0};
-    int file = open_file(name, 1, &why);
-    ssize_t many = -1;
-    if (file >= 0) {
-        many = read(file, bytes, room - 1);
-        close(file);
-    }
-    bytes[many > 0 ? many : 0] = 0;
-    drop(&why);
-    return many > 0;
+    return read_file_at(AT_FDCWD, name, kind, most, length, why);
 }
 
 /* ---- writing */
 
-static int write_all(int file, const struct text *t)
+int write_all(int file, const struct text *t)
 {
     size_t done = 0;
     while (done < t->length) {
@@ -95,56 +103,61 @@ static int no_regular(const char *name)
     return stat(name, &is) == 0 && !S_ISREG(is.st_mode) && !S_ISDIR(is.st_mode);
 }
 
-void open_output(struct output *o, const char *name)
+/* A new file beside the place of `name`: one that is there, or a link, is passed over. */
+static int make_part(const char *name, struct text *part)
 {
-    memset(o, 0, sizeof *o);
-    o->name = name;
-    if (strcmp(name, "-") == 0) {
-        o->file = STDOUT_FILENO;
-    } else if (no_regular(name)) {
-        o->file = open(name, O_WRONLY | O_CLOEXEC);
-    } else {
-        add(&o->beside, "%s.part", name);
-        o->file = open(o->beside.at, O_WRONLY | O_CREAT | O_TRUNC | O_CLOEXEC, 0666);
+    int file = -1;
+    errno = EEXIST;
+    for (unsigned i = 0; i < 1000 && file < 0 && errno == EEXIST; i++) {
+        part->length = 0;
+        add(part, "%s.part-%ld-%u", name, (long)getpid(), i);
+        file = open(part->at, O_WRONLY | O_CREAT | O_EXCL | O_NOFOLLOW | O_CLOEXEC, 0666);
     }
-    o->problem = o->file < 0 ? errno : 0;
+    return file;
 }
 
-void put_output(struct output *o, const struct text *t)
+/* Nothing is put in place of what was there unless all of it could be written, and is on the disk. */
+static int write_beside(const char *name, const struct text *t)
 {
-    if (!o->problem && !write_all(o->file, t))
-        o->problem = errno;
-}
-
-/* Nothing is put in place of what was there unless all of it could be written. */
-int close_output(struct output *o)
-{
-    if (o->file >= 0 && o->file != STDOUT_FILENO && close(o->file) != 0 && !o->problem)
-        o->problem = errno;
-    if (!o->problem && o->beside.length && rename(o->beside.at, o->name) != 0)
-        o->problem = errno;
-    if (o->problem && o->file >= 0 && o->beside.length)
-        unlink(o->beside.at);
-    if (o->problem)
-        say_at(strcmp(o->name, "-") ? o->name : "standard output", 0, "cannot be written: %s", strerror(o->problem));
-    drop(&o->beside);
-    return o->problem ? UNREADABLE : DONE;
-}
-
-int drop_output(struct output *o)
-{
-    if (o->file >= 0 && o->beside.length) {
-        close(o->file);
-        unlink(o->beside.at);
+    struct text part = {0};
+    int file = make_part(name, &part), problem = 0;
+    if (file < 0) {
+        problem = errno;
+        drop(&part);
+        return problem;
     }
-    drop(&o->beside);
-    return UNREADABLE;
+    if (!write_all(file, t) || (fsync(file) != 0 && errno != EINVAL))
+        problem = errno;
+    if (close(file) != 0 && !problem)
+        problem = errno;
+    if (!problem && rename(part.at, name) != 0)
+        problem = errno;
+    if (problem)
+        unlink(part.at);
+    drop(&part);
+    return problem;
+}
+
+static int write_through(const char *name, const struct text *t)
+{
+    int file = open(name, O_WRONLY | O_CLOEXEC), problem = 0;
+    if (file < 0)
+        return errno;
+    if (!write_all(file, t))
+        problem = errno;
+    if (close(file) != 0 && !problem)
+        problem = errno;
+    return problem;
 }
 
 int write_file(const char *name, const struct text *t)
 {
-    struct output o;
-    open_output(&o, name);
-    put_output(&o, t);
-    return close_output(&o);
+    int output = strcmp(name, "-") == 0, problem;
+    if (output)
+        problem = write_all(STDOUT_FILENO, t) ? 0 : errno;
+    else
+        problem = no_regular(name) ? write_through(name, t) : write_beside(name, t);
+    if (problem)
+        say_at(output ? "standard output" : name, 0, "cannot be written: %s", strerror(problem));
+    return problem ? UNREADABLE : DONE;
 }

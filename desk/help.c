@@ -15,23 +15,32 @@ const struct subcommand subcommands[] = {
      "\n"
      "Status 1: PROGRAM is refused, PAPER has a mistake, or another line was expected.\n",
      xm23_desk_run},
-    {"mark", "xm23 mark [-j N] [-o DIR] PAPER PROGRAM.. | xm23 mark [-j N] [-o DIR] -0 PAPER",
+    {"mark", "xm23 mark [-L] [-j N] [-o DIR] PAPER PROGRAM.. | xm23 mark [-L] [-j N] [-o DIR] -0 PAPER",
      "run every program of a sitting and write results and pages",
-     "Runs each PROGRAM under PAPER, and writes into DIR\n"
+     "Runs each PROGRAM under PAPER, and writes the folder DIR\n"
      "  results.csv      a row for each: name, line or refusal, what is wrong, steps, depth, screen text, agreement\n"
      "                   with the expected line, SHA-256 of program and paper\n"
      "  index.html       the same as a table, with a link to each page\n"
      "  pages/           a page for each program\n"
-     "Programs are S-records, or sources where their names end in .asm; one that cannot be read or loaded is a row.\n"
-     "A marking that was interrupted goes on where it stopped\n"
-     "when the same command is given again; a finished one is done anew. The same files give the same bytes.\n"
+     "  SHA256SUMS       digests of all these files: sha256sum -c SHA256SUMS\n"
+     "Programs are S-records, or sources where their names end in .asm; one that cannot be read or loaded is a row,\n"
+     "and so is a folder, a link, a pipe or a device, which is not opened. Everything behind PAPER is a name.\n"
      "\n"
+     "A program may have 1 MiB, and may take 10 seconds of processor time and 512 MiB of memory. What passes that is\n"
+     "a row that says so, and the others are marked.\n"
+     "\n"
+     "DIR is written beside its place, and put there when it is whole. An earlier marking is then removed; nothing is\n"
+     "taken over from it. Any other folder that is there, or an earlier marking that somebody changed, is left alone.\n"
+     "Stopped in the middle, what was there is as it was: give the same command again. The same files give the same\n"
+     "bytes.\n"
+     "\n"
+     "  -L       follow links\n"
      "  -j N     so many at a time, 1 to 64 (the number of processors)\n"
      "  -o DIR   where the results go (marks)\n"
      "  -0       the names of the programs from standard input, a zero byte behind each: find .. -print0\n"
      "\n"
-     "Status 0: every program ran, and closed as expected where a line is. 1: some did not. 3: the marking is not\n"
-     "whole, or PAPER cannot be read.\n",
+     "Status 0: every program ran, and closed as expected where a line is. 1: some did not, or PAPER has a mistake.\n"
+     "3: a program could not be marked, as its row says; or PAPER cannot be read, or DIR cannot be written.\n",
      xm23_desk_mark},
     {"report", "xm23 report [-o PAGE] PAPER PROGRAM", "write the page of one run, with its last steps to walk through",
      "Runs PROGRAM under PAPER and writes a page of HTML: the line, the closing state beside the expected one, the\n"

@@ -37,18 +37,16 @@ static int version(void)
     return print_text(&t);
 }
 
-/* Whether --help stands among the words, before any `--`. */
+/* Whether --help stands directly behind the subcommand. Anywhere else it may be the name of a file. */
 static int asks_help(int argc, char **argv)
 {
-    for (int i = 1; i < argc && strcmp(argv[i], "--") != 0; i++)
-        if (strcmp(argv[i], "--help") == 0)
-            return 1;
-    return 0;
+    return argc > 1 && strcmp(argv[1], "--help") == 0;
 }
 
 int main(int argc, char **argv)
 {
     signal(SIGPIPE, SIG_IGN);
+    signal(SIGXFSZ, SIG_IGN); /* a file that may not grow is told, as a full disk is */
     if (argc > 1 && strcmp(argv[1], "--help") == 0)
         return help();
     if (argc > 1 && strcmp(argv[1], "--version") == 0)

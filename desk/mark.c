@@ -1,185 +1,67 @@
-/* xm23 mark: every program of a sitting under one paper, by worker processes. */
-#include <errno.h>
-#include <fcntl.h>
+/* xm23 mark: every program of a sitting under one paper. */
+#include <signal.h>
 #include <stdlib.h>
 #include <string.h>
-#include <sys/file.h>
-#include <sys/stat.h>
-#include <sys/wait.h>
 #include <unistd.h>
 
-#include "desk.h"
+#include "workers.h"
 
-/* ---- one program */
+/* ---- the marking */
 
-/* The page of a program is written anew, whatever its file is. */
-static int mark_one(const struct sitting *s, size_t i)
+/* Fills the new folder. DONE where it is whole. */
+static int fill_folder(const struct sitting *s, const struct folder *f, int *verdict)
 {
-    static struct marked m;
-    struct text path = {0}, page = {0};
-    int status = UNREADABLE;
-    if (mark_program(s, s->names[i], 1, &m)) {
-        add(&path, "%s/", s->folder);
-        add_page_path(&path, s, i);
-        add_page(&page, s, &m);
-        status = write_file(path.at, &page);
-    }
-    drop_marked(&m);
-    drop(&path);
-    drop(&page);
+    struct rows rows;
+    int problem = open_rows(&rows, f, s->many), status = UNREADABLE;
+    if (problem)
+        say_at(f->name, 0, "cannot be written: %s", strerror(problem));
+    else
+        status = mark_all(s, f, &rows);
+    if (status == DONE)
+        status = write_results(s, f, &rows, verdict);
+    drop_rows(&rows);
     return status;
 }
 
-/* Whether an interrupted marking has the page already, of the same bytes. */
-static int marked(const struct sitting *s, size_t i)
+/* Nothing is left of a marking that is stopped, and it ends as the signal would have ended it. */
+static int end_stopped(const char *folder)
 {
-    struct row r;
-    struct text why = {0};
-    char digest[SHA256_TEXT] = "", *bytes;
-    size_t length = 0;
-    int same = 0;
-    if (s->fresh || !row_of_page(s, i, &r))
-        return 0;
-    bytes = read_file(s->names[i], 1, &length, &why);
-    if (bytes && sha256(bytes, length, digest))
-        same = strcmp(digest, r.digest) == 0;
-    free(bytes);
-    drop(&why);
-    drop_row(&r);
-    return same;
+    say_at(folder, 0, "the marking was stopped; what was there is as it was");
+    signal(stop_signal(), SIG_DFL);
+    raise(stop_signal());
+    return UNREADABLE;
 }
 
-/* ---- workers */
-
-/* Every so many-th program. A byte goes to the parent for each; a parent that is gone ends it. */
-static int work(const struct sitting *s, size_t first, int tell)
+static int mark_into(const struct sitting *s, const char *folder)
 {
-    for (size_t i = first; i < s->many; i += s->workers)
-        if ((!marked(s, i) && mark_one(s, i) != DONE) || write(tell, "", 1) != 1)
-            return UNREADABLE;
-    return DONE;
-}
-
-static void show_progress(size_t done, size_t many)
-{
-    char bar[41];
-    size_t full = many ? 40 * done / many : 40;
-    for (size_t i = 0; i < 40; i++)
-        bar[i] = i < full ? '#' : '.';
-    bar[40] = 0;
-    fprintf(stderr, "\rmarking [%s] %lu of %lu", bar, (unsigned long)done, (unsigned long)many);
-    fflush(stderr);
-}
-
-/* Reads the workers' bytes until all are gone. */
-static void follow(const struct sitting *s, int hear)
-{
-    int terminal = isatty(STDERR_FILENO);
-    char part[512];
-    size_t done = 0;
-    ssize_t many = 1;
-    while (many != 0) {
-        if (terminal)
-            show_progress(done, s->many);
-        many = read(hear, part, sizeof part);
-        if (many < 0 && errno != EINTR)
-            break;
-        done += many > 0 ? (size_t)many : 0;
-    }
-    if (terminal)
-        fputc('\n', stderr);
-}
-
-static int wait_for(unsigned many)
-{
-    int status = DONE, how;
-    while (many--) {
-        pid_t who;
-        do
-            who = wait(&how);
-        while (who < 0 && errno == EINTR);
-        if (who < 0 || !WIFEXITED(how) || WEXITSTATUS(how) != DONE)
-            status = UNREADABLE;
-    }
-    return status;
-}
-
-static int mark_all(const struct sitting *s)
-{
-    int ends[2], status = DONE;
-    unsigned many = 0;
-    if (pipe(ends) != 0) {
-        say("no pipe: %s", strerror(errno));
-        return UNREADABLE;
-    }
-    for (unsigned w = 0; w < s->workers && status == DONE; w++) {
-        pid_t who = fork();
-        if (who == 0) {
-            close(ends[0]);
-            _exit(work(s, w, ends[1]));
-        }
-        many += who > 0;
-        if (who < 0) {
-            say("no worker: %s", strerror(errno));
-            status = UNREADABLE;
-        }
-    }
-    close(ends[1]);
-    follow(s, ends[0]);
-    close(ends[0]);
-    if (wait_for(many) != DONE)
-        status = UNREADABLE;
+    struct folder f;
+    int verdict = DONE, status;
+    signal(SIGCHLD, SIG_DFL);
+    notice_stop();
+    status = open_folder(&f, folder);
     if (status != DONE)
-        say("the marking is not whole; the same command goes on where it stopped");
-    return status;
-}
-
-/* ---- the folder */
-
-static int make_folder(const char *name)
-{
-    if (mkdir(name, 0777) == 0 || errno == EEXIST)
-        return DONE;
-    say_at(name, 0, "cannot be made: %s", strerror(errno));
-    return UNREADABLE;
-}
-
-/* One marking at a time: the lock goes with the last of its workers. */
-static int lock_folder(const struct sitting *s)
-{
-    struct text path = {0};
-    int file;
-    add(&path, "%s/.lock", s->folder);
-    file = open(path.at, O_RDWR | O_CREAT | O_CLOEXEC, 0666);
-    drop(&path);
-    if (file >= 0 && flock(file, LOCK_EX | LOCK_NB) == 0)
-        return DONE;
-    say_at(s->folder, 0, file < 0 ? "cannot be written: %s" : "another marking is at work there (%s)", strerror(errno));
-    return UNREADABLE;
-}
-
-/* Results of before are taken away first: a folder with results.csv holds a whole marking. */
-static int open_folder(struct sitting *s)
-{
-    static const char *const results[] = {"results.csv", "index.html"};
-    struct text path = {0};
-    int status = make_folder(s->folder);
-    add(&path, "%s/pages", s->folder);
-    if (status == DONE)
-        status = make_folder(path.at);
-    if (status == DONE)
-        status = lock_folder(s);
-    for (unsigned i = 0; i < 2 && status == DONE; i++) {
-        drop(&path);
-        add(&path, "%s/%s", s->folder, results[i]);
-        if (unlink(path.at) == 0) {
-            s->fresh = 1;
-        } else if (errno != ENOENT) {
-            say_at(path.at, 0, "cannot be removed: %s", strerror(errno));
-            status = UNREADABLE;
-        }
+        return status;
+    status = fill_folder(s, &f, &verdict);
+    if (status == DONE && !stop_signal()) {
+        status = place_folder(&f);
+        return status == DONE ? verdict : status;
     }
-    drop(&path);
+    leave_folder(&f);
+    if (stop_signal())
+        return end_stopped(folder);
+    say_at(folder, 0, "the marking is not whole; what was there is as it was");
+    return UNREADABLE;
+}
+
+static int mark_paper(struct sitting *s, const char *name, const char *folder)
+{
+    static struct paper p;
+    int status = read_paper(name, &p);
+    if (status != DONE)
+        return status;
+    s->paper = &p;
+    status = sha256(p.bytes, p.length, s->paper_digest) ? mark_into(s, folder) : UNREADABLE;
+    drop_paper(&p);
     return status;
 }
 
@@ -190,54 +72,58 @@ static int names_from_input(struct sitting *s)
 {
     char *name = NULL;
     size_t room = 0, places = 0;
-    while (getdelim(&name, &room, 0, stdin) > 0) {
+    ssize_t length;
+    while ((length = getdelim(&name, &room, 0, stdin)) > 0) {
         if (s->many == places)
             s->names = (char **)room_for(s->names, (places = 2 * places + 64) * sizeof *s->names);
-        s->names[s->many++] = name;
-        name = NULL;
-        room = 0;
+        s->names[s->many] = (char *)room_for(NULL, (size_t)length + 1);
+        memcpy(s->names[s->many++], name, (size_t)length + 1);
     }
     free(name);
     if (ferror(stdin))
         say("standard input cannot be read");
-    return ferror(stdin) ? UNREADABLE : DONE;
+    else if (!s->many)
+        say("standard input names no program");
+    return ferror(stdin) ? UNREADABLE : s->many ? DONE : USAGE;
 }
 
-static int mark_paper(struct sitting *s, const char *name)
+static void drop_names(struct sitting *s)
 {
-    static struct paper p;
-    int status = read_paper(name, &p);
-    if (status != DONE)
-        return status;
-    s->paper = &p;
-    status = sha256(p.bytes, p.length, s->paper_digest) ? open_folder(s) : UNREADABLE;
-    if (status == DONE)
-        status = mark_all(s);
-    if (status == DONE)
-        status = write_results(s);
-    drop_paper(&p);
-    return status;
+    for (size_t i = 0; i < s->many; i++)
+        free(s->names[i]);
+    free(s->names);
 }
 
 static unsigned processors(void)
 {
     long many = sysconf(_SC_NPROCESSORS_ONLN);
-    return many < 1 ? 1 : many > 64 ? 64 : (unsigned)many;
+    return many < 1 ? 1 : many > MOST_WORKERS ? MOST_WORKERS : (unsigned)many;
+}
+
+/* 1 to 64, by digits alone; 0 where it is none. */
+static unsigned workers_of(const char *word)
+{
+    unsigned long many = 0;
+    size_t length = strlen(word);
+    if (length && length < 4 && strspn(word, "0123456789") == length)
+        many = strtoul(word, NULL, 10);
+    return many > MOST_WORKERS ? 0 : (unsigned)many;
 }
 
 int xm23_desk_mark(int argc, char **argv)
 {
-    struct sitting s = {NULL, "", "marks", NULL, 0, processors(), 0};
+    struct sitting s = {NULL, "", NULL, 0, processors(), 0};
+    const char *folder = "marks";
     int option, listed = 0, status = DONE;
-    char *end = NULL;
-    while ((option = getopt(argc, argv, "+:j:o:0")) != -1) {
+    while ((option = getopt(argc, argv, "+:j:o:0L")) != -1) {
         if (option == 'j')
-            s.workers = (unsigned)strtoul(optarg, &end, 10);
+            s.workers = workers_of(optarg);
         else if (option == 'o')
-            s.folder = optarg;
-        else if (option == '0')
-            listed = 1;
-        if (option == ':' || option == '?' || (option == 'j' && (*end || s.workers < 1 || s.workers > 64)))
+            folder = optarg;
+        else if (option == 'L')
+            s.links = 1;
+        listed |= option == '0';
+        if (option == ':' || option == '?' || !s.workers)
             return misused("mark");
     }
     if (listed ? argc - optind != 1 : argc - optind < 2)
@@ -249,10 +135,8 @@ int xm23_desk_mark(int argc, char **argv)
         s.many = (size_t)(argc - optind - 1);
     }
     if (status == DONE)
-        status = mark_paper(&s, argv[optind]);
-    for (size_t i = 0; listed && i < s.many; i++)
-        free(s.names[i]);
+        status = mark_paper(&s, argv[optind], folder);
     if (listed)
-        free(s.names);
+        drop_names(&s);
     return status;
 }

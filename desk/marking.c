@@ -33,25 +33,37 @@ static void run_marked(const struct sitting *s, struct marked *m)
     drop(&f.why);
 }
 
-int mark_program(const struct sitting *s, const char *name, int regular, struct marked *m)
+/* Nothing of an earlier program stays. */
+static struct row *new_row(const char *name, struct marked *m)
 {
     struct row *r = &m->row;
-    int good = 1;
-    memset(r, 0, sizeof *r);
-    memset(&m->o, 0, sizeof m->o);
-    memset(&m->screen, 0, sizeof m->screen);
-    m->ran = 0;
+    memset(m, 0, sizeof *m);
     r->name = name;
     add_bytes(&r->line, "", 0);
     add_bytes(&r->says, "", 0);
     add_bytes(&r->screen, "", 0);
-    if (read_program(name, regular, &m->program, &r->says)) {
+    return r;
+}
+
+int mark_program(const struct sitting *s, const char *name, enum reading kind, struct marked *m)
+{
+    struct row *r = new_row(name, m);
+    int good = 1;
+    if (read_program(name, kind, &m->program, &r->says)) {
         good = sha256(m->program.bytes, m->program.length, r->digest);
         if (good)
             run_marked(s, m);
     }
     r->agrees = as_expected(s->paper, r->line.at);
     return good;
+}
+
+void leave_unmarked(const struct sitting *s, const char *name, const char *why, struct marked *m)
+{
+    struct row *r = new_row(name, m);
+    add(&r->says, "could not be marked: %s", why);
+    r->agrees = s->paper->expected ? 0 : -1;
+    r->problem = UNMARKED;
 }
 
 void drop_marked(struct marked *m)

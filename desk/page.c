@@ -235,7 +235,7 @@ static void add_state(struct text *t, const struct sitting *s, const struct mark
 static void add_rows(struct text *t, const struct sitting *s, const struct marked *m, unsigned most)
 {
     const struct row *r = &m->row;
-    add_row(t, s, r);
+    add(t, "<!DOCTYPE html>\n");
     add_heading(t, s, r);
     if (m->screen.length)
         add_screen(t, &m->screen);

@@ -144,7 +144,7 @@ int read_paper(const char *name, struct paper *p)
 {
     struct text why = {0};
     size_t length = 0;
-    char *bytes = read_file(name, 0, &length, &why);
+    char *bytes = read_file(name, ANY_FILE, MOST_TEXT, &length, &why);
     if (bytes)
         return take_paper(name, bytes, length, p);
     say_at(name, 0, "%s", why.at);

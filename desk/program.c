@@ -4,17 +4,17 @@
 
 #include "desk.h"
 
-int read_program(const char *name, int regular, struct program *p, struct text *why)
+int read_program(const char *name, enum reading kind, struct program *p, struct text *why)
 {
     p->name = name;
-    p->bytes = read_file(name, regular, &p->length, why);
+    p->bytes = read_file(name, kind, kind == ANY_FILE ? MOST_TEXT : MOST_PROGRAM, &p->length, why);
     return p->bytes != NULL;
 }
 
 int take_program(const char *name, struct program *p)
 {
     struct text why = {0};
-    int status = read_program(name, 0, p, &why) ? DONE : UNREADABLE;
+    int status = read_program(name, ANY_FILE, p, &why) ? DONE : UNREADABLE;
     if (status != DONE)
         say_at(name, 0, "%s", why.at);
     drop(&why);

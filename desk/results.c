@@ -1,11 +1,15 @@
-/* results.csv and index.html of a sitting, made of the rows that its pages have. */
+/* results.csv, index.html and SHA256SUMS of a sitting, made of the rows that its workers told. */
+#include <errno.h>
 #include <string.h>
+#include <unistd.h>
 
-#include "desk.h"
+#include "workers.h"
 
-/* How many agree, differ, and have no closing state. */
+#define MOST_KEPT 65536 /* bytes that are kept before they are written */
+
+/* How many agree, differ, have no closing state, and could not be marked. */
 struct tally {
-    size_t agree, differ, without;
+    size_t agree, differ, without, unmarked;
 };
 
 static void add_csv_row(struct text *t, const struct sitting *s, size_t i, const struct row *r)
@@ -21,11 +25,18 @@ static void add_csv_row(struct text *t, const struct sitting *s, size_t i, const
     add(t, ",%s,%s,%s\n", r->agrees < 0 ? "" : r->agrees ? "yes" : "no", r->digest, s->paper_digest);
 }
 
+static void add_sums_row(struct text *t, const struct sitting *s, size_t i, const struct row *r)
+{
+    add(t, "%s  ", r->page);
+    add_page_path(t, s, i);
+    add(t, "\n");
+}
+
 /* What became of a program, in words. */
 static const char *verdict(const struct row *r)
 {
     if (!r->line.length)
-        return "not run";
+        return r->problem == UNMARKED ? "not marked" : "not run";
     if (r->line.at[0] == 'R')
         return r->agrees == 1 ? "refused, as expected" : "refused";
     return r->agrees < 0 ? (r->line.at[0] == '1' ? "halted" : "ran") : r->agrees ? "as expected" : "another line";
@@ -67,7 +78,10 @@ static void add_index_head(struct text *t, const struct sitting *s, const struct
     add(t, "</h1>\n<p id=\"verdict\">%lu program%s", (unsigned long)s->many, s->many == 1 ? "" : "s");
     if (p->expected)
         add(t, ": %lu as expected, %lu not", (unsigned long)all->agree, (unsigned long)all->differ);
-    add(t, "; %lu without a closing state</p>\n", (unsigned long)all->without);
+    add(t, "; %lu without a closing state", (unsigned long)all->without);
+    if (all->unmarked)
+        add(t, "; %lu could not be marked", (unsigned long)all->unmarked);
+    add(t, "</p>\n");
     if (p->expected) {
         add(t, "<p>Expected:</p>\n<pre class=\"line\">");
         add_name(t, p->expected);
@@ -88,72 +102,131 @@ static void add_index_foot(struct text *t, const struct sitting *s)
     add(t, "<script>\n%s</script>\n</body>\n</html>\n", index_js);
 }
 
-/* ---- the files: a page's row at a time, so that a sitting may be as long as it likes */
+/* ---- a file, part by part */
+
+struct sheet {
+    const struct folder *f;
+    const char *path;
+    struct text t;
+    int file, problem;
+};
+
+static void open_sheet(struct sheet *x, const struct folder *f, const char *path)
+{
+    memset(x, 0, sizeof *x);
+    x->f = f;
+    x->path = path;
+    x->file = make_file(f, path);
+    x->problem = x->file < 0 ? errno : 0;
+}
+
+static void flush_sheet(struct sheet *x, size_t most)
+{
+    if (x->t.length <= most)
+        return;
+    if (!x->problem && !write_all(x->file, &x->t))
+        x->problem = errno;
+    x->t.length = 0;
+}
+
+/* DONE, or the status that has been told. */
+static int close_sheet(struct sheet *x)
+{
+    flush_sheet(x, 0);
+    if (x->file >= 0 && close(x->file) != 0 && !x->problem)
+        x->problem = errno;
+    if (x->problem)
+        say_at(x->f->name, 0, "cannot be written: %s: %s", x->path, strerror(x->problem));
+    drop(&x->t);
+    return x->problem ? UNREADABLE : DONE;
+}
+
+/* ---- the files: a row at a time, so that a sitting may be as long as it likes */
 
 typedef void (*add_one)(struct text *t, const struct sitting *s, size_t i, const struct row *r);
 
-static int put_rows(const struct sitting *s, struct output *o, add_one add_it, struct tally *all)
+static void put_rows(const struct sitting *s, const struct rows *rows, struct sheet *x, add_one add_it)
 {
-    for (size_t i = 0; i < s->many && !o->problem; i++) {
-        struct text t = {0};
+    for (size_t i = 0; i < s->many && !x->problem && !stop_signal(); i++) {
         struct row r;
-        if (!row_of_page(s, i, &r)) {
-            say_at(s->names[i], 0, "its page is gone; the same command makes it again");
+        if (get_row(rows, s, i, &r))
+            add_it(&x->t, s, i, &r);
+        else
+            x->problem = EIO;
+        flush_sheet(x, MOST_KEPT);
+        drop_row(&r);
+    }
+}
+
+static int write_csv(const struct sitting *s, const struct folder *f, const struct rows *rows)
+{
+    struct sheet x;
+    open_sheet(&x, f, "results.csv");
+    add(&x.t, "name,line,says,steps,depth,screen,agrees,program_sha256,paper_sha256\n");
+    put_rows(s, rows, &x, add_csv_row);
+    return close_sheet(&x);
+}
+
+static int write_index(const struct sitting *s, const struct folder *f, const struct rows *rows,
+                       const struct tally *all)
+{
+    struct sheet x;
+    open_sheet(&x, f, "index.html");
+    add_index_head(&x.t, s, all);
+    put_rows(s, rows, &x, add_html_row);
+    add_index_foot(&x.t, s);
+    return close_sheet(&x);
+}
+
+static void add_sum(struct sheet *x, const char *path)
+{
+    char digest[SHA256_TEXT] = "";
+    if (!digest_file(x->f->at, path, digest) && !x->problem)
+        x->problem = EIO;
+    add(&x->t, "%s  %s\n", digest, path);
+}
+
+static int write_sums(const struct sitting *s, const struct folder *f, const struct rows *rows)
+{
+    struct sheet x;
+    open_sheet(&x, f, "SHA256SUMS");
+    add_sum(&x, "index.html");
+    put_rows(s, rows, &x, add_sums_row);
+    add_sum(&x, "results.csv");
+    return close_sheet(&x);
+}
+
+static int tally_rows(const struct sitting *s, const struct folder *f, const struct rows *rows, struct tally *all)
+{
+    for (size_t i = 0; i < s->many; i++) {
+        struct row r;
+        if (!get_row(rows, s, i, &r)) {
+            say_at(f->name, 0, "cannot be written: its rows cannot be read again");
+            drop_row(&r);
             return UNREADABLE;
         }
-        add_it(&t, s, i, &r);
-        put_output(o, &t);
         all->agree += r.agrees == 1;
         all->differ += r.agrees == 0;
         all->without += !r.line.length || r.line.at[0] == 'R';
-        drop(&t);
+        all->unmarked += r.problem == UNMARKED;
         drop_row(&r);
     }
     return DONE;
 }
 
-static int put_csv(const struct sitting *s, struct output *o, struct tally *all)
+int write_results(const struct sitting *s, const struct folder *f, const struct rows *rows, int *verdict)
 {
-    struct text head = {0};
-    add(&head, "name,line,says,steps,depth,screen,agrees,program_sha256,paper_sha256\n");
-    put_output(o, &head);
-    drop(&head);
-    return put_rows(s, o, add_csv_row, all);
-}
-
-static int write_index(const struct sitting *s, const struct tally *all)
-{
-    struct text path = {0}, head = {0}, foot = {0};
-    struct tally again = {0, 0, 0};
-    struct output o;
-    int status;
-    add(&path, "%s/index.html", s->folder);
-    add_index_head(&head, s, all);
-    add_index_foot(&foot, s);
-    open_output(&o, path.at);
-    put_output(&o, &head);
-    status = put_rows(s, &o, add_html_row, &again);
-    put_output(&o, &foot);
-    status = status == DONE ? close_output(&o) : drop_output(&o);
-    drop(&path);
-    drop(&head);
-    drop(&foot);
+    struct tally all = {0, 0, 0, 0};
+    int status = tally_rows(s, f, rows, &all);
+    if (status == DONE)
+        status = write_csv(s, f, rows);
+    if (status == DONE)
+        status = write_index(s, f, rows, &all);
+    if (status == DONE)
+        status = write_sums(s, f, rows);
+    *verdict = all.unmarked ? UNREADABLE : all.differ || all.without ? REFUSED : DONE;
+    if (status == DONE && all.unmarked)
+        say_at(f->name, 0, "%lu program%s could not be marked; the rows say why", (unsigned long)all.unmarked,
+               all.unmarked == 1 ? "" : "s");
     return status;
-}
-
-/* results.csv is put in place last: where it is, the marking is whole. */
-int write_results(const struct sitting *s)
-{
-    struct tally all = {0, 0, 0};
-    struct text path = {0};
-    struct output o;
-    int status;
-    add(&path, "%s/results.csv", s->folder);
-    open_output(&o, path.at);
-    status = put_csv(s, &o, &all);
-    if (status == DONE && !o.problem)
-        status = write_index(s, &all);
-    status = status == DONE ? close_output(&o) : drop_output(&o);
-    drop(&path);
-    return status != DONE ? status : all.differ || all.without ? REFUSED : DONE;
 }

@@ -1,14 +1,15 @@
-/*
- * What is told of one program, as a line of its page: by it an interrupted marking knows what it has, and the table is
- * made. Fields are separated by bars; bytes that could be taken for anything else are % and two digits.
- */
-#include <stdlib.h>
+/* A row as bytes: what a worker tells of its program, and what the marking keeps of it until all are there. */
 #include <string.h>
 
 #include "desk.h"
 
-#define MOST_ROW 65536 /* bytes of a row: its screen text is bounded */
-#define MARK "<!DOCTYPE html><!-- row of xm23 "
+struct head {
+    uint64_t number;
+    uint64_t lengths[3]; /* of line, says and screen, which follow */
+    uint32_t steps, deepest;
+    int32_t agrees, problem;
+    char digest[SHA256_TEXT], page[SHA256_TEXT];
+};
 
 void drop_row(struct row *r)
 {
@@ -17,116 +18,56 @@ void drop_row(struct row *r)
     drop(&r->screen);
 }
 
-static void add_coded(struct text *t, const char *bytes, size_t length)
+void pack_row(struct text *t, size_t number, const struct row *r)
 {
-    for (size_t i = 0; i < length; i++) {
-        unsigned char c = (unsigned char)bytes[i];
-        if (c == ' ' || (c >= '0' && c <= '9') || (c >= 'A' && c <= 'Z') || (c >= 'a' && c <= 'z'))
-            add_bytes(t, bytes + i, 1);
-        else
-            add_byte(t, "%", c);
-    }
-    add(t, "|");
+    const struct text *texts[3] = {&r->line, &r->says, &r->screen};
+    struct head h;
+    memset(&h, 0, sizeof h);
+    h.number = number;
+    h.steps = r->steps;
+    h.deepest = r->deepest;
+    h.agrees = r->agrees;
+    h.problem = r->problem;
+    memcpy(h.digest, r->digest, sizeof h.digest);
+    memcpy(h.page, r->page, sizeof h.page);
+    for (unsigned i = 0; i < 3; i++)
+        h.lengths[i] = texts[i]->length;
+    add_bytes(t, &h, sizeof h);
+    for (unsigned i = 0; i < 3; i++)
+        add_bytes(t, texts[i]->length ? texts[i]->at : "", texts[i]->length);
 }
 
-/* What the row is of: the library, the paper and the program's name. */
-static void add_key(struct text *t, const struct sitting *s, const char *name)
+/* A digest, or none, and a 0 behind it. */
+static int is_digest(const char *digits)
 {
-    char digest[SHA256_TEXT] = "";
-    sha256(name, strlen(name), digest);
-    add(t, MARK "%lu|%s|%s|", (unsigned long)xm23_version(), s->paper_digest, digest);
+    size_t length = strnlen(digits, SHA256_TEXT);
+    return (length == 0 || length == SHA256_TEXT - 1) && strspn(digits, "0123456789abcdef") == length;
 }
 
-void add_row(struct text *t, const struct sitting *s, const struct row *r)
+int unpack_row(const char *bytes, size_t length, size_t number, struct row *r)
 {
-    add_key(t, s, r->name);
-    add(t, "%s|%lu|%lu|%d|", r->digest, (unsigned long)r->steps, (unsigned long)r->deepest, r->agrees);
-    add_coded(t, r->line.at, r->line.length);
-    add_coded(t, r->says.at, r->says.length);
-    add_coded(t, r->screen.at, r->screen.length);
-    add(t, " -->\n");
-}
-
-/* The next field, decoded; 0 where the line ends before its bar. */
-static int take_field(const char **at, struct text *t)
-{
-    const char *bar = strchr(*at, '|');
-    drop(t);
-    add_bytes(t, "", 0);
-    if (!bar)
-        return 0;
-    for (; *at < bar; (*at)++) {
-        char digits[3] = {0};
-        unsigned char byte;
-        if (**at != '%' || bar - *at < 3) {
-            add_bytes(t, *at, 1);
-            continue;
-        }
-        memcpy(digits, *at + 1, 2);
-        byte = (unsigned char)strtoul(digits, NULL, 16);
-        add_bytes(t, &byte, 1);
-        *at += 2;
-    }
-    *at = bar + 1;
-    return 1;
-}
-
-static int take_number(const char **at, long *number)
-{
-    struct text t = {0};
-    int good = take_field(at, &t);
-    *number = good ? strtol(t.at, NULL, 10) : 0;
-    drop(&t);
-    return good;
-}
-
-static int take_digest(const char **at, char *digest)
-{
-    struct text t = {0};
-    int good = take_field(at, &t) && (t.length == 0 || t.length == SHA256_TEXT - 1);
-    if (good)
-        memcpy(digest, t.at, t.length + 1);
-    drop(&t);
-    return good;
-}
-
-int take_row(const char *line, const struct sitting *s, size_t i, struct row *r)
-{
-    struct text key = {0};
-    long steps = 0, deepest = 0, agrees = 0;
-    int same;
+    struct text *texts[3] = {&r->line, &r->says, &r->screen};
+    struct head h;
     memset(r, 0, sizeof *r);
-    r->name = s->names[i];
-    add_key(&key, s, r->name);
-    same = strncmp(line, key.at, key.length) == 0;
-    line += same ? key.length : 0;
-    drop(&key);
-    if (!same || !take_digest(&line, r->digest) || !take_number(&line, &steps) || !take_number(&line, &deepest) ||
-        !take_number(&line, &agrees) || !take_field(&line, &r->line) || !take_field(&line, &r->says) ||
-        !take_field(&line, &r->screen) || strcmp(line, " -->\n") != 0)
+    if (length < sizeof h)
         return 0;
-    r->steps = (uint32_t)steps;
-    r->deepest = (uint32_t)deepest;
-    r->agrees = (int)agrees;
-    return 1;
-}
-
-int row_of_page(const struct sitting *s, size_t i, struct row *r)
-{
-    char *start = (char *)room_for(NULL, MOST_ROW), *end;
-    struct text path = {0};
-    int good;
-    memset(r, 0, sizeof *r);
-    add(&path, "%s/", s->folder);
-    add_page_path(&path, s, i);
-    good = read_start(path.at, start, MOST_ROW);
-    end = strchr(start, '\n');
-    if (good && end)
-        end[1] = 0;
-    good = good && end && take_row(start, s, i, r);
-    free(start);
-    drop(&path);
-    if (!good)
-        drop_row(r);
-    return good;
+    memcpy(&h, bytes, sizeof h);
+    bytes += sizeof h;
+    length -= sizeof h;
+    if (h.number != number || h.agrees < -1 || h.agrees > 1 || !is_digest(h.digest) || !is_digest(h.page))
+        return 0;
+    for (unsigned i = 0; i < 3; i++) {
+        if (h.lengths[i] > length)
+            return 0;
+        length -= (size_t)h.lengths[i];
+    }
+    for (unsigned i = 0; i < 3; bytes += h.lengths[i], i++)
+        add_bytes(texts[i], bytes, (size_t)h.lengths[i]);
+    r->steps = h.steps;
+    r->deepest = h.deepest;
+    r->agrees = h.agrees;
+    r->problem = h.problem;
+    memcpy(r->digest, h.digest, sizeof r->digest);
+    memcpy(r->page, h.page, sizeof r->page);
+    return length == 0;
 }

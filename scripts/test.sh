@@ -158,16 +158,19 @@ part 'the program' count_line tests/shell/program.sh
 part 'desk: use and misuse' count_line tests/desk/desk.sh
 part 'desk: papers, texts and pages' count_line tests/desk/texts.sh
 part 'desk: long sources' count_line tests/desk/sources.sh
+part 'desk: marking' count_line tests/desk/marking.sh
 part 'desk program with sanitizers of gcc' count_status desk_checked gcc
 part 'desk: use and misuse, sanitizers of gcc' count_line tests/desk/desk.sh "$build/xm23_gcc"
 part 'desk: papers, texts and pages, sanitizers of gcc' count_line tests/desk/texts.sh "$build/xm23_gcc"
+part 'desk: marking, sanitizers of gcc' count_line tests/desk/marking.sh "$build/xm23_gcc"
 if clang -x c -fsanitize=address,undefined -o /dev/null - <<< 'int main(void) { return 0; }' 2> /dev/null; then
     part 'desk program with sanitizers of clang' count_status desk_checked clang
     part 'desk: use and misuse, sanitizers of clang' count_line tests/desk/desk.sh "$build/xm23_clang"
     part 'desk: papers, texts and pages, sanitizers of clang' count_line tests/desk/texts.sh "$build/xm23_clang"
+    part 'desk: marking, sanitizers of clang' count_line tests/desk/marking.sh "$build/xm23_clang"
 else
     echo '== left out: desk with sanitizers of clang, which are not here (Debian: clang and libclang-rt-14-dev)'
-    parts=$((parts - 3))
+    parts=$((parts - 4))
 fi
 if command -v valgrind > /dev/null; then
     part 'desk under valgrind' count_line tests/desk/valgrind.sh

@@ -1,6 +1,6 @@
 #!/usr/bin/env bash
 # xm23 as people use it and misuse it: desk.sh [PROGRAM], build/xm23 if none is named. Every subcommand, each status,
-# bad papers, programs, names, folders and disks; a marking that is killed and goes on. Pages and results to the byte.
+# bad papers, programs, names, folders and disks. Pages and results to the byte.
 set -u
 cd "$(dirname "$0")/../.."
 . tests/shell/expect.sh
@@ -32,7 +32,7 @@ complete_words() { # WORD..
 same 'subcommands' "$(complete_words xm23 '')" 'run mark report back asm dis stack card --help --version'
 same 'every subcommand is completed' "$("$xm23" --help | sed -n 's/^  \([a-z]*\) .*/\1/p' | tr '\n' ' ')" \
     'run mark report back asm dis stack card '
-same 'options' "$(complete_words xm23 mark -)" '-j -o -0 --help'
+same 'options' "$(complete_words xm23 mark -)" '-j -o -0 -L --help'
 same 'files' "$(complete_words xm23 run examples/sitting/sum)" 'examples/sitting/sum.paper'
 same 'folders' "$(complete_words xm23 mark -o examples/sit)" 'examples/sitting'
 
@@ -353,7 +353,7 @@ same 'its results' "$(cat "$room/marks/results.csv")" "$(cat expected.csv)"
 same 'a page for each' "$(ls "$room/marks/pages" | wc -l)" 5
 same 'links to pages that are there' "$(sed -n 's/.*href="\([^"]*\)".*/\1/p' "$room/marks/index.html" |
     while read -r page; do test -f "$room/marks/$page" && echo yes; done | sort | uniq -c | tr -d ' ')" 5yes
-sum() { (cd "$1" && find . -type f ! -name .lock -exec cksum {} + | sort -k 3); }
+sum() { (cd "$1" && find . -type f -exec cksum {} + | sort -k 3); }
 first=$(sum "$room/marks")
 expect 'mark again' 1 '' '' "$xm23" mark -j 1 -o "$room/marks" sum.paper programs/*
 same 'the same bytes, by one worker too' "$(sum "$room/marks")" "$first"
@@ -452,22 +452,6 @@ if [ -z "$anybody" ] || $anybody "$xm23" --version > /dev/null 2>&1; then
         $anybody "$xm23" run "$room/a b.s19" "$sound"
     chmod 755 "$room/closed"
 fi
-mkdir -p "$room/full/pages"
-ln -s /dev/full "$room/full/pages/000001-sound.s19.html"
-expect 'a full disk' 3 '' '.*cannot be written: No space left.*the marking is not whole.*' \
-    "$xm23" mark -o "$room/full" "$paper" "$sound"
-same 'has no results' "$(ls "$room/full")" pages
-"$xm23" mark -o "$room/plain" "$paper" "$sound"
-for name in index.html results.csv; do
-    mkdir -p "$room/full_$name"
-    ln -s /dev/full "$room/full_$name/$name.part"
-    expect "a disk that is full at $name" 3 '' ".*$name: cannot be written: No space left.*" \
-        "$xm23" mark -o "$room/full_$name" "$paper" "$sound"
-    same 'leaves no results and no part' "$(ls "$room/full_$name" | grep -v index.html)" pages
-    expect 'and goes on' 0 '' '' "$xm23" mark -o "$room/full_$name" "$paper" "$sound"
-    same 'to the same bytes' "$(sum "$room/full_$name")" "$(sum "$room/plain")"
-done
-
 # ---- mark: pages that are as long as a page can be
 python3 - "$room" << 'END'
 import random, sys
@@ -488,35 +472,6 @@ END
 expect 'the longest pages' 1 '' '' "$xm23" mark -o "$room/worst" "$room/worst.paper" "$room/worst.asm" "$long"
 same 'they are as long as they may be' "$(python3 -B tests/desk/pages.py "$room"/worst/pages/*.html)" 'all well-formed'
 
-(exec 9> "$room/bad/.lock"; exec python3 -c 'import fcntl, time
-fcntl.flock(9, fcntl.LOCK_EX)
-print("locked", flush=True)
-time.sleep(60)' > "$room/locked") &
-holder=$!
-while [ ! -s "$room/locked" ]; do sleep 0.01; done
-expect 'two markings in one folder' 3 '' "$room/bad: another marking is at work there .*" \
-    "$xm23" mark -o "$room/bad" "$paper" "$sound"
-kill "$holder" && wait "$holder" 2> /dev/null
-same 'leaves its results' "$(test -e "$room/bad/results.csv" && echo yes)" yes
-
-# ---- mark: killed in the middle, and again
-mkdir "$room/many"
-for i in $(seq -w 300); do cp "$sound" "$room/many/$i.s19"; done
-"$xm23" asm -o "$room/many/001.s19" "${sound%/*}/screen.asm"
-sed 's/^steps.*/steps 1000000/; /^expect/d' "$paper" > "$room/long.paper"
-expect 'a whole marking' 0 '' '' "$xm23" mark -o "$room/whole" "$room/long.paper" "$room"/many/*.s19
-(exec nice -n 19 "$xm23" mark -j 2 -o "$room/killed" "$room/long.paper" "$room"/many/*.s19) 2> /dev/null &
-while [ "$(ls "$room/killed/pages" 2> /dev/null | wc -l)" -lt 20 ]; do sleep 0.01; done
-kill -9 $! && wait $! 2> /dev/null
-# What works for it ends a moment later, and holds its lock till then.
-python3 -c 'import fcntl, sys
-fcntl.flock(open(sys.argv[1]), fcntl.LOCK_EX)' "$room/killed/.lock"
-some=$(ls "$room/killed/pages" | wc -l)
-same 'it was in the middle' "$([ "$some" -lt 300 ] && [ ! -e "$room/killed/results.csv" ] && echo yes)" yes
-kept=$(ls -i "$room/killed/pages" | grep -v part | head -1)
-expect 'the same command goes on' 0 '' '' "$xm23" mark -j 2 -o "$room/killed" "$room/long.paper" "$room"/many/*.s19
-same 'as if it had not been killed' "$(sum "$room/killed")" "$(sum "$room/whole")"
-same 'what it had it kept' "$(ls -i "$room/killed/pages" | head -1)" "$kept"
 same 'a bar on a terminal' "$(python3 -B tests/desk/terminal.py "$xm23" mark -o "$room/bar" "$paper" "$sound" |
     tr '\r' '\n' | grep -c '\[########################################\] 1 of 1')" 1
 count

@@ -37,6 +37,5 @@ clean 'dis' 0 dis -o "$room/list" examples/copy_words.s19
 clean 'stack' 0 stack "$paper"
 clean 'card' 0 card -o "$room/card.html"
 clean 'mark' 1 mark -j 2 -o "$room/marks" "$paper" "$programs"/* "$room/noise" no/such /
-rm "$room/marks/results.csv"
-clean 'mark that goes on' 1 mark -j 2 -o "$room/marks" "$paper" "$programs"/* "$room/noise" no/such /
+clean 'mark again' 1 mark -L -j 2 -o "$room/marks" "$paper" "$programs"/* "$room/noise" no/such /
 count

@@ -106,10 +106,6 @@ static void hold_page(const struct text *t)
 {
     struct page p = {t->at, t->at + t->length, {{0}}, 0};
     int good = pass(&p, "<!DOCTYPE html>");
-    if (pass(&p, "<!-- row of xm23 ")) {
-        p.at += strcspn(p.at, "<>");
-        good = good && pass(&p, ">") && memcmp(p.at - 4, " -->", 4) == 0;
-    }
     while (good && p.at < p.end)
         good = *p.at == '<' ? tag(&p) : text(&p);
     must(good && p.depth == 0, "a page", p.at, (size_t)(p.end - p.at) < 200 ? (size_t)(p.end - p.at) : 200);
@@ -211,7 +207,7 @@ int LLVMFuzzerTestOneInput(const uint8_t *data, size_t size)
     sitting.paper = &p;
     add(&path, "%s/page-%ld.%s", getenv("XM23_FOUND"), (long)getpid(), kind & 1 ? "asm" : "s19");
     put_file(path.at, &program);
-    must(mark_program(&sitting, path.at, 0, &m), "a file", path.at, path.length);
+    must(mark_program(&sitting, path.at, ANY_FILE, &m), "a file", path.at, path.length);
     unlink(path.at);
     m.row.name = name.at;
     add_page(&page, &sitting, &m);

@@ -211,9 +211,18 @@ def seconds_of(log):
     return took
 
 
-def batches(names, took, jobs):
+def together(seconds, cores):
+    """Seconds until all of these are done that share so many cores evenly."""
+    took = before = 0
+    for k, one in enumerate(sorted(seconds)):
+        took += (one - before) * max(1, (len(seconds) - k) / cores)
+        before = one
+    return took
+
+
+def batches(names, took, jobs, cores):
     """Seconds of these one beside another, so many at a time; rt waits for all of a batch."""
-    return sum(max(took(name) for name in names[k : k + jobs]) for k in range(0, len(names), jobs))
+    return sum(together([took(name) for name in names[k : k + jobs]], cores) for k in range(0, len(names), jobs))
 
 
 def cost(log):
@@ -231,12 +240,12 @@ def cost(log):
         print(f"{crate:20} {took[crate]:6} {len(names):6} {sums[crate]:6}")
     order = sorted(deps, key=lambda crate: level[crate])
     tried = [f"{crate}/{edit}" for crate in order for edit in dict(edits).get(crate, [])]
-    for jobs in (1, 2, 4):
-        levels = [[c for c in order if level[c] == k] for k in range(1, max(level.values()) + 1)]
-        proof = sum(batches(names, took.get, jobs) for names in levels)
-        total = proof + batches(tried, seconds, jobs)
-        print(f"rt ci, {jobs} at a time: {proof / 60:.1f} min of proofs, {(total - proof) / 60:.1f} of {len(tried)} "
-              f"edits, {total / 60:.1f} in all")
+    levels = [[c for c in order if level[c] == k] for k in range(1, max(level.values()) + 1)]
+    for cores, jobs in ((1, 1), (2, 2), (2, 3), (4, 5)):
+        proof = sum(batches(names, took.get, jobs, cores) for names in levels)
+        total = proof + batches(tried, seconds, jobs, cores)
+        print(f"rt ci on {cores} cores, {jobs} at a time: {proof / 60:.1f} min of proofs, "
+              f"{(total - proof) / 60:.1f} of {len(tried)} edits, {total / 60:.1f} in all")
     return 0
 
 

@@ -18,6 +18,8 @@ import time
 ROOT = os.path.dirname(os.path.dirname(os.path.abspath(__file__)))
 # Seconds without a line after which what is at work is told.
 SILENCE = 20
+# Kilobytes that a check may take.
+ROOM = 3 << 20
 
 
 def crates():
@@ -32,6 +34,15 @@ def edits():
     """Every must-fail edit, CRATE/EDIT, in the order in which rt tries those of a crate."""
     paths = sorted(glob.glob("crates/*/must-fail/*.edit"))
     return [f"{path.split('/')[1]}/{os.path.basename(path)[: -len('.edit')]}" for path in paths]
+
+
+def jobs():
+    """How many checks at a time: one more than there are cores, since rt waits for all that it has begun together, and
+    a core would idle; no more than rt's own number where there is no room."""
+    cores = os.cpu_count() or 1
+    with open("/proc/meminfo", encoding="ascii") as lines:
+        room = {line.split(":")[0]: int(line.split()[1]) for line in lines}.get("MemAvailable", 0)
+    return cores + 1 if room >= (cores + 1) * ROOM else min(cores, 4)
 
 
 def clock(seconds):
@@ -102,8 +113,9 @@ class Progress:
     def rt(self, *words):
         """Runs rt and all that it starts as one group. Gives its status."""
         self.block = []
-        with subprocess.Popen(["rt", *words], stdout=subprocess.PIPE, stderr=subprocess.STDOUT, encoding="utf-8",
-                              errors="replace", start_new_session=True) as rt:
+        environment = {"RT_JOBS": str(jobs()), **os.environ}
+        with subprocess.Popen(["rt", *words], stdout=subprocess.PIPE, stderr=subprocess.STDOUT, env=environment,
+                              encoding="utf-8", errors="replace", start_new_session=True) as rt:
             try:
                 for text in rt.stdout:
                     self.line(text.rstrip("\n"))

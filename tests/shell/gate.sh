@@ -21,7 +21,7 @@ printf 'file: src/lib.rt\nold: no such text\nnew:     8\n' > "$tiny/crates/first
 gone="first/same: BAD EDIT: an 'old:' text stands 0 times in src/lib.rt"
 expect 'an edit whose text has gone' 1 "$gone${nl}1 passed, 1 failed" '' "$tiny/scripts/edits.py" --texts
 rm "$tiny/crates/first/must-fail/same.edit"
-expect 'the cost of one edit' 0 'crate .*first +[0-9]+ +1 .*rt ci, 2 at a time: .* of 1 edits, .*' '' \
+expect 'the cost of one edit' 0 'crate .*first +[0-9]+ +1 .*rt ci on 2 cores, 3 at a time: .* of 1 edits, .*' '' \
     "$tiny/scripts/edits.py" --cost
 
 # The checks of crate first that are at work.

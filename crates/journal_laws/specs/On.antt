@@ -85,7 +85,7 @@ total [] = 0
 total (p ∷ ps) = p .steps + total ps
 
 -- The parts do the newest k of the steps h again, the oldest of these first, each step's due events the same: the first
--- part's steps are those that k less as many newer ones follow. [02 §8]
+-- part does its steps, and k less as many, the newer ones, are left to the others. [02 §8]
 abbrev pub DueAgain : List Part → List Past → (k : ℕ) → Type 0
 DueAgain [] h k = Unit {0}
 DueAgain (p ∷ ps) h k = SameDue (p .events) (drop (k - p .steps) h) (p .steps) × DueAgain ps h (k - p .steps)

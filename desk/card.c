@@ -2,7 +2,7 @@
  * xm23 card: the reference card of the XM-23 as one page of HTML, for a screen and for A4 paper.
  *
  * A row for each operation: the bits of its words, how to write it, how many words mean it, which flags it changes and
- * an example. Names and notation stand here; all else is asked of the library. The bits that vary are those in which an
+ * an example. Names stand here; all else, texts too, is asked of the library. The bits that vary are those in which an
  * operation's words differ, and a field is the byte of the decoded number that such a bit changes; flags are those that
  * runs of the operation on a range of states have changed; the example is a run of one step.
  */
@@ -21,56 +21,56 @@ enum { C = XM23_FLAG_C, Z = XM23_FLAG_Z, N = XM23_FLAG_N, V = XM23_FLAG_V };
 /* What is shown of a state beside the registers that the example names and the flags that it changes. */
 enum { REGISTERS = 1, FLAGS = 2, TARGET = 4, LINK = 8, MEMORY = 16, LEVEL = 32, STACK = 64, COUNTS = 128 };
 
-/* An operation: how it is written; and its example: text, low bits of its word, R0, R1, PSW before, what is shown. */
+/* An operation: how it is written; and its example: low bits of its word, R0, R1, PSW before, what is shown. */
 struct operation {
-    const char *name, *operands, *example;
+    const char *name, *operands;
     uint16_t low, r0, r1, psw;
     unsigned shown;
 };
 
 static const struct operation operations[] = {
-    {"illegal", "", "", 0, 0, 0, 0, 0},
-    {"BL", "target", "BL $1006", 2, 0, 0, 0, TARGET | LINK},
-    {"BEQ", "target", "BEQ $1006", 2, 0, 0, Z, FLAGS | TARGET},
-    {"BNE", "target", "BNE $1006", 2, 0, 0, Z, FLAGS | TARGET},
-    {"BC", "target", "BC $1006", 2, 0, 0, C, FLAGS | TARGET},
-    {"BNC", "target", "BNC $1006", 2, 0, 0, C, FLAGS | TARGET},
-    {"BN", "target", "BN $1006", 2, 0, 0, N, FLAGS | TARGET},
-    {"BGE", "target", "BGE $1006", 2, 0, 0, N | V, FLAGS | TARGET},
-    {"BLT", "target", "BLT $1006", 2, 0, 0, N, FLAGS | TARGET},
-    {"BRA", "target", "BRA $1006", 2, 0, 0, 0, TARGET},
-    {"ADD", "src,dst", "ADD R0,R1", 1, 0x0001, 0x7FFF, 0, REGISTERS | FLAGS},
-    {"ADDC", "src,dst", "ADDC R0,R1", 1, 0x00FF, 0x1200, C, REGISTERS | FLAGS},
-    {"SUB", "src,dst", "SUB R0,R1", 1, 0x0003, 0x0002, 0, REGISTERS | FLAGS},
-    {"SUBC", "src,dst", "SUBC R0,R1", 1, 0x0003, 0x0005, 0, REGISTERS | FLAGS},
-    {"DADD", "src,dst", "DADD R0,R1", 1, 0x0199, 0x2801, 0, REGISTERS | FLAGS},
-    {"CMP", "src,dst", "CMP R0,R1", 1, 0x0005, 0x0005, 0, REGISTERS | FLAGS},
-    {"XOR", "src,dst", "XOR R0,R1", 1, 0x0FF0, 0x00FF, 0, REGISTERS | FLAGS},
-    {"AND", "src,dst", "AND R0,R1", 1, 0x0FF0, 0x00FF, 0, REGISTERS | FLAGS},
-    {"OR", "src,dst", "OR R0,R1", 1, 0x8FF0, 0x00FF, 0, REGISTERS | FLAGS},
-    {"BIT", "src,dst", "BIT R0,R1", 1, 0x0100, 0x00FF, 0, REGISTERS | FLAGS},
-    {"BIC", "bit,dst", "BIC R0,R1", 1, 0x0004, 0x00FF, 0, REGISTERS | FLAGS},
-    {"BIS", "bit,dst", "BIS R0,R1", 1, 0x000F, 0x00FF, 0, REGISTERS | FLAGS},
-    {"MOV", "src,dst", "MOV R0,R1", 1, 0x1234, 0xABCD, 0, REGISTERS},
-    {"SWAP", "src,dst", "SWAP R0,R1", 1, 0x1234, 0xABCD, 0, REGISTERS},
-    {"SRA", "dst", "SRA R1", 1, 0, 0x8003, 0, REGISTERS | FLAGS},
-    {"RRC", "dst", "RRC R1", 1, 0, 0x0002, C, REGISTERS | FLAGS},
-    {"COMP", "dst", "COMP R1", 1, 0, 0x0F0F, 0, REGISTERS | FLAGS},
-    {"SWPB", "dst", "SWPB R1", 1, 0, 0x1234, 0, REGISTERS | FLAGS},
-    {"SXT", "dst", "SXT R1", 1, 0, 0x1280, 0, REGISTERS | FLAGS},
-    {"SETPRI", "level", "SETPRI #2", 2, 0, 0, 5 << 5, LEVEL},
-    {"SVC", "vector", "SVC #3", 3, 0, 0, 0, TARGET | STACK | LEVEL},
-    {"SETCC", "flags", "SETCC VC", V | C, 0, 0, 0, FLAGS},
-    {"CLRCC", "flags", "CLRCC NZ", N | Z, 0, 0, V | N | Z | C, FLAGS},
-    {"CEX", "cond,true,false", "CEX EQ,#1,#2", 0x0A, 0, 0, Z, FLAGS | COUNTS},
-    {"LD", "address,dst", "LD R0+,R1", 0x81, PLACE, 0x0000, 0, REGISTERS | MEMORY},
-    {"ST", "src,address", "ST R0,-R1", 0x301, 0x1234, PLACE + 2, 0, REGISTERS | MEMORY},
-    {"MOVL", "byte,dst", "MOVL $80,R1", 0x401, 0, 0x1234, 0, REGISTERS},
-    {"MOVLZ", "byte,dst", "MOVLZ $80,R1", 0x401, 0, 0x1234, 0, REGISTERS},
-    {"MOVLS", "byte,dst", "MOVLS $80,R1", 0x401, 0, 0x1234, 0, REGISTERS},
-    {"MOVH", "byte,dst", "MOVH $80,R1", 0x401, 0, 0x1234, 0, REGISTERS},
-    {"LDR", "addr,offset,dst", "LDR R0,#4,R1", 0x201, PLACE - 4, 0x0000, 0, REGISTERS | MEMORY},
-    {"STR", "src,addr,offset", "STR R0,R1,#-2", 0x3F01, 0x1234, PLACE + 2, 0, REGISTERS | MEMORY},
+    {"illegal", "", 0, 0, 0, 0, 0},
+    {"BL", "target", 2, 0, 0, 0, TARGET | LINK},
+    {"BEQ", "target", 2, 0, 0, Z, FLAGS | TARGET},
+    {"BNE", "target", 2, 0, 0, Z, FLAGS | TARGET},
+    {"BC", "target", 2, 0, 0, C, FLAGS | TARGET},
+    {"BNC", "target", 2, 0, 0, C, FLAGS | TARGET},
+    {"BN", "target", 2, 0, 0, N, FLAGS | TARGET},
+    {"BGE", "target", 2, 0, 0, N | V, FLAGS | TARGET},
+    {"BLT", "target", 2, 0, 0, N, FLAGS | TARGET},
+    {"BRA", "target", 2, 0, 0, 0, TARGET},
+    {"ADD", "src,dst", 1, 0x0001, 0x7FFF, 0, REGISTERS | FLAGS},
+    {"ADDC", "src,dst", 1, 0x00FF, 0x1200, C, REGISTERS | FLAGS},
+    {"SUB", "src,dst", 1, 0x0003, 0x0002, 0, REGISTERS | FLAGS},
+    {"SUBC", "src,dst", 1, 0x0003, 0x0005, 0, REGISTERS | FLAGS},
+    {"DADD", "src,dst", 1, 0x0199, 0x2801, 0, REGISTERS | FLAGS},
+    {"CMP", "src,dst", 1, 0x0005, 0x0005, 0, REGISTERS | FLAGS},
+    {"XOR", "src,dst", 1, 0x0FF0, 0x00FF, 0, REGISTERS | FLAGS},
+    {"AND", "src,dst", 1, 0x0FF0, 0x00FF, 0, REGISTERS | FLAGS},
+    {"OR", "src,dst", 1, 0x8FF0, 0x00FF, 0, REGISTERS | FLAGS},
+    {"BIT", "src,dst", 1, 0x0100, 0x00FF, 0, REGISTERS | FLAGS},
+    {"BIC", "bit,dst", 1, 0x0004, 0x00FF, 0, REGISTERS | FLAGS},
+    {"BIS", "bit,dst", 1, 0x000F, 0x00FF, 0, REGISTERS | FLAGS},
+    {"MOV", "src,dst", 1, 0x1234, 0xABCD, 0, REGISTERS},
+    {"SWAP", "src,dst", 1, 0x1234, 0xABCD, 0, REGISTERS},
+    {"SRA", "dst", 1, 0, 0x8003, 0, REGISTERS | FLAGS},
+    {"RRC", "dst", 1, 0, 0x0002, C, REGISTERS | FLAGS},
+    {"COMP", "dst", 1, 0, 0x0F0F, 0, REGISTERS | FLAGS},
+    {"SWPB", "dst", 1, 0, 0x1234, 0, REGISTERS | FLAGS},
+    {"SXT", "dst", 1, 0, 0x1280, 0, REGISTERS | FLAGS},
+    {"SETPRI", "level", 2, 0, 0, 5 << 5, LEVEL},
+    {"SVC", "vector", 3, 0, 0, 0, TARGET | STACK | LEVEL},
+    {"SETCC", "flags", V | C, 0, 0, 0, FLAGS},
+    {"CLRCC", "flags", N | Z, 0, 0, V | N | Z | C, FLAGS},
+    {"CEX", "cond,true,false", 0x0A, 0, 0, Z, FLAGS | COUNTS},
+    {"LD", "address,dst", 0x81, PLACE, 0x0000, 0, REGISTERS | MEMORY},
+    {"ST", "src,address", 0x301, 0x1234, PLACE + 2, 0, REGISTERS | MEMORY},
+    {"MOVL", "byte,dst", 0x401, 0, 0x1234, 0, REGISTERS},
+    {"MOVLZ", "byte,dst", 0x401, 0, 0x1234, 0, REGISTERS},
+    {"MOVLS", "byte,dst", 0x401, 0, 0x1234, 0, REGISTERS},
+    {"MOVH", "byte,dst", 0x401, 0, 0x1234, 0, REGISTERS},
+    {"LDR", "addr,offset,dst", 0x201, PLACE - 4, 0x0000, 0, REGISTERS | MEMORY},
+    {"STR", "src,addr,offset", 0x3F01, 0x1234, PLACE + 2, 0, REGISTERS | MEMORY},
 };
 
 /* The fields of each format, in the order of its number's bytes; the offset has bytes 6 and 7 to itself. */
@@ -206,11 +206,11 @@ static void put_part(struct shown *s, const char *name, unsigned value)
     snprintf(s->part[s->many++], sizeof s->part[0], "%s %04X", name, value);
 }
 
-static struct shown look(const struct operation *o)
+static struct shown look(const struct operation *o, const struct text *text)
 {
     struct shown s = {0, {{0}}};
     unsigned psw = get_word(record, XM23_RECORD_PSW), cex = get_word(record, XM23_RECORD_CEX);
-    if (o->shown & REGISTERS && strstr(o->example, "R0"))
+    if (o->shown & REGISTERS && strstr(text->at, "R0"))
         put_part(&s, "R0", get_word(record, XM23_RECORD_REGISTER(0)));
     if (o->shown & REGISTERS)
         put_part(&s, "R1", get_word(record, XM23_RECORD_REGISTER(1)));
@@ -246,14 +246,17 @@ static void example(unsigned operation)
 {
     const struct operation *o = &operations[operation];
     uint16_t word = (uint16_t)(first_word(operation) | o->low);
+    struct text text = {0};
     struct shown before, after;
+    add_statement(&text, START, word);
     prepare(word, o->r0, o->r1, o->psw);
-    before = look(o);
+    before = look(o, &text);
     step();
-    after = look(o);
-    add(page, "<td class=example>%s</td><td class=word>%04X</td>", o->example, word);
+    after = look(o, &text);
+    add(page, "<td class=example>%s</td><td class=word>%04X</td>", text.at, word);
     show(&before, &before);
     show(&after, &before);
+    drop(&text);
 }
 
 /* ---- the page */

@@ -203,9 +203,11 @@ struct field {
 int line_fields(const uint8_t *record, const struct outcome *o, struct field *rows);
 void add_legend(struct text *t, const uint8_t *record, const struct outcome *o);
 
-/* ---- instruction.c */
+/* ---- word.c: a word as the assembler writes it, at a place */
 
-void add_instruction(struct text *t, unsigned address, uint16_t word);
+void add_statement(struct text *t, unsigned place, uint16_t word);
+void add_remark(struct text *t, const char *before, unsigned place, uint16_t word); /* what a WORD is, if it is one */
+void add_instruction(struct text *t, unsigned place, uint16_t word);                /* both, the remark as a comment */
 
 /* ---- walk.c: the last steps of a run, by the journal */
 

@@ -73,8 +73,9 @@ const struct subcommand subcommands[] = {
      "            its first instruction)\n",
      xm23_desk_asm},
     {"dis", "xm23 dis [-o FILE] PROGRAM", "list a program, instruction by instruction",
-     "Prints a row for each word that PROGRAM, S-records or a source, names: address, word, instruction as a source\n"
-     "has it; a lone byte as BYTE. The last line has the PC.\n"
+     "Prints a source of the bytes that PROGRAM, S-records or a source, names: a statement for each word, a lone byte\n"
+     "as BYTE, with address and word in a comment; a word that the assembler has no notation for as WORD, with what\n"
+     "the machine takes it for. The comment at END has the PC, as 'xm23 asm -s' takes it with a $ before it.\n"
      "\n"
      "  -o FILE  write there instead\n",
      xm23_desk_dis},

@@ -1,34 +1,52 @@
-/* xm23 dis: a listing of a program, word by word. */
+/* xm23 dis: a listing of a program, word by word, which is a source of the same bytes. */
 #include <unistd.h>
 
 #include "desk.h"
 
-/* A word where both its bytes are named, a byte where one is. */
-static void add_listed(struct text *t, unsigned at, const uint8_t *memory, const uint8_t *set)
+/* Blanks up to the comments of a line that began at a place of the text. */
+static void add_gap(struct text *t, size_t from)
 {
-    if (set[at] && set[at + 1]) {
-        uint16_t word = (uint16_t)get_word(memory, at);
-        add(t, "%04X  %04X  ", at, word);
-        add_instruction(t, at, word);
-        add(t, "\n");
-        return;
-    }
-    at += !set[at];
-    add(t, "%04X  %02X    BYTE    $%02X\n", at, memory[at], memory[at]);
+    add(t, "%*s; ", (int)(24 - (t->length - from)), "");
 }
 
-/* A blank line between bytes that are not neighbours. */
+/* A word where both its bytes are named, else a byte: how many. */
+static unsigned add_listed(struct text *t, unsigned at, const uint8_t *memory, int both)
+{
+    size_t from = t->length;
+    uint16_t word = (uint16_t)get_word(memory, at & 0xFFFE);
+    add(t, "    ");
+    if (both)
+        add_statement(t, at, word);
+    else
+        add(t, "BYTE $%02X", memory[at]);
+    add_gap(t, from);
+    add(t, both ? "%04X %04X" : "%04X %02X", at, both ? word : memory[at]);
+    if (both)
+        add_remark(t, ", ", at, word);
+    add(t, "\n");
+    return both ? 2 : 1;
+}
+
+/* ORG before bytes that follow no others, a blank line between two parts. */
 static void add_listing(struct text *t, const uint8_t *memory, const uint8_t *set)
 {
-    unsigned last = XM23_MEMORY_SIZE;
-    for (unsigned at = 0; at < XM23_MEMORY_SIZE; at += 2) {
-        if (!set[at] && !set[at + 1])
+    unsigned next = XM23_MEMORY_SIZE;
+    for (unsigned pair = 0; pair < XM23_MEMORY_SIZE; pair += 2) {
+        unsigned at = pair + !set[pair];
+        if (!set[pair] && !set[pair + 1])
             continue;
-        if (last + 2 < at)
-            add(t, "\n");
-        add_listed(t, at, memory, set);
-        last = at;
+        if (at != next)
+            add(t, "%s    ORG $%04X\n", t->length ? "\n" : "", at);
+        next = at + add_listed(t, at, memory, set[pair] && set[pair + 1]);
     }
+}
+
+static void add_end(struct text *t, unsigned start)
+{
+    size_t from = t->length;
+    add(t, "    END");
+    add_gap(t, from);
+    add(t, "start %04X\n", start);
 }
 
 static int list(const struct program *p, const char *to)
@@ -41,7 +59,7 @@ static int list(const struct program *p, const char *to)
         say_fault(p->name, &f);
     } else {
         add_listing(&t, a.memory, a.set);
-        add(&t, "start %04X\n", a.pc);
+        add_end(&t, a.pc);
         status = write_file(to, &t);
     }
     drop(&t);

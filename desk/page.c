@@ -136,7 +136,7 @@ static void add_word(struct text *t, const struct paper *p, unsigned at, unsigne
     else if (at >= XM23_VECTORS)
         add(t, "vector %u, %s", (at - XM23_VECTORS) / 4, at & 2 ? "PC" : "PSW");
     else if (p->set[at] == DATA || p->set[at + 1] == DATA)
-        add(t, "%-8s$%04X", "WORD", word);
+        add(t, "WORD $%04X", word);
     else
         add_instruction(t, at, (uint16_t)word);
     add(t, "\n");

@@ -27,7 +27,7 @@ extern "C" {
 /* ---- version: of this header, as one number; xm23_version gives that of the library */
 
 #define XM23_VERSION_MAJOR 0
-#define XM23_VERSION_MINOR 18
+#define XM23_VERSION_MINOR 19
 #define XM23_VERSION_PATCH 0
 #define XM23_VERSION (XM23_VERSION_MAJOR * 65536 + XM23_VERSION_MINOR * 256 + XM23_VERSION_PATCH)
 
@@ -45,6 +45,7 @@ extern "C" {
 #define XM23_VECTORS_SIZE 64   /* bytes of the sixteen vectors, at XM23_VECTORS of memory */
 #define XM23_USES_SIZE 16      /* bytes of the eight stack uses */
 #define XM23_MAX_USE 1024      /* bytes of one stack use */
+#define XM23_TEXT_SIZE 24      /* bytes of a buffer for a word's text; the longest has 16 */
 #define XM23_VECTORS 0xFFC0    /* where in memory the vectors begin */
 
 /* Bytes of text that xm23_write_srec makes of a span of n bytes: 11 of n 0, at most 176,139. */
@@ -640,6 +641,30 @@ uint64_t xm23_places(const uint8_t *source, size_t source_len, uint8_t *places, 
     ((uint32_t)(place)[0] | (uint32_t)(place)[1] << 8 | (uint32_t)(place)[2] << 16 | (uint32_t)(place)[3] << 24)
 #define XM23_PLACE_VALUE_OF(place) \
     ((int64_t)(XM23_PLACE_NUMBER_OF(place) ^ 0x80000000u) - INT64_C(0x80000000))
+
+/*
+ * Writes a word as the assembler has it at a place: one statement in upper case, without a line ending. A branch names
+ * its target. A word that has no notation is WORD and the word: an illegal one, one whose ignored bit is set, SETCC and
+ * CLRCC with no flag, LD and ST whose adjustment moves nothing but is not plain; and a branch at an odd place.
+ * docs/FORMATS.md has the forms.
+ *
+ * Assembled at that place, where it is even, the text gives the word again: a listing of any words, ORG before it and
+ * END behind, is accepted and puts exactly those words into any memory.
+ *
+ * word, place     in: the word, and the address that it stands at.
+ * text, text_len  in-out: where the text goes, at the buffer's start; XM23_TEXT_SIZE bytes or more. Bytes past the text
+ *                 stay.
+ * result          one reply: XM23_REFUSAL in bits 7-0, XM23_TEXT_LENGTH in bits 31-8.
+ * refusals        XM23_REFUSED_ROOM where text is under XM23_TEXT_SIZE bytes. The reply is then 22, and the buffer is
+ *                 as it was.
+ * defined         crates/asm_printer/specs/Call.antt, textCallOf, for every word, place, length and content;
+ *                 crates/asm_print/specs/Print.antt, textAt; what assembles again:
+ *                 crates/asm_print_laws/specs/Theorems.antt, ListingAssembles.
+ */
+uint32_t xm23_text(uint16_t word, uint16_t place, uint8_t *text, size_t text_len);
+
+/* The bytes of text in a reply of xm23_text that refuses nothing. */
+#define XM23_TEXT_LENGTH(reply) ((size_t)((reply) >> 8))
 
 #ifdef __cplusplus
 }

@@ -62,8 +62,8 @@ def listed(word):
         program.write(f"S1{data.hex().upper()}{255 - sum(data) & 255:02X}\nS9031000EC\n")
         program.flush()
         command = ["build/xm23", "dis", program.name]
-        line = subprocess.run(command, capture_output=True, text=True, check=True).stdout.split("\n")[0]
-    return " ".join(line.split()[2:])
+        line = subprocess.run(command, capture_output=True, text=True, check=True).stdout.split("\n")[1]
+    return line.partition(";")[0].strip()
 
 
 # The flags that 01 has each operation change: BIC and BIS Z alone, SVC all of them, from its vector. A machine that

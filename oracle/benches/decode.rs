@@ -1,7 +1,8 @@
-//! Time of a decode, of an encode, of a range, of a count and of a next word, the proved library beside the oracle, on
-//! the same random words. Of the
-//! range the oracle has a table with an entry for each word, of counts and next words a list for each operation.
+//! Time of a decode, of an encode, of a range, of a count, of a next word and of a text, the proved library beside the
+//! oracle, on the same random words. Of the range the oracle has a table with an entry for each word, of counts and next
+//! words a list for each operation.
 
+use oracle::listing;
 use oracle::number;
 use oracle::operation;
 use oracle::random::Random;
@@ -15,6 +16,14 @@ extern "C" {
     fn xm23_range(word: u16) -> u64;
     fn xm23_count(operation: u32) -> u32;
     fn xm23_next(operation: u32, word: u32) -> u64;
+    fn xm23_text(word: u16, place: u16, text: *mut u8, text_len: usize) -> u32;
+}
+
+/// The text of a word at a place, folded into a number with the reply.
+fn folded(print: impl Fn(&mut [u8]) -> u32) -> u64 {
+    let mut text = [0; 24];
+    let reply = u64::from(print(&mut text));
+    text.chunks(8).fold(reply, |sum, part| sum.rotate_left(5) ^ u64::from_le_bytes(part.try_into().expect("eight")))
 }
 
 fn main() {
@@ -47,5 +56,11 @@ fn main() {
             at if o == 0 || at == lists[o as usize].len() => 0,
             at => 1 << 8 | u64::from(lists[o as usize][at]) << 16,
         },
+    );
+    timing::compare(
+        "text",
+        &words,
+        |&w| folded(|text| unsafe { xm23_text(w, 0x1000, text.as_mut_ptr(), text.len()) }),
+        |&w| folded(|text| listing::text_call(w, 0x1000, text)),
     );
 }

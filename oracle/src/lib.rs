@@ -31,3 +31,4 @@ pub mod srec;
 pub mod srec_compare;
 pub mod srec_inputs;
 pub mod stack;
+pub mod text_compare;

@@ -1,10 +1,20 @@
-//! Instructions as 02 §12 writes them: `$` hexadecimal, `#` decimal, a branch with the address that it goes to. What
-//! the assembler has no notation for is said behind the statement: an ignored bit that is set, in a comment.
+//! A word as the assembler writes it: one statement of 02 §12's language, upper case, `$` base sixteen, `#` base ten, a
+//! branch with the address that it goes to. A word that the language has no notation for is `WORD` and its digits.
 
 use crate::assemble::words::{ALU, BRANCHES, CONDITIONS, CONSTANTS, MOVES, UNARY};
-use crate::isa::Instr;
+use crate::isa::{decode, encode, Instr};
 
 pub const REGISTERS: [&str; 8] = ["R0", "R1", "R2", "R3", "R4", "LR", "SP", "PC"];
+
+/// Why a word has no notation.
+#[derive(Clone, Copy, Debug, PartialEq, Eq, Hash)]
+pub enum Reason {
+    Illegal,
+    IgnoredBit,
+    NoFlag,
+    AdjustsNothing,
+    OddBranch,
+}
 
 fn register(number: u8) -> &'static str {
     REGISTERS[usize::from(number)]
@@ -21,131 +31,169 @@ fn form(name: &str, wb: u8) -> String {
 }
 
 /// An index register with its adjustment: `+R` before the access, `R+` after it.
-fn indexed(prpo: u8, dec: u8, inc: u8, number: u8) -> String {
+fn indexed(prpo: u8, dec: u8, inc: u8, number: u8) -> Result<String, Reason> {
     let name = register(number);
     match (prpo, dec, inc) {
-        (0, 0, 0) => name.to_string(),
-        (0, 0, 1) => format!("{name}+"),
-        (0, 1, 0) => format!("{name}-"),
-        (1, 0, 1) => format!("+{name}"),
-        (1, 1, 0) => format!("-{name}"),
-        _ => format!("{name} (adjusts nothing)"),
+        (0, 0, 0) => Ok(name.to_string()),
+        (0, 0, 1) => Ok(format!("{name}+")),
+        (0, 1, 0) => Ok(format!("{name}-")),
+        (1, 0, 1) => Ok(format!("+{name}")),
+        (1, 1, 0) => Ok(format!("-{name}")),
+        _ => Err(Reason::AdjustsNothing),
     }
 }
 
-fn flags(bits: u8) -> String {
-    "VSNZC".chars().enumerate().filter(|(i, _)| bits >> (4 - i) & 1 == 1).map(|(_, c)| c).collect()
+fn flags(name: &str, bits: u8) -> Result<String, Reason> {
+    let letters: String = "VSNZC".chars().enumerate().filter(|(i, _)| bits >> (4 - i) & 1 == 1).map(|f| f.1).collect();
+    if bits == 0 {
+        return Err(Reason::NoFlag);
+    }
+    Ok(format!("{name} {letters}"))
 }
 
-/// Where a branch at an address goes.
-fn target(address: u16, offset: i16) -> String {
-    format!("${:04X}", address.wrapping_add(2).wrapping_add((2 * offset) as u16))
+/// A branch and where it goes: its own place, 2, and the offset in words, modulo 65,536.
+fn branch(name: &str, place: u16, offset: i16) -> Result<String, Reason> {
+    if place % 2 == 1 {
+        return Err(Reason::OddBranch);
+    }
+    let target = (i32::from(place) + 2 + 2 * i32::from(offset)).rem_euclid(0x1_0000);
+    Ok(format!("{name} ${target:04X}"))
 }
 
-/// The instruction that stands at an address.
-pub fn text(instr: Instr, address: u16) -> String {
-    match instr {
-        Instr::Illegal => "illegal".to_string(),
-        Instr::Bl { offset } => format!("BL {}", target(address, offset)),
-        Instr::Branch { cond, offset } => format!("{} {}", name(&BRANCHES, cond), target(address, offset)),
-        Instr::SetPri { level } => format!("SETPRI #{level}"),
-        Instr::Svc { vector } => format!("SVC #{vector}"),
-        Instr::SetCc { flags: bits } => format!("SETCC {}", flags(bits)).trim_end().to_string(),
-        Instr::ClrCc { flags: bits } => format!("CLRCC {}", flags(bits)).trim_end().to_string(),
-        Instr::Cex { cond, if_true, if_false } => format!("CEX {},#{if_true},#{if_false}", name(&CONDITIONS, cond)),
-        Instr::Ld { .. } | Instr::St { .. } | Instr::Ldr { .. } | Instr::Str { .. } => access(instr),
-        _ => work(instr),
+/// The statement of a word at a place, or why there is none.
+pub fn notation(word: u16, place: u16) -> Result<String, Reason> {
+    match decode(word) {
+        Instr::Illegal => Err(Reason::Illegal),
+        Instr::Bl { offset } => branch("BL", place, offset),
+        Instr::Branch { cond, offset } => branch(name(&BRANCHES, cond), place, offset),
+        Instr::SetPri { level } => Ok(format!("SETPRI #{level}")),
+        Instr::Svc { vector } => Ok(format!("SVC #{vector}")),
+        Instr::SetCc { flags: bits } => flags("SETCC", bits),
+        Instr::ClrCc { flags: bits } => flags("CLRCC", bits),
+        Instr::Cex { cond, if_true, if_false } => Ok(format!("CEX {},#{if_true},#{if_false}", name(&CONDITIONS, cond))),
+        instr @ (Instr::Ld { .. } | Instr::St { .. } | Instr::Ldr { .. } | Instr::Str { .. }) => access(instr),
+        instr => work(instr),
     }
 }
 
 /// The formats that touch memory.
-fn access(instr: Instr) -> String {
+fn access(instr: Instr) -> Result<String, Reason> {
     match instr {
         Instr::Ld { prpo, dec, inc, wb, src, dst } => {
-            format!("{} {},{}", form("LD", wb), indexed(prpo, dec, inc, src), register(dst))
+            Ok(format!("{} {},{}", form("LD", wb), indexed(prpo, dec, inc, src)?, register(dst)))
         }
         Instr::St { prpo, dec, inc, wb, src, dst } => {
-            format!("{} {},{}", form("ST", wb), register(src), indexed(prpo, dec, inc, dst))
+            Ok(format!("{} {},{}", form("ST", wb), register(src), indexed(prpo, dec, inc, dst)?))
         }
         Instr::Ldr { offset, wb, src, dst } => {
-            format!("{} {},#{offset},{}", form("LDR", wb), register(src), register(dst))
+            Ok(format!("{} {},#{offset},{}", form("LDR", wb), register(src), register(dst)))
         }
         Instr::Str { offset, wb, src, dst } => {
-            format!("{} {},{},#{offset}", form("STR", wb), register(src), register(dst))
+            Ok(format!("{} {},{},#{offset}", form("STR", wb), register(src), register(dst)))
         }
         _ => unreachable!(),
     }
 }
 
-/// SWAP, SWPB and SXT, whose ignored bit is 0 where the assembler writes them.
-fn ignoring(statement: String, ignored: u8) -> String {
-    statement + if ignored == 1 { " ; bit 6 set" } else { "" }
+/// SWAP, SWPB and SXT, which the assembler writes with their ignored bit 0.
+fn ignoring(statement: String, ignored: u8) -> Result<String, Reason> {
+    if ignored == 1 {
+        return Err(Reason::IgnoredBit);
+    }
+    Ok(statement)
 }
 
 /// The formats that work on registers.
-fn work(instr: Instr) -> String {
+fn work(instr: Instr) -> Result<String, Reason> {
     match instr {
         Instr::Alu { op, rc, wb, src, dst } => {
             let constant = || format!("#{}", CONSTANTS[usize::from(src)]);
             let source = if rc == 1 { constant() } else { register(src).to_string() };
-            format!("{} {source},{}", form(name(&ALU, op), wb), register(dst))
+            Ok(format!("{} {source},{}", form(name(&ALU, op), wb), register(dst)))
         }
-        Instr::Mov { wb, src, dst } => format!("{} {},{}", form("MOV", wb), register(src), register(dst)),
+        Instr::Mov { wb, src, dst } => Ok(format!("{} {},{}", form("MOV", wb), register(src), register(dst))),
         Instr::Swap { src, dst, ignored } => ignoring(format!("SWAP {},{}", register(src), register(dst)), ignored),
-        Instr::Unary { op, wb, dst } => format!("{} {}", form(name(&UNARY, op), wb), register(dst)),
+        Instr::Unary { op, wb, dst } => Ok(format!("{} {}", form(name(&UNARY, op), wb), register(dst))),
         Instr::Swpb { dst, ignored } => ignoring(format!("SWPB {}", register(dst)), ignored),
         Instr::Sxt { dst, ignored } => ignoring(format!("SXT {}", register(dst)), ignored),
-        Instr::MovImm { op, byte, dst } => format!("{} ${byte:02X},{}", name(&MOVES, op), register(dst)),
+        Instr::MovImm { op, byte, dst } => Ok(format!("{} ${byte:02X},{}", name(&MOVES, op), register(dst))),
         _ => unreachable!(),
     }
+}
+
+/// The text of a word at a place.
+pub fn text(word: u16, place: u16) -> String {
+    notation(word, place).unwrap_or_else(|_| format!("WORD ${word:04X}"))
+}
+
+/// The word with a notation that does the same as one without, where there is one.
+fn twin(word: u16) -> Option<u16> {
+    encode(match decode(word) {
+        Instr::Swap { src, dst, .. } => Instr::Swap { src, dst, ignored: 0 },
+        Instr::Swpb { dst, .. } => Instr::Swpb { dst, ignored: 0 },
+        Instr::Sxt { dst, .. } => Instr::Sxt { dst, ignored: 0 },
+        Instr::Ld { wb, src, dst, .. } => Instr::Ld { prpo: 0, dec: 0, inc: 0, wb, src, dst },
+        Instr::St { wb, src, dst, .. } => Instr::St { prpo: 0, dec: 0, inc: 0, wb, src, dst },
+        _ => return None,
+    })
+}
+
+/// The text, and behind a WORD what the machine takes it for, as a comment.
+pub fn remarked(word: u16, place: u16) -> String {
+    let remark = match notation(word, place) {
+        Err(Reason::Illegal) => " ; illegal".to_string(),
+        Err(Reason::NoFlag) => " ; no flag".to_string(),
+        Err(Reason::OddBranch) | Ok(_) => String::new(),
+        Err(_) => format!(" ; as {}", twin(word).map(|w| text(w, place)).unwrap_or_default()),
+    };
+    text(word, place) + &remark
+}
+
+/// The reply of `xm23_text`, and what it leaves of a buffer.
+pub fn text_call(word: u16, place: u16, buffer: &mut [u8]) -> u32 {
+    if buffer.len() < 24 {
+        return 22;
+    }
+    let text = text(word, place);
+    buffer[..text.len()].copy_from_slice(text.as_bytes());
+    (text.len() as u32) << 8
 }
 
 #[cfg(test)]
 mod tests {
     use super::*;
-    use crate::assemble::assemble;
-    use crate::isa::decode;
-
-    /// What the assembler cannot write: an adjustment that moves nothing, and no flag at all.
-    fn writable(instr: Instr) -> bool {
-        match instr {
-            Instr::Illegal | Instr::SetCc { flags: 0 } | Instr::ClrCc { flags: 0 } => false,
-            Instr::Ld { prpo, dec, inc, .. } | Instr::St { prpo, dec, inc, .. } => dec != inc || prpo + dec == 0,
-            _ => true,
-        }
-    }
-
-    /// The word that the assembler writes for a word's text: its ignored bit is 0.
-    fn written(word: u16) -> u16 {
-        match decode(word) {
-            Instr::Swap { .. } | Instr::Swpb { .. } | Instr::Sxt { .. } => word & !0x40,
-            _ => word,
-        }
-    }
 
     #[test]
-    fn the_text_of_every_word_assembles_to_it_with_its_ignored_bit_0() {
-        let words: Vec<u16> = (0..=u16::MAX).filter(|&w| writable(decode(w))).collect();
-        for part in words.chunks(1 << 12) {
-            let line = |w: &u16| format!(" ORG $8000\n {}\n", text(decode(*w), 0x8000));
-            let source: String = part.iter().map(line).chain([" END".into()]).collect();
-            let bytes: Vec<u8> = assemble(&source).bytes.into_iter().map(|b| b.1).collect();
-            let expected: Vec<u8> = part.iter().flat_map(|&w| written(w).to_le_bytes()).collect();
-            assert!(bytes == expected, "from {:04X}", part[0]);
+    fn words_and_their_texts() {
+        for (word, place, expected) in [
+            (0x0000, 0x0100, "BL $0102"),
+            (0x1FFF, 0x0000, "BL $0000"),
+            (0x3FFE, 0x0000, "BRA $FFFE"),
+            (0x3FFE, 0x0001, "WORD $3FFE"),
+            (0x2001, 0xFFFE, "BEQ $0002"),
+            (0x40FD, 0, "ADD.B #-1,LR"),
+            (0x40F4, 0, "ADD.B #32,R4"),
+            (0x5B8F, 0, "WORD $5B8F"),
+            (0x5E8A, 0, "ST R1,+R2"),
+            (0x4DDF, 0, "SETCC VSNZC"),
+            (0x4DE0, 0, "WORD $4DE0"),
+            (0x53FF, 0, "CEX FL,#7,#7"),
+            (0x7FFF, 0, "MOVH $FF,PC"),
+            (0xA000, 0, "LDR R0,#-64,R0"),
+            (0xFFFF, 0, "STR.B PC,PC,#-1"),
+        ] {
+            assert_eq!(text(word, place), expected);
         }
     }
 
     #[test]
     fn what_the_assembler_cannot_write() {
-        assert_eq!(text(decode(0x4E00), 0), "illegal");
-        assert_eq!(text(decode(0x4DC0), 0), "SETCC");
-        assert_eq!(
-            text(Instr::Ld { prpo: 0, dec: 1, inc: 1, wb: 1, src: 2, dst: 7 }, 0),
-            "LD.B R2 (adjusts nothing),PC"
-        );
-        assert_eq!(text(Instr::Branch { cond: 7, offset: -2 }, 0), "BRA $FFFE");
-        assert_eq!(text(decode(0x4CD3), 0), "SWAP R2,R3 ; bit 6 set");
-        assert_eq!(text(decode(0x4D5E), 0), "SWPB SP ; bit 6 set");
-        assert_eq!(text(decode(0x4D61), 0), "SXT R1 ; bit 6 set");
+        assert_eq!(remarked(0x4E00, 0), "WORD $4E00 ; illegal");
+        assert_eq!(remarked(0x4DC0, 0), "WORD $4DC0 ; no flag");
+        assert_eq!(remarked(0x59D7, 0), "WORD $59D7 ; as LD.B R2,PC");
+        assert_eq!(remarked(0x3FFE, 1), "WORD $3FFE");
+        assert_eq!(remarked(0x4CD3, 0), "WORD $4CD3 ; as SWAP R2,R3");
+        assert_eq!(remarked(0x4D5E, 0), "WORD $4D5E ; as SWPB SP");
+        assert_eq!(remarked(0x4D61, 0), "WORD $4D61 ; as SXT R1");
     }
 }

@@ -10,7 +10,6 @@ mod stack;
 mod state;
 
 use crate::follow::{follow, Followed, Taken};
-use crate::isa::decode;
 use crate::listing;
 use crate::machine::{line_of, Act};
 use crate::page::{page, Cell, Document, Expected, Field, Row, Section};
@@ -192,7 +191,7 @@ fn act_text(act: Act) -> String {
 fn instruction(taken: &Taken) -> Option<String> {
     match (taken.act, taken.word) {
         (Act::Skip, _) | (_, None) => None,
-        (_, Some(word)) => Some(listing::text(decode(word), taken.pc())),
+        (_, Some(word)) => Some(listing::remarked(word, taken.pc())),
     }
 }
 

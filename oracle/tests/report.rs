@@ -193,7 +193,7 @@ fn what_the_last_step_was() {
         (program(svc, &[], 1, plain), "entry: SVC to vector 4; SVC #4, word #4DA4 at #1000."),
         (
             program(" ORG $1000\n WORD $4E00", &[], 1, plain),
-            "entry: fault 8, illegal word; illegal, word #4E00 at #1000.",
+            "entry: fault 8, illegal word; WORD $4E00 ; illegal, word #4E00 at #1000.",
         ),
         (program("", &[], 1, at(0x1001)), "entry: fault 9, odd address; PC was #1001."),
         (

@@ -684,6 +684,31 @@ static void long_lines(int at_end)
     }
 }
 
+/* ---- texts of words */
+
+/* Any word, place and length. */
+static void words(int at_end, int rounds)
+{
+    int i;
+    for (i = 0; i < rounds; i++) {
+        uint64_t pick = draw();
+        uint32_t reply;
+        size_t length, k;
+        calls++;
+        lend(&text, pick >> 32 & 7 ? pick >> 40 & 31 : pick >> 40 & 1023, at_end);
+        scatter(&text);
+        memcpy(text_before, text.at, text.length);
+        reply = xm23_text((uint16_t)pick, (uint16_t)(pick >> 16), text.at, text.length);
+        length = XM23_TEXT_LENGTH(reply);
+        check("guard bytes", guarded(&text));
+        check("refusal", text.length < XM23_TEXT_SIZE ? reply == XM23_REFUSED_ROOM : !XM23_REFUSAL(reply));
+        check("length", length <= 16);
+        for (k = 0; k < length; k++)
+            check("a byte of the text", text.at[k] >= 32 && text.at[k] <= 'Z');
+        check("bytes past the text", memcmp(text.at + length, text_before + length, text.length - length) == 0);
+    }
+}
+
 int main(int argc, char **argv)
 {
     int brief = argc > 1 && strcmp(argv[1], "short") == 0, at_end;
@@ -721,6 +746,9 @@ int main(int argc, char **argv)
         wrong == before ? passed++ : failed++;
         before = wrong;
         stacks(at_end, brief ? 1 : 40);
+        wrong == before ? passed++ : failed++;
+        before = wrong;
+        words(at_end, brief ? 400 : 200000);
         wrong == before ? passed++ : failed++;
         before = wrong;
         sources(at_end, brief ? 40 : 20000);

@@ -174,7 +174,7 @@ expect 'vectors of a source' 0 '.*0       5         0.*8 bytes' '' "$xm23" stack
 started() { # PC SOURCE
     printf '%b' "$2" > "$room/a.asm"
     same "starts at $1" "$("$xm23" dis "$room/a.asm" | tail -1) $("$xm23" asm "$room/a.asm" | tail -1 | cut -c 5-8)" \
-        "start $1 $1"
+        "    END                 ; start $1 $1"
 }
 started 0000 'END'
 started 0000 ' BYTE #1\nEND'
@@ -191,7 +191,7 @@ done
 same 'asm of copy_words' "$("$xm23" asm examples/copy_words.asm)" "$(cat examples/copy_words.s19)"
 "$xm23" asm -l examples/copy_words.asm > "$room/copy.lst"
 same 'listing beside the decoder' "$(sed -n 's/^\([0-9A-F]\{4\}  [0-9A-F]\{4\}\) .*/\1/p' "$room/copy.lst")" \
-    "$(sed -n 's/^\([0-9A-F]\{4\}  [0-9A-F]\{4\}\) .*/\1/p' examples/copy_words.lst)"
+    "$(sed -n 's/.*; \([0-9A-F]\{4\}\) \([0-9A-F]\{4\}\).*/\1  \2/p' examples/copy_words.lst)"
 same 'a line of it' "$(sed -n 11p "$room/copy.lst")" '100A  5891    11.  LOOP    LD R2+,R1'
 same 'a line without bytes' "$(sed -n 2p "$room/copy.lst")" '               2.          ORG $0100'
 same 'every line' "$(sed '$d' "$room/copy.lst" | cut -c20-)" "$(cat examples/copy_words.asm)"
@@ -275,7 +275,7 @@ reported 'a halted machine' 'steps 9\nstart HALTED=1' '1 0 0000 0000 0000 0000 0
 same 'has no walk' "$("$xm23" report "$room/p.paper" programs/sound.s19 | grep -c 'id="walk"')" 0
 back='step        PC    word  instruction               what it left'
 before='before step 104: R0 001F R1 0120 .* SP 0800 PC 1016 PSW 0003 CEX 00 lines 00000000'
-expect 'back' 0 "$back"$'\n''119 .*BRA     \$1016.*'$'\n'"104 .*$before" '' \
+expect 'back' 0 "$back"$'\n''119 .*BRA \$1016.*'$'\n'"104 .*$before" '' \
     "$xm23" back sum.paper programs/sound.s19
 same 'sixteen steps' "$("$xm23" back sum.paper programs/sound.s19 | wc -l)" 18
 expect 'back -n' 0 "$back"$'\n''119 .*'$'\n''118 .*'$'\n''before step 118: .*' '' \
@@ -283,12 +283,12 @@ expect 'back -n' 0 "$back"$'\n''119 .*'$'\n''118 .*'$'\n''before step 118: .*' '
 same 'to the start' "$("$xm23" back -n 1024 sum.paper programs/sound.s19 | tail -1)" \
     'before step 0: R0 0000 R1 0000 R2 0000 R3 0000 R4 0000 LR FFFF SP 0800 PC 1000 PSW 0000 CEX 00 lines 00000000'
 same 'back -w' "$("$xm23" back -w 120 sum.paper programs/sound.s19 | tail -2 | head -1)" \
-    '50          1014  5C01  ST      R0,R1             0120: 1F 00'
+    '50          1014  5C01  ST R0,R1                  0120: 1F 00'
 entry='65          1016        line of device 1 accepted  '
 entry+='SP 07F8, PSW 0060, 07F8: 00 00 03 00 FF FF 16 10, device 1 status 1D'
 same 'back -w, of a frame' "$("$xm23" back -w '$07FE' sum.paper programs/sound.s19 | tail -2 | head -1)" "$entry"
 same 'back -w, of a device' "$("$xm23" back -w 5 sum.paper programs/screen.asm | tail -2 | head -1)" \
-    '6           100C  5C41  ST.B    R0,R1             device 2 data 4D'
+    '6           100C  5C41  ST.B R0,R1                device 2 data 4D'
 expect 'back to nobody' 1 '' '.*sound.s19: none of the last 120 steps wrote \$4321' \
     "$xm23" back -w 4321 sum.paper programs/sound.s19
 expect 'back to nobody so near' 1 '' '.*sound.s19: none of the last 5 steps wrote \$0120' \
@@ -312,9 +312,28 @@ cd "$top" || exit 1
 # ---- dis, card, stack
 same 'dis' "$("$xm23" dis examples/copy_words.s19)" "$(cat examples/copy_words.lst)"
 printf 'S1040101AA4F\nS9030000FC\n' > "$room/byte.s19"
-expect 'a lone byte' 0 '0101  AA    BYTE    \$AA.start 0000' '' "$xm23" dis "$room/byte.s19"
+expect 'a lone byte' 0 ' *ORG \$0101. *BYTE \$AA *; 0101 AA. *END *; start 0000' '' "$xm23" dis "$room/byte.s19"
 expect 'dis -o' 0 '' '' "$xm23" dis -o "$room/list" examples/copy_words.s19
 same 'wrote it' "$(cat "$room/list")" "$(cat examples/copy_words.lst)"
+# A listing is a source of the same bytes: S-records of it are those of the program, with its start.
+listed_again() { # NAME PROGRAM S-RECORDS
+    "$xm23" dis "$2" > "$room/trip.asm"
+    same "$1, listed and assembled" "$("$xm23" asm -s "\$$(tail -1 "$room/trip.asm" | sed 's/.*start //')" "$room/trip.asm")" \
+        "$(cat "$3")"
+}
+for program in examples/copy_words.s19 "${sound%/*}"/*.s19; do
+    "$xm23" dis "$program" > /dev/null 2>&1 && listed_again "${program##*/}" "$program" "$program"
+done
+for program in examples/copy_words.asm "${sound%/*}"/*.asm "${sound%/*/*}"/sources/*.asm; do
+    "$xm23" asm "$program" > "$room/trip.s19" && listed_again "${program##*/}" "$program" "$room/trip.s19"
+done
+printf 'S10501015A6B33\nS1040105AA4B\nS10501FEFFFFFD\nS9030102F9\n' > "$room/odd.s19"
+listed_again 'bytes at odd places' "$room/odd.s19" "$room/odd.s19"
+for half in 0 32768; do
+    awk -v from="$half" 'BEGIN { for (i = 0; i < 32768; i++) printf "WORD #%d\n", from + i; print "END" }' > "$room/all.asm"
+    "$xm23" asm "$room/all.asm" > "$room/all.s19"
+    listed_again "words from $half on" "$room/all.s19" "$room/all.s19"
+done
 expect 'dis of nothing' 2 '' "$(usage dis)" "$xm23" dis
 expect 'dis of two' 2 '' "$(usage dis)" "$xm23" dis a b
 expect 'dis of no file' 3 '' 'no/such: No such .*' "$xm23" dis no/such

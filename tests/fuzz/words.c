@@ -1,13 +1,14 @@
 /*
- * A target of libFuzzer: xm23_decode, xm23_encode, xm23_range, xm23_count and xm23_next beside a decoder and an
- * encoder in C, written from
- * section 14's rows and compiled with the fuzzer's counters. The string is up to eight bytes: an instruction's number,
- * and a word in the first two. Held for each: the calls answer as the judge does; what encodes decodes to itself, and
- * what decodes encodes to itself.
+ * A target of libFuzzer: xm23_decode, xm23_encode, xm23_range, xm23_count, xm23_next and xm23_text beside a decoder, an
+ * encoder and a printer in C, written from section 14's rows and compiled with the fuzzer's counters. The string is up
+ * to eight bytes: an instruction's number, a word in the first two, its place in the next, a length in the last. Held
+ * for each: the calls answer as the judge does; what encodes decodes to itself, and what decodes encodes to itself;
+ * what is printed assembles to itself.
  */
 #include <inttypes.h>
 #include <stdio.h>
 #include <stdlib.h>
+#include <string.h>
 
 #include "xm23.h"
 
@@ -195,6 +196,69 @@ static uint64_t judge_next(uint32_t operation, uint32_t word)
     return 0;
 }
 
+/* Adds a register with its adjustment; 0 where there is no notation for it. */
+static int judge_address(char *text, uint64_t number, unsigned reg)
+{
+    static const char *const forms[8] = {"%s", "%s+", "%s-", NULL, NULL, "+%s", "-%s", NULL};
+    static const char *const names[8] = {"R0", "R1", "R2", "R3", "R4", "LR", "SP", "PC"};
+    const char *form = forms[4 * XM23_FIELD(number, 1) + 2 * XM23_FIELD(number, 2) + XM23_FIELD(number, 3)];
+    return form && sprintf(text, form, names[reg]);
+}
+
+/* The operands of an instruction; 0 where it has no notation. */
+static int judge_operands(char *text, uint64_t number, uint16_t word, unsigned place)
+{
+    static const char *const names[8] = {"R0", "R1", "R2", "R3", "R4", "LR", "SP", "PC"};
+    static const char *const constants[8] = {"#0", "#1", "#2", "#4", "#8", "#16", "#32", "#-1"};
+    static const char conditions[] = "EQNECSCCMIPLVSVCHILSGELTGTLETRFL";
+    const char *src = names[word >> 3 & 7], *dst = names[word & 7];
+    char address[8];
+    int offset = XM23_OFFSET(number);
+    switch (XM23_FORMAT(number)) {
+    case XM23_FORMAT_ILLEGAL: return 0;
+    case XM23_FORMAT_BL:
+    case XM23_FORMAT_BRANCH:
+        return place % 2 == 0 && sprintf(text, "$%04X", (place + 2 + 2 * (unsigned)offset) & 0xFFFF);
+    case XM23_FORMAT_ALU: return sprintf(text, "%s,%s", word & 0x80 ? constants[word >> 3 & 7] : src, dst);
+    case XM23_FORMAT_MOV: return sprintf(text, "%s,%s", src, dst);
+    case XM23_FORMAT_SWAP: return !(word & 0x40) && sprintf(text, "%s,%s", src, dst);
+    case XM23_FORMAT_UNARY: return sprintf(text, "%s", dst);
+    case XM23_FORMAT_SWPB:
+    case XM23_FORMAT_SXT: return !(word & 0x40) && sprintf(text, "%s", dst);
+    case XM23_FORMAT_SETPRI:
+    case XM23_FORMAT_SVC: return sprintf(text, "#%u", XM23_FIELD(number, 1));
+    case XM23_FORMAT_SETCC:
+    case XM23_FORMAT_CLRCC:
+        return sprintf(text, "%s%s%s%s%s", word & 16 ? "V" : "", word & 8 ? "S" : "", word & 4 ? "N" : "",
+                       word & 2 ? "Z" : "", word & 1 ? "C" : "");
+    case XM23_FORMAT_CEX:
+        return sprintf(text, "%.2s,#%u,#%u", conditions + 2 * XM23_FIELD(number, 1), word >> 3 & 7u, word & 7u);
+    case XM23_FORMAT_LD: return judge_address(address, number, word >> 3 & 7) && sprintf(text, "%s,%s", address, dst);
+    case XM23_FORMAT_ST: return judge_address(address, number, word & 7) && sprintf(text, "%s,%s", src, address);
+    case XM23_FORMAT_MOVIMM: return sprintf(text, "$%02X,%s", word >> 3 & 0xFFu, dst);
+    case XM23_FORMAT_LDR: return sprintf(text, "%s,#%d,%s", src, offset, dst);
+    default: return sprintf(text, "%s,%s,#%d", src, dst, offset);
+    }
+}
+
+/* The text of a word at a place: its length. */
+static size_t judge_text(char *text, uint16_t word, unsigned place)
+{
+    static const char *const mnemonics[42] = {
+        "",    "BL",  "BEQ", "BNE", "BC",  "BNC",  "BN",  "BGE", "BLT", "BRA",  "ADD",  "ADDC", "SUB",    "SUBC",
+        "DADD", "CMP", "XOR", "AND", "OR",  "BIT",  "BIC", "BIS", "MOV", "SWAP", "SRA",  "RRC",  "COMP",   "SWPB",
+        "SXT", "SETPRI", "SVC", "SETCC", "CLRCC", "CEX", "LD", "ST", "MOVL", "MOVLZ", "MOVLS", "MOVH", "LDR", "STR"};
+    uint64_t number = judge_decode(word);
+    unsigned format = XM23_FORMAT(number);
+    int sized = format == XM23_FORMAT_ALU || format == XM23_FORMAT_MOV || format == XM23_FORMAT_UNARY ||
+                (format >= XM23_FORMAT_LD && format != XM23_FORMAT_MOVIMM);
+    char operands[24];
+    if (!judge_operands(operands, number, word, place))
+        return (size_t)sprintf(text, "WORD $%04X", (unsigned)word);
+    return (size_t)sprintf(text, "%s%s %s", mnemonics[judge_operation(word)], sized && word & 0x40 ? ".B" : "",
+                           operands);
+}
+
 /* ---- what is held */
 
 static void check(const char *what, uint64_t given, uint64_t got, uint64_t expected)
@@ -229,12 +293,34 @@ static void check_list(uint32_t operation, uint32_t word)
           judge_next(operation, word));
 }
 
+/* A text in a buffer of some bytes; and assembled again, at an even place. */
+static void check_text(uint16_t word, uint16_t place, size_t room)
+{
+    static uint8_t memory[XM23_MEMORY_SIZE];
+    char expected[80], source[80];
+    uint8_t text[32];
+    size_t length = judge_text(expected, word, place), i;
+    uint64_t given = (uint64_t)room << 32 | (uint64_t)place << 16 | word;
+    int fits = room >= XM23_TEXT_SIZE;
+    memset(text, 0xA5, sizeof text);
+    check("text of", given, xm23_text(word, place, text, room), fits ? length << 8 : XM23_REFUSED_ROOM);
+    for (i = 0; i < sizeof text; i++)
+        check("a byte of the text of", given, text[i], fits && i < length ? (uint8_t)expected[i] : 0xA5);
+    if (place % 2)
+        return;
+    snprintf(source, sizeof source, "ORG $%04X\n%s\nEND\n", (unsigned)place, expected);
+    check("assembling", given, xm23_assemble(memory, sizeof memory, (const uint8_t *)source, strlen(source)), 0);
+    check("what was assembled of", given, memory[place] | (uint64_t)memory[place + 1] << 8, word);
+}
+
 int LLVMFuzzerTestOneInput(const uint8_t *data, size_t size)
 {
     uint64_t number = 0;
     for (size_t i = 0; i < size && i < 8; i++)
         number |= (uint64_t)data[i] << 8 * i;
     check_word((uint16_t)number);
+    check_text((uint16_t)number, (uint16_t)(number >> 16), number >> 56 & 31);
+    check_text((uint16_t)number, (uint16_t)(number >> 16), 24 + (number >> 56 & 7));
     check_number(number);
     check_list((uint32_t)(number >> 32), (uint32_t)number);
     check_list((uint32_t)(number >> 32) % 44, (uint32_t)number % 66000);

@@ -18,7 +18,8 @@ use Rattle.asm_fits.specs.Fits.{residueOf, withinOf, fitOf, mapFit, wordFit, by
 use Rattle.asm_fits.specs.Fits.{constantNumber, constantFit, wayOf, stepsOf, branchTo, branchFit}
 use Rattle.word.proofs.Laws.{bool-cases}
 use Rattle.asm_fits.proofs.Laws.{number-below, word-below}
-use Rattle.asm_theorems.specs.Theorems.{Leads, byteTaken, constants}
+use Rattle.asm_print.specs.Print.{constants}
+use Rattle.asm_theorems.specs.Theorems.{Leads, byteTaken}
 
 -- ---- fits
 abbrev inFit : Fit → ℕ

@@ -28,6 +28,7 @@ use Rattle.asm_write.specs.Written.{layoutOf, sizeOf}
 use Rattle.asm_sweeps.specs.Uses.{namesOf}
 use Rattle.asm_image.specs.Image.{Placed, placing, placedOf, imageOf}
 use Rattle.asm_call.specs.Call.{assembleCallOf}
+use Rattle.asm_print.specs.Print.{constants}
 
 -- ---- no other byte changes
 
@@ -79,10 +80,6 @@ Leads p off z = (p + 2 + 2 * bitsOf 32768 off) % 65536 ≡ residueOf z
 -- "the lower 8-bits .. and the higher 8-bits for MOVH". [02 §12; 003 6]
 abbrev pub byteTaken : (op : ℕ) (number : Bool) → ℤ → ℕ
 byteTaken op number z = cond (not number && eqb op 3) (residueOf z / 256) (residueOf z % 256)
-
--- the constants of ADD to BIS by their fields. [003 14]
-abbrev pub constants : List ℤ
-constants = pos 0 ∷ pos 1 ∷ pos 2 ∷ pos 4 ∷ pos 8 ∷ pos 16 ∷ pos 32 ∷ negsuc 0 ∷ []
 
 -- "the operation and operands written": j has the operation, registers and letters of the statement at p, and its
 -- values, each found; of a branch an offset to its target. A directive has no operation. [02 §12]

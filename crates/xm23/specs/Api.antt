@@ -42,7 +42,12 @@ pub use Rattle.asm_call.specs.Call.{Assembled, assembleCallOf}
 -- with END, recordOf the eight bytes of each. What the records tell of the image is in asm_places_laws. [call places]
 pub use Rattle.asm_places.specs.Listing.{Listed, listedOf, recordOf, recordsOf}
 pub use Rattle.asm_places.specs.Call.{Recorded, placesCallOf}
+-- xm23_text replies and leaves what textCallOf gives: textAt is the word's text at a place, and TextStands says that it
+-- stands whole at the start of the buffer. That a listing of texts assembles to its words is ListingAssembles of
+-- asm_print_laws. [call text]
+pub use Rattle.asm_print.specs.Print.{textAt}
+pub use Rattle.asm_printer.specs.Call.{Printed, textCallOf, TextStands}
 
 -- xm23_version replies versionNumber: major, minor and patch, which are those of the header.
 abbrev pub versionNumber : ℕ
-versionNumber = 0 * 65536 + 18 * 256 + 0
+versionNumber = 0 * 65536 + 19 * 256 + 0

@@ -8,7 +8,7 @@ ghost use Rattle.xm23.specs.Api.{runCallOf, deepestLeft, Resumption};
 ghost use Rattle.xm23.specs.Api.{loadCallOf, writeCallOf, Restores, needReply};
 ghost use Rattle.xm23.specs.Api.{journalOf, runJournalOf, journalDeepestLeft};
 ghost use Rattle.xm23.specs.Api.{JournalResumption, lentOf, backCallOf};
-ghost use Rattle.xm23.specs.Api.{assembleCallOf, placesCallOf};
+ghost use Rattle.xm23.specs.Api.{assembleCallOf, placesCallOf, textCallOf};
 use isa::Encoded;
 use isa::decode;
 use isa::encode;
@@ -26,7 +26,7 @@ use isa_ranges::operation_of;
 pub extern "C" fn xm23_version() -> u32
     ensures reply { λ r. ⌜ r ≡ versionNumber ⌝ }
 {
-    0x001200
+    0x001300
 }
 
 // The number of the instruction that a word means; that of the illegal one is 0.
@@ -267,4 +267,15 @@ pub extern "C" fn xm23_places(source: &[u8], places: &mut [u8]) -> u64
         ≡ placesCallOf (now (source .entry)) (now (places .entry)) .places ⌝ }
 {
     asm_places::places_call(source, places)
+}
+
+// A word at a place as the assembler writes it, at the start of `text`: refusal in bits 7-0, the
+// text's length in bits 31-8. Bytes past the text, and all of them where refused, stay as they
+// were.
+#[no_mangle]
+pub extern "C" fn xm23_text(word: u16, place: u16, text: &mut [u8]) -> u32
+    ensures reply { λ r. ⌜ r ≡ textCallOf word place (now (text .entry)) .reply ⌝ }
+    ensures text { λ r. ⌜ now (text .exit) ≡ textCallOf word place (now (text .entry)) .text ⌝ }
+{
+    asm_printer::text_call(word, place, text)
 }

@@ -2,7 +2,6 @@
 
 use super::{grouped, hex, place, row};
 use crate::follow::Followed;
-use crate::isa::decode;
 use crate::listing;
 use crate::machine::{even, word_at, PC};
 use crate::page::{table, text, Cell, Row, Section};
@@ -118,7 +117,7 @@ pub fn around(run: &Followed) -> Section {
         let word = word_at(&run.memory, at);
         let here = at == middle;
         let mut cells = row([&hex(at), &hex(word), "", if here { name } else { "" }]);
-        cells[2] = Cell { code: true, ..Cell::strong_if(here, listing::text(decode(word), at)) };
+        cells[2] = Cell { code: true, ..Cell::strong_if(here, listing::remarked(word, at)) };
         cells
     };
     let rows = (0..=2 * AROUND).map(line).collect();

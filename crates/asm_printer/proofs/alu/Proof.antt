@@ -1,0 +1,49 @@
+use Prim.Native.Nat.{_+_, _/_, _%_}
+use mathlib.Core.Path.{ap, _∙_}
+use borrow.Author.Needs.{needs}
+use borrow.Author.Tests.{eq-eqb, ne-eqb}
+use Rattle.asm_print.specs.Print.{phrase, textFor}
+use Rattle.asm_printer.proofs.Laws.{two-operands, of-register}
+use Rattle.asm_printer.proofs.alu.Statement.{statement}
+use Rattle.asm_printer.proofs.alu.Tie as tie
+
+add-m : tie.Need-add-m
+add-m c = search needs
+
+of-registers-requires : tie.Need-of-registers-requires
+of-registers-requires c κs = search needs
+
+returns : tie.Need-returns
+unfolding textFor
+returns c =
+    λ p. rw (eq-eqb _ 0 (c .before .if1 .taken)) (c .of-registers .ensures)
+
+constant-requires : tie.Need-constant-requires
+constant-requires c κs = search needs
+
+register-requires : tie.Need-register-requires
+register-requires c κs = search needs
+
+statement-requires : tie.Need-statement-requires
+statement-requires c κs = search needs
+
+returns-2 : tie.Need-returns-2
+unfolding textFor
+returns-2 c =
+    λ p.
+    let w = c .before .before .before .before .args .w in
+    let d = of-register _ (w % 8) (c .before .register .ensures .0) (search needs) in
+    rw (ne-eqb _ 0 (c .before .before .before .if1 .left))
+    (c .statement .ensures ∙ ap (phrase (10 + w / 256 % 16) (w / 64 % 2)) (two-operands _ _ _ _ (c .before .before .constant .ensures) d))
+
+pub alu-spec : {M : Type 1} → statement M
+alu-spec =
+    tie.close
+    (tie.spec
+    add-m
+    of-registers-requires
+    returns
+    constant-requires
+    register-requires
+    statement-requires
+    returns-2)

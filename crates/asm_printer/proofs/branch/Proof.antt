@@ -1,0 +1,37 @@
+use Prim.Native.Nat.{ℕ}
+use mathlib.Core.Path.{ap, _∙_}
+use borrow.Author.Needs.{needs}
+use borrow.Author.Tests.{eq-eqb, ne-eqb}
+use Rattle.asm_print.specs.Print.{hexText, phrase, branchText}
+use Rattle.asm_printer.proofs.Laws.{one-operand}
+use Rattle.asm_printer.proofs.branch.Statement.{statement}
+use Rattle.asm_printer.proofs.branch.Tie as tie
+
+target-requires : tie.Need-target-requires
+target-requires c κs = search needs
+
+hex-word-requires : tie.Need-hex-word-requires
+hex-word-requires c κs = search needs
+
+statement-requires : tie.Need-statement-requires
+statement-requires c κs = search needs
+
+returns : tie.Need-returns
+unfolding branchText
+returns c =
+    let a = c .before .before .before .before .args in
+    rw (eq-eqb _ 0 (c .before .before .before .if1 .taken))
+    (c .statement .ensures ∙ ap (phrase (a .m) 0) (one-operand _ _ (c .before .hex-word .ensures))
+    ∙ ap (λ (t : ℕ). phrase (a .m) 0 (hexText 4 t)) (c .before .before .target .ensures))
+
+word-requires : tie.Need-word-requires
+word-requires c κs = search needs
+
+returns-2 : tie.Need-returns-2
+unfolding branchText
+returns-2 c = rw (ne-eqb _ 0 (c .before .if1 .left)) (c .word .ensures)
+
+pub branch-spec : {M : Type 1} → statement M
+branch-spec =
+    tie.close
+    (tie.spec target-requires hex-word-requires statement-requires returns word-requires returns-2)

@@ -1,0 +1,51 @@
+use Prim.Native.Nat.{_/_, _%_}
+use mathlib.Core.Path.{sym, ap, _∙_}
+use native.Mathlib.Omega.{arith}
+use borrow.Author.Needs.{needs}
+use Rattle.asm_print.specs.Print.{phrase, textFor}
+use Rattle.asm_printer.proofs.Laws.{two-operands, of-register, of-address}
+use Rattle.asm_printer.proofs.load.Statement.{statement}
+use Rattle.asm_printer.proofs.load.Tie as tie
+
+idle-requires : tie.Need-idle-requires
+idle-requires c κs = search needs
+
+word-requires : tie.Need-word-requires
+word-requires c κs = search needs
+
+returns : tie.Need-returns
+unfolding textFor
+returns c =
+    λ p. rw (sym (c .before .before .idle .ensures) ∙ c .before .if1 .taken) (c .word .ensures)
+
+address-requires : tie.Need-address-requires
+address-requires c κs = search needs
+
+register-requires : tie.Need-register-requires
+register-requires c κs = search needs
+
+statement-requires : tie.Need-statement-requires
+statement-requires c κs = search needs
+
+returns-2 : tie.Need-returns-2
+unfolding textFor
+returns-2 c =
+    λ p.
+    let w = c .before .before .before .before .before .args .w in
+    let a = of-address _ (w / 512 % 2) (w / 256 % 2) (w / 128 % 2) (w / 8 % 8) (c .before .before .address .ensures)
+    (omega arith) (omega arith) (omega arith) (omega arith) in
+    let d = of-register _ (w % 8) (c .before .register .ensures .0) (omega arith) in
+    rw (sym (c .before .before .before .before .idle .ensures) ∙ c .before .before .before .if1 .left)
+    (c .statement .ensures ∙ ap (phrase 34 (w / 64 % 2)) (two-operands _ _ _ _ (a .long) d))
+
+pub load-spec : {M : Type 1} → statement M
+load-spec =
+    tie.close
+    (tie.spec
+    idle-requires
+    word-requires
+    returns
+    address-requires
+    register-requires
+    statement-requires
+    returns-2)

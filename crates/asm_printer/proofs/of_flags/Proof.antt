@@ -1,0 +1,28 @@
+use mathlib.Core.Path.{ap, _∙_}
+use borrow.Author.Needs.{needs}
+use borrow.Author.Tests.{eq-eqb, ne-eqb}
+use Rattle.asm_print.specs.Print.{phrase}
+use Rattle.asm_printer.proofs.Laws.{one-operand}
+use Rattle.asm_printer.proofs.of_flags.Statement.{statement}
+use Rattle.asm_printer.proofs.of_flags.Tie as tie
+
+word-requires : tie.Need-word-requires
+word-requires c κs = search needs
+
+returns : tie.Need-returns
+returns c = rw (eq-eqb _ 0 (c .before .if1 .taken)) (c .word .ensures)
+
+flags-requires : tie.Need-flags-requires
+flags-requires c κs = search needs
+
+statement-requires : tie.Need-statement-requires
+statement-requires c κs = search needs
+
+returns-2 : tie.Need-returns-2
+returns-2 c =
+    rw (ne-eqb _ 0 (c .before .before .if1 .left))
+    (c .statement .ensures ∙ ap (phrase (c .before .before .before .args .m) 0) (one-operand _ _ (c .before .flags .ensures)))
+
+pub of-flags-spec : {M : Type 1} → statement M
+of-flags-spec =
+    tie.close (tie.spec word-requires returns flags-requires statement-requires returns-2)

@@ -1,0 +1,19 @@
+use mathlib.Core.Path.{ap, _∙_}
+use borrow.Author.Needs.{needs}
+use Rattle.asm_print.specs.Print.{phrase}
+use Rattle.asm_printer.proofs.Laws.{one-operand}
+use Rattle.asm_printer.proofs.of_number.Statement.{statement}
+use Rattle.asm_printer.proofs.of_number.Tie as tie
+
+count-requires : tie.Need-count-requires
+count-requires c κs = search needs
+
+statement-requires : tie.Need-statement-requires
+statement-requires c κs = search needs
+
+returns : tie.Need-returns
+returns c =
+    c .statement .ensures ∙ ap (phrase (c .before .before .args .m) 0) (one-operand _ _ (c .before .count .ensures .long))
+
+pub of-number-spec : {M : Type 1} → statement M
+of-number-spec = tie.close (tie.spec count-requires statement-requires returns)

@@ -1,0 +1,26 @@
+use mathlib.Core.Path.{ap, _∙_}
+use borrow.Author.Needs.{needs}
+use Rattle.asm_print.specs.Print.{phrase}
+use Rattle.asm_printer.proofs.Laws.{two-operands, of-register}
+use Rattle.asm_printer.proofs.of_registers.Statement.{statement}
+use Rattle.asm_printer.proofs.of_registers.Tie as tie
+
+register-requires : tie.Need-register-requires
+register-requires c κs = search needs
+
+register-requires-2 : tie.Need-register-requires-2
+register-requires-2 c κs = search needs
+
+statement-requires : tie.Need-statement-requires
+statement-requires c κs = search needs
+
+returns : tie.Need-returns
+returns c =
+    let a = c .before .before .before .args in
+    let s = of-register _ (a .s) (c .before .before .register .ensures .0) (search needs) in
+    let d = of-register _ (a .d) (c .before .register2 .ensures .0) (search needs) in
+    c .statement .ensures ∙ ap (phrase (a .m) (a .wb)) (two-operands _ _ _ _ (s .long) d)
+
+pub of-registers-spec : {M : Type 1} → statement M
+of-registers-spec =
+    tie.close (tie.spec register-requires register-requires-2 statement-requires returns)

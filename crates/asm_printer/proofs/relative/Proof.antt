@@ -1,0 +1,58 @@
+use Prim.Native.Nat.{_/_, _%_}
+use mathlib.Core.Path.{ap, _∙_}
+use native.Mathlib.Omega.{arith}
+use borrow.Author.Needs.{needs}
+use borrow.Author.Tests.{lt-ltb, le-ltb}
+use Rattle.asm_print.specs.Print.{phrase, textFor}
+use Rattle.asm_printer.proofs.Laws.{three-operands, of-register}
+use Rattle.asm_printer.proofs.relative.Statement.{statement}
+use Rattle.asm_printer.proofs.relative.Tie as tie
+
+offset-requires : tie.Need-offset-requires
+offset-requires c κs = search needs
+
+register-requires : tie.Need-register-requires
+register-requires c κs = search needs
+
+register-requires-2 : tie.Need-register-requires-2
+register-requires-2 c κs = search needs
+
+statement-requires : tie.Need-statement-requires
+statement-requires c κs = search needs
+
+returns : tie.Need-returns
+unfolding textFor
+returns c =
+    λ p.
+    let w = c .before .before .before .before .before .args .w in
+    let s = of-register _ (w / 8 % 8) (c .before .before .before .register .ensures .0) (omega arith) in
+    let d = of-register _ (w % 8) (c .before .before .register2 .ensures .0) (omega arith) in
+    rw (lt-ltb w 0xC000 (omega arith))
+    (c .statement .ensures
+    ∙ ap (phrase 40 (w / 64 % 2)) (three-operands _ _ _ _ _ _ (s .long) (c .before .before .before .before .offset .ensures) d))
+
+statement-requires-2 : tie.Need-statement-requires-2
+statement-requires-2 c κs = search needs
+
+returns-2 : tie.Need-returns-2
+unfolding textFor
+returns-2 c =
+    λ p.
+    let w = c .before .before .before .before .before .args .w in
+    let s = of-register _ (w / 8 % 8) (c .before .before .before .register .ensures .0) (omega arith) in
+    let d = of-register _ (w % 8) (c .before .before .register2 .ensures .0) (omega arith) in
+    rw (le-ltb w 0xC000 (omega arith))
+    (c .statement2 .ensures
+    ∙ ap (phrase 41 (w / 64 % 2)) (three-operands _ _ _ _ _ _ (s .long) d (c .before .before .before .before .offset .ensures)))
+
+pub relative-spec : {M : Type 1} → statement M
+relative-spec =
+    tie.close
+    (tie.spec
+    offset-requires
+    register-requires
+    register-requires-2
+    statement-requires
+    returns
+    statement-requires-2
+    returns-2)

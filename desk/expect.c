@@ -115,7 +115,7 @@ static int take_line(const struct paper *p, uint32_t line, const char **at, cons
     }
     if (take_refusal(w, at, end, t))
         return 1;
-    say_of(p->name, line, w.at, (size_t)(*at - w.at), "is no R and the number of a refusal");
+    say_of(p->name, line, w.at, (size_t)(*at - w.at), "is no refusal: R and its number");
     return 0;
 }
 

@@ -88,7 +88,7 @@ mistaken " ${line/ 00 / 0 }" "'0' is no CEX: 2 digits of base sixteen, or \*"
 mistaken " ${line/00000000/0000000}" "'0000000' is no lines: 8 digits .*"
 mistaken " $line; as the model" "'1;' is no depth: .*"
 for text in R R0 R20x 'R 99' R256 R011 'R*' R-1 'r ;'; do
-    mistaken " $text" "'${text//\*/\\*}' is no R and the number of a refusal"
+    mistaken " $text" "'${text//\*/\\*}' is no refusal: R and its number"
 done
 mistaken ' R11 R12' "'R12' is one word too many"
 printf 'expect %s\nexpect %s\n' "$line" "$line" > "$room/e.paper"

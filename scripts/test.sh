@@ -103,11 +103,10 @@ listing() {
     "$build/xm23" dis examples/copy_words.s19 | diff examples/copy_words.lst -
 }
 
-# The oracle's pages are asked for by its program, which is compiled first.
+# random_papers PROGRAM RUNS. The oracle's pages are asked for by its program, which is compiled first.
 random_papers() {
     scripts/oracle.sh report > /dev/null 2>&1 || [ $? -eq 2 ] &&
-        python3 -B tests/desk/random_runs.py \
-            "$build/xm23" target/bin/print_state oracle/target/release/examples/report 1200
+        python3 -B tests/desk/random_runs.py "$1" target/bin/print_state oracle/target/release/examples/report "$2"
 }
 
 # The machines of the example host print what the program prints; by slices, all but the depth, which is a slice's own.
@@ -162,15 +161,19 @@ part 'desk: marking' count_line tests/desk/marking.sh
 part 'desk program with sanitizers of gcc' count_status desk_checked gcc
 part 'desk: use and misuse, sanitizers of gcc' count_line tests/desk/desk.sh "$build/xm23_gcc"
 part 'desk: papers, texts and pages, sanitizers of gcc' count_line tests/desk/texts.sh "$build/xm23_gcc"
+part 'desk: long sources, sanitizers of gcc' count_line tests/desk/sources.sh "$build/xm23_gcc"
 part 'desk: marking, sanitizers of gcc' count_line tests/desk/marking.sh "$build/xm23_gcc"
+part 'desk: random runs, sanitizers of gcc' count_line random_papers "$build/xm23_gcc" 160
 if clang -x c -fsanitize=address,undefined -o /dev/null - <<< 'int main(void) { return 0; }' 2> /dev/null; then
     part 'desk program with sanitizers of clang' count_status desk_checked clang
     part 'desk: use and misuse, sanitizers of clang' count_line tests/desk/desk.sh "$build/xm23_clang"
     part 'desk: papers, texts and pages, sanitizers of clang' count_line tests/desk/texts.sh "$build/xm23_clang"
+    part 'desk: long sources, sanitizers of clang' count_line tests/desk/sources.sh "$build/xm23_clang"
     part 'desk: marking, sanitizers of clang' count_line tests/desk/marking.sh "$build/xm23_clang"
+    part 'desk: random runs, sanitizers of clang' count_line random_papers "$build/xm23_clang" 160
 else
     echo '== left out: desk with sanitizers of clang, which are not here (Debian: clang and libclang-rt-14-dev)'
-    parts=$((parts - 4))
+    parts=$((parts - 6))
 fi
 if command -v valgrind > /dev/null; then
     part 'desk under valgrind' count_line tests/desk/valgrind.sh
@@ -178,7 +181,7 @@ else
     echo '== left out: desk under valgrind, which is not here'
     parts=$((parts - 1))
 fi
-part 'desk beside the program and the oracle on random runs' count_line random_papers
+part 'desk beside the program and the oracle on random runs' count_line random_papers "$build/xm23" 1200
 if [ -n "$(command -v chromium chromium-browser google-chrome google-chrome-stable)" ]; then
     part 'desk in a browser' count_line python3 -B tests/desk/browser.py "$build/xm23"
 else

@@ -9,30 +9,12 @@ use borrow.Author.Needs.{needs}
 use Rattle.asm_places.proofs.list_source.Statement.{statement}
 use Rattle.asm_places.proofs.list_source.Tie as tie
 
-slice-aggregate-collect : tie.Need-slice-aggregate-collect
-slice-aggregate-collect c = search needs
-
-slice-aggregate-collect-2 : tie.Need-slice-aggregate-collect-2
-slice-aggregate-collect-2 c = search needs
-
-slice-aggregate-collect-3 : tie.Need-slice-aggregate-collect-3
-slice-aggregate-collect-3 c = search needs
-
-collect-requires : tie.Need-collect-requires
-collect-requires c κs = search needs
-
-array-share-prefix-places : tie.Need-array-share-prefix-places
-array-share-prefix-places c = search needs
-
 slice-aggregate-uses : tie.Need-slice-aggregate-uses
 slice-aggregate-uses c =
     let collect = c .before .before .before .before .collect in
     sym
     (length-take-le (collect .result .count) (collect .last .1 .0)
     (omega (arith, collect .ensures .1 .within, collect .ensures .1 .places)))
-
-array-share-prefix-keys : tie.Need-array-share-prefix-keys
-array-share-prefix-keys c = search needs
 
 slice-aggregate-uses-2 : tie.Need-slice-aggregate-uses-2
 slice-aggregate-uses-2 c =
@@ -41,24 +23,12 @@ slice-aggregate-uses-2 c =
     (length-take-le (collect .result .count) (collect .last .1 .1 .0)
     (omega (arith, collect .ensures .1 .within, collect .ensures .1 .keys)))
 
-array-share-prefix-values : tie.Need-array-share-prefix-values
-array-share-prefix-values c = search needs
-
 slice-aggregate-uses-3 : tie.Need-slice-aggregate-uses-3
 slice-aggregate-uses-3 c =
     let collect = c .before .before .before .before .before .before .collect in
     sym
     (length-take-le (collect .result .count) (collect .last .1 .1 .1 .0)
     (omega (arith, collect .ensures .1 .within, collect .ensures .1 .values)))
-
-uses-requires : tie.Need-uses-requires
-uses-requires c κs = search needs
-
-decide-requires : tie.Need-decide-requires
-decide-requires c κs = search needs
-
-reply-requires : tie.Need-reply-requires
-reply-requires c κs = search needs
 
 returns : tie.Need-returns
 returns c =
@@ -101,9 +71,6 @@ returns-2 c =
     (collect .ensures .1) (collect .ensures .0) (c17 .pre) (uses .result) (uses .ensures) (a .list .now) (omega (arith, c .if2 .taken))) in
     (ap (λ (x : Recorded). x .reply) e, ap (λ (x : Recorded). x .places) e)
 
-array-share-prefix-places-2 : tie.Need-array-share-prefix-places-2
-array-share-prefix-places-2 c = search needs
-
 slice-aggregate-list-lines : tie.Need-slice-aggregate-list-lines
 slice-aggregate-list-lines c =
     let c10 = c .before .before .before .before .before .before .before .before .before .before in
@@ -113,9 +80,6 @@ slice-aggregate-list-lines c =
     (length-take-le (collect .result .count) (collect .last .1 .0)
     (omega (arith, collect .ensures .1 .within, collect .ensures .1 .places)))
 
-array-share-prefix-keys-2 : tie.Need-array-share-prefix-keys-2
-array-share-prefix-keys-2 c = search needs
-
 slice-aggregate-list-lines-2 : tie.Need-slice-aggregate-list-lines-2
 slice-aggregate-list-lines-2 c =
     let c10 = c .before .before .before .before .before .before .before .before .before .before in
@@ -124,9 +88,6 @@ slice-aggregate-list-lines-2 c =
     sym
     (length-take-le (collect .result .count) (collect .last .1 .1 .0)
     (omega (arith, collect .ensures .1 .within, collect .ensures .1 .keys)))
-
-array-share-prefix-values-2 : tie.Need-array-share-prefix-values-2
-array-share-prefix-values-2 c = search needs
 
 slice-aggregate-list-lines-3 : tie.Need-slice-aggregate-list-lines-3
 slice-aggregate-list-lines-3 c =
@@ -149,12 +110,6 @@ list-lines-requires c κs =
     held-room (a .source .now) (collect .last .1 .0) (collect .last .1 .1 .0) (collect .last .1 .1 .1 .0) (collect .result)
     (collect .ensures .1) (collect .ensures .0) (c21 .pre) (uses .result) (uses .ensures) (a .list .now)
     (omega (arith, c4 .if2 .left))
-
-reply-requires-2 : tie.Need-reply-requires-2
-reply-requires-2 c κs = search needs
-
-same-length : tie.Need-same-length
-same-length c = search needs
 
 returns-3 : tie.Need-returns-3
 returns-3 c =
@@ -191,29 +146,7 @@ returns-3 c =
 pub list-source-spec : {M : Type 1} → statement M
 list-source-spec =
     tie.close
-    (tie.spec
-    slice-aggregate-collect
-    slice-aggregate-collect-2
-    slice-aggregate-collect-3
-    collect-requires
-    array-share-prefix-places
-    slice-aggregate-uses
-    array-share-prefix-keys
-    slice-aggregate-uses-2
-    array-share-prefix-values
-    slice-aggregate-uses-3
-    uses-requires
-    decide-requires
-    reply-requires
-    returns
-    returns-2
-    array-share-prefix-places-2
-    slice-aggregate-list-lines
-    array-share-prefix-keys-2
-    slice-aggregate-list-lines-2
-    array-share-prefix-values-2
-    slice-aggregate-list-lines-3
-    list-lines-requires
-    reply-requires-2
-    same-length
-    returns-3)
+    (tie.spec (λ c. search needs) (λ c. search needs) (λ c. search needs) (λ c κs. search needs) (λ c. search needs) slice-aggregate-uses
+    (λ c. search needs) slice-aggregate-uses-2 (λ c. search needs) slice-aggregate-uses-3 (λ c κs. search needs) (λ c κs. search needs)
+    (λ c κs. search needs) returns returns-2 (λ c. search needs) slice-aggregate-list-lines (λ c. search needs) slice-aggregate-list-lines-2
+    (λ c. search needs) slice-aggregate-list-lines-3 list-lines-requires (λ c κs. search needs) (λ c. search needs) returns-3)

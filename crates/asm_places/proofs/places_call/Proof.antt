@@ -9,12 +9,6 @@ use borrow.Author.Needs.{needs}
 use Rattle.asm_places.proofs.places_call.Statement.{statement}
 use Rattle.asm_places.proofs.places_call.Tie as tie
 
-form-requires : tie.Need-form-requires
-form-requires c κs = search needs
-
-reply-requires : tie.Need-reply-requires
-reply-requires c κs = search needs
-
 returns : tie.Need-returns
 returns c =
     let c1 = c .before in
@@ -28,16 +22,7 @@ returns c =
     (λ z. let k : _≡_ {A = ℕ} 17 0 = z in omega arith) (c .reply .ensures) in
     (ap (λ (x : Recorded). x .reply) e, ap (λ (x : Recorded). x .places) e)
 
-list-source-requires : tie.Need-list-source-requires
-list-source-requires c κs = search needs
-
-same-length : tie.Need-same-length
-same-length c = search needs
-
-returns-2 : tie.Need-returns-2
-returns-2 c = search needs
-
 pub places-call-spec : {M : Type 1} → statement M
 places-call-spec =
     tie.close
-    (tie.spec form-requires reply-requires returns list-source-requires same-length returns-2)
+    (tie.spec (λ c κs. search needs) (λ c κs. search needs) returns (λ c κs. search needs) (λ c. search needs) (λ c. search needs))

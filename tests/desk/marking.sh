@@ -91,10 +91,11 @@ under() {
         sleep 0.01
     done
 }
+worker() { awk -v parent="$pid" '$4 == parent { print $1; exit }' /proc/[0-9]*/stat 2> /dev/null; } # one of its own
 ended() { status=0; { wait "$pid" || status=$?; } 2> /dev/null; }
 for signal in KILL SEGV PROF; do
     under "$xm23" mark -j 2 -o "killed$signal" long.paper many/*
-    pkill "-$signal" -P "$pid" -o
+    kill "-$signal" "$(worker)"
     ended
     same "a worker that is ended by $signal: status" "$status" 3
     case $signal in
@@ -201,7 +202,12 @@ same 'are rows' "$(cells links line says agrees)" \
 same 'of which no byte is shown' "$(grep -c 'MOVLZ' links/pages/*link.asm*)" 0
 expect 'links with -L' 0 '' '' "$xm23" mark -L -o followed "$paper" link.s19
 same 'are programs' "$(cells followed agrees program_sha256)" "yes|$(digest "$sound")"
-expect 'a link to nothing' 1 '' '' "$xm23" mark -L -o followed "$paper" link.s19 <(:)
+ln -s nowhere lost.s19
+ln -s lost.s19 round.s19 && ln -sf round.s19 lost.s19
+ln -s nowhere nothing.s19
+expect 'links to nothing' 1 '' '' "$xm23" mark -L -o followed "$paper" link.s19 nothing.s19 round.s19 <(:)
+same 'are rows still' "$(cells followed says)" \
+    $'\nNo such file or directory\nToo many levels of symbolic links\nis no regular file'
 mkfifo pipe
 (exec 3> pipe; echo > opened) &
 writer=$!
@@ -281,6 +287,11 @@ if [ $# -eq 0 ] && strace -o /dev/null true 2> /dev/null; then
     strace -f -e trace=syncfs,fsync,renameat,renameat2,rename -o calls "$xm23" mark -o shared "$paper" a.s19
     same 'synced and then renamed' "$(sed -n 's/^[0-9]* *\(syncfs\|renameat2\|fsync\)(.*/\1/p' calls | tr '\n' ' ')" \
         'syncfs renameat2 fsync '
+    # Each program has its time, and each worker its memory.
+    strace -f -e trace=setitimer,prlimit64 -o calls "$xm23" mark -j 2 -o shared "$paper" a.s19 b.s19 pipe
+    same 'ten seconds for each program' \
+        "$(grep -c 'setitimer(ITIMER_PROF, {it_interval={tv_sec=0, tv_usec=0}, it_value={tv_sec=10, tv_usec=0}}' calls)" 3
+    same '512 MiB for each worker' "$(grep -c 'prlimit64(0, RLIMIT_AS, {rlim_cur=524288\*1024, ' calls)" 2
     # A system that cannot exchange two names does it by turns.
     strace -f -e trace=renameat2 -e inject=renameat2:error=EINVAL -o calls "$xm23" mark -o shared "$paper" b.s19
     same 'by turns' "$(whole shared) $(cells shared name) $(beside shared)" 'whole b.s19 '

@@ -1,5 +1,6 @@
 /* xm23: the program of setters, examiners and markers. Statuses: 0 done, 1 a refusal or a difference, 2 usage, 3 cannot
  * read or write. */
+#include <fcntl.h>
 #include <signal.h>
 #include <string.h>
 
@@ -43,8 +44,18 @@ static int asks_help(int argc, char **argv)
     return argc > 1 && strcmp(argv[1], "--help") == 0;
 }
 
+/* No file that is opened gets the number of standard input, output or errors, where one of these is closed: then a
+ * message would go into it. What is put in its place can be neither read nor written, as before. */
+static void keep_numbers(void)
+{
+    for (int i = 0; i < 3; i++)
+        if (fcntl(i, F_GETFD) < 0 && open("/dev/null", i ? O_RDONLY : O_WRONLY) != i)
+            return;
+}
+
 int main(int argc, char **argv)
 {
+    keep_numbers();
     signal(SIGPIPE, SIG_IGN);
     signal(SIGXFSZ, SIG_IGN); /* a file that may not grow is told, as a full disk is */
     if (argc > 1 && strcmp(argv[1], "--help") == 0)

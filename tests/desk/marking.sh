@@ -282,6 +282,13 @@ same 'six at once' "$all" 000000
 same 'one of them is there, whole' "$(whole shared) $(cells shared agrees | sort -u)" 'whole yes'
 same 'and nothing else' "$(beside shared)" ''
 
+# ---- standard input, output and errors that are closed
+(exec "$xm23" mark -o numbers "$paper" a.s19 no/such <&- >&- 2>&-)
+same 'without any of the three' "$? $(whole numbers)" '1 whole'
+first=$(sum numbers)
+(ulimit -f 8 && exec "$xm23" mark -o numbers "$paper" a.s19 <&- >&- 2>&-)
+same 'and nowhere to tell a mistake' "$? $(sum numbers) $(beside numbers)" "3 $first "
+
 # ---- on the disk before it is in its place
 if [ $# -eq 0 ] && strace -o /dev/null true 2> /dev/null; then
     strace -f -e trace=syncfs,fsync,renameat,renameat2,rename -o calls "$xm23" mark -o shared "$paper" a.s19

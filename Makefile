@@ -97,6 +97,7 @@ bench: $(ARCHIVE) target/staticlib/libprobe.a build/libxm23_fast.a build/layouts
 	@cargo bench $(ORACLE) --bench run
 	@cargo bench $(ORACLE) --bench srec
 	@cargo bench $(ORACLE) --bench stack
+	@cargo bench $(ORACLE) --bench sheet
 	@cargo bench $(ORACLE) --bench assemble
 
 clean:

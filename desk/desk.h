@@ -192,16 +192,17 @@ void add_source_listing(struct text *t, const char *source, size_t length, const
 
 /* ---- line.c: the line of the sheet */
 
-void add_line(struct text *t, const uint8_t *record, const struct outcome *o);
+/* The line of the run that a paper asks for, from a machine before its first step: a run of its own, no LF. */
+void add_line(struct text *t, const struct machine *m, const struct paper *p);
 
 /* A row for each field of a line: its name, the field, what it says. */
 struct field {
     char name[8], value[12], says[192];
 };
 
-/* Fills the rows, and gives how many: one where the run was refused. */
-int line_fields(const uint8_t *record, const struct outcome *o, struct field *rows);
-void add_legend(struct text *t, const uint8_t *record, const struct outcome *o);
+/* Fills the rows, and gives how many: one of a line that is a refusal. */
+int line_fields(const char *line, struct field *rows);
+void add_legend(struct text *t, const char *line);
 
 /* ---- word.c: a word as the assembler writes it, at a place */
 

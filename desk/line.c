@@ -1,30 +1,39 @@
-/* The line of the sheet, as print_state prints it, and what each of its fields says. */
+/* The line of the sheet, which the library prints, and what each of its fields says. */
 #include <stdlib.h>
 #include <string.h>
 
 #include "desk.h"
 
-void add_line(struct text *t, const uint8_t *record, const struct outcome *o)
+/* What the sheet is asked with: n, the state record, memory, events. Room for it is kept from one to the next. */
+static const uint8_t *input_of(const struct machine *m, const struct paper *p, size_t *length)
 {
-    if (o->refusal) {
-        add(t, "R%u", o->refusal);
-        return;
+    static uint8_t *input;
+    static size_t room;
+    size_t events = XM23_EVENT_SIZE * p->many_events, memory = 4 + XM23_RECORD_SIZE, end = memory + XM23_MEMORY_SIZE;
+    *length = end + events;
+    if (*length > room) {
+        input = (uint8_t *)room_for(input, *length);
+        room = *length;
     }
-    add(t, "%u %lu", o->reason, (unsigned long)o->steps);
-    for (int i = 0; i < 8; i++)
-        add(t, " %04X", get_word(record, XM23_RECORD_REGISTER((unsigned)i)));
-    add(t, " %04X %02X ", get_word(record, XM23_RECORD_PSW), record[XM23_RECORD_CEX]);
-    for (int d = 7; d >= 0; d--)
-        add(t, "%X", XM23_RECORD_WAITING(record, d));
-    add(t, " %lu", (unsigned long)o->deepest);
+    put_word(input, 0, (unsigned)(p->steps & 0xFFFF));
+    put_word(input, 2, (unsigned)(p->steps >> 16));
+    memcpy(input + 4, m->record, XM23_RECORD_SIZE);
+    memcpy(input + memory, m->memory, XM23_MEMORY_SIZE);
+    if (events)
+        memcpy(input + end, p->event_bytes, events);
+    return input;
 }
 
-static void put_field(struct field *f, const char *name, const char *value, const char *says)
+void add_line(struct text *t, const struct machine *m, const struct paper *p)
 {
-    snprintf(f->name, sizeof f->name, "%s", name);
-    snprintf(f->value, sizeof f->value, "%s", value);
-    snprintf(f->says, sizeof f->says, "%s", says);
+    uint8_t line[XM23_LINE_SIZE];
+    size_t length;
+    const uint8_t *input = input_of(m, p, &length);
+    uint32_t reply = xm23_sheet(input, length, line, sizeof line);
+    add_bytes(t, line, XM23_LINE_LENGTH(reply) - 1);
 }
+
+/* ---- what it says */
 
 static void psw_says(unsigned psw, char *says, size_t room)
 {
@@ -54,61 +63,64 @@ static void cex_says(unsigned cex, char *says, size_t room)
                  XM23_CEX_STATE_FALSE(cex), cex & XM23_CEX_STATE_HELD ? "held" : "not held");
 }
 
-static void lines_say(const uint8_t *record, char *says, size_t room)
+/* Eight digits, device 7 first. */
+static void lines_say(unsigned long lines, char *says, size_t room)
 {
     int length = snprintf(says, room, "events waiting:"), many = 0;
     for (int d = 0; d < 8; d++)
-        if (XM23_RECORD_WAITING(record, d))
+        if (lines >> 4 * d & 15)
             length += snprintf(says + length, room - (size_t)length, "%s %u of device %d", many++ ? "," : "",
-                               XM23_RECORD_WAITING(record, d), d);
+                               (unsigned)(lines >> 4 * d & 15), d);
     if (!many)
         snprintf(says + length, room - (size_t)length, " none");
 }
 
-/* Eight digits, device 7 first. */
-static void lines_value(const uint8_t *record, char *value)
+/* What a field says, by its number in the line. */
+static void field_says(int i, const char *value, char *says, size_t room)
 {
-    for (int d = 7; d >= 0; d--)
-        *value++ = "0123456789ABCDEF"[XM23_RECORD_WAITING(record, d)];
-    *value = 0;
+    static const char *const registers[] = {"", "", "", "", "", "LR", "SP", "PC"};
+    unsigned long number = strtoul(value, NULL, 16);
+    if (i == 0)
+        snprintf(says, room, "%s", number == XM23_REASON_HALTED ? "halted" : "all steps are done");
+    else if (i == 1)
+        snprintf(says, room, "done");
+    else if (i < 10)
+        snprintf(says, room, "%s", registers[i - 2]);
+    else if (i == 10)
+        psw_says((unsigned)number, says, room);
+    else if (i == 11)
+        cex_says((unsigned)number, says, room);
+    else if (i == 12)
+        lines_say(number, says, room);
+    else
+        snprintf(says, room, "frames open together at most");
 }
 
-int line_fields(const uint8_t *record, const struct outcome *o, struct field *rows)
+int line_fields(const char *line, struct field *rows)
 {
-    static const char *const says_of[] = {"", "", "", "", "", "LR", "SP", "PC"};
-    char value[12], name[8], says[192];
-    if (o->refusal) {
-        snprintf(value, sizeof value, "%u", o->refusal);
-        put_field(rows, "refusal", value, xm23_refusal_text(o->refusal));
+    static const struct field refused = {"refusal", "", ""};
+    static const char *const names[FIELDS] = {"reason", "steps", "R0", "R1",  "R2",  "R3",    "R4",
+                                              "R5",     "R6",    "R7", "PSW", "CEX", "lines", "depth"};
+    if (*line == 'R') {
+        *rows = refused;
+        snprintf(rows->value, sizeof rows->value, "%s", line + 1);
+        snprintf(rows->says, sizeof rows->says, "%s", xm23_refusal_text((unsigned)strtoul(line + 1, NULL, 10)));
         return 1;
     }
-    put_field(rows++, "reason", o->reason == XM23_REASON_HALTED ? "1" : "0",
-              o->reason == XM23_REASON_HALTED ? "halted" : "all steps are done");
-    snprintf(value, sizeof value, "%lu", (unsigned long)o->steps);
-    put_field(rows++, "steps", value, "done");
-    for (unsigned i = 0; i < 8; i++) {
-        snprintf(name, sizeof name, "R%u", i);
-        snprintf(value, sizeof value, "%04X", get_word(record, XM23_RECORD_REGISTER(i)));
-        put_field(rows++, name, value, says_of[i]);
+    for (int i = 0; i < FIELDS; i++) {
+        size_t length = strcspn(line, " ");
+        snprintf(rows[i].name, sizeof rows[i].name, "%s", names[i]);
+        snprintf(rows[i].value, sizeof rows[i].value, "%.*s", (int)length, line);
+        field_says(i, rows[i].value, rows[i].says, sizeof rows[i].says);
+        line += length + (line[length] == ' ');
     }
-    snprintf(value, sizeof value, "%04X", get_word(record, XM23_RECORD_PSW));
-    psw_says(get_word(record, XM23_RECORD_PSW), says, sizeof says);
-    put_field(rows++, "PSW", value, says);
-    snprintf(value, sizeof value, "%02X", record[XM23_RECORD_CEX]);
-    cex_says(record[XM23_RECORD_CEX], says, sizeof says);
-    put_field(rows++, "CEX", value, says);
-    lines_value(record, value);
-    lines_say(record, says, sizeof says);
-    put_field(rows++, "lines", value, says);
-    snprintf(value, sizeof value, "%lu", (unsigned long)o->deepest);
-    put_field(rows, "depth", value, "frames open together at most");
     return FIELDS;
 }
 
-void add_legend(struct text *t, const uint8_t *record, const struct outcome *o)
+void add_legend(struct text *t, const char *line)
 {
     struct field rows[FIELDS];
-    int many = line_fields(record, o, rows);
+    int many = line_fields(line, rows);
     for (int i = 0; i < many; i++) {
         add(t, "  %-8s%-10s%s", rows[i].name, rows[i].value, rows[i].says);
         while (t->length && t->at[t->length - 1] == ' ')

@@ -18,9 +18,9 @@ static void run_marked(const struct sitting *s, struct marked *m)
     m->o.screen = &m->screen;
     m->ran = open_program(s->paper, &m->program, &m->before, &f);
     if (m->ran) {
+        add_line(&r->line, &m->before, s->paper);
         memcpy(&m->after, &m->before, sizeof m->after);
         run_machine(&m->after, s->paper, s->paper->steps, &m->o);
-        add_line(&r->line, m->after.record, &m->o);
         r->steps = m->o.steps;
         r->deepest = m->o.deepest;
         put_screen(r, &m->screen);

@@ -78,11 +78,11 @@ static void add_wide(struct text *t, const struct text *rows)
 }
 
 /* The fields of the closing state; those that are not the expected ones are marked, in words too. */
-static void add_fields(struct text *t, const struct paper *p, const struct machine *m, const struct outcome *o)
+static void add_fields(struct text *t, const struct paper *p, const char *line)
 {
     struct field rows[FIELDS];
     char expected[16];
-    int many = line_fields(m->record, o, rows), beside = p->expected && p->expected[0] != 'R', other = 0;
+    int many = line_fields(line, rows), beside = p->expected && p->expected[0] != 'R', other = 0;
     add(t, "<h2>Closing state</h2>\n");
     open_table(t, beside ? "Field|Value|Expected|Says" : "Field|Value|Says");
     for (int i = 0; i < many; i++) {
@@ -221,7 +221,7 @@ static void add_heading(struct text *t, const struct sitting *s, const struct ro
 
 static void add_state(struct text *t, const struct sitting *s, const struct marked *m, unsigned most)
 {
-    add_fields(t, s->paper, &m->after, &m->o);
+    add_fields(t, s->paper, m->row.line.at);
     if (m->walk.many)
         add(t, "%s<noscript><p>Without scripts the walk is not shown; its last steps are below.</p></noscript>\n",
             walk_html);

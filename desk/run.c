@@ -4,19 +4,18 @@
 #include "desk.h"
 
 /* The line, and behind it the legend and what the screen showed where they are asked for. */
-static int tell_line(const struct machine *m, const struct outcome *o, int legend)
+static int tell_line(const char *line, const struct text *screen, int legend)
 {
     struct text t = {0};
     int status;
-    add_line(&t, m->record, o);
-    add(&t, "\n");
+    add(&t, "%s\n", line);
     if (legend) {
         add(&t, "\n");
-        add_legend(&t, m->record, o);
+        add_legend(&t, line);
     }
-    if (legend && o->screen && o->screen->length) {
+    if (legend && screen->length) {
         add(&t, "\n  screen  ");
-        add_plain(&t, o->screen->at, o->screen->length);
+        add_plain(&t, screen->at, screen->length);
         add(&t, "\n");
     }
     status = write_file("-", &t);
@@ -25,35 +24,34 @@ static int tell_line(const struct machine *m, const struct outcome *o, int legen
 }
 
 /* Whether the line is the one that the paper expects; told where it is another. */
-static int agrees(const struct paper *p, const struct machine *m, const struct outcome *o)
+static int agrees(const struct paper *p, const char *line)
 {
-    struct text t = {0};
-    int same;
-    add_line(&t, m->record, o);
-    same = as_expected(p, t.at) != 0;
+    int same = as_expected(p, line) != 0;
     if (!same)
         say_at(p->name, p->expected_line, "another line was expected: %s", p->expected);
-    drop(&t);
     return same;
 }
 
 static int run_program(const struct paper *p, const struct program *program, int legend)
 {
     static struct machine m;
-    struct text screen = {0};
+    struct text line = {0}, screen = {0};
     struct outcome o = {0};
     struct fault f = {0};
     int status;
-    o.screen = &screen;
+    o.screen = legend ? &screen : NULL;
     if (open_program(p, program, &m, &f)) {
-        run_machine(&m, p, p->steps, &o);
+        add_line(&line, &m, p);
+        if (legend)
+            run_machine(&m, p, p->steps, &o);
     } else {
         say_fault(program->name, &f);
-        o.refusal = f.refusal;
+        add(&line, "R%u", f.refusal);
     }
-    status = tell_line(&m, &o, legend);
-    if (status == DONE && (!agrees(p, &m, &o) || o.refusal))
+    status = tell_line(line.at, &screen, legend);
+    if (status == DONE && (!agrees(p, line.at) || line.at[0] == 'R'))
         status = REFUSED;
+    drop(&line);
     drop(&screen);
     drop(&f.why);
     return status;

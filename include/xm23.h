@@ -27,7 +27,7 @@ extern "C" {
 /* ---- version: of this header, as one number; xm23_version gives that of the library */
 
 #define XM23_VERSION_MAJOR 0
-#define XM23_VERSION_MINOR 19
+#define XM23_VERSION_MINOR 20
 #define XM23_VERSION_PATCH 0
 #define XM23_VERSION (XM23_VERSION_MAJOR * 65536 + XM23_VERSION_MINOR * 256 + XM23_VERSION_PATCH)
 
@@ -45,6 +45,7 @@ extern "C" {
 #define XM23_VECTORS_SIZE 64   /* bytes of the sixteen vectors, at XM23_VECTORS of memory */
 #define XM23_USES_SIZE 16      /* bytes of the eight stack uses */
 #define XM23_MAX_USE 1024      /* bytes of one stack use */
+#define XM23_LINE_SIZE 80      /* bytes of a buffer for the printed line */
 #define XM23_TEXT_SIZE 24      /* bytes of a buffer for a word's text; the longest has 16 */
 #define XM23_VECTORS 0xFFC0    /* where in memory the vectors begin */
 
@@ -665,6 +666,28 @@ uint32_t xm23_text(uint16_t word, uint16_t place, uint8_t *text, size_t text_len
 
 /* The bytes of text in a reply of xm23_text that refuses nothing. */
 #define XM23_TEXT_LENGTH(reply) ((size_t)((reply) >> 8))
+
+/*
+ * Prints the line of the sheet: runs the machine that an input describes and writes reason, steps, R0 to R7, PSW, CEX,
+ * lines and depth as one line, as the program print_state does. The run is that of xm23_run with a log long enough.
+ *
+ * input, input_len in: n (four bytes, little-endian), a state record, memory, and event records to the end; of any
+ *                  length and content. An input that breaks a rule is no refusal of this call: its line is R and the
+ *                  number, R3 where it is under 36 bytes, R1 where memory is short, then those of xm23_run in order.
+ * line, line_len   in-out: where the line goes, at the buffer's start; XM23_LINE_SIZE bytes or more. Bytes past the
+ *                  line stay.
+ * result           one reply: XM23_REFUSAL in bits 7-0, XM23_LINE_LENGTH in bits 31-8, the LF that ends the line
+ *                  included.
+ * refusals         XM23_REFUSED_ROOM where line is under XM23_LINE_SIZE bytes, tested first. The reply is then 22, and
+ *                  the buffer is as it was.
+ * stack            it takes 68 KB of stack, for the memory that it runs.
+ * defined          crates/sheet_call/specs/Call.antt, sheetCallOf, for every length and content;
+ *                  crates/sheet/specs/Sheet.antt, sheetOf.
+ */
+uint32_t xm23_sheet(const uint8_t *input, size_t input_len, uint8_t *line, size_t line_len);
+
+/* The bytes of the line in a reply of xm23_sheet that refuses nothing. */
+#define XM23_LINE_LENGTH(reply) ((size_t)((reply) >> 8))
 
 #ifdef __cplusplus
 }

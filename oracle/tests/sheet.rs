@@ -1,5 +1,8 @@
-//! The program print_state, run as a process, beside the oracle: the printed line. The program is in XM23_BIN, or in
-//! target/bin of the repository.
+//! The program print_state, run as a process, and the call xm23_sheet of libxm23.a, beside the oracle: the printed line.
+//! The program is in XM23_BIN, or in target/bin of the repository.
+
+#[path = "library/sheet.rs"]
+mod library;
 
 use oracle::assemble::assemble;
 use oracle::case;
@@ -43,12 +46,40 @@ fn printed(input: &[u8]) -> String {
     printed_in_pieces(input, input.len())
 }
 
-/// The program prints what the oracle does.
+/// The program prints what the oracle does, and the call writes it.
 #[track_caller]
 fn same(what: &str, input: &[u8]) -> String {
     let line = printed(input);
     assert_eq!(line, sheet(input).0, "{what}");
+    compare(library::sheet_call, input, 80).unwrap_or_else(|difference| panic!("{what}: {difference}"));
     line
+}
+
+/// Writes the line of an input and gives the reply, as `xm23_sheet` does.
+type Caller = fn(&[u8], &mut [u8]) -> u32;
+
+/// What the call must reply and leave, by the oracle.
+fn oracle_call(input: &[u8], line: &mut [u8]) -> u32 {
+    if line.len() < 80 {
+        return 22;
+    }
+    let text = sheet(input).0;
+    line[..text.len()].copy_from_slice(text.as_bytes());
+    (text.len() as u32) << 8
+}
+
+/// The call on an input, in a buffer of some bytes between guards: what differs, if anything does.
+fn compare(call: Caller, input: &[u8], room: usize) -> Result<(), String> {
+    const GUARD: usize = 8;
+    let given: Vec<u8> = (0..room + 2 * GUARD).map(|i| (i * 37) as u8 ^ 0xA5).collect();
+    let (mut left, mut expected) = (given.clone(), given);
+    let reply = call(input, &mut left[GUARD..GUARD + room]);
+    let owed = oracle_call(input, &mut expected[GUARD..GUARD + room]);
+    if reply == owed && left == expected {
+        return Ok(());
+    }
+    let shown = |bytes: &[u8]| String::from_utf8_lossy(bytes).into_owned();
+    Err(format!("{room} bytes: {reply:X} {:?}, expected {owed:X} {:?}", shown(&left), shown(&expected)))
 }
 
 /// An accepted input: memory all zero, no steps.
@@ -218,4 +249,103 @@ fn the_example_input() {
     for (at, byte) in case.bytes {
         assert_eq!(memory[usize::from(at)], byte, "byte #{at:04X}");
     }
+}
+
+/// Inputs of every kind through the call alone; every refusal of a run, and both reasons, must be reached.
+#[test]
+fn the_call_on_every_kind_of_input() {
+    let mut reached = std::collections::HashMap::new();
+    for kind in KINDS {
+        for seed in 1_000..1_600 {
+            let mut i = input(kind, seed);
+            i.n = i.n.min(u32::MAX.into());
+            let bytes = i.to_bytes();
+            let room = 80 + seed as usize % 3;
+            compare(library::sheet_call, &bytes, room).unwrap_or_else(|d| panic!("{kind:?} {seed}: {d}"));
+            let line = sheet(&bytes).0;
+            let first = line.split([' ', '\n']).next().unwrap_or_default().to_string();
+            *reached.entry(first).or_insert(0) += 1;
+        }
+    }
+    for first in ["0", "1", "R1", "R2", "R4", "R5", "R6", "R7", "R13"] {
+        assert!(reached.contains_key(first), "{first} is not reached: {reached:?}");
+    }
+}
+
+/// A buffer of under 80 bytes is refused whatever the input is, and kept.
+#[test]
+fn the_call_in_every_length() {
+    let broken = accepted()[..35].to_vec();
+    for room in 0..=200 {
+        for input in [&accepted(), &broken, &Vec::new()] {
+            compare(library::sheet_call, input, room).unwrap_or_else(|difference| panic!("{difference}"));
+        }
+    }
+}
+
+/// Each refusal of a run is a line of the call and no refusal of it.
+#[test]
+fn the_call_on_each_refusal() {
+    for (number, input) in [
+        (1, accepted()[..LEAST - 1].to_vec()),
+        (2, with(0, &u32::MAX.to_le_bytes())),
+        (3, Vec::new()),
+        (4, with(4 + 20, &[1])),
+        (5, with(LEAST, &[0])),
+        (6, with(LEAST, &[0, 0, 0, 0, 8, 0, 0, 0])),
+        (7, with(LEAST, &[1, 0, 0, 0, 0, 0, 0, 0, 0, 0, 0, 0, 0, 0, 0, 0])),
+        (13, with(LEAST, &[0; 16])),
+    ] {
+        let (mut line, text) = ([0xEE; 80], format!("R{number}\n"));
+        assert_eq!(library::sheet_call(&input, &mut line), (text.len() as u32) << 8, "R{number}");
+        assert!(line.starts_with(text.as_bytes()) && line[text.len()..].iter().all(|&b| b == 0xEE), "R{number}");
+    }
+}
+
+/// Calls that are wrong on purpose are caught.
+#[test]
+fn wrong_calls() {
+    let wrong: [(&str, Caller); 5] = [
+        ("a line not ended", |input, line| {
+            let kept = line.to_vec();
+            let reply = oracle_call(input, line);
+            if let Some(last) = ((reply >> 8) as usize).checked_sub(1) {
+                line[last] = kept[last];
+            }
+            reply.saturating_sub(256)
+        }),
+        ("R for a refusal of the call", |input, line| {
+            if line.len() < 80 && line.len() > 4 {
+                line[..4].copy_from_slice(b"R22\n");
+                return 4 << 8;
+            }
+            oracle_call(input, line)
+        }),
+        ("a refusal of the run in the reply", |input, line| {
+            let reply = oracle_call(input, line);
+            let refused = line.first() == Some(&b'R') && reply != 22;
+            reply | u32::from(refused) * u32::from(line[1].wrapping_sub(b'0'))
+        }),
+        ("bytes past the line cleared", |input, line| {
+            let reply = oracle_call(input, line);
+            line.iter_mut().skip((reply >> 8) as usize).for_each(|byte| *byte = 0);
+            reply
+        }),
+        ("79 bytes are enough", |input, line| {
+            let mut whole = [0; 80];
+            let reply = oracle_call(input, &mut whole);
+            if line.len() == 79 {
+                let length = (reply >> 8) as usize;
+                line[..length].copy_from_slice(&whole[..length]);
+                return reply;
+            }
+            oracle_call(input, line)
+        }),
+    ];
+    let broken = accepted()[..35].to_vec();
+    let inputs = [(accepted(), 80), (broken, 80), (accepted(), 79)];
+    for (name, call) in wrong {
+        assert!(inputs.iter().any(|(input, room)| compare(call, input, *room).is_err()), "{name}");
+    }
+    assert!(inputs.iter().all(|(input, room)| compare(oracle_call, input, *room).is_ok()));
 }

@@ -709,6 +709,41 @@ static void words(int at_end, int rounds)
     }
 }
 
+/* ---- the printed line */
+
+/* Junk, and what is nearly an input, of lengths around the lawful ones. */
+static void sheets(int at_end, int rounds)
+{
+    static const size_t lengths[] = {0, 1, 4, 35, 36, 37, 65571, 65572, 65573, 65580, 65588, 98340, 98341, 98348};
+    int i;
+    for (i = 0; i < rounds; i++) {
+        uint64_t pick = draw();
+        size_t room = pick & 1 ? XM23_LINE_SIZE + (pick >> 8 & 3) : pick >> 8 & 127, length;
+        uint32_t reply;
+        calls++;
+        lend(&text, lengths[(pick >> 16) % (sizeof lengths / sizeof *lengths)], at_end);
+        lend(&record, room, at_end);
+        scatter(&record);
+        scatter(&text);
+        if (pick >> 32 & 3 && text.length >= 36) {
+            memset(text.at, 0, 36);
+            text.at[0] = (uint8_t)(pick >> 40);
+            if (text.length > 65572 && pick >> 34 & 1)
+                memset(text.at + 65572, 0, text.length - 65572);
+        }
+        memcpy(text_before, text.at, text.length);
+        memcpy(record_before, record.at, record.length);
+        reply = xm23_sheet(text.at, text.length, record.at, record.length);
+        length = XM23_LINE_LENGTH(reply);
+        check("guard bytes", guarded(&text) && guarded(&record));
+        check("input", memcmp(text.at, text_before, text.length) == 0);
+        check("refusal", room < XM23_LINE_SIZE ? reply == XM23_REFUSED_ROOM : !XM23_REFUSAL(reply));
+        check("length", room < XM23_LINE_SIZE ? !length : length >= 3 && length <= XM23_LINE_SIZE);
+        check("an end", !length || (record.at[length - 1] == 10 && !memchr(record.at, 10, length - 1)));
+        check("bytes past the line", memcmp(record.at + length, record_before + length, room - length) == 0);
+    }
+}
+
 int main(int argc, char **argv)
 {
     int brief = argc > 1 && strcmp(argv[1], "short") == 0, at_end;
@@ -746,6 +781,9 @@ int main(int argc, char **argv)
         wrong == before ? passed++ : failed++;
         before = wrong;
         stacks(at_end, brief ? 1 : 40);
+        wrong == before ? passed++ : failed++;
+        before = wrong;
+        sheets(at_end, brief ? 40 : 4000);
         wrong == before ? passed++ : failed++;
         before = wrong;
         words(at_end, brief ? 400 : 200000);

@@ -6,6 +6,7 @@
  * - a run of m and then one of n - m, with what is left of the log, closes as the run of n;
  * - a run with a short log, and again with a fresh one as long as there is no room, closes as the run with a log long
  *   enough, and the logs joined are its log;
+ * - the line of xm23_sheet is that of the run, where its input can hold the call and the log had room;
  * - nothing around the lent buffers changes, and nothing behind them is touched.
  * A difference is saved in a folder of its own (XM23_FOUND, or build/fuzz) for 'make replay', and ends the target.
  */
@@ -191,6 +192,46 @@ static void check_joined(void)
           steps == XM23_RUN_STEPS(reply) && (slices.reply & 0xFFFF) == (reply & 0xFFFF));
 }
 
+/* The line of the run that the library has done, as 01 and 02 have it. */
+static size_t line_of(char *line, size_t room)
+{
+    const uint8_t *r = library.record.at;
+    int length;
+    if (XM23_RUN_REFUSAL(library.reply))
+        return (size_t)snprintf(line, room, "R%u\n", XM23_RUN_REFUSAL(library.reply));
+    length = snprintf(line, room, "%u %" PRIu32, XM23_RUN_REASON(library.reply), XM23_RUN_STEPS(library.reply));
+    for (int i = 0; i < 9; i++)
+        length += snprintf(line + length, room - (size_t)length, " %02X%02X", r[2 * i + 1], r[2 * i]);
+    length += snprintf(line + length, room - (size_t)length, " %02X %02X%02X%02X%02X %" PRIu32 "\n", r[18], r[29],
+                       r[28], r[27], r[26], library.deepest);
+    return (size_t)length;
+}
+
+static void check_sheet(void)
+{
+    static uint8_t input[4 + XM23_RECORD_SIZE + XM23_MEMORY_SIZE + LONGEST_EVENTS];
+    const size_t start = 4 + XM23_RECORD_SIZE + XM23_MEMORY_SIZE;
+    uint8_t line[XM23_LINE_SIZE + 8];
+    char expected[XM23_LINE_SIZE + 8];
+    size_t length = line_of(expected, sizeof expected);
+    if (setup.memory_len != XM23_MEMORY_SIZE || setup.record_len != XM23_RECORD_SIZE || setup.n > UINT32_MAX ||
+        XM23_RUN_REFUSAL(library.reply) == XM23_REFUSED_LOG || XM23_RUN_REASON(library.reply) == XM23_REASON_LOG)
+        return;
+    for (int i = 0; i < 4; i++)
+        input[i] = (uint8_t)(setup.n >> 8 * i);
+    memcpy(input + 4, setup.record, XM23_RECORD_SIZE);
+    memcpy(input + 4 + XM23_RECORD_SIZE, setup.memory, XM23_MEMORY_SIZE);
+    memcpy(input + start, setup.events, setup.events_len);
+    memset(line, 0xA5, sizeof line);
+    memset(expected + length, 0xA5, sizeof expected - length);
+    check("a line in a short buffer",
+          xm23_sheet(input, start + setup.events_len, line, XM23_LINE_SIZE - 1) == XM23_REFUSED_ROOM);
+    check("a short buffer is changed", line[0] == 0xA5);
+    check("another length of the line",
+          xm23_sheet(input, start + setup.events_len, line, XM23_LINE_SIZE) == (uint32_t)length << 8);
+    check("another line", memcmp(line, expected, sizeof line) == 0);
+}
+
 int LLVMFuzzerTestOneInput(const uint8_t *data, size_t size)
 {
     if (!library.memory.end) {
@@ -218,6 +259,7 @@ int LLVMFuzzerTestOneInput(const uint8_t *data, size_t size)
     check("bytes around a buffer are changed",
           guarded(&library.memory) && guarded(&library.record) && guarded(&library.events) && guarded(&library.log));
     check_reply();
+    check_sheet();
     if (XM23_RUN_REFUSAL(library.reply) == XM23_ACCEPTED) {
         check_slices();
         check_joined();

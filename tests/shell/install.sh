@@ -44,7 +44,8 @@ same 'exports of the shared library' "$(nm -D --defined-only "$prefix/lib/libxm2
 same 'its name' "$(readelf -d "$prefix/lib/libxm23.so" | sed -n 's/.*SONAME.*\[\(.*\)\]/\1/p')" \
     "libxm23.so.${version%.*}"
 same 'what it needs' "$(readelf -d "$prefix/lib/libxm23.so" | sed -n 's/.*NEEDED.*\[\(.*\)\]/\1/p')" libc.so.6
-same 'and of it' "$(nm -D --undefined-only "$prefix/lib/libxm23.so" | awk '{ print $2 }' | sed 's/@.*//')" memset
+same 'and of it' "$(nm -D --undefined-only "$prefix/lib/libxm23.so" | awk '{ print $2 }' | sed 's/@.*//' | sort | xargs)" \
+    'memcpy memset'
 printf 'int other(void) { return 0; }\n' > "$room/other.c"
 gcc -c -fPIC -o "$room/other.o" "$room/other.c" && cp target/staticlib/libxm23.a "$room/libother.a" &&
     ar rs "$room/libother.a" "$room/other.o"

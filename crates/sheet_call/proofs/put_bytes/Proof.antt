@@ -1,0 +1,65 @@
+use Prim.Native.Nat.{ℕ, _+_, _-_, _≤_, _<_}
+use mathlib.Core.Path.{_≡_, refl, sym, ap, _∙_}
+use native.Mathlib.Omega.{arith}
+use borrow.Author.Needs.{needs}
+use denote.Ref.{now}
+use lib.ListN.{length, drop, length-set}
+use lib.Seq.{sets}
+use Rattle.sheet_call.proofs.Laws.{put-more, put-end}
+use Rattle.sheet_call.proofs.put_bytes.Statement.{statement}
+use Rattle.sheet_call.proofs.put_bytes.Tie as tie
+
+abbrev Inv-loop : tie.InvT-loop
+Inv-loop line₀ bytes i₀ line i = (length line ≡ length line₀) × (i ≤ length bytes) × (sets line i (drop i bytes) ≡ sets line₀ 0 bytes)
+
+abbrev μ-loop : tie.MeasureT-loop
+μ-loop line₀ bytes i₀ line i = length bytes - i
+
+loop-holds : tie.Need-loop-holds Inv-loop μ-loop
+loop-holds c = (refl, omega arith, refl)
+
+shared-slice-read-line : tie.Need-shared-slice-read-line Inv-loop μ-loop
+shared-slice-read-line c = search needs
+
+slice-write-line : tie.Need-slice-write-line Inv-loop μ-loop
+slice-write-line c = search needs
+
+add-i : tie.Need-add-i Inv-loop μ-loop
+add-i c = search needs
+
+loop-less : tie.Need-loop-less Inv-loop μ-loop
+loop-less c = search needs
+
+loop-again : tie.Need-loop-again Inv-loop μ-loop
+loop-again c =
+    let l = c .before .before .loop in
+    let s = c .before .before .before in
+    let t = c .before .loop-test .taken in (
+      simp length-set (l .inv .0),
+      omega arith,
+      put-more (l .line) (now (s .args .bytes)) (l .i) t ∙ l .inv .2,
+    )
+
+same-length : tie.Need-same-length Inv-loop μ-loop
+same-length c = c .before .loop .inv .0
+
+returns : tie.Need-returns Inv-loop μ-loop
+returns c =
+    let s = c .before .before in
+    let l = c .before .loop in
+    sym (put-end (l .line) (now (s .args .bytes)) (l .i) (omega (arith, c .loop-test .left))) ∙ l .inv .2
+
+pub put-bytes-spec : {M : Type 1} → statement M
+put-bytes-spec =
+    tie.close
+    (tie.spec
+    Inv-loop
+    μ-loop
+    loop-holds
+    shared-slice-read-line
+    slice-write-line
+    add-i
+    loop-less
+    loop-again
+    same-length
+    returns)

@@ -37,11 +37,9 @@ pub struct Reached(HashSet<Item>);
 impl Reached {
     fn branch(&mut self, place: u16, offset: i16) {
         let target = i32::from(place) + 2 + 2 * i32::from(offset);
-        for (holds, item) in [
-            (offset < 0, Item::Backwards),
-            (target > 0xFFFF, Item::PastTheEnd),
-            (target < 0, Item::BelowTheStart),
-        ] {
+        for (holds, item) in
+            [(offset < 0, Item::Backwards), (target > 0xFFFF, Item::PastTheEnd), (target < 0, Item::BelowTheStart)]
+        {
             if holds {
                 self.0.insert(item);
             }

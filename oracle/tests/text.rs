@@ -14,8 +14,7 @@ use oracle::random::Random;
 use oracle::text_compare::{compare, owed, Printer, Reached};
 
 /// Places, even and odd, at the ends of memory, of a digit and of a branch's way.
-const PLACES: [u16; 12] =
-    [0, 1, 2, 0x00FE, 0x0101, 0x1FFE, 0x2000, 0x7FFF, 0x8000, 0xE002, 0xFFFE, 0xFFFF];
+const PLACES: [u16; 12] = [0, 1, 2, 0x00FE, 0x0101, 0x1FFE, 0x2000, 0x7FFF, 0x8000, 0xE002, 0xFFFE, 0xFFFF];
 
 /// Every word at a place in a buffer: the first difference, if there is one.
 fn every_word(printer: Printer, place: u16, room: usize) -> Result<(), String> {
@@ -122,7 +121,9 @@ fn wrong_printers() {
         }),
         ("BP for R4", |w, p, b| changed(w, p, b, |t| t.replace("R4", "BP"))),
         ("R5 for LR", |w, p, b| changed(w, p, b, |t| t.replace("LR", "R5"))),
-        ("a target from the word's own place", |w, p, b| text_call(w, if w < 0x4000 { p.wrapping_sub(2) } else { p }, b)),
+        ("a target from the word's own place", |w, p, b| {
+            text_call(w, if w < 0x4000 { p.wrapping_sub(2) } else { p }, b)
+        }),
         ("WORD for a word that has a notation", |w, p, b| {
             changed(w, p, b, |t| if w == 0x4C53 { "WORD $4C53".to_string() } else { t })
         }),

@@ -27,7 +27,7 @@ extern "C" {
 /* ---- version: of this header, as one number; xm23_version gives that of the library */
 
 #define XM23_VERSION_MAJOR 0
-#define XM23_VERSION_MINOR 20
+#define XM23_VERSION_MINOR 21
 #define XM23_VERSION_PATCH 0
 #define XM23_VERSION (XM23_VERSION_MAJOR * 65536 + XM23_VERSION_MINOR * 256 + XM23_VERSION_PATCH)
 
@@ -41,6 +41,10 @@ extern "C" {
 #define XM23_PLACE_SIZE 8      /* bytes of a place record */
 #define XM23_MAX_JOURNAL 65536 /* bytes of a journal: 1,024 records */
 #define XM23_MAX_EVENTS 4096   /* event records of one run */
+#define XM23_WRITERS_SIZE 65536 /* bytes that say who wrote each byte of memory last */
+#define XM23_FINDING_SIZE 16   /* bytes of a finding */
+#define XM23_FINDINGS_SIZE 144 /* bytes of the nine findings of a judged run */
+#define XM23_MAX_FRAMES 256    /* devices' frames that a judged run watches together */
 #define XM23_MAX_STEPS 1000000 /* steps of one run */
 #define XM23_VECTORS_SIZE 64   /* bytes of the sixteen vectors, at XM23_VECTORS of memory */
 #define XM23_USES_SIZE 16      /* bytes of the eight stack uses */
@@ -99,6 +103,53 @@ extern "C" {
 #define XM23_JOURNAL_BYTES 50   /* eight bytes: those at the address and after it, addresses wrapping */
 #define XM23_JOURNAL_ZERO 58    /* six bytes, all 0 */
 
+/* ---- a finding: 16 bytes, little-endian; where each part begins. All are 0 where nothing was found. */
+
+#define XM23_FINDING_STEP 0     /* four bytes: the step count before the step that broke the premise */
+#define XM23_FINDING_OPENED 4   /* four bytes: the step count before the step that opened the handler's frame */
+#define XM23_FINDING_FOUND 8    /* one byte: 1 */
+#define XM23_FINDING_DETAIL 9   /* one byte: a number that says more */
+#define XM23_FINDING_ADDRESS 10 /* two bytes: the byte that was read, else PC before the step */
+#define XM23_FINDING_VECTOR 12  /* one byte: the vector by which the frame was entered */
+#define XM23_FINDING_RUNNING 13 /* one byte: the vector of the handler that ran in it */
+#define XM23_FINDING_ZERO 14    /* two bytes, both 0 */
+
+/* In the place of a vector: the application ran; of a fault's: it halted. */
+#define XM23_NO_VECTOR 16
+
+/* The kinds of findings, in their order in memory: bit k of a reply's kinds is for kind k. */
+#define XM23_FOUND_START 0   /* detail: bit 0 asleep, 1 halted, 2 a line waits */
+#define XM23_FOUND_FAULT 1   /* detail: the vector, XM23_NO_VECTOR where the fault halts */
+#define XM23_FOUND_RETURN 2
+#define XM23_FOUND_SVC 3     /* detail: the vector */
+#define XM23_FOUND_OPEN 4    /* step: the one that opened the oldest of them; address 0 */
+#define XM23_FOUND_CHANGED 5 /* detail: bits 0-4 R0 to R4, 5 SP, 6 a byte of the frame */
+#define XM23_FOUND_SLEEP 6
+#define XM23_FOUND_DEVICE 7  /* address: the first such byte */
+#define XM23_FOUND_FOREIGN 8 /* address: the first such byte */
+
+/* What a finding of a kind says. Every number gives a text, which is there for good and never NULL. */
+static inline const char *xm23_finding_text(unsigned kind)
+{
+    switch (kind) {
+    case XM23_FOUND_START: return "the run starts asleep, halted, or with a line waiting";
+    case XM23_FOUND_FAULT: return "a fault";
+    case XM23_FOUND_RETURN: return "a return with no frame open";
+    case XM23_FOUND_SVC: return "SVC while a device's frame is open";
+    case XM23_FOUND_OPEN: return "a frame is still open when the run ends";
+    case XM23_FOUND_CHANGED: return "a handler returns with R0 to R4, SP or its frame changed";
+    case XM23_FOUND_SLEEP: return "the application sets SLP";
+    case XM23_FOUND_DEVICE: return "the application reads a device register";
+    case XM23_FOUND_FOREIGN: return "the application reads a byte that a handler or an entry wrote last";
+    default: return "no finding has this number";
+    }
+}
+
+/* Who wrote a byte of memory last. */
+#define XM23_WROTE_NONE 0        /* no step of the run */
+#define XM23_WROTE_APPLICATION 1 /* a step of the application */
+#define XM23_WROTE_OTHER 2       /* any other step: a handler's or an entry's */
+
 /* ---- a place record: 8 bytes, little-endian; where each part begins. One for each line of a source, to END's. */
 
 #define XM23_PLACE_NUMBER 0 /* four bytes: the place before the statement; of an EQU its value, two's complement */
@@ -138,6 +189,7 @@ extern "C" {
 #define XM23_REFUSED_SOURCE_FORM 17
 #define XM23_REFUSED_SOURCE_NAME 18
 #define XM23_REFUSED_SOURCE_VALUE 19
+#define XM23_REFUSED_JUDGE 20
 #define XM23_REFUSED_ROOM 22
 
 /* What a refusal says, to 19 in the papers' words. Every number gives a text, there for good and never NULL. */
@@ -164,6 +216,7 @@ static inline const char *xm23_refusal_text(unsigned refusal)
     case XM23_REFUSED_SOURCE_FORM: return "a line fits no statement, brackets go deeper than 16, or END is missing";
     case XM23_REFUSED_SOURCE_NAME: return "a name is unknown, already given or the 1,025th";
     case XM23_REFUSED_SOURCE_VALUE: return "a value leaves 32 bits, divides by zero or does not fit, or an address is odd or past #FFFF";
+    case XM23_REFUSED_JUDGE: return "the writers are not 65,536 bytes, or the findings not 144";
     case XM23_REFUSED_ROOM: return "the text or table lent is too short";
     default: return "no refusal has this number";
     }
@@ -528,6 +581,48 @@ uint64_t xm23_run_journal(uint8_t *memory, size_t memory_len, uint8_t *record, s
  */
 uint32_t xm23_back(uint8_t *memory, size_t memory_len, uint8_t *record, size_t record_len, const uint8_t *journal,
                    size_t journal_len, uint32_t *kept, uint32_t *place, uint64_t k);
+
+/*
+ * Runs a machine as xm23_run does with a log long enough, and judges its handlers: which premises of resumption the run
+ * broke, of each the first step that did, and who ran then. Where no kind is found, the program ended as it would have
+ * with no events: registers, PSW, CEX state and memory are those of the run with no events after as many steps as the
+ * application took, but for the device registers and the bytes with mark XM23_WROTE_OTHER. And wherever the premises
+ * hold no kind is found: no sound handler is blamed.
+ *
+ * A device's frame is every frame that is not the application's own, which are those of SVC opened while no device's
+ * frame is open. The nine findings stand in the order of XM23_FOUND_..., each judged over the whole run. Who ran: the
+ * handler in the newest frame if that is a device's, else the application, with XM23_NO_VECTOR as both vectors and the
+ * count at the start; XM23_FOUND_OPEN tells of the oldest open frame. Where a line was chained onto a frame, the two
+ * vectors differ: what the pull finds changed may then be the first handler's or the chained one's.
+ *
+ * memory, memory_len     in-out: the machine's memory, XM23_MEMORY_SIZE bytes.
+ * record, record_len     in-out: its state record, XM23_RECORD_SIZE bytes.
+ * events, events_len     in: event records, in step order.
+ * writers, writers_len   out: XM23_WRITERS_SIZE bytes, XM23_WROTE_... for each byte of memory.
+ * findings, findings_len out: XM23_FINDINGS_SIZE bytes, a finding of each kind.
+ * n                      in: how many steps, at most XM23_MAX_STEPS.
+ * result                 one reply: XM23_JUDGE_REFUSAL in bits 7-0, XM23_JUDGE_REASON in 15-8, XM23_JUDGE_STEPS done in
+ *                        39-16, XM23_JUDGE_KINDS found in 63-40, 0 if the run is sound.
+ * refusals               in the order tested: those of xm23_run but XM23_REFUSED_LOG, then XM23_REFUSED_JUDGE. Refused:
+ *                        all four buffers are as they were.
+ * interrupts             where XM23_MAX_FRAMES devices' frames are open, a step that would open one more is not taken,
+ *                        its events are not applied: XM23_REASON_DEEP. Such a run is never called sound.
+ * defined                crates/soundness/specs/Judge.antt, judgeCallOf, for every length, content and number;
+ *                        Findings.antt, foundOf; Verdict.antt, Judgement.
+ */
+uint64_t xm23_judge(uint8_t *memory, size_t memory_len, uint8_t *record, size_t record_len, const uint8_t *events,
+                    size_t events_len, uint8_t *writers, size_t writers_len, uint8_t *findings, size_t findings_len,
+                    uint64_t n);
+
+/* The parts of a reply of xm23_judge. */
+#define XM23_JUDGE_REFUSAL(reply) XM23_REFUSAL(reply)
+#define XM23_JUDGE_REASON(reply) ((unsigned)((reply) >> 8 & 0xFF))
+#define XM23_JUDGE_STEPS(reply) ((uint32_t)((reply) >> 16 & 0xFFFFFF))
+#define XM23_JUDGE_KINDS(reply) ((uint32_t)((reply) >> 40))           /* bit k for kind k */
+#define XM23_JUDGE_FOUND(reply, kind) ((unsigned)((reply) >> 40 >> (kind) & 1)) /* one kind */
+
+/* Why a judged run ended: XM23_REASON_DONE, XM23_REASON_HALTED, or a step would have opened one frame too many. */
+#define XM23_REASON_DEEP 2
 
 /*
  * Loads a text of Motorola S-records: S0 is passed over, S1 is stored at its address, S9 is the last line and gives the

@@ -3,14 +3,16 @@
 //! random inputs first. A time of the first two is the best of two code layouts (engines/mod.rs).
 //!
 //! Beside the times, instructions of the host per step, where valgrind is here. `run counts` prints the rows that have
-//! them and no more, `run times` all without them, and `run WORKLOAD rattle` (or c, oracle, journal, back) runs one
-//! workload once, for such a count. A run with a journal of 1,024 records, and going back by all of them, stand beside
-//! the plain run.
+//! them and no more, `run times` all without them, and `run WORKLOAD rattle` (or c, oracle, journal, back, judge) runs one
+//! workload once, for such a count. A run with a journal of 1,024 records, going back by all of them, and a judged run
+//! stand beside the plain run.
 
 mod callgrind;
 mod engines;
 #[path = "../tests/library/journal.rs"]
 mod library_journal;
+#[path = "../tests/library/judge.rs"]
+mod library_judge;
 mod rows;
 
 use callgrind::instructions;
@@ -20,6 +22,7 @@ use oracle::assemble::assemble;
 use oracle::inputs::{input, Input, KINDS};
 use oracle::journal::{Held, Journal, MAX_JOURNAL};
 use oracle::journal_compare::ORACLE;
+use oracle::judge::Case;
 use oracle::machine::{self, event_record, Event, Machine};
 use oracle::random::Random;
 use std::fmt::Display;
@@ -269,6 +272,35 @@ fn once_kept(inputs: &[Input], back: bool) -> (f64, u64) {
     (time, steps)
 }
 
+// ---- judged
+
+/// What a judged step may cost in host instructions, and a million of them in seconds.
+const MOST_JUDGED: f64 = 400.0;
+const SECONDS: f64 = 0.2;
+
+/// The mixed loop judged, without events and with 4,096 of them; compared first.
+fn print_judged() {
+    for (name, input) in [("mixed loop", mixed(0, 1_000_000)), ("interrupts", interrupts(1_000_000))] {
+        let start = Case::of(input);
+        let (mut ours, mut theirs) = (start.clone(), start.clone());
+        assert!(library_judge::judge(&mut ours) == theirs.judge() && ours == theirs, "{name}: a verdict that differs");
+        let time = (0..PASSES).map(|_| once_judged(&[start.input.clone()]).0).fold(f64::INFINITY, f64::min);
+        println!("{name}, judged: {time:.3} s a million steps (at most {SECONDS})");
+        assert!(time < SECONDS, "{name}: a judged run takes longer than {SECONDS} s");
+    }
+    let step = instructions("xm23_judge", &["mixed loop", "judge"]).unwrap_or(f64::NAN) / 1e6;
+    println!("mixed loop, judged: {step:.1} host instructions a step (at most {MOST_JUDGED})");
+    assert!(!(step > MOST_JUDGED), "a judged step costs more than {MOST_JUDGED} host instructions");
+}
+
+/// Judges a workload once.
+fn once_judged(inputs: &[Input]) -> (f64, u64) {
+    let mut work: Vec<Case> = inputs.iter().cloned().map(Case::of).collect();
+    let clock = Instant::now();
+    let steps = work.iter_mut().map(|case| machine::steps_of(library_judge::judge(case))).sum();
+    (clock.elapsed().as_secs_f64(), steps)
+}
+
 // ---- the table
 
 /// Rows that should reach so much of the C interpreter's speed, LEAST of it.
@@ -378,6 +410,7 @@ fn print_costs() {
     };
     println!("a record of a list of 4,096, n 0: {:.1} host instructions", (list - none) / 4_096.0);
     print_journal();
+    print_judged();
 }
 
 /// Runs a workload once, and gives the seconds, the steps and what the runs left.
@@ -433,6 +466,9 @@ fn main() {
         // One after the other: a workload that is not asked for is not made.
         let groups: [Group; 5] = [loops, kinds, lists, cut, timed];
         let workload = groups.iter().flat_map(|group| group()).find(|w| w.name == name).expect("a workload");
+        if engine == "judge" {
+            return println!("{} steps", once_judged(&workload.inputs).1);
+        }
         if ["journal", "back"].contains(&engine.as_str()) {
             return println!("{} steps", once_kept(&workload.inputs, engine == "back").1);
         }

@@ -1,6 +1,6 @@
 //! Compares the library with the oracle on more inputs than the gate does. `fuzz INPUTS [SEED]` runs so many of each
 //! kind, a tenth as many sessions with a journal, a quarter as many of each kind of S-record file and of source,
-//! assembled and listed, and as many calls for stack bytes, from a seed of the clock if none is given, and saves the
+//! assembled and listed, and as many calls for stack bytes and judged runs, from a seed of the clock if none is given, and saves the
 //! first difference under build/fuzz. `fuzz replay FOLDER` runs a saved input again, or a saved call on a journal, for
 //! S-records, source or places.
 //! The exit status is 1 where there is a difference, and 2, with one line, where the command cannot be carried out.
@@ -11,6 +11,8 @@ mod library;
 mod library_assemble;
 #[path = "../tests/library/journal.rs"]
 mod library_journal;
+#[path = "../tests/library/judge.rs"]
+mod library_judge;
 #[path = "../tests/library/places.rs"]
 mod library_places;
 #[path = "../tests/library/srec.rs"]
@@ -25,6 +27,7 @@ use oracle::compare::{compare, compare_many, folder, saved, Found};
 use oracle::coverage::Coverage;
 use oracle::inputs::KINDS;
 use oracle::journal_compare;
+use oracle::judge;
 use oracle::places;
 use oracle::random::Random;
 use oracle::srec_compare::{self, Reached};
@@ -91,6 +94,19 @@ fn fuzz(inputs: u64, seed: u64) -> bool {
         && sources(inputs / 4, seed)
         && listed(inputs / 4, seed)
         && stack(inputs, seed)
+        && judged(inputs, seed)
+}
+
+/// Compares judged runs. A difference is told with its seed, which makes the case again.
+fn judged(inputs: u64, seed: u64) -> bool {
+    let start = Instant::now();
+    let differs = |i: u64| judge::difference(library_judge::judge, seed.wrapping_add(i)).map(|what| (i, what));
+    if let Some((i, what)) = (0..inputs).find_map(differs) {
+        println!("judged run of seed {}: {what}", seed.wrapping_add(i));
+        return false;
+    }
+    println!("judged runs: {inputs}, no difference, {:.1} s", start.elapsed().as_secs_f64());
+    true
 }
 
 /// Compares sessions of runs and goings-back.

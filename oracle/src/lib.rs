@@ -14,6 +14,7 @@ pub mod inputs;
 pub mod isa;
 pub mod journal;
 pub mod journal_compare;
+pub mod judge;
 pub mod listing;
 pub mod machine;
 pub mod nests;

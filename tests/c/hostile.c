@@ -76,8 +76,10 @@ static int guarded(const struct lent *b)
 static struct lent memory, record, events, screen, text;
 static struct lent number, kept, place; /* those that go in and out, between guards as the buffers are */
 static struct lent journal;
+static struct lent writers, findings;
 static uint8_t memory_before[ROOM], record_before[ROOM], events_before[ROOM], log_before[ROOM];
 static uint8_t text_before[TEXT_ROOM], journal_before[ROOM];
+static uint8_t writers_before[ROOM], findings_before[ROOM];
 
 static uint64_t next_random = 1;
 
@@ -291,6 +293,90 @@ static void junk(int at_end, int rounds)
         if (pick >> 42 & 3)
             lend(&events, 0, at_end);
         call(pick >> 50);
+    }
+}
+
+/* ---- judged runs */
+
+/* Judges what is lent: refused, nothing changes; accepted, it is the run of xm23_run with a log long enough, and marks
+ * and findings are well formed. */
+static uint64_t judge(uint64_t n)
+{
+    static uint8_t memory_run[ROOM], record_run[ROOM], log[8 * 16384];
+    uint64_t reply, ran = 0;
+    uint32_t depth;
+    size_t i;
+    int accepted;
+    calls++;
+    memcpy(memory_before, memory.at, memory.length);
+    memcpy(record_before, record.at, record.length);
+    memcpy(events_before, events.at, events.length);
+    memcpy(writers_before, writers.at, writers.length);
+    memcpy(findings_before, findings.at, findings.length);
+    memcpy(memory_run, memory.at, memory.length);
+    memcpy(record_run, record.at, record.length);
+    reply = xm23_judge(memory.at, memory.length, record.at, record.length, events.at, events.length, writers.at,
+                       writers.length, findings.at, findings.length, n);
+    ran = xm23_run(memory_run, memory.length, record_run, record.length, events.at, events.length, log, sizeof log,
+                   &depth, n);
+    accepted = !XM23_JUDGE_REFUSAL(reply);
+    check("guard bytes", guarded(&memory) && guarded(&record) && guarded(&events));
+    check("guard bytes of a judgement", guarded(&writers) && guarded(&findings));
+    check("events", memcmp(events.at, events_before, events.length) == 0);
+    if (!accepted) {
+        int sized = writers.length == XM23_WRITERS_SIZE && findings.length == XM23_FINDINGS_SIZE;
+        check("refusal", reply == (XM23_RUN_REFUSAL(ran) ? XM23_RUN_REFUSAL(ran) : XM23_REFUSED_JUDGE));
+        check("a length", XM23_RUN_REFUSAL(ran) || !sized);
+        check("as it was", !memcmp(memory.at, memory_before, memory.length) &&
+                               !memcmp(record.at, record_before, record.length) &&
+                               !memcmp(writers.at, writers_before, writers.length) &&
+                               !memcmp(findings.at, findings_before, findings.length));
+        return reply;
+    }
+    check("refused as a run", !XM23_RUN_REFUSAL(ran));
+    if (XM23_JUDGE_REASON(reply) != XM23_REASON_DEEP)
+        check("the run", !memcmp(memory.at, memory_run, memory.length) &&
+                             !memcmp(record.at, record_run, record.length) &&
+                             (reply & 0xFFFFFFFFFF) == (ran & 0xFFFFFFFFFF));
+    for (i = 0; i < XM23_WRITERS_SIZE; i++)
+        check("mark", writers.at[i] <= XM23_WROTE_OTHER);
+    for (i = 0; i <= XM23_FOUND_FOREIGN; i++) {
+        const uint8_t *f = findings.at + XM23_FINDING_SIZE * i;
+        check("kind", f[XM23_FINDING_FOUND] == XM23_JUDGE_FOUND(reply, i));
+        check("vectors", f[XM23_FINDING_VECTOR] <= XM23_NO_VECTOR && f[XM23_FINDING_RUNNING] <= XM23_NO_VECTOR);
+        check("zeros", !f[XM23_FINDING_ZERO] && !f[XM23_FINDING_ZERO + 1]);
+    }
+    check("no tenth kind", XM23_JUDGE_KINDS(reply) < 512);
+    return reply;
+}
+
+/* Junk and programs of junk, with lengths that are mostly right. */
+static void judgements(int at_end, int rounds)
+{
+    int i;
+    for (i = 0; i < rounds; i++) {
+        uint64_t pick = draw();
+        lend(&memory, pick % 16 ? 65536 : 65535 + pick / 16 % 3, at_end);
+        lend(&record, pick / 64 % 16 ? 32 : pick / 1024 % 40, at_end);
+        lend(&events, pick / 4096 % 8 ? 8 * (pick / 65536 % 20) : pick / 65536 % 40000, at_end);
+        lend(&writers, pick >> 33 & 15 ? 65536 : 65535 + (pick >> 37) % 3, at_end);
+        lend(&findings, pick >> 40 & 15 ? 144 : (pick >> 44) % 160, at_end);
+        scatter(&memory);
+        scatter(&record);
+        scatter(&events);
+        scatter(&writers);
+        scatter(&findings);
+        if (record.length == 32 && pick >> 48 & 7) {
+            record.at[XM23_RECORD_PSW + 1] &= 0xE0;
+            record.at[XM23_RECORD_CEX] &= 0x7F;
+            record.at[XM23_RECORD_CEX + 1] = 0;
+            record.at[XM23_RECORD_HALTED] = 0;
+            record.at[XM23_RECORD_ZERO] = 0;
+            memset(record.at + XM23_RECORD_ZEROS, 0, 2);
+        }
+        if (pick >> 51 & 3)
+            list_events();
+        judge(pick >> 53);
     }
 }
 
@@ -757,6 +843,8 @@ int main(int argc, char **argv)
     make(&kept, (size_t)sysconf(_SC_PAGESIZE));
     make(&place, (size_t)sysconf(_SC_PAGESIZE));
     make(&journal, ROOM);
+    make(&writers, ROOM);
+    make(&findings, ROOM);
     for (at_end = 0; at_end < 2; at_end++) {
         unsigned before = wrong;
         lengths(at_end, brief);
@@ -766,6 +854,9 @@ int main(int argc, char **argv)
         wrong == before ? passed++ : failed++;
         before = wrong;
         screens(at_end, brief);
+        wrong == before ? passed++ : failed++;
+        before = wrong;
+        judgements(at_end, brief ? 20 : 1000);
         wrong == before ? passed++ : failed++;
         before = wrong;
         journals(at_end, brief);

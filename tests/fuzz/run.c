@@ -7,6 +7,7 @@
  * - a run with a short log, and again with a fresh one as long as there is no room, closes as the run with a log long
  *   enough, and the logs joined are its log;
  * - the line of xm23_sheet is that of the run, where its input can hold the call and the log had room;
+ * - the judged run is the run with a log long enough, and its marks, findings and reply fit each other;
  * - nothing around the lent buffers changes, and nothing behind them is touched.
  * A difference is saved in a folder of its own (XM23_FOUND, or build/fuzz) for 'make replay', and ends the target.
  */
@@ -232,6 +233,37 @@ static void check_sheet(void)
     check("another line", memcmp(line, expected, sizeof line) == 0);
 }
 
+/* The judged run against one with a log long enough; no kind is found without its finding. */
+static void check_judged(void)
+{
+    static uint8_t whole[XM23_LOG_SIZE * 1024], writers[XM23_WRITERS_SIZE], findings[XM23_FINDINGS_SIZE];
+    const uint64_t parts = ((uint64_t)1 << 40) - 1;
+    uint64_t reply, judged;
+    unsigned kind;
+    if (setup.n > 1024)
+        return;
+    lend_all(&interpreter);
+    reply = xm23_fast_run(interpreter.memory.at, setup.memory_len, interpreter.record.at, setup.record_len,
+                          interpreter.events.at, setup.events_len, whole, sizeof whole, &interpreter.deepest, setup.n);
+    lend_all(&slices);
+    judged = xm23_judge(slices.memory.at, setup.memory_len, slices.record.at, setup.record_len, slices.events.at,
+                        setup.events_len, writers, sizeof writers, findings, sizeof findings, setup.n);
+    check("judged: the events are changed", holds(&slices.events, setup.events));
+    if (XM23_JUDGE_REASON(judged) != XM23_REASON_DEEP) {
+        check("judged: another reply", (judged & parts) == (reply & parts));
+        check("judged: another memory", holds(&slices.memory, interpreter.memory.at));
+        check("judged: another record", holds(&slices.record, interpreter.record.at));
+    }
+    for (kind = 0; kind <= XM23_FOUND_FOREIGN; kind++) {
+        const uint8_t *f = findings + XM23_FINDING_SIZE * kind;
+        check("judged: a kind without a finding", f[XM23_FINDING_FOUND] == XM23_JUDGE_FOUND(judged, kind));
+    }
+    check("judged: open at the close", XM23_JUDGE_REASON(judged) != XM23_REASON_DEEP || XM23_JUDGE_FOUND(judged, 4));
+    for (size_t a = 0; a < sizeof writers; a++)
+        check("judged: a mark", writers[a] <= XM23_WROTE_OTHER &&
+                                    (writers[a] || a < 16 || slices.memory.at[a] == setup.memory[a]));
+}
+
 int LLVMFuzzerTestOneInput(const uint8_t *data, size_t size)
 {
     if (!library.memory.end) {
@@ -263,6 +295,7 @@ int LLVMFuzzerTestOneInput(const uint8_t *data, size_t size)
     if (XM23_RUN_REFUSAL(library.reply) == XM23_ACCEPTED) {
         check_slices();
         check_joined();
+        check_judged();
     }
     return 0;
 }

@@ -26,6 +26,11 @@ pub use Rattle.journal.specs.Ring.{Journal, journalOf}
 pub use Rattle.journal.specs.Back.{Lent, lentOf}
 pub use Rattle.journal.specs.Call.{JournalClosing, runJournalOf, BackClosing, backCallOf}
 pub use Rattle.xm23.specs.Journal.{journalDeepestLeft, JournalResumption}
+-- xm23_judge replies and leaves what judgeCallOf gives: closingTold are the findings of the judged run. Judgement is
+-- its promise: no kind is found exactly if Premises of resume holds, and then the run ends as it would with no events.
+-- [call judge; 01 Resumption; 02 §13]
+pub use Rattle.soundness.specs.Judge.{JudgeClosing, judgeCallOf}
+pub use Rattle.soundness.specs.Verdict.{TrueVerdict, Judgement}
 -- xm23_load_srec and xm23_write_srec reply and leave what loadCallOf and writeCallOf give; Restores is what 02 promises
 -- of the text written. [02 §2]
 pub use Rattle.srec_call.specs.Call.{Loaded, loadCallOf, Written, writeCallOf}
@@ -53,4 +58,4 @@ pub use Rattle.sheet_call.specs.Call.{Sheeted, sheetCallOf}
 
 -- xm23_version replies versionNumber: major, minor and patch, which are those of the header.
 abbrev pub versionNumber : ℕ
-versionNumber = 0 * 65536 + 20 * 256 + 0
+versionNumber = 0 * 65536 + 21 * 256 + 0

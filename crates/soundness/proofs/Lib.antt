@@ -1,0 +1,9 @@
+pub mod First
+pub mod Changes
+pub mod Soundness
+pub mod Opened
+pub mod Layers
+pub mod Writers
+pub mod Watch
+pub mod Judge
+pub mod Verdict

@@ -1,0 +1,5 @@
+pub mod Findings
+pub mod Soundness
+pub mod Watch
+pub mod Judge
+pub mod Verdict

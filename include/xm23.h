@@ -27,7 +27,7 @@ extern "C" {
 /* ---- version: of this header, as one number; xm23_version gives that of the library */
 
 #define XM23_VERSION_MAJOR 0
-#define XM23_VERSION_MINOR 21
+#define XM23_VERSION_MINOR 22
 #define XM23_VERSION_PATCH 0
 #define XM23_VERSION (XM23_VERSION_MAJOR * 65536 + XM23_VERSION_MINOR * 256 + XM23_VERSION_PATCH)
 
@@ -40,6 +40,7 @@ extern "C" {
 #define XM23_JOURNAL_SIZE 64   /* bytes of a journal record */
 #define XM23_PLACE_SIZE 8      /* bytes of a place record */
 #define XM23_MAX_JOURNAL 65536 /* bytes of a journal: 1,024 records */
+#define XM23_TRACE_SIZE 16     /* bytes of a trace record */
 #define XM23_MAX_EVENTS 4096   /* event records of one run */
 #define XM23_WRITERS_SIZE 65536 /* bytes that say who wrote each byte of memory last */
 #define XM23_FINDING_SIZE 16   /* bytes of a finding */
@@ -190,6 +191,7 @@ static inline const char *xm23_finding_text(unsigned kind)
 #define XM23_REFUSED_SOURCE_NAME 18
 #define XM23_REFUSED_SOURCE_VALUE 19
 #define XM23_REFUSED_JUDGE 20
+#define XM23_REFUSED_TRACE 21
 #define XM23_REFUSED_ROOM 22
 
 /* What a refusal says, to 19 in the papers' words. Every number gives a text, there for good and never NULL. */
@@ -217,6 +219,7 @@ static inline const char *xm23_refusal_text(unsigned refusal)
     case XM23_REFUSED_SOURCE_NAME: return "a name is unknown, already given or the 1,025th";
     case XM23_REFUSED_SOURCE_VALUE: return "a value leaves 32 bits, divides by zero or does not fit, or an address is odd or past #FFFF";
     case XM23_REFUSED_JUDGE: return "the writers are not 65,536 bytes, or the findings not 144";
+    case XM23_REFUSED_TRACE: return "the trace's length is no multiple of 16, or kinds is above 4,095";
     case XM23_REFUSED_ROOM: return "the text or table lent is too short";
     default: return "no refusal has this number";
     }
@@ -555,6 +558,68 @@ uint64_t xm23_run(uint8_t *memory, size_t memory_len, uint8_t *record, size_t re
 uint64_t xm23_run_journal(uint8_t *memory, size_t memory_len, uint8_t *record, size_t record_len, const uint8_t *events,
                           size_t events_len, uint8_t *log, size_t log_len, uint32_t *deepest, uint8_t *journal,
                           size_t journal_len, uint32_t *kept, uint32_t *place, uint64_t n);
+
+/*
+ * Runs a machine as xm23_run does with a log that is long enough, and writes down what each step did and what each of
+ * its events did: a record of XM23_TRACE_SIZE bytes for each thing of the kinds asked for, in the order in which they
+ * happen. A step has its events first, in the order of the list, and then exactly one act. "Before the step" is before
+ * its due events.
+ *
+ * A step whose records would pass the end of the trace is not taken: the reason is XM23_REASON_TRACE, and memory and
+ * record are as before that step, its due events not applied. The records of a step are written together or not at
+ * all, so that up to eight places may stay free. XM23_TRACE_ENOUGH(n, events) bytes always suffice.
+ *
+ * memory to events_len as for xm23_run.
+ * trace, trace_len     in-out: the records, no header; a multiple of XM23_TRACE_SIZE bytes, 0 too. Bytes past the last
+ *                      record stay.
+ * kinds                in: bit k asks for kind k, XM23_KIND(k); XM23_KINDS asks for all.
+ * n                    in: how many steps, 0 to XM23_MAX_STEPS.
+ * result               one reply: XM23_RUN_REFUSAL, XM23_RUN_REASON, XM23_RUN_STEPS, XM23_TRACE_ADDED.
+ * refusals             in the order tested: those of xm23_run but for the log's, then XM23_REFUSED_TRACE. Refused:
+ *                      memory, record and trace are as they were.
+ * defined              crates/trace/specs/Call.antt, traceCallOf, for every length, content and number; Trace.antt,
+ *                      tracedOf.
+ */
+uint64_t xm23_trace(uint8_t *memory, size_t memory_len, uint8_t *record, size_t record_len, const uint8_t *events,
+                    size_t events_len, uint8_t *trace, size_t trace_len, uint32_t kinds, uint64_t n);
+
+/* The part of a reply of xm23_trace that xm23_run has not; its reason 2; bytes that a run of n always finds enough. */
+#define XM23_TRACE_ADDED(reply) ((uint32_t)((reply) >> 40)) /* trace records */
+#define XM23_REASON_TRACE 2
+#define XM23_TRACE_ENOUGH(n, events) ((size_t)XM23_TRACE_SIZE * ((size_t)(n) + (size_t)(events)))
+
+/* The kinds of a trace's records: an event, and what a step did. */
+#define XM23_KIND_EVENT 0
+#define XM23_KIND_PULL 1    /* a return that pulls */
+#define XM23_KIND_CHAIN 2   /* a return that enters the next handler */
+#define XM23_KIND_ACCEPT 3  /* a waiting line accepted */
+#define XM23_KIND_SLEEP 4   /* asleep */
+#define XM23_KIND_FAULT 5   /* a fault's vector entered */
+#define XM23_KIND_HALT 6    /* a fault that halts; its vector is not told */
+#define XM23_KIND_SKIP 7    /* a word that CEX skips */
+#define XM23_KIND_TRAP 8    /* SVC */
+#define XM23_KIND_PLAIN 9   /* an instruction that neither loads nor stores */
+#define XM23_KIND_LOAD 10   /* LD, LDR */
+#define XM23_KIND_STORE 11  /* ST, STR */
+#define XM23_KIND(k) (1u << (k))
+#define XM23_KINDS 4095u
+
+/* A trace record: where each part begins. */
+#define XM23_TRACE_STEP 0    /* four bytes: the step count before the step */
+#define XM23_TRACE_KIND 4    /* one byte */
+#define XM23_TRACE_NUMBER 5  /* one byte: device (event, chain, accept), vector (fault, trap), 1 for a byte access */
+#define XM23_TRACE_ADDRESS 6 /* two bytes: PC after the step (pull, chain, accept, fault, trap), or the byte address */
+#define XM23_TRACE_EFFECT 6  /* one byte, of an event: XM23_EFFECT_TAKEN and so on; 0 where ENA is clear */
+#define XM23_TRACE_VALUE 8   /* two bytes: PSW after the step, or what is loaded or stored; of an event its data byte */
+#define XM23_TRACE_PC 10     /* two bytes each, before the step: PC, SP, PSW */
+#define XM23_TRACE_SP 12
+#define XM23_TRACE_PSW 14
+
+/* What an event did. It is lost to a full count where RAISED and FULL are both set. */
+#define XM23_EFFECT_TAKEN 1   /* its device has ENA */
+#define XM23_EFFECT_OVERRUN 2 /* DBA was set before it, so OF is set */
+#define XM23_EFFECT_RAISED 4  /* its device has IE: it raises its line */
+#define XM23_EFFECT_FULL 8    /* the device's count of waiting events was 15 before it */
 
 /*
  * Goes back k steps: copies k records of a journal out, the newest first, each into the record and into memory (the

@@ -3,9 +3,9 @@
 //! random inputs first. A time of the first two is the best of two code layouts (engines/mod.rs).
 //!
 //! Beside the times, instructions of the host per step, where valgrind is here. `run counts` prints the rows that have
-//! them and no more, `run times` all without them, and `run WORKLOAD rattle` (or c, oracle, journal, back, judge) runs one
-//! workload once, for such a count. A run with a journal of 1,024 records, going back by all of them, and a judged run
-//! stand beside the plain run.
+//! them and no more, `run times` all without them, and `run WORKLOAD rattle` (or c, oracle, journal, back, judge, trace,
+//! sparse) runs one workload once, for such a count. A run with a journal of 1,024 records, going back by all of them, a
+//! judged run and traced ones stand beside the plain run.
 
 mod callgrind;
 mod engines;
@@ -13,6 +13,8 @@ mod engines;
 mod library_journal;
 #[path = "../tests/library/judge.rs"]
 mod library_judge;
+#[path = "../tests/library/trace.rs"]
+mod library_trace;
 mod rows;
 
 use callgrind::instructions;
@@ -25,6 +27,8 @@ use oracle::journal_compare::ORACLE;
 use oracle::judge::Case;
 use oracle::machine::{self, event_record, Event, Machine};
 use oracle::random::Random;
+use oracle::trace::{Lent, KINDS as EVERY, TRACED};
+use oracle::trace_compare::{differs, lend};
 use std::fmt::Display;
 use std::time::{Duration, Instant};
 
@@ -260,6 +264,44 @@ fn print_journal() {
     assert!(!(kept > MOST), "a step with a journal costs more than {MOST} host instructions");
 }
 
+// ---- traced
+
+/// Kinds of which no stretch has any, and what a run of them may cost beside `xm23_run`; what one with all kinds is to
+/// cost a step, in host instructions, and does not yet (docs/DECISIONS.md, "A traced step").
+const SPARSE: u32 = EVERY & !(1 << 4 | 1 << 7 | 1 << 9 | 1 << 10 | 1 << 11);
+const MOST_SPARSE: f64 = 1.05;
+const WANTED: f64 = 300.0;
+
+/// The mixed loop with all kinds and with those of no stretch, by callgrind; compared first.
+fn print_trace() {
+    for kinds in [EVERY, SPARSE] {
+        let given = traced(&Input { n: 20_000, ..mixed(0, 20_000) }, kinds);
+        assert_eq!(differs(library_trace::library, &given, &mut Default::default()), None, "a trace that differs");
+    }
+    let count =
+        |function: &str, engine: &str| instructions(function, &["mixed loop", engine]).unwrap_or(f64::NAN) / 1e6;
+    let engines = [("xm23_run", "rattle"), ("xm23_trace", "trace"), ("xm23_trace", "sparse")];
+    let [plain, all, sparse] = engines.map(|(function, engine)| count(function, engine));
+    println!(
+        "mixed loop traced: {all:.1} host instructions a step with all kinds (wanted: {WANTED}), {sparse:.1} with those \
+         of no stretch"
+    );
+    assert!(!(sparse > MOST_SPARSE * plain), "a run with a sparse trace costs more than {MOST_SPARSE} times a run");
+}
+
+/// An input with a trace that is long enough.
+fn traced(input: &Input, kinds: u32) -> Lent {
+    lend(input.clone(), TRACED * (input.n as usize + input.events.len() / 8), kinds)
+}
+
+/// Runs a workload once, traced.
+fn once_traced(inputs: &[Input], kinds: u32) -> (f64, u64) {
+    let mut work: Vec<Lent> = inputs.iter().map(|input| traced(input, kinds)).collect();
+    let clock = Instant::now();
+    let steps = work.iter_mut().map(|lent| machine::steps_of(library_trace::library(lent))).sum();
+    (clock.elapsed().as_secs_f64(), steps)
+}
+
 /// Runs a workload once with a journal, and goes back by all that is kept where it is asked for.
 fn once_kept(inputs: &[Input], back: bool) -> (f64, u64) {
     let mut work: Vec<Held> = inputs.iter().map(held).collect();
@@ -411,6 +453,7 @@ fn print_costs() {
     println!("a record of a list of 4,096, n 0: {:.1} host instructions", (list - none) / 4_096.0);
     print_journal();
     print_judged();
+    print_trace();
 }
 
 /// Runs a workload once, and gives the seconds, the steps and what the runs left.
@@ -471,6 +514,9 @@ fn main() {
         }
         if ["journal", "back"].contains(&engine.as_str()) {
             return println!("{} steps", once_kept(&workload.inputs, engine == "back").1);
+        }
+        if let Some((_, kinds)) = [("trace", EVERY), ("sparse", SPARSE)].into_iter().find(|e| e.0 == engine) {
+            return println!("{} steps", once_traced(&workload.inputs, kinds).1);
         }
         let engines = [("rattle", RATTLE), ("c", C), ("oracle", Engine::Oracle)];
         let engine = engines.iter().find(|e| e.0 == engine).expect("an engine").1;

@@ -33,3 +33,5 @@ pub mod srec_compare;
 pub mod srec_inputs;
 pub mod stack;
 pub mod text_compare;
+pub mod trace;
+pub mod trace_compare;

@@ -167,6 +167,17 @@ pub struct Trace {
     pub devices: [u8; DEVICES as usize],
     /// What it showed. (02, §1)
     pub shown: Option<Shown>,
+    /// What an LD, ST, LDR or STR moved.
+    pub access: Option<Access>,
+}
+
+/// The one load or store of an instruction: a byte or a word, its byte address, and what was loaded, or the operand
+/// that was to be stored.
+#[derive(Clone, Copy, Debug, PartialEq, Eq)]
+pub struct Access {
+    pub byte: bool,
+    pub address: u16,
+    pub value: u16,
 }
 
 pub fn current(psw: u16) -> u16 {
@@ -282,6 +293,7 @@ struct Step<'a> {
     was: Vec<u8>,
     /// The device and the byte that a store showed. (02, §1)
     shown: Option<(u8, u8)>,
+    access: Option<Access>,
     /// A write to R7 or a branch taken.
     moved_pc: bool,
 }
@@ -303,12 +315,13 @@ impl Machine {
         }
         let devices = std::array::from_fn(|i| memory[i]);
         let (loaded, written, was) = (Vec::new(), Vec::new(), Vec::new());
-        let mut step = Step { m: self, memory, word: None, loaded, written, was, shown: None, moved_pc: false };
+        let (shown, access) = (None, None);
+        let mut step = Step { m: self, memory, word: None, loaded, written, was, shown, access, moved_pc: false };
         let (act, fetched) = step.act();
-        let (word, loaded, written, was) = (step.word, step.loaded, step.written, step.was);
+        let (word, loaded, written, was, access) = (step.word, step.loaded, step.written, step.was, step.access);
         let shown = step.shown.map(|(device, byte)| Shown { step: count, device, byte });
         self.count += 1;
-        Some(Trace { act, due, fetched, word, loaded, written, was, undelivered, devices, shown })
+        Some(Trace { act, due, fetched, word, loaded, written, was, undelivered, devices, shown, access })
     }
 
     /// An event on a device.
@@ -478,6 +491,7 @@ impl Step<'_> {
             }
             self.loaded.push(a);
         }
+        self.access = Some(Access { byte, address, value });
         Ok(value)
     }
 
@@ -485,6 +499,7 @@ impl Step<'_> {
     fn store(&mut self, address: u16, value: u16, byte: bool) -> Result<(), Faulted> {
         let parts: Vec<(u16, u8)> = touched(address, byte)?.into_iter().zip(value.to_le_bytes()).collect();
         self.shown = parts.iter().find_map(|&(a, part)| self.shows(a, part));
+        self.access = Some(Access { byte, address, value });
         for (a, part) in parts {
             self.store_byte(a, part);
         }

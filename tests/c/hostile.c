@@ -499,6 +499,58 @@ static void journals(int at_end, int brief)
     }
 }
 
+/* A traced run in guarded buffers: refused, nothing changes; accepted, no byte past the records does. The trace stands
+ * in the room of the journal. */
+static uint64_t run_traced(uint32_t kinds, uint64_t n)
+{
+    uint64_t reply;
+    size_t used;
+    keep_before();
+    reply = xm23_trace(memory.at, memory.length, record.at, record.length, events.at, events.length, journal.at,
+                       journal.length, kinds, n);
+    check_guards();
+    used = XM23_RUN_REFUSAL(reply) ? 0 : (size_t)XM23_TRACE_SIZE * XM23_TRACE_ADDED(reply);
+    check("room of a trace", used <= journal.length);
+    check("tail of a trace", used > journal.length ||
+                                 !memcmp(journal.at + used, journal_before + used, journal.length - used));
+    if (XM23_RUN_REFUSAL(reply)) {
+        check("number alone of a trace", reply == XM23_RUN_REFUSAL(reply));
+        check("memory of a refused trace", !memcmp(memory.at, memory_before, memory.length));
+        check("record of a refused trace", !memcmp(record.at, record_before, record.length));
+    }
+    return reply;
+}
+
+/* Every combination of lengths around the right ones, and kinds that there are and that there are not. */
+static void traces(int at_end, int brief)
+{
+    static const size_t lengths[] = {0, 1, 15, 16, 17, 31, 32, 160, 161, 65520, 65536, 131072};
+    static const size_t memories[] = {65536, 0, 65535, 65537}, records[] = {32, 0, 31, 33};
+    static const uint32_t kinds[] = {0, 1, 2048, 4095, 4096, 65536, UINT32_MAX};
+    size_t l, k, m, turn = 0;
+    for (l = 0; l < sizeof lengths / sizeof *lengths; l++)
+        for (k = 0; k < sizeof kinds / sizeof *kinds; k++)
+            for (m = 0; m < 4; m++) {
+                const uint64_t steps[] = {0, 1, 100, 1000, 1000001, UINT64_MAX, (uint64_t)1 << 32};
+                const uint64_t n = steps[turn++ % 7];
+                unsigned refusal;
+                if (brief && turn % 7)
+                    continue;
+                lend(&memory, memories[m], at_end);
+                lend(&record, records[turn % 4 ? 0 : m], at_end);
+                lend(&events, 0, at_end);
+                lend(&screen, 0, at_end);
+                lend(&journal, lengths[l], at_end);
+                scatter(&memory);
+                memset(record.at, 0, record.length);
+                scatter(&journal);
+                refusal = expected(memory.length, record.length, 0, 0, n);
+                if (!refusal && (lengths[l] % XM23_TRACE_SIZE || kinds[k] > XM23_KINDS))
+                    refusal = XM23_REFUSED_TRACE;
+                check("refusal of a trace", XM23_RUN_REFUSAL(run_traced(kinds[k], n)) == refusal);
+            }
+}
+
 /* Random machines over journals of few records: each run is gone back by all that is kept, and the bytes are as they
  * were. */
 static void goings_back(int at_end, int rounds)
@@ -860,6 +912,9 @@ int main(int argc, char **argv)
         wrong == before ? passed++ : failed++;
         before = wrong;
         journals(at_end, brief);
+        wrong == before ? passed++ : failed++;
+        before = wrong;
+        traces(at_end, brief);
         wrong == before ? passed++ : failed++;
         before = wrong;
         goings_back(at_end, brief ? 40 : 4000);

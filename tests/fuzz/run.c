@@ -8,6 +8,7 @@
  *   enough, and the logs joined are its log;
  * - the line of xm23_sheet is that of the run, where its input can hold the call and the log had room;
  * - the judged run is the run with a log long enough, and its marks, findings and reply fit each other;
+ * - the run written down by xm23_trace closes as the run with a log long enough, with one act for each step;
  * - nothing around the lent buffers changes, and nothing behind them is touched.
  * A difference is saved in a folder of its own (XM23_FOUND, or build/fuzz) for 'make replay', and ends the target.
  */
@@ -264,6 +265,33 @@ static void check_judged(void)
                                     (writers[a] || a < 16 || slices.memory.at[a] == setup.memory[a]));
 }
 
+/* The run with all its steps written down, beside the run with a log long enough that check_joined has made: it closes
+ * the same way, each step has one act, and the records are in the order of the steps. */
+static void check_traced(void)
+{
+    static uint8_t trace[XM23_TRACE_ENOUGH(1024, LONGEST_EVENTS / XM23_EVENT_SIZE)];
+    uint32_t acts = 0, last = 0, i;
+    uint64_t reply;
+    if (setup.n > 1024)
+        return;
+    lend_all(&slices);
+    reply = xm23_trace(slices.memory.at, setup.memory_len, slices.record.at, setup.record_len, slices.events.at,
+                       setup.events_len, trace, sizeof trace, XM23_KINDS, setup.n);
+    check("a traced run leaves another memory", holds(&slices.memory, interpreter.memory.at));
+    check("a traced run leaves another record", holds(&slices.record, interpreter.record.at));
+    for (i = 0; i < XM23_TRACE_ADDED(reply); i++) {
+        const uint8_t *at = trace + XM23_TRACE_SIZE * i;
+        uint32_t step = at[0] | at[1] << 8 | at[2] << 16 | (uint32_t)at[3] << 24;
+        check("a record of an earlier step", step >= last);
+        check("a kind that is none", at[XM23_TRACE_KIND] <= XM23_KIND_STORE);
+        acts += at[XM23_TRACE_KIND] != XM23_KIND_EVENT;
+        last = step;
+    }
+    check("not one act a step", acts == XM23_RUN_STEPS(reply));
+    check("a traced run takes other steps",
+          count_in(slices.record.at) - count_in(setup.record) == XM23_RUN_STEPS(reply));
+}
+
 int LLVMFuzzerTestOneInput(const uint8_t *data, size_t size)
 {
     if (!library.memory.end) {
@@ -296,6 +324,7 @@ int LLVMFuzzerTestOneInput(const uint8_t *data, size_t size)
         check_slices();
         check_joined();
         check_judged();
+        check_traced();
     }
     return 0;
 }

@@ -31,6 +31,11 @@ pub use Rattle.xm23.specs.Journal.{journalDeepestLeft, JournalResumption
 -- [call judge; 01 Resumption; 02 §13]
 pub use Rattle.soundness.specs.Judge.{JudgeClosing, judgeCallOf}
 pub use Rattle.soundness.specs.Verdict.{TrueVerdict, Judgement}
+-- xm23_trace replies and leaves what traceCallOf gives: tracedOf is what a step adds, runTraced the run with room for so
+-- many records. [call trace]
+pub use Rattle.trace.specs.Trace.{Entry, tracedOf, entryBytes}
+pub use Rattle.trace.specs.Traced.{Traced, runTraced}
+pub use Rattle.trace.specs.Call.{traceCallOf}
 -- xm23_load_srec and xm23_write_srec reply and leave what loadCallOf and writeCallOf give; Restores is what 02 promises
 -- of the text written. [02 §2]
 pub use Rattle.srec_call.specs.Call.{Loaded, loadCallOf, Written, writeCallOf}
@@ -58,4 +63,4 @@ pub use Rattle.sheet_call.specs.Call.{Sheeted, sheetCallOf}
 
 -- xm23_version replies versionNumber: major, minor and patch, which are those of the header.
 abbrev pub versionNumber : ℕ
-versionNumber = 0 * 65536 + 21 * 256 + 0
+versionNumber = 0 * 65536 + 22 * 256 + 0

@@ -9,6 +9,7 @@ ghost use Rattle.xm23.specs.Api.{loadCallOf, writeCallOf, Restores, need
 ghost use Rattle.xm23.specs.Api.{journalOf, runJournalOf, journalDeepestLeft};
 ghost use Rattle.xm23.specs.Api.{JournalResumption, lentOf, backCallOf};
 ghost use Rattle.xm23.specs.Api.{judgeCallOf, Judgement};
+ghost use Rattle.xm23.specs.Api.{traceCallOf};
 ghost use Rattle.xm23.specs.Api.{assembleCallOf, placesCallOf, textCallOf, sheetCallOf};
 use isa::Encoded;
 use isa::decode;
@@ -27,7 +28,7 @@ use isa_ranges::operation_of;
 pub extern "C" fn xm23_version() -> u32
     ensures reply { λ r. ⌜ r ≡ versionNumber ⌝ }
 {
-    0x001500
+    0x001600
 }
 
 // The number of the instruction that a word means; that of the illegal one is 0.
@@ -168,6 +169,30 @@ pub extern "C" fn xm23_run_journal(
         (now (place .entry))) n .journal .place ⌝ }
 {
     run_journal::run_journal_call(memory, state, events, log, deepest, journal, kept, place, n)
+}
+
+// The run of xm23_run with no log, and a record of 16 bytes for each thing of the kinds asked for:
+// refusal in bits 7-0, reason in bits 15-8, steps in bits 39-16, records in bits 63-40. Refused,
+// every buffer stays as it was; bytes of the trace past its records are kept.
+#[no_mangle]
+pub extern "C" fn xm23_trace(
+    memory: &mut [u8],
+    state: &mut [u8],
+    events: &[u8],
+    trace: &mut [u8],
+    kinds: u32,
+    n: u64,
+) -> u64
+    ensures reply { λ r. ⌜ r ≡ traceCallOf (now (memory .entry)) (now (state .entry))
+        (now (events .entry)) (now (trace .entry)) kinds n .reply ⌝ }
+    ensures memory { λ r. ⌜ now (memory .exit) ≡ traceCallOf (now (memory .entry))
+        (now (state .entry)) (now (events .entry)) (now (trace .entry)) kinds n .memory ⌝ }
+    ensures state { λ r. ⌜ now (state .exit) ≡ traceCallOf (now (memory .entry))
+        (now (state .entry)) (now (events .entry)) (now (trace .entry)) kinds n .state ⌝ }
+    ensures trace { λ r. ⌜ now (trace .exit) ≡ traceCallOf (now (memory .entry))
+        (now (state .entry)) (now (events .entry)) (now (trace .entry)) kinds n .trace ⌝ }
+{
+    trace_call::trace_call(memory, state, events, trace, kinds, n)
 }
 
 // k steps back: the newest k records of the journal copied out, newest first; refusal in bits 7-0.

@@ -1,0 +1,65 @@
+use Rattle.trace_record.specs.Written.{asSeen, actWritten}
+use Rattle.trace_record.proofs.Step.{one-at-most, both-count, act-count, step-with, step-without}
+use Rattle.trace.specs.Before.{eventsBefore}
+use Rattle.machine.specs.Events.{eventsOf}
+use lib.ListN.{length}
+use denote.Ref.{now}
+use mathlib.Core.Path.{sym, ap, _∙_}
+use native.Mathlib.Omega.{arith}
+use borrow.Author.Needs.{needs}
+use Rattle.trace_record.proofs.needed.Statement.{statement}
+use Rattle.trace_record.proofs.needed.Tie as tie
+
+-- src/lib.rt:395:27
+kind-of-requires : tie.Need-kind-of-requires
+kind-of-requires c κs = search needs
+
+-- src/lib.rt:395:15
+asks-requires : tie.Need-asks-requires
+asks-requires c κs = search needs
+
+-- src/lib.rt:395:15
+cast-act : tie.Need-cast-act
+cast-act c = search needs
+
+-- src/lib.rt:396:17
+asks-requires-2 : tie.Need-asks-requires-2
+asks-requires-2 c κs = search needs
+
+-- src/lib.rt:397:13
+count-due-requires : tie.Need-count-due-requires
+count-due-requires c κs = search needs
+
+-- src/lib.rt:398:16
+add-result : tie.Need-add-result
+add-result c = omega (
+  arith,
+  c .count-due .ensures .1,
+  one-at-most
+      (c .before .before .before .asks .result),
+  c .before .before .before .before .before .before .good,
+)
+
+-- src/lib.rt:398:9
+returns : tie.Need-returns
+returns c =
+    let a = c .before .before .before .before .before .before .args in
+    λ b m l x p w e.
+    let ev = eventsOf (now (a .events)) in
+    both-count _ _ (eventsBefore (asSeen b m l) (b .step) ev) (actWritten b (a .kinds) (a .a) x p w) _ (c .count-due .ensures .0
+    (asSeen b m l) ∙ ap (λ k. length (eventsBefore (asSeen b m l) k ev)) (sym e))
+    (act-count b (a .kinds) (a .a) x p w _ (c .before .before .before .before .kind-of .ensures .0) _
+    (c .before .before .before .asks .ensures))
+    (step-with b (a .kinds) (a .wanted) _ (c .before .before .asks2 .ensures) m l ev (a .a) x p w (c .before .if1 .taken))
+
+-- src/lib.rt:383:1
+returns-2 : tie.Need-returns-2
+returns-2 c =
+    let a = c .before .before .before .before .before .args in
+    λ b m l x p w e.
+    act-count b (a .kinds) (a .a) x p w _ (c .before .before .before .kind-of .ensures .0) _ (c .before .before .asks .ensures)
+    ∙ ap length (step-without b (a .kinds) (a .wanted) _ (c .before .asks2 .ensures) m l (eventsOf (now (a .events))) (a .a) x p w
+    (c .if1 .left))
+
+pub needed-spec : {M : Type 1} → statement M
+needed-spec = tie.close (tie.spec kind-of-requires asks-requires cast-act asks-requires-2 count-due-requires add-result returns returns-2)

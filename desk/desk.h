@@ -210,32 +210,60 @@ void add_statement(struct text *t, unsigned place, uint16_t word);
 void add_remark(struct text *t, const char *before, unsigned place, uint16_t word); /* what a WORD is, if it is one */
 void add_instruction(struct text *t, unsigned place, uint16_t word);                /* both, the remark as a comment */
 
-/* ---- walk.c: the last steps of a run, by the journal */
+/* ---- events.c: what became of each event of a paper, by the trace */
 
 #define MOST_WALK (XM23_MAX_JOURNAL / XM23_JOURNAL_SIZE) /* steps: 1,024 */
+#define MOST_TRACE (9 * MOST_WALK)                       /* records: a step has eight events at most, and its act */
 
-/* What a step was. The number beside it: the device of a line, the vector of SVC, the fault. */
-enum act { EXECUTED, SKIPPED, ASLEEP, ACCEPTED, CHAINED, PULLED, TRAPPED, FAULTED, HALTED };
+struct fate {
+    uint8_t due, effect; /* whether it came due; the trace's XM23_EFFECT_TAKEN and so on */
+    uint8_t entry;       /* XM23_KIND_ACCEPT or XM23_KIND_CHAIN of its interrupt, at the step `at`; 0: none */
+    uint32_t at;
+};
+
+struct fates {
+    struct fate each[XM23_MAX_EVENTS];
+    size_t next, oldest[8];  /* the first that is not told yet; by device the first that may wait */
+    uint8_t before[8];       /* by device: entries that wait from before the first step */
+    unsigned long entered;   /* those of them that were entered */
+    uint32_t start;          /* the step count before the first step */
+};
+
+void begin_fates(struct fates *f, const struct paper *p, const struct machine *m);
+void follow_trace(struct fates *f, const struct paper *p, const uint8_t *trace, uint32_t records);
+void trace_events(struct fates *f, const struct paper *p, struct machine *m, uint64_t n); /* runs on by n steps */
+
+/* A word for each: whether it was taken, else why not; an overrun; its interrupt. Empty where it was not taken. */
+const char *event_word(const struct fates *f, const struct paper *p, size_t i);
+const char *overrun_word(const struct fate *e);
+const char *interrupt_word(const struct fate *e);
+void add_totals(struct text *t, const struct fates *f, const struct paper *p);
+
+/* ---- walk.c: the last steps of a run, by their trace and their journal */
+
+#define PRIORITY_7 0xE0 /* in a PSW */
 
 struct step {
     const uint8_t *before, *after; /* the journal's record; the state record after it */
-    uint8_t devices[16], bytes[8]; /* what it left in the device bytes, and at the record's address */
-    uint8_t act, number, fetched;  /* fetched: whether `word` is one that it decoded */
-    uint8_t stored;                /* bytes stored or pushed from the record's address on */
-    uint8_t shown;                 /* the data byte that an output device showed, by its address; 0 none */
-    uint16_t word, frame;          /* frame: the newest open after it, of those of the walk; 0 none */
+    uint8_t devices[16], bytes[8]; /* what it left in the device bytes, and at the journal's address */
+    uint8_t kind, number;          /* as the trace has them; of a halt the number is the fault */
+    uint8_t events, fetched;       /* events due; whether `word` is one that it decoded */
+    uint8_t stored;                /* bytes stored or pushed from `at` on */
+    uint16_t at, word, frame;      /* frame: the newest open after it, of those of the walk; 0 none */
 };
 
 /* A frame that one of the steps opened. */
 struct frame {
     uint16_t older, sp, step;
-    uint8_t act, number;
+    uint8_t kind, number;
 };
 
 struct walk {
     uint8_t journal[XM23_JOURNAL_SIZE * MOST_WALK], log[XM23_LOG_SIZE * MOST_WALK], close[XM23_RECORD_SIZE];
+    uint8_t trace[XM23_TRACE_SIZE * MOST_TRACE];
     struct step steps[MOST_WALK];
     struct frame frames[MOST_WALK + 1];
+    struct fates fates;
     uint32_t many, shown;         /* steps; log records of them */
     unsigned many_frames, strays; /* strays: returns that pulled with none of these frames open */
 };
@@ -248,11 +276,12 @@ void walk_back(const struct walk *w, struct machine *m, uint32_t done, uint32_t 
 
 uint32_t step_count(const struct step *s);
 int step_wrote(const struct step *s, unsigned at);        /* whether it stored or pushed the byte, or as below */
-int device_written(const struct step *s, unsigned at);    /* whether the device byte is another, or was shown */
+int device_written(const struct step *s, unsigned at);    /* whether the device byte is another, or was stored */
+int stores_device(const struct step *s);                  /* whether it stored into device bytes, from `at` on */
 
 /* ---- step.c: a step in words */
 
-void add_act(struct text *t, unsigned act, unsigned number);
+void add_act(struct text *t, unsigned kind, unsigned number); /* of the trace; of a halt the fault */
 void add_what(struct text *t, const struct step *s); /* the instruction, or what else it was */
 void add_left(struct text *t, const struct step *s); /* registers and bytes that it left, PC aside */
 
@@ -319,6 +348,7 @@ void add_page(struct text *t, const struct sitting *s, const struct marked *m);
 
 /* The walk on a page: tables that are there without scripts, and the data with the script that walks through it. */
 void add_walk_tables(struct text *t, const struct walk *w, const struct machine *after);
+void add_events_table(struct text *t, const struct walk *w, const struct paper *p, unsigned most);
 void add_walk_data(struct text *t, const struct walk *w, const struct machine *after, const struct text *screen);
 
 /* ---- what pages carry: the files of these names, page.css and so on */
@@ -334,6 +364,7 @@ int xm23_desk_card(int argc, char **argv);
 int xm23_desk_stack(int argc, char **argv);
 int xm23_desk_report(int argc, char **argv);
 int xm23_desk_back(int argc, char **argv);
+int xm23_desk_events(int argc, char **argv);
 int xm23_desk_asm(int argc, char **argv);
 
 /* ---- help.c */

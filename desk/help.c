@@ -63,6 +63,16 @@ const struct subcommand subcommands[] = {
      "\n"
      "Status 1: PROGRAM is refused, PAPER has a mistake, or none of these steps wrote the byte.\n",
      xm23_desk_back},
+    {"events", "xm23 events [-c] PAPER PROGRAM", "tell what became of each event of a paper",
+     "Runs PROGRAM under PAPER and prints a row for each event of PAPER: its line there, step, device and byte;\n"
+     "'taken', or why not: 'ENA clear', 'before the start', 'after the end'; of one taken whether it was an overrun,\n"
+     "and its interrupt: 'IE clear', 'count full' (lost), 'accepted' or 'chained' and the step, or 'waits'. Of a\n"
+     "device's events that wait the oldest is entered first. Totals follow.\n"
+     "\n"
+     "  -c    rows of CSV instead, without totals\n"
+     "\n"
+     "Status 1: PROGRAM is refused, or PAPER has a mistake.\n",
+     xm23_desk_events},
     {"asm", "xm23 asm [-l] [-o FILE] [-s START] SOURCE", "assemble a source to S-records, or to a listing",
      "Assembles SOURCE (docs/FORMATS.md has the language) and writes the bytes that it states as S-records. A source\n"
      "at fault is told as 'SOURCE:LINE: R17: ..', and nothing is written.\n"

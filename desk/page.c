@@ -226,6 +226,7 @@ static void add_state(struct text *t, const struct sitting *s, const struct mark
         add(t, "%s<noscript><p>Without scripts the walk is not shown; its last steps are below.</p></noscript>\n",
             walk_html);
     add_walk_tables(t, &m->walk, &m->after);
+    add_events_table(t, &m->walk, s->paper, most);
     add_memory(t, &m->before, &m->after, most);
     add_source(t, &m->program, most);
     add_program(t, s->paper, &m->before, most);

@@ -43,7 +43,7 @@ static void add_last_steps(struct text *t, const struct walk *w)
 
 static int is_turn(const struct step *s)
 {
-    return s->act != EXECUTED && s->act != SKIPPED && s->act != ASLEEP;
+    return s->kind < XM23_KIND_PLAIN && s->kind != XM23_KIND_SKIP && s->kind != XM23_KIND_SLEEP;
 }
 
 /* Entries, returns and faults of the walk, the newest of them. */
@@ -65,7 +65,7 @@ static void add_turns(struct text *t, const struct walk *w)
         if (!is_turn(s) || passed++ + MOST_TURNS < many)
             continue;
         add(t, "<tr><td class=\"n\">%lu</td><td>", (unsigned long)step_count(s));
-        add_act(t, s->act, s->number);
+        add_act(t, s->kind, s->number);
         add(t, "</td><td class=\"n\">%04X</td><td class=\"n\">%04X</td><td class=\"n\">%04X</td><td>%u</td></tr>\n",
             get_word(s->before, XM23_RECORD_REGISTER(7)), get_word(s->after, XM23_RECORD_REGISTER(7)),
             get_word(s->after, XM23_RECORD_REGISTER(6)), XM23_PSW_CURRENT(get_word(s->after, XM23_RECORD_PSW)));
@@ -84,7 +84,7 @@ static void add_place(struct text *t, const struct walk *w, unsigned at)
         for (unsigned i = 0; i < 4; i++)
             if (((w->frames[f].sp + 2 * i) & 0xFFFE) == at) {
                 add(t, "%s of frame %u: ", words[i], number);
-                add_act(t, w->frames[f].act, w->frames[f].number);
+                add_act(t, w->frames[f].kind, w->frames[f].number);
                 add(t, " at step %lu", (unsigned long)step_count(&w->steps[w->frames[f].step]));
                 return;
             }
@@ -136,6 +136,36 @@ static void add_devices(struct text *t, const struct machine *m)
         close_table(t);
     else
         add(t, "<p>All are zero.</p>\n");
+}
+
+static void add_event_row(struct text *t, const struct fates *f, const struct paper *p, size_t i)
+{
+    const struct fate *e = &f->each[i];
+    add(t, "<tr><td class=\"n\">%lu</td><td class=\"n\">%lu</td><td>%u</td><td class=\"n\">%02X</td>",
+        (unsigned long)p->events[i].line, (unsigned long)p->events[i].step, p->events[i].device, p->events[i].byte);
+    add(t, "<td>%s</td><td>%s</td><td>%s", event_word(f, p, i), overrun_word(e), interrupt_word(e));
+    if (e->entry)
+        add(t, " at step %lu", (unsigned long)e->at);
+    add(t, "</td></tr>\n");
+}
+
+/* The events of a paper that has some, in the whole run. */
+void add_events_table(struct text *t, const struct walk *w, const struct paper *p, unsigned most)
+{
+    size_t many = p->many_events < most ? p->many_events : most;
+    if (!many)
+        return;
+    add(t, "<h2>Events</h2>\n<p>Of the whole run, by the line of the paper.</p>\n");
+    if (many < p->many_events)
+        add(t, "<p>The first %lu of %lu; xm23 events has all.</p>\n", (unsigned long)many,
+            (unsigned long)p->many_events);
+    open_table(t, "Line|Step|Device|Byte|Event|Overrun|Interrupt");
+    for (size_t i = 0; i < many; i++)
+        add_event_row(t, &w->fates, p, i);
+    close_table(t);
+    add(t, "<pre>");
+    add_totals(t, &w->fates, p);
+    add(t, "</pre>\n");
 }
 
 void add_walk_tables(struct text *t, const struct walk *w, const struct machine *after)
@@ -215,7 +245,10 @@ static void add_steps_data(struct text *t, const struct walk *w)
         if (s->fetched)
             add(&what, "%04X ", s->word);
         add_what(&what, s);
-        add(t, "%s[%u,%u,%u]", i ? "," : "", place_of(&all, what.at), s->stored, s->frame);
+        add(t, "%s[%u,%u,%u", i ? "," : "", place_of(&all, what.at), s->stored, s->frame);
+        if (stores_device(s))
+            add(t, ",%u", s->at);
+        add(t, "]");
         drop(&what);
     }
     add(t, "],\n\"what\":[%s],\n", all.list.at ? all.list.at : "");
@@ -229,7 +262,7 @@ static void add_frames_data(struct text *t, const struct walk *w)
     add(t, "\"frames\":[null");
     for (unsigned f = 1; f <= w->many_frames; f++) {
         add(t, ",[%u,%u,%u,\"", w->frames[f].older, w->frames[f].sp, w->frames[f].step);
-        add_act(t, w->frames[f].act, w->frames[f].number);
+        add_act(t, w->frames[f].kind, w->frames[f].number);
         add(t, "\"]");
     }
     add(t, "],\n");

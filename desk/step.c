@@ -8,18 +8,18 @@ static const char *fault_name(unsigned fault)
     return fault == 8 ? "illegal word" : fault == 9 ? "odd address" : "priority";
 }
 
-void add_act(struct text *t, unsigned act, unsigned number)
+void add_act(struct text *t, unsigned kind, unsigned number)
 {
-    switch (act) {
-    case EXECUTED: add(t, "executed"); break;
-    case SKIPPED: add(t, "skipped by CEX"); break;
-    case ASLEEP: add(t, "asleep"); break;
-    case ACCEPTED: add(t, "line of device %u accepted", number); break;
-    case CHAINED: add(t, "return, chained to the line of device %u", number); break;
-    case PULLED: add(t, "return: CEX, PSW, LR, PC pulled"); break;
-    case TRAPPED: add(t, "SVC by vector %u", number); break;
-    case FAULTED: add(t, "fault %u, %s", number, fault_name(number)); break;
-    default: add(t, "halt: fault %u, %s, with FLT set", number, fault_name(number));
+    switch (kind) {
+    case XM23_KIND_PULL: add(t, "return: CEX, PSW, LR, PC pulled"); break;
+    case XM23_KIND_CHAIN: add(t, "return, chained to the line of device %u", number); break;
+    case XM23_KIND_ACCEPT: add(t, "line of device %u accepted", number); break;
+    case XM23_KIND_SLEEP: add(t, "asleep"); break;
+    case XM23_KIND_FAULT: add(t, "fault %u, %s", number, fault_name(number)); break;
+    case XM23_KIND_HALT: add(t, "halt: fault %u, %s, with FLT set", number, fault_name(number)); break;
+    case XM23_KIND_SKIP: add(t, "skipped by CEX"); break;
+    case XM23_KIND_TRAP: add(t, "SVC by vector %u", number); break;
+    default: add(t, "executed");
     }
 }
 
@@ -27,10 +27,10 @@ void add_what(struct text *t, const struct step *s)
 {
     if (s->fetched)
         add_instruction(t, get_word(s->before, XM23_RECORD_REGISTER(7)), s->word);
-    if (s->act == EXECUTED)
+    if (s->kind >= XM23_KIND_PLAIN)
         return;
     add(t, "%s", s->fetched ? "; " : "");
-    add_act(t, s->act, s->number);
+    add_act(t, s->kind, s->number);
 }
 
 static void separate(struct text *t, size_t from)
@@ -52,18 +52,18 @@ static void add_registers(struct text *t, size_t from, const struct step *s)
     }
 }
 
-/* Bytes stored or pushed, whether they are others or not. */
+/* Bytes stored outside the device bytes, or pushed, whether they are others or not. */
 static void add_stored(struct text *t, size_t from, const struct step *s)
 {
-    if (!s->stored)
+    if (!s->stored || stores_device(s))
         return;
     separate(t, from);
-    add(t, "%04X:", get_word(s->before, XM23_JOURNAL_ADDRESS));
+    add(t, "%04X:", s->at);
     for (unsigned i = 0; i < s->stored; i++)
         add(t, " %02X", s->bytes[i]);
 }
 
-/* Device bytes that are others than before, by the step or by an event, and one that was shown. */
+/* Device bytes that are others than before, by the step or by an event, and those that were stored. */
 static void add_devices(struct text *t, size_t from, const struct step *s)
 {
     for (unsigned i = 0; i < 16; i++) {

@@ -1,6 +1,6 @@
 /*
- * The last steps of a run: a second run up to them, the journal of them, and then back by xm23_back, one by one. What a
- * step was is read off the records before and after it and the bytes in between; nothing is executed here.
+ * The last steps of a run: a second run up to them, their trace, and their journal, by which xm23_back goes back step
+ * by step. The trace tells what each step was, and of the whole run what became of events; nothing is judged here.
  */
 #include <string.h>
 
@@ -11,119 +11,93 @@ uint32_t step_count(const struct step *s)
     return get_long(s->before, XM23_RECORD_COUNT);
 }
 
-/* ---- what a step was */
+/* ---- what a step was, by the trace */
 
-static unsigned pc_of(const uint8_t *record)
+static int is_entry(const struct step *s)
 {
-    return get_word(record, XM23_RECORD_REGISTER(7));
+    return s->kind == XM23_KIND_ACCEPT || s->kind == XM23_KIND_TRAP || s->kind == XM23_KIND_FAULT;
 }
 
-static unsigned psw_of(const uint8_t *record)
+/* The acts that fetch; a fault is told with PC before the step, and nothing is fetched from an odd one. */
+static int fetches(const uint8_t *act)
 {
-    return get_word(record, XM23_RECORD_PSW);
+    unsigned kind = act[XM23_TRACE_KIND];
+    return (kind == XM23_KIND_FAULT || kind == XM23_KIND_HALT || kind >= XM23_KIND_TRAP) &&
+           get_word(act, XM23_TRACE_PC) % 2 == 0;
 }
 
-/* Whether an event of the paper on a device with ENA and IE was due: it raised the line. At most one is of a step. */
-static unsigned raised(const struct paper *p, const struct step *s, size_t due, const uint8_t *memory, unsigned d)
+/* Of each step the records of its events, which are counted, and then that of its act. */
+static void take_trace(struct walk *w, uint32_t records)
 {
-    for (; due > 0 && p->events[due - 1].step == step_count(s); due--)
-        if (p->events[due - 1].device == d)
-            return (memory[2 * d] & 0x11) == 0x11;
-    return 0;
-}
-
-/* The device whose line the step took: its count is one less than the due events left it. 8: none. */
-static unsigned line_taken(const struct paper *p, const struct step *s, size_t due, const uint8_t *memory)
-{
-    for (unsigned d = 0; d < 8; d++) {
-        unsigned waiting = XM23_RECORD_WAITING(s->before, d);
-        if (waiting < 15)
-            waiting += raised(p, s, due, memory, d);
-        if (XM23_RECORD_WAITING(s->after, d) < waiting)
-            return d;
+    struct step *s = w->steps;
+    for (uint32_t i = 0; i < records; i++) {
+        const uint8_t *record = w->trace + XM23_TRACE_SIZE * i;
+        if (record[XM23_TRACE_KIND] == XM23_KIND_EVENT) {
+            s->events++;
+            continue;
+        }
+        s->kind = record[XM23_TRACE_KIND];
+        s->number = record[XM23_TRACE_NUMBER];
+        s->fetched = (uint8_t)fetches(record);
+        if (s->kind == XM23_KIND_STORE) {
+            s->at = (uint16_t)get_word(record, XM23_TRACE_ADDRESS);
+            s->stored = s->number ? 1 : 2;
+        }
+        s++;
     }
-    return 8;
 }
 
-/* A CEX block that skips: of the true part where the condition was not held, then of the false part where it was. */
-static int skips(unsigned cex)
+/* The step that `m` is before, taken from another PSW: the record of the fault that it enters, else zeros. */
+static void ask_again(struct machine *then, const struct machine *m, const struct paper *p, unsigned psw,
+                      uint8_t fault[XM23_TRACE_SIZE])
 {
-    if (XM23_CEX_STATE_TRUE(cex))
-        return !(cex & XM23_CEX_STATE_HELD);
-    return XM23_CEX_STATE_FALSE(cex) && cex & XM23_CEX_STATE_HELD;
+    memcpy(then, m, sizeof *then);
+    put_word(then->record, XM23_RECORD_PSW, psw);
+    memset(fault, 0, XM23_TRACE_SIZE);
+    xm23_trace(then->memory, sizeof then->memory, then->record, sizeof then->record, p->event_bytes,
+               XM23_EVENT_SIZE * p->many_events, fault, XM23_TRACE_SIZE, XM23_KIND(XM23_KIND_FAULT), 1);
 }
 
-/* The fault of a step: by the word that it decoded; an odd PC and an odd access are one fault. */
-static unsigned fault_of(const struct step *s)
+/*
+ * What the trace does not tell, asked of the step itself, `m` being before it. Which fault halted: the one that it
+ * enters with FLT clear. The word fetched: memory's, of device bytes after the step's events, which is what the step
+ * leaves where it sleeps at priority 7.
+ */
+static void ask_step(struct step *s, const struct machine *m, const struct paper *p)
 {
-    unsigned format = XM23_FORMAT(xm23_decode(s->word));
-    if (!s->fetched)
-        return 9;
-    return format == XM23_FORMAT_ILLEGAL ? 8 : format == XM23_FORMAT_SVC || format == XM23_FORMAT_SETPRI ? 10 : 9;
+    static struct machine then;
+    unsigned psw = get_word(s->before, XM23_RECORD_PSW), pc = get_word(s->before, XM23_RECORD_REGISTER(7));
+    uint8_t fault[XM23_TRACE_SIZE];
+    if (s->kind == XM23_KIND_HALT) {
+        ask_again(&then, m, p, psw & ~XM23_PSW_FLT, fault);
+        s->number = fault[XM23_TRACE_NUMBER];
+    }
+    if (s->fetched)
+        s->word = (uint16_t)word_at(m->memory, pc);
+    if (s->fetched && s->events && pc < sizeof s->devices) {
+        ask_again(&then, m, p, psw | XM23_FLAG_SLP | PRIORITY_7, fault);
+        s->word = (uint16_t)word_at(then.memory, pc);
+    }
 }
 
-static void put_act(struct step *s, enum act act, unsigned number)
+int stores_device(const struct step *s)
 {
-    s->act = (uint8_t)act;
-    s->number = (uint8_t)number;
+    return s->kind == XM23_KIND_STORE && s->at < sizeof s->devices;
 }
 
-/* A step that took no line and was no return. FLT that comes up is a fault's: no instruction sets it otherwise. */
-static void judge_instruction(struct step *s, const uint8_t *memory)
+static int covers(const struct step *s, unsigned at)
 {
-    unsigned psw = psw_of(s->before), pc = pc_of(s->before);
-    s->fetched = !(psw & XM23_FLAG_SLP) && pc % 2 == 0 && !skips(get_word(s->before, XM23_RECORD_CEX));
-    s->word = (uint16_t)word_at(memory, pc);
-    if (s->after[XM23_RECORD_HALTED])
-        put_act(s, HALTED, fault_of(s));
-    else if (psw & XM23_FLAG_SLP)
-        put_act(s, ASLEEP, 0);
-    else if (psw_of(s->after) & ~psw & XM23_PSW_FLT)
-        put_act(s, FAULTED, fault_of(s));
-    else if (!s->fetched)
-        put_act(s, SKIPPED, 0);
-    else if (XM23_FORMAT(xm23_decode(s->word)) == XM23_FORMAT_SVC)
-        put_act(s, TRAPPED, XM23_FIELD(xm23_decode(s->word), 1));
-    else
-        put_act(s, EXECUTED, 0);
-}
-
-/* How many bytes are stored from the record's address on: a frame, or those of ST or STR outside the device bytes. */
-static unsigned stored(const struct step *s)
-{
-    uint64_t i = xm23_decode(s->word);
-    unsigned format = XM23_FORMAT(i), byte = format == XM23_FORMAT_ST ? XM23_FIELD(i, 4) : XM23_FIELD(i, 1);
-    if (s->act == ACCEPTED || s->act == TRAPPED || s->act == FAULTED)
-        return 8;
-    if (s->act != EXECUTED || (format != XM23_FORMAT_ST && format != XM23_FORMAT_STR))
-        return 0;
-    return get_word(s->before, XM23_JOURNAL_ADDRESS) == 0 ? 0 : byte ? 1 : 2;
-}
-
-/* `memory` is as it was before the step; `due` the events of its step and of those before it. */
-static void judge_step(struct step *s, const struct paper *p, size_t due, const uint8_t *memory)
-{
-    unsigned line = line_taken(p, s, due, memory);
-    s->fetched = 0;
-    s->word = 0;
-    if (!(psw_of(s->before) & XM23_FLAG_SLP) && pc_of(s->before) == 0xFFFF)
-        put_act(s, line < 8 ? CHAINED : PULLED, line & 7);
-    else if (line < 8)
-        put_act(s, ACCEPTED, line);
-    else
-        judge_instruction(s, memory);
-    s->stored = (uint8_t)stored(s);
+    return ((at - s->at) & 0xFFFF) < s->stored;
 }
 
 int device_written(const struct step *s, unsigned at)
 {
-    return s->before[XM23_JOURNAL_DEVICES + at] != s->devices[at] || (at && s->shown == at);
+    return s->before[XM23_JOURNAL_DEVICES + at] != s->devices[at] || (stores_device(s) && covers(s, at));
 }
 
 int step_wrote(const struct step *s, unsigned at)
 {
-    unsigned from = (at - get_word(s->before, XM23_JOURNAL_ADDRESS)) & 0xFFFF;
-    return from < s->stored || (at < 16 && device_written(s, at));
+    return covers(s, at) || (at < sizeof s->devices && device_written(s, at));
 }
 
 /* ---- back, and the frames */
@@ -135,6 +109,10 @@ static void keep_after(struct step *s, const uint8_t *memory)
     memcpy(s->devices, memory, sizeof s->devices);
     for (unsigned i = 0; i < 8; i++)
         s->bytes[i] = memory[(at + i) & 0xFFFF];
+    if (is_entry(s)) {
+        s->at = (uint16_t)at;
+        s->stored = 8;
+    }
 }
 
 /* The journal began with no record kept, at its first place. */
@@ -147,26 +125,13 @@ void walk_back(const struct walk *w, struct machine *m, uint32_t done, uint32_t 
 
 static void go_back(struct walk *w, const struct paper *p, struct machine *m)
 {
-    size_t due = p->many_events;
     for (uint32_t i = w->many; i-- > 0;) {
         struct step *s = &w->steps[i];
         s->before = w->journal + XM23_JOURNAL_SIZE * i;
         s->after = i + 1 == w->many ? w->close : w->journal + XM23_JOURNAL_SIZE * (i + 1);
         keep_after(s, m->memory);
         walk_back(w, m, i + 1, 1);
-        while (due > 0 && p->events[due - 1].step > step_count(s))
-            due--;
-        judge_step(s, p, due, m->memory);
-    }
-}
-
-/* Which steps showed a byte: the log tells a store of an equal one too. */
-static void find_shown(struct walk *w)
-{
-    for (uint32_t i = 0; i < w->shown; i++) {
-        const uint8_t *record = w->log + XM23_LOG_SIZE * i;
-        uint32_t step = get_long(record, XM23_LOG_STEP) - step_count(&w->steps[0]);
-        w->steps[step].shown = (uint8_t)(2 * record[XM23_LOG_DEVICE] + 1);
+        ask_step(s, m, p);
     }
 }
 
@@ -175,15 +140,15 @@ static void find_frames(struct walk *w)
     unsigned open = 0;
     for (uint32_t i = 0; i < w->many; i++) {
         struct step *s = &w->steps[i];
-        if (s->act == ACCEPTED || s->act == TRAPPED || s->act == FAULTED) {
+        if (is_entry(s)) {
             struct frame *f = &w->frames[++w->many_frames];
             f->older = (uint16_t)open;
             f->sp = (uint16_t)get_word(s->after, XM23_RECORD_REGISTER(6));
             f->step = (uint16_t)i;
-            f->act = s->act;
+            f->kind = s->kind;
             f->number = s->number;
             open = w->many_frames;
-        } else if (s->act == PULLED) {
+        } else if (s->kind == XM23_KIND_PULL) {
             w->strays += !open;
             open = open ? w->frames[open].older : 0;
         }
@@ -191,21 +156,33 @@ static void find_frames(struct walk *w)
     }
 }
 
-/* Of a walk that was there nothing stays: what is told of a run is its own. */
-void walk_run(struct walk *w, const struct paper *p, struct machine *m, uint32_t steps)
+/* The last steps twice from the same state: the trace of them, and then the journal. */
+static void run_last(struct walk *w, const struct paper *p, struct machine *m, uint32_t last)
 {
-    struct outcome o = {0};
-    uint32_t deepest = 0, kept = 0, place = 0, last = steps < MOST_WALK ? steps : MOST_WALK;
+    static struct machine traced;
+    uint32_t deepest = 0, kept = 0, place = 0;
+    size_t events = XM23_EVENT_SIZE * p->many_events;
     uint64_t reply;
-    memset(w, 0, sizeof *w);
-    run_machine(m, p, steps - last, &o);
-    reply = xm23_run_journal(m->memory, sizeof m->memory, m->record, sizeof m->record, p->event_bytes,
-                             XM23_EVENT_SIZE * p->many_events, w->log, sizeof w->log, &deepest, w->journal,
-                             sizeof w->journal, &kept, &place, last);
+    memcpy(&traced, m, sizeof traced);
+    reply = xm23_trace(traced.memory, sizeof traced.memory, traced.record, sizeof traced.record, p->event_bytes, events,
+                       w->trace, sizeof w->trace, XM23_KINDS, last);
+    follow_trace(&w->fates, p, w->trace, XM23_TRACE_ADDED(reply));
+    take_trace(w, XM23_TRACE_ADDED(reply));
+    reply = xm23_run_journal(m->memory, sizeof m->memory, m->record, sizeof m->record, p->event_bytes, events, w->log,
+                             sizeof w->log, &deepest, w->journal, sizeof w->journal, &kept, &place, last);
     w->many = XM23_RUN_STEPS(reply);
     w->shown = XM23_RUN_ADDED(reply);
     memcpy(w->close, m->record, sizeof w->close);
+}
+
+/* Of a walk that was there nothing stays: what is told of a run is its own. */
+void walk_run(struct walk *w, const struct paper *p, struct machine *m, uint32_t steps)
+{
+    uint32_t last = steps < MOST_WALK ? steps : MOST_WALK;
+    memset(w, 0, sizeof *w);
+    begin_fates(&w->fates, p, m);
+    trace_events(&w->fates, p, m, steps - last);
+    run_last(w, p, m, last);
     go_back(w, p, m);
-    find_shown(w);
     find_frames(w);
 }

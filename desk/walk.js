@@ -39,11 +39,12 @@
     undo(i);
   }
   now = 0;
-  const shown = new Map(data.log.map(([step, device]) => [step, 2 * device + 1]));
-  const deviceWritten = (i, at) => records[64 * i + 32 + at] !== left[24 * i + at] || shown.get(i) === at;
-  const wrote = (i, at) => (at - place(i) & 0xFFFF) < data.steps[i][1] || (at < 16 && deviceWritten(i, at));
+  const toDevice = (i) => data.steps[i].length > 3; // a store to device bytes, from the fourth number on
+  const covers = (i, at) => (at - (toDevice(i) ? data.steps[i][3] : place(i)) & 0xFFFF) < data.steps[i][1];
+  const deviceWritten = (i, at) => records[64 * i + 32 + at] !== left[24 * i + at] || (toDevice(i) && covers(i, at));
+  const wrote = (i, at) => covers(i, at) || (at < 16 && deviceWritten(i, at));
 
-  // What a step left, PC aside: registers, bytes stored or pushed, device bytes that are others than before, or were shown.
+  // What a step left, PC aside: registers, bytes stored or pushed, device bytes that are others than before, or were stored.
   const names = ['R0', 'R1', 'R2', 'R3', 'R4', 'LR', 'SP', '', 'PSW', 'CEX'];
   const leftBy = (i) => {
     const parts = [];
@@ -53,7 +54,7 @@
     });
     const stored = data.steps[i][1];
     const there = [...left.subarray(24 * i + 16, 24 * i + 16 + stored)];
-    if (stored > 0) parts.push(hex(place(i), 4) + ':' + there.map((b) => ' ' + hex(b, 2)).join(''));
+    if (stored > 0 && !toDevice(i)) parts.push(hex(place(i), 4) + ':' + there.map((b) => ' ' + hex(b, 2)).join(''));
     for (let k = 0; k < 16; k++)
       if (deviceWritten(i, k))
         parts.push('device ' + (k >> 1) + (k & 1 ? ' data ' : ' status ') + hex(left[24 * i + k], 2));

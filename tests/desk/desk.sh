@@ -14,9 +14,9 @@ usage() { echo "usage: xm23 $1 .*"; }
 # ---- the program itself
 expect 'no word' 2 '' 'usage: xm23 .*' "$xm23"
 expect 'no subcommand' 2 '' "xm23: 'fly' is no subcommand.*" "$xm23" fly
-expect '--help' 0 'usage: .*run .*mark .*report .*back .*asm .*dis .*stack .*card .*Status.*' '' "$xm23" --help
+expect '--help' 0 'usage: .*run .*mark .*report .*back .*events .*asm .*dis .*stack .*card .*Status.*' '' "$xm23" --help
 expect '--version' 0 'xm23 [0-9]+\.[0-9]+\.[0-9]+' '' "$xm23" --version
-for word in run mark report back asm dis stack card; do
+for word in run mark report back events asm dis stack card; do
     expect "$word --help" 0 "usage: xm23 $word .*" '' "$xm23" "$word" --help
     expect "$word -x" 2 '' "$(usage "$word")" "$xm23" "$word" -x
     same "$word is in the manual" "$(grep -qx "\.B $word" man/xm23.1 && echo yes)" yes
@@ -29,9 +29,9 @@ complete_words() { # WORD..
     bash -c '. desk/completion.bash; COMP_WORDS=("$@"); COMP_CWORD=$(($# - 1)); _xm23; echo "${COMPREPLY[*]}"' - "$@" \
         2> /dev/null
 }
-same 'subcommands' "$(complete_words xm23 '')" 'run mark report back asm dis stack card --help --version'
+same 'subcommands' "$(complete_words xm23 '')" 'run mark report back events asm dis stack card --help --version'
 same 'every subcommand is completed' "$("$xm23" --help | sed -n 's/^  \([a-z]*\) .*/\1/p' | tr '\n' ' ')" \
-    'run mark report back asm dis stack card '
+    'run mark report back events asm dis stack card '
 same 'options' "$(complete_words xm23 mark -)" '-j -o -0 -L --help'
 same 'files' "$(complete_words xm23 run examples/sitting/sum)" 'examples/sitting/sum.paper'
 same 'folders' "$(complete_words xm23 mark -o examples/sit)" 'examples/sitting'
@@ -297,6 +297,15 @@ expect 'back of a refused program' 1 '' '.*refused.s19:2: R11: .*' "$xm23" back 
 halt='4 .*illegal; halt: fault 8, illegal word, with FLT set'
 expect 'back of a halt' 0 "$back"$'\n'"$halt"$'\n''3 .*illegal; fault 8, illegal word .*' '' \
     "$xm23" back -n 2 sum.paper programs/halting.s19
+printf 'S9030000FC\n' > "$room/empty.s19"
+printf '%s\n' 'steps 4' 'start PC=$1000 R0=$11 R4=2' 'device 1 $11' 'words $1000 $5C44 $3FFF' > "$room/p.paper"
+same 'back -w, of a device byte that stays as it was' \
+    "$("$xm23" back -w 2 "$room/p.paper" "$room/empty.s19" | tail -2 | head -1)" \
+    '0           1000  5C44  ST.B R0,R4                device 1 status 11'
+printf '%s\n' 'steps 1' 'start PC=2 R2=5' 'device 1 $10 $40' '0 1 $40' > "$room/p.paper"
+same 'a word among the device bytes is fetched after the events' \
+    "$("$xm23" back "$room/p.paper" "$room/empty.s19" | tail -2 | head -1)" \
+    '0           0002  4014  ADD R2,R4                 R4 0005, device 1 status 14'
 printf 'steps 0' > "$room/p.paper"
 expect 'back from nowhere' 1 '' '.*: no step was taken' "$xm23" back "$room/p.paper" programs/sound.s19
 for word in '-n 0' '-n 1025' '-n x' '-n -1' '-n' '-w' '-w 10000' '-w x' '-w -1' '-w $' '-w $$1'; do
@@ -307,6 +316,66 @@ expect 'back of one word' 2 '' "$(usage back)" "$xm23" back sum.paper
 expect 'back of no program' 3 '' 'no/such: No such .*' "$xm23" back sum.paper no/such
 expect 'back to a full disk' 3 '' 'standard output: cannot be written: .*' \
     full "$xm23" back sum.paper programs/sound.s19
+
+# ---- events: each word that one can have; two entries of device 5 wait from before the first step
+{
+    printf '%s\n' 'steps 60' 'start PC=$1000 COUNT=10 SP=$0800 LR=$FFFF LINES=$00200000' 'words $1000 $3FFF' \
+        'words $2000 $4088 $4C2F' 'device 1 $11' 'device 2 $10' 'device 4 $11' 'device 5 $11' \
+        'vector 1 $0060 $2000' 'vector 5 $00A0 $2000' '5 1 1' '11 5 2' '20 1 3' '22 1 4' '30 2 5' '31 2 6' '32 3 7'
+    for step in {40..55}; do echo "$step 4 0"; done
+    printf '%s\n' '68 1 8' '69 1 9' '70 1 10'
+} > "$room/e.paper"
+{
+    printf '%s\n' 'line,step,device,byte,event,overrun,interrupt,at' '11,5,1,1,before the start,,,' \
+        '12,11,5,2,taken,no,chained,16' '13,20,1,3,taken,no,accepted,20' '14,22,1,4,taken,yes,chained,23' \
+        '15,30,2,5,taken,no,IE clear,' '16,31,2,6,taken,yes,IE clear,' '17,32,3,7,ENA clear,,,' \
+        '18,40,4,0,taken,no,waits,'
+    for step in {41..54}; do echo "$((step - 22)),$step,4,0,taken,yes,waits,"; done
+    printf '%s\n' '33,55,4,0,taken,yes,count full,' '34,68,1,8,taken,yes,accepted,68' '35,69,1,9,taken,yes,waits,' \
+        '36,70,1,10,after the end,,,'
+} > "$room/e.csv"
+expect 'events -c' 0 '.*' '' "$xm23" events -c "$room/e.paper" "$room/empty.s19"
+same 'its rows' "$(cat "$room/out")" "$(cat "$room/e.csv")"
+totals='events 26: taken 23, ENA clear 1, before the start 1, after the end 1
+taken 23: accepted 2, chained 2, waits 16, count full 1, IE clear 2; overruns 19
+waiting before the first step 2: entered 2'
+row='14      22          1       04    taken             yes      chained at step 23'
+expect 'events' 0 'line +step +.*'$'\n'"$row.*" '' "$xm23" events "$room/e.paper" "$room/empty.s19"
+same 'a row for each, and totals' "$(sed -n 28,40p "$room/out")" "$totals"
+"$xm23" report "$room/e.paper" "$room/empty.s19" > "$room/e.html"
+same 'the same on the page' \
+    "$(sed '1,/<h2>Events/d; s/<\/t[dh]><t[dh][^>]*>/|/g; s/<[^>]*>//g; s/ at step /|/' "$room/e.html" |
+        grep -E '^[0-9]+\|' | cut -d'|' -f1-3,5- | sed 's/|*$//')" \
+    "$(tail -n +2 "$room/e.csv" | tr , '|' | cut -d'|' -f1-3,5- | sed 's/|*$//')"
+same 'with its totals' "$(sed -n 's/<[^>]*>//g; /^events 26/,/entered 2/p' "$room/e.html")" "$totals"
+expect 'events of a paper without' 0 'line .*'$'\n''events 0: .*'$'\n''taken 0: .*' '' \
+    "$xm23" events <(echo 'steps 5') "$room/empty.s19"
+same 'which the page leaves out' "$("$xm23" report <(echo 'steps 5') "$room/empty.s19" | grep -c '<h2>Events')" 0
+printf 'steps 9\nstart HALTED=1\n0 1 0\n' > "$room/p.paper"
+same 'a halted machine takes none' "$("$xm23" events -c "$room/p.paper" "$room/empty.s19" | tail -1)" \
+    '3,0,1,0,after the end,,,'
+{
+    printf '%s\n' 'steps 1000000' 'start PC=$1000 SP=$0800 LR=$FFFF' 'words $1000 $3FFF' 'words $2000 $4C2F' \
+        'device 1 $11' 'vector 1 $0060 $2000'
+    for i in {0..4095}; do echo "$((i * 244)) 1 0"; done
+} > "$room/p.paper"
+same 'every one of 4,096 in a million steps' "$("$xm23" events "$room/p.paper" "$room/empty.s19" | tail -2)" \
+    'events 4096: taken 4096, ENA clear 0, before the start 0, after the end 0
+taken 4096: accepted 4096, chained 0, waits 0, count full 0, IE clear 0; overruns 4095'
+"$xm23" report -o "$room/report.html" "$room/p.paper" "$room/empty.s19"
+same 'of which the page has some' "$(grep -c '<p>The first 512 of 4096; ' "$room/report.html")" 1
+same 'and is well-formed' "$(python3 -B "$top/tests/desk/pages.py" "$room/report.html" "$room/e.html")" \
+    'all well-formed'
+rm "$room/report.html"
+expect 'events of a refused program' 1 '' '.*refused.s19:2: R11: .*' "$xm23" events sum.paper programs/refused.s19
+expect 'events of a paper with a mistake' 1 '' '.*:1: .*' "$xm23" events <(echo 'step 5') programs/sound.s19
+expect 'events of one word' 2 '' "$(usage events)" "$xm23" events sum.paper
+expect 'events of three words' 2 '' "$(usage events)" "$xm23" events sum.paper a b
+expect 'events of no program' 3 '' 'no/such: No such .*' "$xm23" events sum.paper no/such
+expect 'events of no paper' 3 '' 'no/such: No such .*' "$xm23" events no/such programs/sound.s19
+expect 'events to a full disk' 3 '' 'standard output: cannot be written: .*' \
+    full "$xm23" events sum.paper programs/sound.s19
+same 'completion of events' "$(cd "$top" && complete_words xm23 events -)" '-c --help'
 cd "$top" || exit 1
 
 # ---- dis, card, stack

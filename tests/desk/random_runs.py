@@ -191,6 +191,7 @@ ACTS = [(r"skipped by CEX: not decoded", r"skipped by CEX"), (r"asleep: nothing"
 # Kinds of steps that must be met among those that are compared.
 KINDS = ["skipped", "asleep", "accepted", "chained", "pulled", "SVC by", "fault 8", "fault 9", "fault 10",
          "halt: fault 8", "halt: fault 9", "halt: fault 10", "; fault 9", "ST ", "ST.B", "STR ", "STR.B", "LD ", "LDR "]
+FATES = ["taken", "ENA clear", "after the end", "IE clear", "waits", "overrun yes", "overrun no"]
 met = set()
 
 
@@ -238,7 +239,7 @@ class Walk:
             data = base64.b64decode(text)
             self.memory[at:at + len(data)] = data
         self.writers, self.uncovered, self.deepest = {}, 0, 0
-        self.shown = {step: {2 * device + 1} for step, device, byte in self.data["log"]}
+        self.shown = [(step, 2 * device + 1) for step, device, byte in self.data["log"]]
         for i in range(len(self.steps) - 1, -1, -1):
             self.undo(i)
         for step in self.steps:
@@ -247,13 +248,17 @@ class Walk:
                 depth, frame = depth + 1, self.data["frames"][frame][0]
             self.deepest = max(self.deepest, depth)
 
+    def stored_at(self, i):
+        at = int.from_bytes(self.journal[64 * i + 48:64 * i + 50], "little")
+        return self.steps[i][3] if len(self.steps[i]) > 3 else at
+
     def undo(self, i):
         record = self.journal[64 * i:64 * i + 64]
         at, before = int.from_bytes(record[48:50], "little"), bytes(self.memory)
         self.memory[0:16] = record[32:48]
         for k in range(8):
             self.memory[(at + k) % 65536] = record[50 + k]
-        stored = {(at + k) % 65536 for k in range(self.steps[i][1])} | self.shown.get(i, set())
+        stored = {(self.stored_at(i) + k) % 65536 for k in range(self.steps[i][1])}
         changed = {a for a in [*range(16), *((at + k) % 65536 for k in range(8))] if before[a] != self.memory[a]}
         self.uncovered += len({a for a in changed if a >= 16} - stored)
         for a in stored | changed:
@@ -285,6 +290,8 @@ def look_at(this, name, files):
     last = [turn for turn in oracle_turns(theirs)[-48:] if turn[0] != ".." and int(turn[0]) >= counts[0]]
     same(f"{name}: entries, returns and faults", turns[-len(last):] if last else turns, last)
     same(f"{name}: every byte that changed has its writer", walk.uncovered, 0)
+    unstored = [at for i, at in walk.shown if not 0 <= at - walk.stored_at(i) < walk.steps[i][1]]
+    same(f"{name}: every byte that was shown was stored", unstored, [])
     with open(line) as file:
         fields = file.read().split()
     if int(fields[1]) == many:
@@ -292,7 +299,39 @@ def look_at(this, name, files):
         same(f"{name}: depth", walk.deepest, int(fields[-1]))
     else:
         same(f"{name}: depth", walk.deepest <= int(fields[-1]), True)
+    look_at_events(this, name, walk, counts, (paper, program), fields)
     go_back(this, name, walk, counts, (paper, program), int(fields[1]))
+
+
+def look_at_events(this, name, walk, counts, files, fields):
+    """Each event has its row; each entry is the oldest's that waits; what waits in the end is what the line has."""
+    told = run([xm23, "events", "-c", *files]).stdout.decode()
+    table = list(csv.DictReader(told.splitlines()))
+    listed = [(int(r["step"]), int(r["device"]), int(r["byte"])) for r in table]
+    same(f"{name}: a row for each event", listed, this.events)
+    first, end = this.count, this.count + int(fields[1])
+    due = [r["event"] in ("taken", "ENA clear") for r in table]
+    same(f"{name}: events that were due", due, [first <= event[0] < end for event in this.events])
+    met.update(word for r in table for word in (r["event"], r["interrupt"], "overrun " + r["overrun"]))
+    said = re.search(r"before the first step (\d+): entered (\d+)", run([xm23, "events", *files]).stdout.decode())
+    left = int(said[1]) - int(said[2]) if said else 0
+    waits = sum(r["interrupt"] == "waits" for r in table)
+    same(f"{name}: what waits", waits + left, sum(int(digit, 16) for digit in fields[12]))
+    entries = list(entries_of(walk, counts))
+    for device in range(8 if int(fields[1]) == len(walk.steps) else 0):
+        mine = [r for r in table if int(r["device"]) == device]
+        there = [entry[1:] for entry in entries if entry[0] == device]
+        before = this.lines >> 4 * device & 15
+        same(f"{name}: entries of {device}", [(int(r["at"]), r["interrupt"]) for r in mine if r["at"]], there[before:])
+
+
+def entries_of(walk, counts):
+    """Device, step and kind of each line that was entered in the walk."""
+    for i, step in enumerate(walk.steps):
+        found = re.fullmatch(r"line of device (\d) (accepted)|return, (chained) to the line of device (\d)",
+                             walk.data["what"][step[0]])
+        if found:
+            yield int(found[1] or found[4]), counts[i], found[2] or found[3]
 
 
 def go_back(this, name, walk, counts, files, steps):
@@ -342,5 +381,16 @@ with tempfile.TemporaryDirectory() as room:
         line = run([print_state], input=this.input()).stdout.decode().strip()
         same(f"source {i}", run([xm23, "run", paper, source]).stdout.decode().strip(), line)
         look_at(this, f"source {i}", (paper, source, given, line_file, page))
-same("kinds of steps that were not met", sorted(set(KINDS) - met), [])
+    several = [os.path.join(room, f"{i}.asm") for i in range(12)]
+    with open(paper, "w") as file:
+        file.write(this.paper())
+    for name in several:
+        with open(name, "w") as file:
+            file.write(Source().source)
+    run([xm23, "mark", "-j", "1", "-o", marks, paper, *several])
+    for name, marked in zip(several, sorted(os.listdir(os.path.join(marks, "pages")))):
+        with open(os.path.join(marks, "pages", marked), "rb") as file:
+            alone = run([xm23, "report", paper, name]).stdout
+            same(f"{name}: the page is of its program alone", (len(alone) > 9999, file.read()), (True, alone))
+same("kinds of steps and fates of events that were not met", sorted(set(KINDS + FATES) - met), [])
 end()

@@ -32,6 +32,9 @@ clean 'report of no program' 3 report -o "$room/report.html" "$paper" no/such
 clean 'back' 0 back "$paper" "$programs/halting.s19"
 clean 'back to a writer' 0 back -w 120 "$paper" "$programs/sound.s19"
 clean 'back to nobody' 1 back -w 4321 "$paper" "$programs/sound.s19"
+clean 'events' 0 events "$paper" "$programs/sound.s19"
+clean 'events as rows' 0 events -c "$paper" "$programs/halting.s19"
+clean 'events of a refused program' 1 events "$paper" "$programs/refused.s19"
 clean 'run of a source' 1 run "$paper" "$programs/screen.asm"
 clean 'dis' 0 dis -o "$room/list" examples/copy_words.s19
 clean 'stack' 0 stack "$paper"

@@ -11,7 +11,9 @@ which starts from nothing.
 import glob
 import os
 import shutil
+import subprocess
 import sys
+import tempfile
 import time
 
 sys.dont_write_bytecode = True
@@ -35,16 +37,40 @@ def changed_since(time_then, crate):
     return any(os.path.getmtime(path) >= time_then for path in paths if "/must-fail" not in path)
 
 
+# Crates whose archives go into that of another, each an object of its own: with one loop over steps in an object the
+# compiler lays the general step into it.
+JOINED = {"xm23": ["xm23_judge", "xm23_trace"]}
+
+
+def parts_of(name):
+    """The crates that an archive is made of, the one of its name last."""
+    return [*JOINED.get(name, []), name]
+
+
+def join(name):
+    """Puts the objects of the archives that belong to it into an archive."""
+    place = os.path.abspath("target/staticlib")
+    for part in JOINED.get(name, []):
+        with tempfile.TemporaryDirectory() as folder:
+            subprocess.run(["ar", "x", f"{place}/lib{part}.a"], cwd=folder, check=True)
+            objects = sorted(glob.glob(f"{folder}/*"))
+            subprocess.run(["ar", "rs", f"{place}/lib{name}.a", *objects], check=True, stderr=subprocess.DEVNULL)
+
+
 def archive(progress, name):
-    """The crates below an archive's side by side, then its own, by the one command that proves and writes it."""
-    others = below([name]) - {name}
+    """The crates below an archive's side by side, then its own, by the one command that proves and writes each."""
+    parts = parts_of(name)
+    others = below(parts) - set(parts)
     status = progress.rt("check", *sorted(others)) if others else 0
-    if status:
-        return status
-    began, progress.own = time.time(), {name}
-    status = progress.rt("staticlib", name)
+    for part in parts:
+        if status:
+            return status
+        began, progress.own = time.time(), {part}
+        status = progress.rt("staticlib", part)
+        if status == 0:
+            progress.crate(part, int(time.time() - began))
     if status == 0:
-        progress.crate(name, int(time.time() - began))
+        join(name)
     return status
 
 
@@ -59,7 +85,7 @@ def main():
         case ["program", name] if name in crates():
             place, names, work = f"target/bin/{name}", [name], lambda progress: progress.rt("check", name)
         case ["archive", name] if name in crates():
-            place, names, work = f"target/staticlib/lib{name}.a", [name], lambda progress: archive(progress, name)
+            place, names, work = f"target/staticlib/lib{name}.a", parts_of(name), lambda progress: archive(progress, name)
         case ["crates", *names] if all(name in crates() for name in names):
             place, work = None, lambda progress: progress.rt("check", *names)
         case ["crates", *names]:

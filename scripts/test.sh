@@ -134,7 +134,7 @@ part 'the gate itself' count_line tests/shell/gate.sh
 rm -rf build/edits/.worker*
 # Every crate from nothing, every must-fail edit, every program: the verdict is rt's, and so is the count.
 part 'proofs, must-fail edits and programs' count_line scripts/progress.py rt ci
-part 'static library xm23' count_status rt staticlib xm23
+part 'static library xm23' count_status scripts/prove.py archive xm23
 part 'what the tables show' count_line python3 -B scripts/tables_test.py
 part 'tables of the decoder' count_line python3 -B scripts/tables.py
 part 'static library probe' count_status rt staticlib probe

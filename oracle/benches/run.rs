@@ -266,11 +266,11 @@ fn print_journal() {
 
 // ---- traced
 
-/// Kinds of which no stretch has any, and what a run of them may cost beside `xm23_run`; what one with all kinds is to
-/// cost a step, in host instructions, and does not yet (docs/DECISIONS.md, "A traced step").
+/// Kinds of which no stretch has any, and what a run of them may cost beside `xm23_run`; what one with all kinds may
+/// cost a step, in host instructions.
 const SPARSE: u32 = EVERY & !(1 << 4 | 1 << 7 | 1 << 9 | 1 << 10 | 1 << 11);
 const MOST_SPARSE: f64 = 1.05;
-const WANTED: f64 = 300.0;
+const MOST_TRACED: f64 = 300.0;
 
 /// The mixed loop with all kinds and with those of no stretch, by callgrind; compared first.
 fn print_trace() {
@@ -283,9 +283,10 @@ fn print_trace() {
     let engines = [("xm23_run", "rattle"), ("xm23_trace", "trace"), ("xm23_trace", "sparse")];
     let [plain, all, sparse] = engines.map(|(function, engine)| count(function, engine));
     println!(
-        "mixed loop traced: {all:.1} host instructions a step with all kinds (wanted: {WANTED}), {sparse:.1} with those \
+        "mixed loop traced: {all:.1} host instructions a step with all kinds (at most {MOST_TRACED}), {sparse:.1} with those \
          of no stretch"
     );
+    assert!(!(all > MOST_TRACED), "a traced step costs more than {MOST_TRACED} host instructions");
     assert!(!(sparse > MOST_SPARSE * plain), "a run with a sparse trace costs more than {MOST_SPARSE} times a run");
 }
 

@@ -1,4 +1,5 @@
--- The definitions that the exported calls promise, gathered from the crates below. Assumes nothing.
+-- The definitions that the exported calls promise, gathered from the crates below; those of xm23_judge and xm23_trace are
+-- in the crates of these names. Assumes nothing.
 use Prim.Native.Nat.{ℕ, _+_, _*_}
 -- xm23_decode replies numberOf (decodeOf word): the number of the instruction that the word means. [003 14]
 pub use Rattle.isa.specs.Decode.{decodeOf}
@@ -26,16 +27,6 @@ pub use Rattle.journal.specs.Ring.{Journal, journalOf}
 pub use Rattle.journal.specs.Back.{Lent, lentOf}
 pub use Rattle.journal.specs.Call.{JournalClosing, runJournalOf, BackClosing, backCallOf}
 pub use Rattle.xm23.specs.Journal.{journalDeepestLeft, JournalResumption}
--- xm23_judge replies and leaves what judgeCallOf gives: closingTold are the findings of the judged run. Judgement is
--- its promise: no kind is found exactly if Premises of resume holds, and then the run ends as it would with no events.
--- [call judge; 01 Resumption; 02 §13]
-pub use Rattle.soundness.specs.Judge.{JudgeClosing, judgeCallOf}
-pub use Rattle.soundness.specs.Verdict.{TrueVerdict, Judgement}
--- xm23_trace replies and leaves what traceCallOf gives: tracedOf is what a step adds, runTraced the run with room for so
--- many records. [call trace]
-pub use Rattle.trace.specs.Trace.{Entry, tracedOf, entryBytes}
-pub use Rattle.trace.specs.Traced.{Traced, runTraced}
-pub use Rattle.trace.specs.Call.{traceCallOf}
 -- xm23_load_srec and xm23_write_srec reply and leave what loadCallOf and writeCallOf give; Restores is what 02 promises
 -- of the text written. [02 §2]
 pub use Rattle.srec_call.specs.Call.{Loaded, loadCallOf, Written, writeCallOf}

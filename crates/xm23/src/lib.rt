@@ -8,8 +8,6 @@ ghost use Rattle.xm23.specs.Api.{runCallOf, deepestLeft, Resumption};
 ghost use Rattle.xm23.specs.Api.{loadCallOf, writeCallOf, Restores, needReply};
 ghost use Rattle.xm23.specs.Api.{journalOf, runJournalOf, journalDeepestLeft};
 ghost use Rattle.xm23.specs.Api.{JournalResumption, lentOf, backCallOf};
-ghost use Rattle.xm23.specs.Api.{judgeCallOf, Judgement};
-ghost use Rattle.xm23.specs.Api.{traceCallOf};
 ghost use Rattle.xm23.specs.Api.{assembleCallOf, placesCallOf, textCallOf, sheetCallOf};
 use isa::Encoded;
 use isa::decode;
@@ -171,30 +169,6 @@ pub extern "C" fn xm23_run_journal(
     run_journal::run_journal_call(memory, state, events, log, deepest, journal, kept, place, n)
 }
 
-// The run of xm23_run with no log, and a record of 16 bytes for each thing of the kinds asked for:
-// refusal in bits 7-0, reason in bits 15-8, steps in bits 39-16, records in bits 63-40. Refused,
-// every buffer stays as it was; bytes of the trace past its records are kept.
-#[no_mangle]
-pub extern "C" fn xm23_trace(
-    memory: &mut [u8],
-    state: &mut [u8],
-    events: &[u8],
-    trace: &mut [u8],
-    kinds: u32,
-    n: u64,
-) -> u64
-    ensures reply { λ r. ⌜ r ≡ traceCallOf (now (memory .entry)) (now (state .entry))
-        (now (events .entry)) (now (trace .entry)) kinds n .reply ⌝ }
-    ensures memory { λ r. ⌜ now (memory .exit) ≡ traceCallOf (now (memory .entry))
-        (now (state .entry)) (now (events .entry)) (now (trace .entry)) kinds n .memory ⌝ }
-    ensures state { λ r. ⌜ now (state .exit) ≡ traceCallOf (now (memory .entry))
-        (now (state .entry)) (now (events .entry)) (now (trace .entry)) kinds n .state ⌝ }
-    ensures trace { λ r. ⌜ now (trace .exit) ≡ traceCallOf (now (memory .entry))
-        (now (state .entry)) (now (events .entry)) (now (trace .entry)) kinds n .trace ⌝ }
-{
-    trace_call::trace_call(memory, state, events, trace, kinds, n)
-}
-
 // k steps back: the newest k records of the journal copied out, newest first; refusal in bits 7-0.
 // Both numbers are then k lower, the place wrapping. Refused, all stays as it was.
 #[no_mangle]
@@ -227,40 +201,6 @@ pub extern "C" fn xm23_back(
         .lent .journal .place ⌝ }
 {
     back::back_call(memory, state, journal, kept, place, k)
-}
-
-// The run of xm23_run, lent a log long enough, judged: which premises of resumption it broke, each
-// first where and by whom, in `findings`, and who wrote each byte last, in `writers`. Refusal in
-// bits 7-0, reason in bits 15-8, steps done in bits 39-16, the kinds found in bits 63-40, none if the
-// handlers were sound. Refused, all four buffers stay as they were.
-#[no_mangle]
-pub extern "C" fn xm23_judge(
-    memory: &mut [u8],
-    state: &mut [u8],
-    events: &[u8],
-    writers: &mut [u8],
-    findings: &mut [u8],
-    n: u64,
-) -> u64
-    ensures reply { λ r. ⌜ r ≡ judgeCallOf (now (memory .entry)) (now (state .entry))
-        (now (events .entry)) (now (writers .entry)) (now (findings .entry)) n .reply ⌝ }
-    ensures memory { λ r. ⌜ now (memory .exit) ≡ judgeCallOf (now (memory .entry))
-        (now (state .entry)) (now (events .entry)) (now (writers .entry))
-        (now (findings .entry)) n .memory ⌝ }
-    ensures state { λ r. ⌜ now (state .exit) ≡ judgeCallOf (now (memory .entry))
-        (now (state .entry)) (now (events .entry)) (now (writers .entry))
-        (now (findings .entry)) n .state ⌝ }
-    ensures writers { λ r. ⌜ now (writers .exit) ≡ judgeCallOf (now (memory .entry))
-        (now (state .entry)) (now (events .entry)) (now (writers .entry))
-        (now (findings .entry)) n .writers ⌝ }
-    ensures findings { λ r. ⌜ now (findings .exit) ≡ judgeCallOf (now (memory .entry))
-        (now (state .entry)) (now (events .entry)) (now (writers .entry))
-        (now (findings .entry)) n .findings ⌝ }
-    ensures judgement { λ r. ⌜ Judgement (now (memory .entry)) (now (state .entry))
-        (now (events .entry)) r (now (memory .exit)) (now (state .exit)) (now (writers .exit))
-        (now (findings .exit)) ⌝ }
-{
-    judge_call::judge_call(memory, state, events, writers, findings, n)
 }
 
 // The text of S-records loaded into memory: refusal in bits 7-0, PC in bits 31-16, the line at

@@ -5,8 +5,8 @@ use lib.ListN.{getD}
 use borrow.Author.Needs.{needs}
 use denote.Ref.{now}
 use Rattle.soundness.proofs.Verdict.{judgement}
-use Rattle.xm23.proofs.xm23_judge.Statement.{statement}
-use Rattle.xm23.proofs.xm23_judge.Tie as tie
+use Rattle.xm23_judge.proofs.xm23_judge.Statement.{statement}
+use Rattle.xm23_judge.proofs.xm23_judge.Tie as tie
 
 returns : tie.Need-returns
 returns c =

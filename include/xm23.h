@@ -123,7 +123,7 @@ extern "C" {
 #define XM23_FOUND_FAULT 1   /* detail: the vector, XM23_NO_VECTOR where the fault halts */
 #define XM23_FOUND_RETURN 2
 #define XM23_FOUND_SVC 3     /* detail: the vector */
-#define XM23_FOUND_OPEN 4    /* step: the one that opened the oldest of them; address 0 */
+#define XM23_FOUND_OPEN 4    /* step: that opened the oldest, or chained onto the application's; address 0 */
 #define XM23_FOUND_CHANGED 5 /* detail: bits 0-4 R0 to R4, 5 SP, 6 a byte of the frame */
 #define XM23_FOUND_SLEEP 6
 #define XM23_FOUND_DEVICE 7  /* address: the first such byte */
@@ -583,7 +583,8 @@ uint64_t xm23_run_journal(uint8_t *memory, size_t memory_len, uint8_t *record, s
 uint64_t xm23_trace(uint8_t *memory, size_t memory_len, uint8_t *record, size_t record_len, const uint8_t *events,
                     size_t events_len, uint8_t *trace, size_t trace_len, uint32_t kinds, uint64_t n);
 
-/* The part of a reply of xm23_trace that xm23_run has not; its reason 2; bytes that a run of n always finds enough. */
+/* The part of a reply of xm23_trace that xm23_run has not; its reason 2; bytes that a run of n always finds enough, of
+ * a list of so many event records. */
 #define XM23_TRACE_ADDED(reply) ((uint32_t)((reply) >> 40)) /* trace records */
 #define XM23_REASON_TRACE 2
 #define XM23_TRACE_ENOUGH(n, events) ((size_t)XM23_TRACE_SIZE * ((size_t)(n) + (size_t)(events)))
@@ -630,8 +631,8 @@ uint64_t xm23_trace(uint8_t *memory, size_t memory_len, uint8_t *record, size_t 
  * alone, over any runs and goings-back: there are k steps that were taken and not taken back, and memory and record are
  * as they were k of these steps earlier. Once j of the k are done again, each with the same events due, by any runs of
  * xm23_run or xm23_run_journal, each with its own list and log, memory and record are as they were k - j steps earlier;
- * after all k, as before going back. With k above 0, runs whose lists are lawful and whose logs are long enough are
- * accepted and do all their steps.
+ * after all k, as before going back. With k above 0, runs of at most k steps together, whose lists are lawful and whose
+ * logs are long enough, are accepted and do all their steps.
  *
  * memory, memory_len   in-out: the machine's memory, XM23_MEMORY_SIZE bytes.
  * record, record_len   in-out: its state record, XM23_RECORD_SIZE bytes.
@@ -657,8 +658,8 @@ uint32_t xm23_back(uint8_t *memory, size_t memory_len, uint8_t *record, size_t r
  * A device's frame is every frame that is not the application's own, which are those of SVC opened while no device's
  * frame is open. The nine findings stand in the order of XM23_FOUND_..., each judged over the whole run. Who ran: the
  * handler in the newest frame if that is a device's, else the application, with XM23_NO_VECTOR as both vectors and the
- * count at the start; XM23_FOUND_OPEN tells of the oldest open frame. Where a line was chained onto a frame, the two
- * vectors differ: what the pull finds changed may then be the first handler's or the chained one's.
+ * count at the start; XM23_FOUND_OPEN tells of the oldest open frame. Where the two vectors differ, a line was
+ * chained on: what the pull finds changed may then be the first handler's or the chained one's.
  *
  * memory, memory_len     in-out: the machine's memory, XM23_MEMORY_SIZE bytes.
  * record, record_len     in-out: its state record, XM23_RECORD_SIZE bytes.
@@ -809,8 +810,8 @@ uint64_t xm23_places(const uint8_t *source, size_t source_len, uint8_t *places, 
  * CLRCC with no flag, LD and ST whose adjustment moves nothing but is not plain; and a branch at an odd place.
  * docs/FORMATS.md has the forms.
  *
- * Assembled at that place, where it is even, the text gives the word again: a listing of any words, ORG before it and
- * END behind, is accepted and puts exactly those words into any memory.
+ * Assembled at that place, where it is even, the text gives the word again: a listing of words that fit from there on,
+ * ORG before it and END behind, is accepted and puts exactly those words into any memory.
  *
  * word, place     in: the word, and the address that it stands at.
  * text, text_len  in-out: where the text goes, at the buffer's start; XM23_TEXT_SIZE bytes or more. Bytes past the text

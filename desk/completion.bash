@@ -4,17 +4,18 @@ _xm23() {
     COMPREPLY=()
     compopt -o filenames 2> /dev/null
     if [ "$COMP_CWORD" -eq 1 ]; then
-        mapfile -t COMPREPLY < <(compgen -W 'run mark report back events asm dis stack card --help --version' -- "$word")
+        mapfile -t COMPREPLY < <(compgen -W 'run mark report back events sound asm dis stack card --help --version' -- "$word")
         return
     fi
     case ${COMP_WORDS[1]} in
         run) options='-l --help' ;;
-        mark) options='-j -o -0 -L --help' ;;
+        mark) options='-j -o -0 -L -s --help' ;;
         back) options='-n -w --help' ;;
         events) options='-c --help' ;;
         asm) options='-l -o -s --help' ;;
-        report | dis | card) options='-o --help' ;;
-        stack) options='--help' ;;
+        report) options='-s -o --help' ;;
+        dis | card) options='-o --help' ;;
+        sound | stack) options='--help' ;;
     esac
     if [[ $before == -[jsnw] ]]; then
         return

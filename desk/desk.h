@@ -281,6 +281,7 @@ int stores_device(const struct step *s);                  /* whether it stored i
 
 /* ---- step.c: a step in words */
 
+const char *fault_name(unsigned fault);
 void add_act(struct text *t, unsigned kind, unsigned number); /* of the trace; of a halt the fault */
 void add_what(struct text *t, const struct step *s); /* the instruction, or what else it was */
 void add_left(struct text *t, const struct step *s); /* registers and bytes that it left, PC aside */
@@ -301,6 +302,7 @@ int sha256_file(int file, char *digits);
 struct row {
     const char *name;
     struct text line, says, screen; /* line: empty where it could not be read; says: why it has no closing state */
+    struct text handlers, application; /* whether they are sound and undisturbed; empty where it did not run */
     char digest[SHA256_TEXT];       /* of the program; empty where it could not be read */
     char page[SHA256_TEXT];         /* of its page, where mark has written it */
     uint32_t steps, deepest;
@@ -317,11 +319,14 @@ struct sitting {
     size_t many;
     unsigned workers;
     int links; /* links are followed */
+    int sound; /* handlers are judged, whatever the paper */
 };
 
 void drop_row(struct row *r);
 void pack_row(struct text *t, size_t number, const struct row *r);
 int unpack_row(const char *bytes, size_t length, size_t number, struct row *r); /* 0: they are no row of this number */
+
+struct verdict;
 
 /* One program of a sitting, run. `before` and `after` are there where it ran. */
 struct marked {
@@ -331,6 +336,7 @@ struct marked {
     struct outcome o;
     struct text screen; /* all of it, of which the row has the first bytes */
     struct walk walk;
+    struct verdict *verdict; /* of sound.h; NULL where it was not judged */
     int ran;
 };
 
@@ -365,6 +371,7 @@ int xm23_desk_stack(int argc, char **argv);
 int xm23_desk_report(int argc, char **argv);
 int xm23_desk_back(int argc, char **argv);
 int xm23_desk_events(int argc, char **argv);
+int xm23_desk_sound(int argc, char **argv);
 int xm23_desk_asm(int argc, char **argv);
 
 /* ---- help.c */

@@ -15,11 +15,12 @@ const struct subcommand subcommands[] = {
      "\n"
      "Status 1: PROGRAM is refused, PAPER has a mistake, or another line was expected.\n",
      xm23_desk_run},
-    {"mark", "xm23 mark [-L] [-j N] [-o DIR] PAPER PROGRAM.. | xm23 mark [-L] [-j N] [-o DIR] -0 PAPER",
+    {"mark", "xm23 mark [-Ls] [-j N] [-o DIR] PAPER PROGRAM.. | xm23 mark [-Ls] [-j N] [-o DIR] -0 PAPER",
      "run every program of a sitting and write results and pages",
      "Runs each PROGRAM under PAPER, and writes the folder DIR\n"
      "  results.csv      a row for each: name, line or refusal, what is wrong, steps, depth, screen text, agreement\n"
-     "                   with the expected line, SHA-256 of program and paper\n"
+     "                   with the expected line, SHA-256 of program and paper, whether its handlers are sound and\n"
+     "                   its application undisturbed\n"
      "  index.html       the same as a table, with a link to each page\n"
      "  pages/           a page for each program\n"
      "  SHA256SUMS       digests of all these files: sha256sum -c SHA256SUMS\n"
@@ -34,7 +35,11 @@ const struct subcommand subcommands[] = {
      "Stopped in the middle, what was there is as it was: give the same command again. The same files give the same\n"
      "bytes.\n"
      "\n"
+     "Handlers are judged ('xm23 sound --help') where PAPER has events and at most 100,000 steps, and with -s always,\n"
+     "at 0.03 s of processor time for a million steps of a program. Else the two cells are 'not judged'.\n"
+     "\n"
      "  -L       follow links\n"
+     "  -s       judge the handlers, whatever PAPER has\n"
      "  -j N     so many at a time, 1 to 64 (the number of processors)\n"
      "  -o DIR   where the results go (marks)\n"
      "  -0       the names of the programs from standard input, a zero byte behind each: find .. -print0\n"
@@ -42,12 +47,14 @@ const struct subcommand subcommands[] = {
      "Status 0: every program ran, and closed as expected where a line is. 1: some did not, or PAPER has a mistake.\n"
      "3: a program could not be marked, as its row says; or PAPER cannot be read, or DIR cannot be written.\n",
      xm23_desk_mark},
-    {"report", "xm23 report [-o PAGE] PAPER PROGRAM", "write the page of one run, with its last steps to walk through",
+    {"report", "xm23 report [-s] [-o PAGE] PAPER PROGRAM",
+     "write the page of one run, with its last steps to walk through",
      "Runs PROGRAM under PAPER and writes a page of HTML: the line, the closing state beside the expected one, the\n"
-     "screen, the stack, memory, and the last 1,024 steps to walk forwards and backwards in a browser: registers,\n"
+     "screen, whether the handlers were sound, and the last 1,024 steps to walk forwards and backwards: registers,\n"
      "instruction, what it wrote, stack with its frames, screen so far, who wrote a byte. Without scripts, and in\n"
      "print, it has the closing state and the last 32 steps. It is whole by itself.\n"
      "\n"
+     "  -s        judge the handlers, whatever PAPER has, as mark -s does\n"
      "  -o PAGE   write there instead of to standard output\n"
      "\n"
      "Status 1: PROGRAM is refused, PAPER has a mistake, or another line was expected; but for a mistake in PAPER the\n"
@@ -73,6 +80,16 @@ const struct subcommand subcommands[] = {
      "\n"
      "Status 1: PROGRAM is refused, or PAPER has a mistake.\n",
      xm23_desk_events},
+    {"sound", "xm23 sound PAPER PROGRAM", "tell whether the handlers of a program were sound",
+     "Runs PROGRAM under PAPER, judges its handlers, and prints a line for each kind of breach that there is, of each\n"
+     "the first, in the order of their steps: a fault; a return with no frame open; SVC in a device's handler; a\n"
+     "handler that changed R0 to R4, SP or its frame, with what was held and what is found; one that never returned;\n"
+     "a start asleep, halted or with a line waiting. And what the application could notice: it set SLP, it read a\n"
+     "device register, or a byte that a handler or its entry wrote last, which is lawful and blames no handler.\n"
+     "Where there is none: 'sound: the program ended as it would have with no events', which is proved.\n"
+     "\n"
+     "Status 0: sound. 1: something is found, PROGRAM is refused, or PAPER has a mistake.\n",
+     xm23_desk_sound},
     {"asm", "xm23 asm [-l] [-o FILE] [-s START] SOURCE", "assemble a source to S-records, or to a listing",
      "Assembles SOURCE (docs/FORMATS.md has the language) and writes the bytes that it states as S-records. A source\n"
      "at fault is told as 'SOURCE:LINE: R17: ..', and nothing is written.\n"

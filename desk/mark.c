@@ -112,16 +112,18 @@ static unsigned workers_of(const char *word)
 
 int xm23_desk_mark(int argc, char **argv)
 {
-    struct sitting s = {NULL, "", NULL, 0, processors(), 0};
+    struct sitting s = {NULL, "", NULL, 0, processors(), 0, 0};
     const char *folder = "marks";
     int option, listed = 0, status = DONE;
-    while ((option = getopt(argc, argv, "+:j:o:0L")) != -1) {
+    while ((option = getopt(argc, argv, "+:j:o:0Ls")) != -1) {
         if (option == 'j')
             s.workers = workers_of(optarg);
         else if (option == 'o')
             folder = optarg;
         else if (option == 'L')
             s.links = 1;
+        else if (option == 's')
+            s.sound = 1;
         listed |= option == '0';
         if (option == ':' || option == '?' || !s.workers)
             return misused("mark");

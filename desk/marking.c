@@ -1,7 +1,7 @@
 /* One program of a sitting: read, run, and told in its row. */
 #include <string.h>
 
-#include "desk.h"
+#include "sound.h"
 
 /* Of a long screen text the row has the first bytes, and how many there were. */
 static void put_screen(struct row *r, const struct text *screen)
@@ -9,6 +9,25 @@ static void put_screen(struct row *r, const struct text *screen)
     add_bytes(&r->screen, screen->at, screen->length < MOST_SCREEN ? screen->length : MOST_SCREEN);
     if (screen->length > MOST_SCREEN)
         add(&r->screen, " .. (%lu bytes)", (unsigned long)screen->length);
+}
+
+/* Of a paper with no events there is no handler of a device to judge, and a long run would cost more than all else. */
+int judges(const struct sitting *s)
+{
+    return s->sound || (s->paper->many_events && s->paper->steps <= MOST_JUDGED);
+}
+
+static void put_verdict(const struct sitting *s, struct marked *m)
+{
+    struct row *r = &m->row;
+    if (judges(s)) {
+        m->verdict = judge_run(s->paper, &m->before);
+        add_handlers(&r->handlers, m->verdict);
+        add_application(&r->application, m->verdict);
+    } else {
+        add(&r->handlers, "not judged");
+        add(&r->application, "not judged");
+    }
 }
 
 static void run_marked(const struct sitting *s, struct marked *m)
@@ -26,6 +45,7 @@ static void run_marked(const struct sitting *s, struct marked *m)
         put_screen(r, &m->screen);
         memcpy(&m->scratch, &m->before, sizeof m->scratch);
         walk_run(&m->walk, s->paper, &m->scratch, m->o.steps);
+        put_verdict(s, m);
     } else {
         add(&r->line, "R%u", f.refusal);
         add(&r->says, "line %lu: %s", (unsigned long)f.line, f.why.at);
@@ -42,6 +62,8 @@ static struct row *new_row(const char *name, struct marked *m)
     add_bytes(&r->line, "", 0);
     add_bytes(&r->says, "", 0);
     add_bytes(&r->screen, "", 0);
+    add_bytes(&r->handlers, "", 0);
+    add_bytes(&r->application, "", 0);
     return r;
 }
 
@@ -70,5 +92,6 @@ void drop_marked(struct marked *m)
 {
     drop_row(&m->row);
     drop(&m->screen);
+    drop_verdict(m->verdict);
     drop_program(&m->program);
 }

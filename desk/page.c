@@ -1,7 +1,7 @@
 /* The page of one program: its line, the fields of it, the screen, what memory became, the program. */
 #include <string.h>
 
-#include "desk.h"
+#include "sound.h"
 
 #define MOST_PAGE 400000  /* bytes */
 #define MOST_ROWS 512     /* of memory, of the listing and of the source */
@@ -217,6 +217,8 @@ static void add_heading(struct text *t, const struct sitting *s, const struct ro
         add_name(t, p->expected);
         add(t, "</pre>\n");
     }
+    if (r->handlers.length)
+        add(t, "<p><a href=\"#sound\">Handlers</a>: %s. Application: %s.</p>\n", r->handlers.at, r->application.at);
 }
 
 static void add_state(struct text *t, const struct sitting *s, const struct marked *m, unsigned most)
@@ -225,6 +227,7 @@ static void add_state(struct text *t, const struct sitting *s, const struct mark
     if (m->walk.many)
         add(t, "%s<noscript><p>Without scripts the walk is not shown; its last steps are below.</p></noscript>\n",
             walk_html);
+    add_sound_section(t, m);
     add_walk_tables(t, &m->walk, &m->after);
     add_events_table(t, &m->walk, s->paper, most);
     add_memory(t, &m->before, &m->after, most);

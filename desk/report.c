@@ -39,10 +39,13 @@ int xm23_desk_report(int argc, char **argv)
     struct sitting s = {0};
     const char *to = "-";
     int option, status;
-    while ((option = getopt(argc, argv, "+:o:")) != -1) {
-        if (option != 'o')
+    while ((option = getopt(argc, argv, "+:o:s")) != -1) {
+        if (option == 'o')
+            to = optarg;
+        else if (option == 's')
+            s.sound = 1;
+        else
             return misused("report");
-        to = optarg;
     }
     if (argc - optind != 2)
         return misused("report");

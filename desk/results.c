@@ -22,7 +22,11 @@ static void add_csv_row(struct text *t, const struct sitting *s, size_t i, const
     add_csv(t, r->says.at, r->says.length);
     add(t, ",%lu,%lu,", (unsigned long)r->steps, (unsigned long)r->deepest);
     add_csv(t, r->screen.at, r->screen.length);
-    add(t, ",%s,%s,%s\n", r->agrees < 0 ? "" : r->agrees ? "yes" : "no", r->digest, s->paper_digest);
+    add(t, ",%s,%s,%s,", r->agrees < 0 ? "" : r->agrees ? "yes" : "no", r->digest, s->paper_digest);
+    add_csv(t, r->handlers.at, r->handlers.length);
+    add(t, ",");
+    add_csv(t, r->application.at, r->application.length);
+    add(t, "\n");
 }
 
 static void add_sums_row(struct text *t, const struct sitting *s, size_t i, const struct row *r)
@@ -61,8 +65,8 @@ static void add_html_row(struct text *t, const struct sitting *s, size_t i, cons
     add_html(t, r->line.at, r->line.length);
     add(t, "%s", r->line.length && r->says.length ? "<br>" : "");
     add_html(t, r->says.at, r->says.length);
-    add(t, "</td><td class=\"n\">%lu</td><td class=\"n\">%lu</td><td class=\"n any\">", (unsigned long)r->steps,
-        (unsigned long)r->deepest);
+    add(t, "</td><td class=\"n\">%lu</td><td class=\"n\">%lu</td><td>%s</td><td>%s</td><td class=\"n any\">",
+        (unsigned long)r->steps, (unsigned long)r->deepest, r->handlers.at, r->application.at);
     add_screen(t, &r->screen);
     add(t, "</td></tr>\n");
 }
@@ -91,7 +95,7 @@ static void add_index_head(struct text *t, const struct sitting *s, const struct
     if (p->expected)
         add(t, "<label><input id=\"others\" type=\"checkbox\"> only those that are not as expected</label>");
     add(t, "<span id=\"count\" role=\"status\"></span></div>\n");
-    open_table(t, "|Program|Verdict|Line, or refusal|Steps|Depth|Screen");
+    open_table(t, "|Program|Verdict|Line, or refusal|Steps|Depth|Handlers|Application|Screen");
 }
 
 static void add_index_foot(struct text *t, const struct sitting *s)
@@ -162,7 +166,7 @@ static int write_csv(const struct sitting *s, const struct folder *f, const stru
 {
     struct sheet x;
     open_sheet(&x, f, "results.csv");
-    add(&x.t, "name,line,says,steps,depth,screen,agrees,program_sha256,paper_sha256\n");
+    add(&x.t, "name,line,says,steps,depth,screen,agrees,program_sha256,paper_sha256,handlers,application\n");
     put_rows(s, rows, &x, add_csv_row);
     return close_sheet(&x);
 }

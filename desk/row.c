@@ -3,9 +3,11 @@
 
 #include "desk.h"
 
+enum { TEXTS = 5 };
+
 struct head {
     uint64_t number;
-    uint64_t lengths[3]; /* of line, says and screen, which follow */
+    uint64_t lengths[TEXTS]; /* of line, says, screen, handlers and application, which follow */
     uint32_t steps, deepest;
     int32_t agrees, problem;
     char digest[SHA256_TEXT], page[SHA256_TEXT];
@@ -16,11 +18,13 @@ void drop_row(struct row *r)
     drop(&r->line);
     drop(&r->says);
     drop(&r->screen);
+    drop(&r->handlers);
+    drop(&r->application);
 }
 
 void pack_row(struct text *t, size_t number, const struct row *r)
 {
-    const struct text *texts[3] = {&r->line, &r->says, &r->screen};
+    const struct text *texts[TEXTS] = {&r->line, &r->says, &r->screen, &r->handlers, &r->application};
     struct head h;
     memset(&h, 0, sizeof h);
     h.number = number;
@@ -30,10 +34,10 @@ void pack_row(struct text *t, size_t number, const struct row *r)
     h.problem = r->problem;
     memcpy(h.digest, r->digest, sizeof h.digest);
     memcpy(h.page, r->page, sizeof h.page);
-    for (unsigned i = 0; i < 3; i++)
+    for (unsigned i = 0; i < TEXTS; i++)
         h.lengths[i] = texts[i]->length;
     add_bytes(t, &h, sizeof h);
-    for (unsigned i = 0; i < 3; i++)
+    for (unsigned i = 0; i < TEXTS; i++)
         add_bytes(t, texts[i]->length ? texts[i]->at : "", texts[i]->length);
 }
 
@@ -46,7 +50,7 @@ static int is_digest(const char *digits)
 
 int unpack_row(const char *bytes, size_t length, size_t number, struct row *r)
 {
-    struct text *texts[3] = {&r->line, &r->says, &r->screen};
+    struct text *texts[TEXTS] = {&r->line, &r->says, &r->screen, &r->handlers, &r->application};
     struct head h;
     memset(r, 0, sizeof *r);
     if (length < sizeof h)
@@ -56,12 +60,12 @@ int unpack_row(const char *bytes, size_t length, size_t number, struct row *r)
     length -= sizeof h;
     if (h.number != number || h.agrees < -1 || h.agrees > 1 || !is_digest(h.digest) || !is_digest(h.page))
         return 0;
-    for (unsigned i = 0; i < 3; i++) {
+    for (unsigned i = 0; i < TEXTS; i++) {
         if (h.lengths[i] > length)
             return 0;
         length -= (size_t)h.lengths[i];
     }
-    for (unsigned i = 0; i < 3; bytes += h.lengths[i], i++)
+    for (unsigned i = 0; i < TEXTS; bytes += h.lengths[i], i++)
         add_bytes(texts[i], bytes, (size_t)h.lengths[i]);
     r->steps = h.steps;
     r->deepest = h.deepest;

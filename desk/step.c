@@ -3,7 +3,7 @@
 
 #include "desk.h"
 
-static const char *fault_name(unsigned fault)
+const char *fault_name(unsigned fault)
 {
     return fault == 8 ? "illegal word" : fault == 9 ? "odd address" : "priority";
 }

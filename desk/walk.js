@@ -253,6 +253,10 @@
     const tr = event.target.closest('tr');
     if (tr) go(Number(tr.dataset.to));
   };
+  for (const link of document.querySelectorAll('a.to_step')) {
+    link.hidden = false;
+    link.addEventListener('click', () => go(Number(link.dataset.step) - first + 1));
+  }
   const inView = () => {
     const box = get('walk').getBoundingClientRect();
     return box.bottom > 0 && box.top < window.innerHeight;

@@ -158,11 +158,13 @@ part 'desk: use and misuse' count_line tests/desk/desk.sh
 part 'desk: papers, texts and pages' count_line tests/desk/texts.sh
 part 'desk: long sources' count_line tests/desk/sources.sh
 part 'desk: marking' count_line tests/desk/marking.sh
+part 'desk: handlers judged' count_line tests/desk/sound.sh
 part 'desk program with sanitizers of gcc' count_status desk_checked gcc
 part 'desk: use and misuse, sanitizers of gcc' count_line tests/desk/desk.sh "$build/xm23_gcc"
 part 'desk: papers, texts and pages, sanitizers of gcc' count_line tests/desk/texts.sh "$build/xm23_gcc"
 part 'desk: long sources, sanitizers of gcc' count_line tests/desk/sources.sh "$build/xm23_gcc"
 part 'desk: marking, sanitizers of gcc' count_line tests/desk/marking.sh "$build/xm23_gcc"
+part 'desk: handlers judged, sanitizers of gcc' count_line tests/desk/sound.sh "$build/xm23_gcc"
 part 'desk: random runs, sanitizers of gcc' count_line random_papers "$build/xm23_gcc" 160
 if clang -x c -fsanitize=address,undefined -o /dev/null - <<< 'int main(void) { return 0; }' 2> /dev/null; then
     part 'desk program with sanitizers of clang' count_status desk_checked clang
@@ -170,10 +172,11 @@ if clang -x c -fsanitize=address,undefined -o /dev/null - <<< 'int main(void) { 
     part 'desk: papers, texts and pages, sanitizers of clang' count_line tests/desk/texts.sh "$build/xm23_clang"
     part 'desk: long sources, sanitizers of clang' count_line tests/desk/sources.sh "$build/xm23_clang"
     part 'desk: marking, sanitizers of clang' count_line tests/desk/marking.sh "$build/xm23_clang"
+    part 'desk: handlers judged, sanitizers of clang' count_line tests/desk/sound.sh "$build/xm23_clang"
     part 'desk: random runs, sanitizers of clang' count_line random_papers "$build/xm23_clang" 160
 else
     echo '== left out: desk with sanitizers of clang, which are not here (Debian: clang and libclang-rt-14-dev)'
-    parts=$((parts - 6))
+    parts=$((parts - 7))
 fi
 if command -v valgrind > /dev/null; then
     part 'desk under valgrind' count_line tests/desk/valgrind.sh

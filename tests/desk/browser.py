@@ -114,6 +114,17 @@ def try_walk(browser, marks, room):
     same("walk: errors", browser.errors(), [])
 
 
+def try_finding(browser, marks):
+    """A finding of the section about handlers leads to its step."""
+    browser.open(os.path.join(marks, "pages/000001-halting.s19.html"))
+    same("finding: its link", browser.value("[...document.querySelectorAll('#sound a')].map((a) => [a.innerText, a.hidden])"),
+         [["(walk to step 3)", False], ["(walk to step 3)", False]])
+    browser.press("Home")
+    browser.click("#sound a")
+    same("finding: its step", browser.text("now").split(",")[0], "After step 3")
+    same("finding: errors", browser.errors(), [])
+
+
 def try_steps(browser, program):
     """Every step of the walk as its row tells it, beside xm23 back."""
     lines = run("back", "-n", "1024", "sum.paper", program).splitlines()[-2:0:-1]
@@ -215,6 +226,7 @@ with tempfile.TemporaryDirectory() as room:
             fits(browser, name)
         browser.open(os.path.join(marks, "pages/000001-halting.s19.html"))
         try_steps(browser, "programs/halting.s19")
+        try_finding(browser, marks)
         try_without_scripts(browser, marks)
         try_long(browser, room)
     finally:

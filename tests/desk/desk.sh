@@ -16,7 +16,7 @@ expect 'no word' 2 '' 'usage: xm23 .*' "$xm23"
 expect 'no subcommand' 2 '' "xm23: 'fly' is no subcommand.*" "$xm23" fly
 expect '--help' 0 'usage: .*run .*mark .*report .*back .*events .*asm .*dis .*stack .*card .*Status.*' '' "$xm23" --help
 expect '--version' 0 'xm23 [0-9]+\.[0-9]+\.[0-9]+' '' "$xm23" --version
-for word in run mark report back events asm dis stack card; do
+for word in run mark report back events sound asm dis stack card; do
     expect "$word --help" 0 "usage: xm23 $word .*" '' "$xm23" "$word" --help
     expect "$word -x" 2 '' "$(usage "$word")" "$xm23" "$word" -x
     same "$word is in the manual" "$(grep -qx "\.B $word" man/xm23.1 && echo yes)" yes
@@ -29,10 +29,10 @@ complete_words() { # WORD..
     bash -c '. desk/completion.bash; COMP_WORDS=("$@"); COMP_CWORD=$(($# - 1)); _xm23; echo "${COMPREPLY[*]}"' - "$@" \
         2> /dev/null
 }
-same 'subcommands' "$(complete_words xm23 '')" 'run mark report back events asm dis stack card --help --version'
+same 'subcommands' "$(complete_words xm23 '')" 'run mark report back events sound asm dis stack card --help --version'
 same 'every subcommand is completed' "$("$xm23" --help | sed -n 's/^  \([a-z]*\) .*/\1/p' | tr '\n' ' ')" \
-    'run mark report back events asm dis stack card '
-same 'options' "$(complete_words xm23 mark -)" '-j -o -0 -L --help'
+    'run mark report back events sound asm dis stack card '
+same 'options' "$(complete_words xm23 mark -)" '-j -o -0 -L -s --help'
 same 'files' "$(complete_words xm23 run examples/sitting/sum)" 'examples/sitting/sum.paper'
 same 'folders' "$(complete_words xm23 mark -o examples/sit)" 'examples/sitting'
 
@@ -376,6 +376,8 @@ expect 'events of no paper' 3 '' 'no/such: No such .*' "$xm23" events no/such pr
 expect 'events to a full disk' 3 '' 'standard output: cannot be written: .*' \
     full "$xm23" events sum.paper programs/sound.s19
 same 'completion of events' "$(cd "$top" && complete_words xm23 events -)" '-c --help'
+same 'completion of sound' "$(cd "$top" && complete_words xm23 sound -)" '--help'
+same 'completion of report' "$(cd "$top" && complete_words xm23 report -)" '-s -o --help'
 cd "$top" || exit 1
 
 # ---- dis, card, stack

@@ -4,7 +4,8 @@ random start, program, devices, vectors, memory and events. Of the first half th
 sixth of them one rule is broken, which a paper tells by the refusal's number: print_state gives the line that xm23 run
 and xm23 mark must give. Of the second half it is a source with handlers, SVC, CEX blocks, faults, sleep and stores:
 there what xm23 report and xm23 back tell of the last steps is held against the oracle's walk of the same run (ORACLE is
-its program, report), and the walk's data are replayed. The last line is 'N passed, M failed'."""
+its program, report), the walk's data are replayed, and what xm23 sound tells is held to the walk. The last line is
+'N passed, M failed'."""
 import base64
 import csv
 import html
@@ -20,6 +21,9 @@ from tally import end, same
 
 xm23, print_state, oracle, runs = sys.argv[1], sys.argv[2], sys.argv[3], int(sys.argv[4])
 dice = random.Random(int(sys.argv[5]) if len(sys.argv) > 5 else 1)
+FINDINGS = ["fault ", "a return with no frame open", "SVC ", "never returned", "R2 was", "SP was", "the frame's byte",
+            "chained onto the frame of device", "the application set SLP", "a register of device",
+            "which a handler or its entry wrote last", "sound: ", "starts, at step"]
 NAMES = ["R0", "R1", "R2", "R3", "R4", "LR", "SP", "PC"]
 
 
@@ -300,6 +304,7 @@ def look_at(this, name, files):
     else:
         same(f"{name}: depth", walk.deepest <= int(fields[-1]), True)
     look_at_events(this, name, walk, counts, (paper, program), fields)
+    look_at_findings(name, mine, walk, counts, (paper, program))
     go_back(this, name, walk, counts, (paper, program), int(fields[1]))
 
 
@@ -323,6 +328,27 @@ def look_at_events(this, name, walk, counts, files, fields):
         there = [entry[1:] for entry in entries if entry[0] == device]
         before = this.lines >> 4 * device & 15
         same(f"{name}: entries of {device}", [(int(r["at"]), r["interrupt"]) for r in mine if r["at"]], there[before:])
+
+
+def look_at_findings(name, page, walk, counts, files):
+    """What is told of handlers, with the values of the walk's records where it has the steps."""
+    told = run([xm23, "sound", *files])
+    lines = told.stdout.decode().splitlines()
+    same(f"{name}: sound", told.returncode, 0 if lines[0].startswith("sound: ") else 1)
+    if "Not judged" not in page:
+        listed = re.findall(r"<li>(.*?)(?: <a .*)?</li>", page[page.index('<div id="sound">'):])
+        same(f"{name}: findings on the page", [html.unescape(text) for text in listed], lines)
+    value = lambda step, part: walk.journal[64 * (step - counts[0]) + 2 * part:][:2][::-1].hex().upper()
+    for line in lines:
+        met.update(word for word in FINDINGS if word in line)
+        for step, pc in re.findall(r"at step (\d+), PC \$(\w+)", line):
+            if int(step) >= counts[0]:
+                same(f"{name}: {line}", value(int(step), 7), pc)
+        changed = re.search(r"at step (\d+), returned at step (\d+): ", line)
+        if changed and int(changed[1]) >= counts[0]:
+            for part, was, now in re.findall(r"(R\d|SP) was \$(\w+), is \$(\w+)", line):
+                part = NAMES.index(part)
+                same(f"{name}: {line}", (value(int(changed[1]) + 1, part), value(int(changed[2]), part)), (was, now))
 
 
 def entries_of(walk, counts):
@@ -392,5 +418,5 @@ with tempfile.TemporaryDirectory() as room:
         with open(os.path.join(marks, "pages", marked), "rb") as file:
             alone = run([xm23, "report", paper, name]).stdout
             same(f"{name}: the page is of its program alone", (len(alone) > 9999, file.read()), (True, alone))
-same("kinds of steps and fates of events that were not met", sorted(set(KINDS + FATES) - met), [])
+same("kinds of steps, fates of events and findings that were not met", sorted(set(KINDS + FATES + FINDINGS) - met), [])
 end()

@@ -45,7 +45,7 @@ print("back", [plain(r["name"].removeprefix("'")) for r in rows] == names)
 print("columns", {len(r) for r in csv.reader(data.decode().splitlines())})
 print("quoted", sum(r["name"].startswith("'") for r in rows))
 END
-same 'names in cells' "$(cat "$room/cells")" $'rows 18\ncontrols []\nformulas []\nback True\ncolumns {9}\nquoted 9'
+same 'names in cells' "$(cat "$room/cells")" $'rows 18\ncontrols []\nformulas []\nback True\ncolumns {11}\nquoted 9'
 
 # ---- the expected line, judged when the paper is read
 line='0 120 001F 0120 0000 0006 0000 FFFF 0800 1016 0003 00 00000000 1'

@@ -198,7 +198,8 @@ static enum standing judge_once(const struct folder *f, const char *name, struct
     enum standing what = FOREIGN;
     int folder = openat(f->parent, name, O_RDONLY | O_DIRECTORY | O_NOFOLLOW | O_CLOEXEC);
     if (folder >= 0 && fstat(folder, &is) == 0) {
-        *mode = is.st_mode & 0777;
+        if (is.st_uid == geteuid())
+            *mode = is.st_mode & 0777;
         s->device = is.st_dev;
         s->inode = is.st_ino;
         what = judge_folder(folder, s, why);

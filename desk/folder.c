@@ -52,8 +52,11 @@ static int make_beside(struct folder *f)
         add(&f->beside, "%.*s.new-%ld-%u", MOST_BASE, f->base.at, (long)getpid(), i);
         made = mkdirat(f->parent, f->beside.at, 0700);
     }
-    if (made != 0)
-        return cannot(f, "made");
+    if (made != 0) {
+        int status = cannot(f, "made");
+        f->beside.length = 0;
+        return status;
+    }
     f->at = openat(f->parent, f->beside.at, O_RDONLY | O_DIRECTORY | O_NOFOLLOW | O_CLOEXEC);
     if (f->at < 0 || mkdirat(f->at, "pages", 0777) != 0)
         return cannot(f, "made");
@@ -129,6 +132,21 @@ int digest_file(int folder, const char *path, char *digits)
     return good;
 }
 
+size_t count_pages(const struct folder *f)
+{
+    int pages = openat(f->at, "pages", O_RDONLY | O_DIRECTORY | O_NOFOLLOW | O_CLOEXEC);
+    DIR *all = pages < 0 ? NULL : fdopendir(pages);
+    struct dirent *entry;
+    size_t many = 0;
+    while (all && (entry = readdir(all)) != NULL)
+        many += entry->d_name[0] != '.';
+    if (all)
+        closedir(all);
+    else if (pages >= 0)
+        close(pages);
+    return many;
+}
+
 /* ---- removed */
 
 /* Files and links of an open folder, which is closed; folders stay. */
@@ -158,12 +176,20 @@ void leave_folder(struct folder *f)
     f->parent = f->at = -1;
 }
 
-/* Of an earlier marking goes what its SHA256SUMS lists, and nothing else. */
+/* Of an earlier marking goes what its SHA256SUMS lists, and nothing else: no part of a name is looked up by way of a
+ * link, whatever has taken the place of pages/ meanwhile. */
 static int remove_listed(const struct folder *f, const struct sums *s)
 {
     int folder = openat(f->parent, f->beside.at, O_RDONLY | O_DIRECTORY | O_NOFOLLOW | O_CLOEXEC);
-    for (size_t i = 0; folder >= 0 && i < s->many; i++)
-        unlinkat(folder, s->lines[i] + SHA256_TEXT, 0);
+    int pages = folder < 0 ? -1 : openat(folder, "pages", O_RDONLY | O_DIRECTORY | O_NOFOLLOW | O_CLOEXEC);
+    for (size_t i = 0; folder >= 0 && i < s->many; i++) {
+        const char *name = s->lines[i] + SHA256_TEXT;
+        int below = strncmp(name, "pages/", 6) == 0;
+        if (!below || pages >= 0)
+            unlinkat(below ? pages : folder, below ? name + 6 : name, 0);
+    }
+    if (pages >= 0)
+        close(pages);
     if (folder >= 0) {
         unlinkat(folder, "SHA256SUMS", 0);
         unlinkat(folder, "pages", AT_REMOVEDIR);
@@ -194,8 +220,9 @@ static int remove_earlier(const struct folder *f, struct sums *s)
 
 /* ---- put in its place */
 
-/* By way of a third name, where the system cannot exchange two at once. */
-static int exchange_by_turns(const struct folder *f)
+/* By way of a third name, where the system cannot exchange two at once. Once the new one has its place the earlier one
+ * goes by whatever name it has. */
+static int exchange_by_turns(struct folder *f)
 {
     struct text aside = {0};
     int good;
@@ -203,17 +230,21 @@ static int exchange_by_turns(const struct folder *f)
     good = renameat(f->parent, f->base.at, f->parent, aside.at) == 0;
     if (good && renameat(f->parent, f->beside.at, f->parent, f->base.at) != 0) {
         int problem = errno;
-        renameat(f->parent, aside.at, f->parent, f->base.at);
+        if (renameat(f->parent, aside.at, f->parent, f->base.at) != 0)
+            say_at(f->name, 0, "what was there is '%s' beside it", aside.at);
         errno = problem;
         good = 0;
     }
-    good = good && renameat(f->parent, aside.at, f->parent, f->beside.at) == 0;
+    if (good && renameat(f->parent, aside.at, f->parent, f->beside.at) != 0) {
+        f->beside.length = 0;
+        add_bytes(&f->beside, aside.at, aside.length);
+    }
     drop(&aside);
     return good;
 }
 
 /* Each of the two gets the other's name. */
-static int exchange(const struct folder *f)
+static int exchange(struct folder *f)
 {
 #ifdef RENAME_EXCHANGE
     if (renameat2(f->parent, f->beside.at, f->parent, f->base.at, RENAME_EXCHANGE) == 0)
@@ -237,7 +268,7 @@ static int keep(const struct folder *f)
 
 /* Over nothing, or over an empty folder, a rename destroys nothing: it fails over anything else. 0 where what stands
  * there is another by now. */
-static int take_place(const struct folder *f, struct sums *s, enum standing *what)
+static int take_place(struct folder *f, struct sums *s, enum standing *what)
 {
     mode_t mode;
     drop_sums(s);

@@ -28,6 +28,9 @@ int fill_file(const struct folder *f, const char *path, const struct text *t);
 /* The digest of a file in it, or in another open folder. 0 where it is no regular file that can be read. */
 int digest_file(int folder, const char *path, char *digits);
 
+/* The pages that are in the new folder. */
+size_t count_pages(const struct folder *f);
+
 /* Puts it in its place, safe from a loss of power, and removes the earlier one. A status that has been told. */
 int place_folder(struct folder *f);
 

@@ -42,6 +42,10 @@ static int mark_into(const struct sitting *s, const char *folder)
     if (status != DONE)
         return status;
     status = fill_folder(s, &f, &verdict);
+    if (status == DONE && count_pages(&f) != s->many) {
+        say_at(folder, 0, "pages of the new marking are gone: somebody has removed them");
+        status = UNREADABLE;
+    }
     if (status == DONE && !stop_signal()) {
         status = place_folder(&f);
         return status == DONE ? verdict : status;

@@ -183,7 +183,10 @@ void add_csv(struct text *t, const char *bytes, size_t length)
     quoted = strpbrk(cell.at, ",\"") != NULL;
     add(t, "%s", quoted ? "\"" : "");
     for (size_t i = 0; i < cell.length; i++)
-        add_bytes(t, cell.at[i] == '"' ? "\"\"" : cell.at + i, cell.at[i] == '"' ? 2 : 1);
+        if (cell.at[i] == ';')
+            add_byte(t, "\\x", ';'); /* some spreadsheets split a row there too */
+        else
+            add_bytes(t, cell.at[i] == '"' ? "\"\"" : cell.at + i, cell.at[i] == '"' ? 2 : 1);
     add(t, "%s", quoted ? "\"" : "");
     drop(&cell);
 }

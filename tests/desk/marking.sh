@@ -302,5 +302,28 @@ if [ $# -eq 0 ] && strace -o /dev/null true 2> /dev/null; then
     # A system that cannot exchange two names does it by turns.
     strace -f -e trace=renameat2 -e inject=renameat2:error=EINVAL -o calls "$xm23" mark -o shared "$paper" b.s19
     same 'by turns' "$(whole shared) $(cells shared name) $(beside shared)" 'whole b.s19 '
+    # The new one has its place by then: the earlier one goes by the name that it has.
+    strace -f -e trace=renameat2,renameat -e inject=renameat2:error=EINVAL -e inject=renameat:error=EIO:when=3 \
+        -o calls "$xm23" mark -o shared "$paper" a.s19
+    same 'by turns, the last of which fails' "$(whole shared) $(cells shared name) $(beside shared)" 'whole a.s19 '
 fi
+
+# ---- a folder of somebody else's, as who marks may take it over
+if [ "$(id -u)" -eq 0 ] && id nobody > /dev/null 2>&1; then
+    expect 'a marking' 0 '' '' "$xm23" mark -o handed_on "$paper" b.s19
+    chown -R nobody handed_on
+    chmod 777 handed_on
+    expect 'is taken over' 0 '' '' "$xm23" mark -o handed_on "$paper" b.s19
+    same 'and not what others may write' "$(stat -c '%U %a' handed_on)" 'root 755'
+fi
+
+# ---- a row stays one where a spreadsheet splits it by semicolons
+cp b.s19 'bob.s19;=1+1;yes.s19'
+expect 'a name with semicolons' 0 '' '' "$xm23" mark -o semicolons "$paper" 'bob.s19;=1+1;yes.s19'
+same 'is one cell either way' "$(python3 - << 'END'
+import csv
+with open("semicolons/results.csv", newline="") as file:
+    print(max(len(row) for row in csv.reader(file, delimiter=";")))
+END
+) $(cells semicolons name)" '1 bob.s19\x3B=1+1\x3Byes.s19'
 count

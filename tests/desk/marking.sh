@@ -94,9 +94,13 @@ under() {
 worker() { awk -v parent="$pid" '$4 == parent { print $1; exit }' /proc/[0-9]*/stat 2> /dev/null; } # one of its own
 ended() { status=0; { wait "$pid" || status=$?; } 2> /dev/null; }
 for signal in KILL SEGV PROF; do
-    under "$xm23" mark -j 2 -o "killed$signal" long.paper many/*
-    kill "-$signal" "$(worker)"
-    ended
+    # A worker that is between two programs costs none of them: then another one is ended.
+    for _ in 1 2 3 4 5 6 7 8 9 10; do
+        under "$xm23" mark -j 2 -o "killed$signal" long.paper many/*
+        kill "-$signal" "$(worker)" 2> /dev/null
+        ended
+        [ "$status" -eq 0 ] || break
+    done
     same "a worker that is ended by $signal: status" "$status" 3
     case $signal in
         KILL) why='its worker was ended by signal 9' ;;

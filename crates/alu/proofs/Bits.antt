@@ -1,6 +1,6 @@
 -- The one bit that BIC clears and BIS sets, for every width w: which it is, that no other changes, and that none does where
 -- the operand names no bit of the width (document 02, section 5). Assumes nothing.
-use mathlib.Core.Path.{_≡_, refl, sym, ap, ap₂, _∙_}
+use mathlib.Core.Path.{_≡_, sym, ap, ap₂, _∙_}
 use mathlib.Core.Bool.{Bool, true, false}
 use mathlib.Core.Logic.{⊎-elim}
 use Prim.Native.Nat.{ℕ, _+_, _-_, _*_, _/_, _%_, _^_, _≤_, _<_}
@@ -8,7 +8,7 @@ use native.Mathlib.Nat.{mod-lt, mod-eq-of-lt, one-mul, add-comm, add-mul, mul-as
 use native.Mathlib.Omega.{arith}
 use lib.Dec.{lit<}
 use lib.Bits.{bitAnd, bitOr, or-step, or-block, or-zero-r, and-block, and-mask}
-use lib.Pow.{pow-pos, pow-lt, pow-mono, pow-add, shl-exact, shr-shr, shr-mod, split, field, mod-pow-add, mod-mod-pow, ones-lt, ones-split}
+use lib.Pow.{pow-pos, pow-lt, pow-mono, pow-add, shl-exact, shr-shr, shr-mod, split, field, mod-mod-pow, ones-lt, ones-split}
 use borrow.Author.Tests.{le-ltb, lt-ltb}
 use Rattle.word.specs.Width.{bit, low, withLow, turned}
 use Rattle.word.specs.Psw.{putBit}

@@ -1,6 +1,6 @@
 -- Laws of the call: what the sweeps found is the definition's verdict. Assumes nothing.
-use mathlib.Core.Path.{_≡_, refl, sym, ap, _∙_}
-use mathlib.Core.Bool.{Bool, true, false, cond, not}
+use mathlib.Core.Path.{_≡_, sym, ap, _∙_}
+use mathlib.Core.Bool.{Bool, cond}
 use mathlib.Core.List.{List}
 use Prim.Native.Nat.{ℕ}
 use lib.Dec.{eqb}
@@ -18,7 +18,7 @@ use Rattle.asm_sweeps.specs.Held.{tableAt, Holds}
 use Rattle.asm_sweeps.proofs.Names.{look-held}
 use Rattle.asm_sweeps.proofs.Laws.{decide-form}
 use Rattle.asm_image.specs.Image.{placedOf, imageOf}
-use Rattle.asm_call.specs.Call.{Assembled, assembled, assembleReply, assembleVerdict, assembleCallOf}
+use Rattle.asm_call.specs.Call.{assembled, assembleReply, assembleVerdict, assembleCallOf}
 
 -- ---- memory of another length
 pub call-length : (m s : List ℕ) → (length m ≡ 65536 → ⊥) → assembled 1 m ≡ assembleCallOf m s

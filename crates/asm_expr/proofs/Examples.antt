@@ -3,7 +3,6 @@ use mathlib.Core.Path.{_≡_, refl}
 use mathlib.Core.List.{List, [], _∷_}
 use Prim.Native.Nat.{ℕ}
 use lib.IntN.{pos, negsuc}
-use Rattle.asm_value.specs.declared.Value.{Value}
 use Rattle.asm_value.specs.declared.Value.the-variants.{Known, Unknown, Outside}
 use Rattle.asm_value.specs.Value.{fitted, applied, joined}
 use Rattle.asm_text.specs.Text.{blank?, letter?, nameByte?, digitOf, digit?, span, after, numeral, word, spelled, spelledFrom}

@@ -2,22 +2,20 @@
 use mathlib.Core.Path.{_≡_, refl, sym, ap, _∙_, subst}
 use mathlib.Core.Bool.{Bool, true, false, cond}
 use mathlib.Core.List.{List, [], _∷_}
-use Prim.Native.Nat.{ℕ, zero, suc, _+_, _-_, _^_, _<_, _≤_, min}
-use native.Mathlib.Numerals.{add-one, sub-one}
+use Prim.Native.Nat.{ℕ, zero, suc, _+_, _-_, _<_, _≤_, min}
+use native.Mathlib.Numerals.{sub-one}
 use native.Mathlib.Omega.{arith}
-use lib.Dec.{ltb, leb, eqb}
+use lib.Dec.{ltb, eqb}
 use lib.ListN.{length, drop, length-drop}
-use lib.IntN.{ℤ, pos, negsuc, negℤ}
-use lib.Signed.{mag}
 use borrow.Author.Tests.{lt-ltb, le-ltb, ltb-true, ltb-false, eq-eqb, ne-eqb, eqb-true}
 use Rattle.word.proofs.Laws.{bool-cases}
 use Rattle.asm_value.specs.declared.Value.{Value}
-use Rattle.asm_value.specs.declared.Value.the-variants.{Known, Unknown, Outside}
+use Rattle.asm_value.specs.declared.Value.the-variants.{Outside}
 use Rattle.asm_value.specs.Value.{fitted, withSign, joined}
-use Rattle.asm_text.proofs.Laws.{place-cases, byte-in, kind-in, after-more, after-stop, after-le, name-zero, no-digit}
+use Rattle.asm_text.proofs.Laws.{byte-in, kind-in, after-more, after-le, name-zero, no-digit}
 use Rattle.asm_text.specs.Text.{byteAt, blank?, letter?, nameByte?, digit?, digitOf, span, after, numeral, word}
 use Rattle.asm_words.specs.Words.{wordNumber}
-use Rattle.asm_expr.specs.Grammar.{Expr, number, name, binary, Parse, parsed, malformed, follow, digitsAt, nameAt, plainAt}
+use Rattle.asm_expr.specs.Grammar.{Expr, binary, Parse, parsed, malformed, follow, digitsAt, nameAt, plainAt}
 use Rattle.asm_expr.specs.Grammar.{closed, plus?, times?, chain, partsOf, factorWith, factorOf, termOf, expressionOf}
 use Rattle.asm_expr.specs.Meaning.{valueOf, answerOf, shut}
 use Rattle.asm_expr.specs.declared.Answer.{Answer}

@@ -1,10 +1,10 @@
 -- Numbers with a sign in 32 bits: what the code's casts, `!` and tests give is what the definitions say. Assumes nothing.
 use mathlib.Core.Path.{_≡_, refl, sym, ap, _∙_}
 use mathlib.Core.Bool.{true, false}
-use Prim.Native.Nat.{ℕ, suc, _+_, _-_, _%_, _<_, _≤_}
+use Prim.Native.Nat.{ℕ, suc, _-_, _%_, _<_}
 use native.Mathlib.Nat.{not-suc-le-zero}
 use native.Mathlib.Omega.{arith}
-use lib.Dec.{T, ltb, eqb}
+use lib.Dec.{T, ltb}
 use lib.IntN.{ℤ, pos, negsuc, natAbs}
 use lib.Signed.{mag, ltZ, nonNeg}
 use mir.Syntax.{w32}
@@ -12,9 +12,7 @@ use mir.Val.{toZ, ofZ, Fits, SFits}
 use mir.ValLaws.{toZ-pos, toZ-ofZ}
 use borrow.Author.Tests.{ltb-true}
 use Rattle.word.proofs.Offset.{kept}
-use Rattle.asm_fits.specs.declared.Fit.{Fit}
-use Rattle.asm_fits.specs.declared.Fit.the-variants.{Number, Outside}
-use Rattle.asm_fits.specs.Fits.{residueOf, withinOf, constantNumber}
+use Rattle.asm_fits.specs.Fits.{residueOf, withinOf}
 
 below : (z : ℤ) → SFits w32 z → ltZ (toZ w32 (ofZ w32 z)) (pos 0) ≡ true → ltZ z (pos 0) ≡ true
 below z f e = rw (toZ-ofZ w32 z f) at e

@@ -1,8 +1,7 @@
 -- A source that meets the premise: its one name has the place of its statement. Assumes nothing.
 use mathlib.Core.Path.{_≡_, refl}
 use mathlib.Core.Bool.{false}
-use mathlib.Core.List.{List, [], _∷_}
-use Prim.Native.Nat.{ℕ}
+use mathlib.Core.List.{[], _∷_}
 use lib.IntN.{pos}
 use Rattle.isa.specs.Encode.{encodeOf}
 use Rattle.lines.specs.Lines.{linesOf}
@@ -21,7 +20,7 @@ use Rattle.asm_line.specs.Line.{statementAt, afterName, lineFrom, lineOf}
 use Rattle.asm_write.specs.Written.{numberOf, layoutOf, misplaced?, usedOf, onward, nextOf, placeValue, nameValue}
 use Rattle.asm_sweeps.specs.Form.{formFrom}
 use Rattle.asm_sweeps.specs.Places.{firstOf, namedOf, tableFrom}
-use Rattle.asm_sweeps.specs.Uses.{placeAfter, usesFrom, namesOf, leastOf, verdictFor, verdictOf}
+use Rattle.asm_sweeps.specs.Uses.{placeAfter, usesFrom, leastOf, verdictFor, verdictOf}
 use Rattle.asm_labels.specs.Labels.{sample, given, givenFrom, givenOf, Sample}
 use Rattle.asm_labels.proofs.Labels.{names-placed}
 

@@ -2,7 +2,7 @@
 use mathlib.Core.Path.{_≡_, refl, sym, ap, _∙_, subst}
 use mathlib.Core.Bool.{Bool, true, false, cond, _||_, _&&_}
 use mathlib.Core.List.{List, [], _∷_, _++_}
-use Prim.Native.Nat.{ℕ, suc, _+_, _<_, _≤_}
+use Prim.Native.Nat.{ℕ, _+_, _<_}
 use native.Mathlib.Omega.{arith}
 use lib.Dec.{leb}
 use lib.IntN.{ℤ, pos, negsuc}
@@ -21,16 +21,16 @@ use Rattle.asm_write.specs.declared.Layout.{Layout}
 use Rattle.asm_write.specs.declared.Layout.the-variants.{Bytes, Origin, Equal, Space, Stop}
 use Rattle.asm_write.specs.declared.Next.{Next}
 use Rattle.asm_write.specs.declared.Next.the-variants as next
-use Rattle.asm_write.specs.Written.{layoutOf, nextOf, nameValue, orgNext, bssNext, roomFor}
+use Rattle.asm_write.specs.Written.{layoutOf, nextOf, nameValue, orgNext, bssNext}
 use Rattle.asm_sweeps.specs.declared.Tally.{Tally}
 use Rattle.asm_sweeps.specs.Form.{stops?, end?, formOf}
-use Rattle.asm_sweeps.specs.Places.{Table, table, noteUnknown, noteOutside, placedAt, noteValue, nextLine, nextOn, noTally}
+use Rattle.asm_sweeps.specs.Places.{Table, table, noteUnknown, placedAt, noteValue, nextOn, noTally}
 use Rattle.asm_sweeps.specs.Places.{known?, storedOf, oneMore, namedOf, lineAfter, readAbove, tableFrom, tableOf}
 use Rattle.asm_sweeps.specs.Uses.{usesOf, namesOf, placeAfter, verdictOf}
 use Rattle.asm_sweeps.proofs.Laws.{Clean, first-noted, placed-line}
 use Rattle.asm_sweeps.proofs.NoFault.{verdict-clean}
 use Rattle.asm_image.specs.Image.{placeOn}
-use Rattle.asm_labels.specs.Labels.{Given, given, givenAt, givenFrom, givenOf, Valued, AllValued, NamesPlaced}
+use Rattle.asm_labels.specs.Labels.{Given, givenAt, givenFrom, AllValued, NamesPlaced}
 use Rattle.asm_labels.proofs.Alike.{Up, sure, Onto, AlikeLines, line-up}
 
 -- ---- what cannot be

@@ -5,16 +5,14 @@ use mathlib.Core.List.{List, [], _∷_}
 use Prim.Native.Nat.{ℕ}
 use lib.IntN.{pos, negsuc}
 use Rattle.isa.specs.declared.Instr.the-variants as instr
-use Rattle.asm_value.specs.declared.Value.{Value}
-use Rattle.asm_value.specs.declared.Value.the-variants.{Known, Unknown, Outside}
+use Rattle.asm_value.specs.declared.Value.the-variants.{Known, Unknown}
 use Rattle.asm_value.specs.Value.{fitted, applied, joined}
 use Rattle.asm_text.specs.Text.{blank?, letter?, nameByte?, digitOf, digit?, span, after, numeral, word, spelled, spelledFrom}
 use Rattle.asm_words.specs.Words.{numberIn, words, wordNumber, directives, mnemonics, registers, conditionWords, emulated}
 use Rattle.asm_words.specs.Words.{registerNumber, registerOf, conditions, conditionOf, addFlag, flagsFrom, flagsOf}
 use Rattle.asm_expr.specs.Grammar.{named?, digitsAt, nameAt, plainAt, closed, plus?, times?, chain, partsOf, factorWith, factorOf}
 use Rattle.asm_expr.specs.Meaning.{valueOf, answerOf}
-use Rattle.asm_operands.specs.Operands.{over?, wordBelow, registerAt, conditionAt, flagsAt, widthAt, valueAt}
-use Rattle.asm_operands.specs.Operands.{nameless?, number?, comma?}
+use Rattle.asm_operands.specs.Operands.{over?, wordBelow, registerAt, conditionAt, flagsAt, widthAt, valueAt, nameless?, number?, comma?}
 use Rattle.asm_operands.specs.Operands.{commaRegister, commaValue, changedAfter, addressAt, commaAddress}
 use Rattle.asm_line.specs.declared.Statement.the-variants.{Nothing, Equ, Fixed, Constant, Cex, MovImm}
 use Rattle.asm_line.specs.declared.Reading.{Reading}

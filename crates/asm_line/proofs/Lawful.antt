@@ -1,6 +1,6 @@
 -- Every field of a statement that was read is within its format: an instruction without a value has a word, and the
 -- other fields of one with a value are below their limits. Assumes nothing.
-use mathlib.Core.Path.{_≡_, refl, sym, ap, _∙_}
+use mathlib.Core.Path.{_≡_, refl}
 use mathlib.Core.Bool.{Bool, true, false, cond, _&&_, not, false≢true}
 use mathlib.Core.List.{List}
 use Prim.Native.Nat.{ℕ, _+_, _-_, _<_}
@@ -22,7 +22,7 @@ use Rattle.asm_operands.specs.declared.Found.{Found}
 use Rattle.asm_operands.specs.declared.Found.the-variants.{At, Missing}
 use Rattle.asm_operands.specs.declared.Address.{Address}
 use Rattle.asm_operands.specs.declared.Address.the-variants.{Of, NoAddress}
-use Rattle.asm_operands.specs.Operands.{over?, wordBelow, registerAt, conditionAt, flagsAt, widthAt, valueAt, number?, comma?}
+use Rattle.asm_operands.specs.Operands.{over?, wordBelow, registerAt, conditionAt, flagsAt, widthAt, valueAt, comma?}
 use Rattle.asm_operands.specs.Operands.{commaRegister, commaValue, changedBefore, changedAfter, addressAt, commaAddress}
 use Rattle.asm_line.specs.declared.Statement.{Statement}
 use Rattle.asm_line.specs.declared.Statement.the-variants as st

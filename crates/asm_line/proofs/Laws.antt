@@ -1,9 +1,8 @@
 -- Laws of a line, in the order of its reading. Assumes nothing.
-use mathlib.Core.Path.{_≡_, refl, sym, ap, _∙_}
-use mathlib.Core.Bool.{Bool, true, false, cond, not}
+use mathlib.Core.Path.{_≡_, sym, ap, _∙_}
+use mathlib.Core.Bool.{Bool, true, false}
 use mathlib.Core.List.{List}
-use Prim.Native.Nat.{ℕ, _<_}
-use lib.Dec.{eqb}
+use Prim.Native.Nat.{ℕ}
 use lib.ListN.{drop}
 use borrow.Author.Tests.{eq-eqb, ne-eqb}
 use Rattle.asm_value.specs.declared.Value.{Value}
@@ -13,8 +12,7 @@ use Rattle.asm_operands.specs.Operands.{over?}
 use Rattle.asm_line.specs.declared.Statement.{Statement}
 use Rattle.asm_line.specs.declared.Statement.the-variants.{Nothing}
 use Rattle.asm_line.specs.declared.Stated.{Stated}
-use Rattle.asm_line.specs.declared.Stated.the-variants.{Fits, Misfit}
-use Rattle.asm_line.specs.declared.Reading.{Reading}
+use Rattle.asm_line.specs.declared.Stated.the-variants.{Fits}
 use Rattle.asm_line.specs.declared.Reading.the-variants.{Line, Fault}
 use Rattle.asm_line.specs.Statement.{statementOf}
 use Rattle.asm_line.specs.Line.{ended, statementAt, afterName, lineFrom}

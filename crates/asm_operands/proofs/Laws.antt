@@ -1,13 +1,13 @@
 -- Laws of the operands: what the code finds at a place, after blanks, is what the definitions say. In each law q is the
 -- place after the blanks from i on, b the byte there. Assumes nothing.
 use mathlib.Core.Path.{_≡_, refl, sym, ap, _∙_}
-use mathlib.Core.Bool.{Bool, true, false, cond, _||_, _&&_, not}
+use mathlib.Core.Bool.{Bool, true, false, _||_, _&&_, not}
 use mathlib.Core.List.{List, []}
 use Prim.Native.Nat.{ℕ, zero, suc, _+_, _<_, _≤_, _^_}
 use native.Mathlib.Omega.{arith}
 use Rattle.word.proofs.Laws.{bool-cases}
-use lib.Dec.{ltb, leb, eqb}
-use lib.ListN.{length, drop}
+use lib.Dec.{ltb, eqb}
+use lib.ListN.{drop}
 use borrow.Author.Tests.{lt-ltb, le-ltb, eq-eqb, ne-eqb}
 use lib.IntN.{ℤ, pos, negsuc, _+ℤ_, _-ℤ_, _*ℤ_}
 use lib.Signed.{mag}
@@ -19,10 +19,8 @@ use Rattle.asm_expr.specs.declared.Answer.{Answer}
 use Rattle.asm_expr.specs.declared.Answer.the-variants.{Parsed, Malformed}
 use Rattle.asm_expr.specs.Grammar.{Expr, number, name, binary, Parse, parsed, malformed, named?, factorOf}
 use Rattle.asm_expr.specs.Meaning.{valueOf, answerOf}
-use Rattle.asm_operands.specs.declared.Found.{Found}
 use Rattle.asm_operands.specs.declared.Found.the-variants.{At, Missing}
-use Rattle.asm_operands.specs.declared.Address.{Address}
-use Rattle.asm_operands.specs.declared.Address.the-variants.{Of, NoAddress}
+use Rattle.asm_operands.specs.declared.Address.the-variants.{Of}
 use Rattle.asm_operands.specs.Operands.{wordBelow, nameless?, number?, comma?, changedAfter, widthAt}
 
 -- ---- a word

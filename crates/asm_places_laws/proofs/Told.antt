@@ -38,8 +38,7 @@ use Rattle.asm_theorems.specs.Theorems.{Accepted}
 use Rattle.asm_theorems.proofs.Accepted.{Good, AllGood, accepted-memory, accepted-whole}
 use Rattle.asm_labels.specs.Labels.{Given, givenAt, givenFrom, givenOf, AllValued}
 use Rattle.asm_labels.proofs.Labels.{names-placed}
-use Rattle.asm_places.specs.Listing.{Listed, listing, listedAt, listedFrom, listedOf, bitsOf, valueBits, numberAt}
-use Rattle.asm_places.specs.Listing.{eightOf, recordOf, recordsOf}
+use Rattle.asm_places.specs.Listing.{Listed, listedAt, listedFrom, listedOf, bitsOf, valueBits, numberAt, eightOf, recordOf, recordsOf}
 use Rattle.asm_places.proofs.Laws.{length-records, one-listed, true-false, places-refused, places-accepted}
 use Rattle.asm_places_laws.specs.Theorems.{placedAll, SameStatements, upToEnd, RecordEach, numberIn, sizeIn, written, WritesTold}
 use Rattle.asm_places_laws.specs.Theorems.{AllSized, SizesTold, SameRefusal, RecordsThenKept, AllNumbered, NamesTold}

@@ -26,8 +26,7 @@ use Rattle.asm_text.specs.Text.{nameByte?}
 use Rattle.asm_fits.specs.declared.Fit.{Fit}
 use Rattle.asm_fits.specs.Fits.{countFit, offsetFit, byteFit, branchFit, constantFit}
 use Rattle.asm_line.specs.declared.Statement.the-variants.{Fixed, Bl, Branch, Constant, SetPri, Svc, Cex, MovImm, Ldr, Str}
-use Rattle.asm_line.specs.Statement.{withValue, arithmetic, unary, onRegisters}
-use Rattle.asm_line.specs.Statement.{onControl, moveByte, onMemory, statementOf}
+use Rattle.asm_line.specs.Statement.{withValue, arithmetic, unary, onRegisters, onControl, moveByte, onMemory, statementOf}
 use Rattle.asm_write.specs.Written.{codedBoth, layoutOf, numberOf}
 use Rattle.asm_print.specs.Print.{conditionText, registerText, numberText, hexText, constantOf, flagsText, addressText, idle?, withComma}
 use Rattle.asm_print.specs.Print.{targetOf, phrase, textFor, textAt}
@@ -39,8 +38,7 @@ use Rattle.asm_print_laws.proofs.Statements.{stores}
 use Rattle.asm_print_laws.proofs.Fits.{count-fits, byte-fits, offset-fits, constant-fits, branch-fits, coded-is}
 use Rattle.asm_print_laws.proofs.Lines.{alu-there, one-there, immediate-there, with-branch, restated, mnemonic-line, name-plain}
 use Rattle.asm_print_laws.proofs.Lines.{all-plain, register-plain, number-plain, hex-plain, with-comma-plain, phrase-plain}
-use Rattle.asm_print_laws.proofs.Lines.{address-plain}
-use Rattle.asm_print_laws.proofs.Lines.{Whole, fixed-whole, word-whole, valued-whole, branch-whole}
+use Rattle.asm_print_laws.proofs.Lines.{address-plain, Whole, fixed-whole, word-whole, valued-whole, branch-whole}
 
 module _ (look : List ℕ → Value) (p w : ℕ) (h : w < 65536) where
   -- ---- branches

@@ -25,8 +25,7 @@ use Rattle.asm_line.specs.declared.Statement.{Statement}
 use Rattle.asm_line.specs.declared.Statement.the-variants.{Word, Fixed, Branch}
 use Rattle.asm_line.specs.declared.Stated.{Stated}
 use Rattle.asm_line.specs.declared.Reading.the-variants.{Line}
-use Rattle.asm_line.specs.Statement.{withValue, oneValue, arithmetic, unary, onRegisters}
-use Rattle.asm_line.specs.Statement.{moveByte, onMemory, directiveOf, statementOf}
+use Rattle.asm_line.specs.Statement.{withValue, oneValue, arithmetic, unary, onRegisters, moveByte, onMemory, directiveOf, statementOf}
 use Rattle.asm_line.specs.Line.{lineOf}
 use Rattle.asm_write.specs.declared.Layout.the-variants.{Bytes}
 use Rattle.asm_write.specs.Written.{encoded, layoutOf, numberOf}
@@ -34,10 +33,8 @@ use Rattle.asm_print.specs.Print.{mnemonicText, registerText, numberText, hexTe
 use Rattle.asm_print.specs.Print.{withComma, sizeMark, phrase, wordText, targetOf, branchText}
 use Rattle.asm_print_laws.specs.Theorems.{Says}
 use Rattle.asm_print_laws.proofs.Here.{all, is-true, low-name, low-digit, plain-append}
-use Rattle.asm_print_laws.proofs.Pieces.{Spells, register-spells, mnemonic-spells, word-spells}
-use Rattle.asm_print_laws.proofs.Pieces.{decimal-digits, hex-all}
-use Rattle.asm_print_laws.proofs.Statements.{StatedAs, one-hex}
-use Rattle.asm_print_laws.proofs.Statements.{line-read}
+use Rattle.asm_print_laws.proofs.Pieces.{Spells, register-spells, mnemonic-spells, word-spells, decimal-digits, hex-all}
+use Rattle.asm_print_laws.proofs.Statements.{StatedAs, one-hex, line-read}
 use Rattle.asm_print_laws.proofs.Fits.{word-fits}
 
 -- ---- which statement a mnemonic's number has

@@ -30,7 +30,7 @@ use Rattle.asm_sweeps.specs.Form.{noNames, formFrom}
 use Rattle.asm_sweeps.specs.Places.{Table, tableFrom}
 use Rattle.asm_sweeps.specs.Uses.{placeAfter, usesFrom}
 use Rattle.asm_image.specs.Image.{placedFrom, imageOf}
-use Rattle.asm_print.specs.Print.{hexText, textAt, originText}
+use Rattle.asm_print.specs.Print.{hexText, originText}
 use Rattle.asm_print_laws.specs.Theorems.{listingOf, wordBytes, Words}
 use Rattle.asm_print_laws.proofs.Pieces.{Spells, org-spells}
 use Rattle.asm_print_laws.proofs.Statements.{one-hex, line-read}

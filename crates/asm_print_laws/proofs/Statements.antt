@@ -26,8 +26,7 @@ use Rattle.asm_line.specs.Statement.{withValue, oneValue, arithmetic, move, exc
 use Rattle.asm_line.specs.Statement.{onFlags, conditional, load, store, moveByte, loadRelative, storeRelative, statementOf}
 use Rattle.asm_line.specs.Line.{statementAt, lineFrom, lineOf}
 use Rattle.asm_print.specs.Print.{conditionText, registerText, numberText, hexText, flagsText, addressText, idle?, withComma, sizeMark}
-use Rattle.asm_print_laws.proofs.Here.{Ends, low-name, word-all, first-of, first-all, here-past, here-after, begins}
-use Rattle.asm_print_laws.proofs.Here.{begins-blank}
+use Rattle.asm_print_laws.proofs.Here.{Ends, low-name, word-all, first-of, first-all, here-past, here-after, begins, begins-blank}
 use Rattle.asm_print_laws.proofs.Pieces.{Spells}
 use Rattle.asm_print_laws.proofs.Operands.{FoundAt, ValueAt, Clear, width-read, first-register}
 use Rattle.asm_print_laws.proofs.Operands.{first-condition, first-flags, first-number, first-hex, first-hex-nameless}

@@ -1,19 +1,18 @@
 -- Laws of the sweeps: lines, one after the other. Assumes nothing.
-use mathlib.Core.Path.{_≡_, refl, sym, ap, _∙_, subst, fun-ext}
-use mathlib.Core.Bool.{Bool, true, false, cond, not}
-use mathlib.Core.List.{List, [], _∷_}
-use Prim.Native.Nat.{ℕ, zero, suc, _+_, _-_, _<_, _≤_, min}
+use mathlib.Core.Path.{_≡_, refl, sym, ap, _∙_, fun-ext}
+use mathlib.Core.Bool.{Bool, true, false, cond}
+use mathlib.Core.List.{List, []}
+use Prim.Native.Nat.{ℕ, _+_, _<_, _≤_}
 use native.Mathlib.Nat.{min-eq-left, min-eq-right}
 use native.Mathlib.Omega.{arith}
 use lib.Dec.{eqb}
 use lib.IntN.{ℤ}
-use lib.ListN.{length, take, drop, getD}
+use lib.ListN.{length, take, drop}
 use borrow.Author.Tests.{eq-eqb, ne-eqb, eqb-false}
 use Rattle.lines.specs.Lines.{linesOf, LineAt}
 use Rattle.lines.proofs.Laws.{lines-end}
 use Rattle.asm_value.specs.declared.Value.{Value}
-use Rattle.asm_value.specs.declared.Value.the-variants.{Unknown}
-use Rattle.asm_text.specs.Text.{lookUpAt}
+use Rattle.asm_text.specs.Text.{lookUpAt, word, namesAt}
 use Rattle.asm_line.specs.declared.Reading.{Reading}
 use Rattle.asm_line.specs.declared.Reading.the-variants.{Line, Fault}
 use Rattle.asm_line.specs.Line.{lineOf}
@@ -27,14 +26,12 @@ use Rattle.asm_write.specs.declared.Next.{Next}
 use Rattle.asm_write.specs.declared.Next.the-variants as next
 use Rattle.asm_write.specs.Written.{layoutOf, nextOf, nameValue, usedOf}
 use Rattle.asm_sweeps.specs.declared.Tally.{Tally}
-use Rattle.asm_text.specs.Text.{word, namesAt}
-use Rattle.asm_sweeps.specs.declared.Verdict.{Verdict}
 use Rattle.asm_sweeps.specs.Form.{noNames, faulty?, stops?, end?, formFrom}
-use Rattle.asm_sweeps.specs.Places.{Table, table, firstOf, noteUnknown, noteOutside, placedAt, nextLine, nextOn, noTally}
+use Rattle.asm_sweeps.specs.Places.{Table, table, firstOf, placedAt, nextLine, nextOn, noTally}
 use Rattle.asm_sweeps.specs.Places.{namedOf, lineAfter, readAbove, tableFrom}
 use Rattle.asm_sweeps.specs.Uses.{noteUse, placeAfter, atPlace, useAfter, usesFrom, verdict, leastOf, verdictFor}
-use Rattle.asm_sweeps.specs.Held.{tableAt, Holds, lineAt, Apart}
-use Rattle.asm_sweeps.proofs.Names.{look-held, holds-as, line-word}
+use Rattle.asm_sweeps.specs.Held.{tableAt, Holds, lineAt}
+use Rattle.asm_sweeps.proofs.Names.{look-held, holds-as}
 
 -- ---- a tally that notes no fault
 abbrev pub Clean : Tally → Type 0

@@ -1,5 +1,5 @@
 -- A line's name stands in the line. Assumes nothing.
-use mathlib.Core.Path.{_≡_, refl, sym, ap, _∙_, subst}
+use mathlib.Core.Path.{_≡_, refl, ap, subst}
 use mathlib.Core.Bool.{Bool, true, false, cond, not}
 use mathlib.Core.List.{List}
 use Prim.Native.Nat.{ℕ, _<_}
@@ -18,7 +18,6 @@ use Rattle.asm_line.specs.declared.Stated.the-variants.{Fits, Misfit}
 use Rattle.asm_line.specs.declared.Reading.{Reading}
 use Rattle.asm_line.specs.declared.Reading.the-variants.{Line, Fault}
 use Rattle.asm_line.specs.Line.{ended, statementAt, afterName, lineFrom, lineOf}
-use Rattle.word.proofs.Laws.{bool-cases}
 
 -- a name, where there is one, stands below the line's end
 abbrev InLine : List ℕ → Reading → Type 0

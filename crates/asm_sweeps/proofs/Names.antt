@@ -1,5 +1,5 @@
 -- Laws of the table of names: a name given, and a line's name read in the source. Assumes nothing.
-use mathlib.Core.Path.{_≡_, refl, sym, ap, _∙_, subst}
+use mathlib.Core.Path.{_≡_, refl, sym, ap, _∙_}
 use mathlib.Core.Bool.{Bool, true, false, cond, _||_}
 use mathlib.Core.List.{List, [], _∷_, _++_, map}
 use Prim.Native.Nat.{ℕ, zero, suc, _+_, _-_, _<_, _≤_}
@@ -19,7 +19,7 @@ use Rattle.asm_text.specs.Text.{word, keyOf, nameByte?, namesAt, lookUp, lookUp
 use Rattle.asm_text.proofs.Laws.{look-up-at, name-zero}
 use Rattle.word.proofs.Laws.{bool-cases}
 use Rattle.asm_sweeps.specs.declared.Tally.{Tally}
-use Rattle.asm_sweeps.specs.Places.{Table, table, noteUnknown, noteOutside, noteValue, oneMore, known?, storedOf, namedOf}
+use Rattle.asm_sweeps.specs.Places.{Table, table, noteUnknown, noteValue, oneMore, known?, storedOf, namedOf}
 use Rattle.asm_sweeps.specs.Held.{tableAt, Holds, lineAt, Apart}
 
 -- ---- lists

@@ -1,13 +1,13 @@
 -- Laws of the words: a table row by row; the words in groups are the words; flags letter by letter. Assumes nothing.
 use mathlib.Core.Path.{_≡_, refl, sym, ap, _∙_}
-use mathlib.Core.Bool.{Bool, true, false, cond, _&&_}
+use mathlib.Core.Bool.{Bool, true, false, _&&_}
 use mathlib.Core.List.{List, [], _∷_}
 use Prim.Native.Nat.{ℕ, zero, suc, _+_, _-_, _*_, _/_, _%_, _^_, _<_, _≤_}
 use native.Mathlib.Numerals.{add-one}
 use native.Mathlib.Omega.{arith}
 use mir.Syntax.{w64}
 use mir.Val.{Fits}
-use lib.Dec.{ltb, leb, eqb}
+use lib.Dec.{leb, eqb}
 use lib.ListN.{length, getD, drop, take, drop-of-length-le}
 use lib.Seq.{drop-cons}
 use borrow.Author.Tests.{eq-eqb, ne-eqb, eqb-true, leb-true}
@@ -15,7 +15,7 @@ use Rattle.word.proofs.Laws.{bool-cases}
 use Rattle.asm_text.specs.Text.{byteAt, nameByte?, word, spelled}
 use Rattle.asm_text.proofs.Laws.{word-more, word-stop, and-parts}
 use Rattle.asm_words.specs.Words.{numberIn, words, directives, mnemonics, registers, conditionWords, emulated}
-use Rattle.asm_words.specs.Words.{wordNumber, registerNumber, registerOf, conditions, conditionOf, addFlag, flagsFrom, flagsOf}
+use Rattle.asm_words.specs.Words.{wordNumber, registerNumber, registerOf, conditions, conditionOf, addFlag, flagsFrom}
 
 -- ---- a table, row by row
 module _ (none : ℕ) (rs : List ℕ) (p k : ℕ) (h : k < length rs) where

@@ -2,26 +2,24 @@
 use Prim.Native.Nat.{ℕ, zero, suc, _+_, _-_, _*_, _%_, _<_, _≤_}
 use native.Mathlib.Nat.{add-zero}
 use native.Mathlib.Omega.{arith}
-use mathlib.Core.List.{List, [], _∷_, _++_}
-use mathlib.Core.Path.{_≡_, refl, sym, ap, subst, _∙_}
+use mathlib.Core.List.{List}
+use mathlib.Core.Path.{_≡_, sym, ap, subst, _∙_}
 use mathlib.Core.Logic.{_≢_}
 use lib.Dec.{eqb}
-use lib.ListN.{length, take, drop, set, getD, length-take, length-drop}
+use lib.ListN.{length, take, drop, set, getD, length-drop}
 use lib.Seq.{slice, slice-cons, slice-empty, length-slice, take-take}
 use lib.Seq.{ext-getD, getD-take, getD-drop, length-take-le, getD-set-same, getD-set-other}
-use Rattle.machine_laws.proofs.Cases.{bool-cases, eq-of, neq-of, not-eq}
-use Rattle.machine.specs.State.{wrap}
-use Rattle.machine.specs.Memory.{byteAt, Write, commit}
+use Rattle.machine_laws.proofs.Cases.{bool-cases, eq-of, neq-of}
+use Rattle.machine.specs.Memory.{byteAt, commit}
 use Rattle.machine.specs.Record.{twoAt}
 use Rattle.journal.specs.Record.{placed, stateOut, memoryOut}
 use Rattle.journal.specs.Ring.{journalOf, placesOf, recordAt, preceding}
 use Rattle.journal.specs.Back.{Lent, lentOf, oneBack, backOf}
-use Rattle.journal.specs.Call.{backVerdict, BackClosing, backCallOf}
+use Rattle.journal.specs.Call.{backVerdict, backCallOf}
 use Rattle.machine.specs.declared.Verdict.the-variants.{Accepted}
 use Rattle.machine.specs.Refusal.{refusalNumber}
 use Rattle.machine_laws.proofs.Records.{is-accepted}
-use Rattle.journal.proofs.Calls.{back-zero, back-suc}
-use Rattle.journal.proofs.Calls.{back-refused}
+use Rattle.journal.proofs.Calls.{back-zero, back-suc, back-refused}
 
 abbrev pub rest : (m j : List ℕ) (from a n i : ℕ) → List ℕ
 rest m j from a n i = commit (placed (a + i) (slice (from + i) (from + n) j)) m

@@ -4,22 +4,21 @@ use mathlib.Core.Path.{_≡_, refl, sym, ap, subst, _∙_}
 use mathlib.Core.Bool.{Bool, true, false, cond, _&&_}
 use mathlib.Core.List.{List, [], _∷_}
 use native.Mathlib.Omega.{arith}
-use borrow.Author.Tests.{leb-true, leb-false, le-leb, lt-leb, lt-ltb, le-ltb, ne-eqb, ltb-true, ltb-false}
+use borrow.Author.Tests.{leb-true, leb-false, le-leb, lt-leb, lt-ltb, le-ltb, ne-eqb, ltb-false}
 use lib.Dec.{T, eqb, leb, ltb, eqb→eq, leb→le, ltb→lt}
 use Rattle.word.proofs.Laws.{bool-cases}
 use Rattle.isa_ranges.specs.declared.Operation.{Operation}
-use Rattle.isa_ranges.specs.Operation.{operationOf, operationNumber}
+use Rattle.isa_ranges.specs.Operation.{operationNumber}
 use Rattle.isa_ranges.specs.Ranges.{Row, rows, operationAmong}
 use Rattle.isa_ranges.proofs.All.{allBelow, at, left, right}
 use Rattle.isa_ranges.proofs.Rows.{follows, begins-le, follows-rest, follows-le, rows-follow, row-operation}
 use Rattle.isa_ranges.proofs.Count.{countRows, count-rows}
 use Rattle.isa_card.specs.declared.Block.{Block}
-use Rattle.isa_card.specs.declared.Next.{Next}
-use Rattle.isa_card.specs.declared.Next.the-variants.{Found, Nothing}
+use Rattle.isa_card.specs.declared.Next.the-variants.{Found}
 use Rattle.isa_card.specs.Words.{means, countOf, nextOf}
 use Rattle.isa_card.specs.Blocks.{blockOf, isTwice, blocksOf, atLeast, firstAmong}
 use Rattle.isa_card.specs.Theorems.{NoOperation, sumBelow, CountsAddUp}
-use Rattle.isa_card.proofs.Lists.{count-words, next-illegal, next-here, next-skip, next-end}
+use Rattle.isa_card.proofs.Lists.{count-words, next-here, next-skip, next-end}
 
 -- ---- the blocks that the rows give an operation
 

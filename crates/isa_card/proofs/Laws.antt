@@ -1,5 +1,5 @@
 -- What the code finds at a block, as its functions meet it. Assumes nothing.
-use Prim.Native.Nat.{ℕ, suc, _+_, _<_, _≤_}
+use Prim.Native.Nat.{ℕ, _+_, _<_, _≤_}
 use mathlib.Core.Path.{_≡_, refl, sym, ap, subst, _∙_}
 use mathlib.Core.Bool.{Bool, true, false, cond}
 use mathlib.Core.List.{[], _∷_}
@@ -9,7 +9,7 @@ use Rattle.isa_card.specs.declared.Next.{Next}
 use Rattle.isa_card.specs.declared.Next.the-variants.{Found, Nothing}
 use Rattle.isa_card.specs.Words.{countOf, nextOf}
 use Rattle.isa_card.specs.Blocks.{blockOf, isTwice, aboveBlock, atLeast, firstAmong}
-use Rattle.isa_card.proofs.Blocks.{next-blocks, count-total, total}
+use Rattle.isa_card.proofs.Blocks.{next-blocks, count-total}
 
 -- ---- the number of words
 

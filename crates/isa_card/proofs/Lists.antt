@@ -2,20 +2,19 @@
 -- Assumes nothing.
 use Prim.Native.Nat.{ℕ, zero, suc, _+_, _-_, _<_, _≤_}
 use mathlib.Core.Path.{_≡_, refl, sym, ap, _∙_}
-use mathlib.Core.Bool.{Bool, true, false, cond, false≢true, _&&_, _||_}
+use mathlib.Core.Bool.{Bool, true, false, cond, false≢true, _||_}
 use mathlib.Core.Logic.{⊎-elim}
 use mathlib.Core.List.{List, [], _∷_}
 use native.Mathlib.Nat.{eq-or-lt-of-le}
 use native.Mathlib.Omega.{arith}
 use borrow.Author.Tests.{le-leb, lt-ltb, eq-eqb, ne-eqb, ltb-true, ltb-false}
-use lib.Dec.{T, eqb, leb, ltb}
+use lib.Dec.{T, ltb}
 use lib.ListN.{length}
 use Rattle.word.proofs.Laws.{bool-cases}
-use Rattle.isa_ranges.specs.Operation.{operationOf, operationNumber}
 use Rattle.isa_ranges.specs.Count.{countBelow}
 use Rattle.isa_card.specs.declared.Next.{Next}
 use Rattle.isa_card.specs.declared.Next.the-variants.{Found, Nothing}
-use Rattle.isa_card.specs.Words.{means, wordsFrom, wordsOf, countOf, headOf, legalFrom, nextOf}
+use Rattle.isa_card.specs.Words.{means, wordsFrom, headOf, nextOf}
 use Rattle.isa_card.specs.Theorems.{CountWords, NextLeast, NextNone, stepOn, stepsFrom, StepsList}
 use Rattle.isa_card.specs.Theorems.{among, rising, ListExact, ListRises}
 

@@ -1,28 +1,27 @@
 -- Going back by steps, and what the two calls have settled and leave, accepted or refused. Assumes nothing.
-use Prim.Native.Nat.{ℕ, zero, suc, _+_, _≤_}
+use Prim.Native.Nat.{ℕ, suc, _≤_}
 use native.Mathlib.Omega.{arith}
-use mathlib.Core.Bool.{Bool, true, false, cond, not}
-use mathlib.Core.List.{List, [], _∷_, _++_}
+use mathlib.Core.Bool.{true, false, cond, not}
+use mathlib.Core.List.{List, [], _∷_}
 use mathlib.Core.Logic.{_≢_}
 use mathlib.Core.Path.{_≡_, refl, sym, ap, _∙_}
 use borrow.Author.Tests.{not-false}
 use lib.Dec.{eqb, ltb}
 use lib.ListN.{length}
-use Rattle.machine.specs.declared.Verdict.{Verdict}
 use Rattle.machine.specs.declared.Verdict.the-variants.{Accepted, MemoryLength, RecordLength, JournalFit, StepsKept}
 use Rattle.machine.specs.State.{State}
 use Rattle.machine.specs.Record.{stateIn}
 use Rattle.machine.specs.Events.{Event, eventsOf}
 use Rattle.machine.specs.Run.{runOf}
-use Rattle.machine.specs.Refusal.{rule, callRules, firstBroken, callVerdict, refusalNumber, accepted?}
-use Rattle.machine.specs.Call.{Closing, closing, closingOf, turnedBack, runOn}
-use Rattle.machine_laws.proofs.Cases.{bool-cases, eq-of, ge-of, is-eq, not-eq}
+use Rattle.machine.specs.Refusal.{rule, callRules, callVerdict, refusalNumber, accepted?}
+use Rattle.machine.specs.Call.{closing, closingOf, turnedBack, runOn}
+use Rattle.machine_laws.proofs.Cases.{bool-cases, eq-of, ge-of, not-eq}
 use Rattle.machine_laws.proofs.Records.{not-met, is-accepted}
 use Rattle.run_laws.proofs.Verdicts.{first-then, call-refuse}
 use Rattle.journal.specs.Record.{journalRecord}
 use Rattle.journal.specs.Ring.{Journal, keep, journalAfter, journalFits}
-use Rattle.journal.specs.Back.{Lent, lentOf, oneBack, backOf}
-use Rattle.journal.specs.Call.{journalVerdict, JournalClosing, runJournalOf, backVerdict, BackClosing, backCallOf}
+use Rattle.journal.specs.Back.{Lent, oneBack, backOf}
+use Rattle.journal.specs.Call.{journalVerdict, runJournalOf, backVerdict, backCallOf}
 use Rattle.journal.proofs.Ring.{RingFits, ring-fits}
 
 -- ---- one step more, one step back

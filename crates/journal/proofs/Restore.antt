@@ -1,31 +1,30 @@
 -- A step's record, copied out into the memory that the step left, gives the state before the step. Assumes nothing.
-use Prim.Native.Nat.{ℕ, zero, suc, _+_, _*_, _/_, _%_, _<_, _≤_}
-use native.Mathlib.Nat.{add-zero, add-suc, suc-add}
+use Prim.Native.Nat.{ℕ, zero, suc, _+_, _*_, _<_, _≤_}
+use native.Mathlib.Nat.{add-suc, suc-add}
 use native.Mathlib.Omega.{arith}
-use mathlib.Core.Bool.{Bool, true, false, cond, _||_, true≢false, false≢true}
+use mathlib.Core.Bool.{true, false, cond, true≢false}
 use mathlib.Core.List.{List, [], _∷_, _++_, append-assoc}
 use mathlib.Core.Logic.{_⊎_, inl, inr, ⊎-elim}
 use mathlib.Core.Path.{_≡_, refl, sym, ap, subst, _∙_}
 use lib.Dec.{eqb, ltb, lit<}
-use lib.ListN.{length, take, drop, getD, length-append}
+use lib.ListN.{length, take, drop, length-append}
 use lib.Seq.{slice, ext-getD, take-at, drop-at, getD-at}
 use Rattle.machine.specs.State.{Core, State, wrap}
 use Rattle.machine.specs.Memory.{byteAt, even, lowByte, highByte, Write, commit, writes?}
 use Rattle.machine.specs.Record.{twoAt, stateIn, recordOf}
 use Rattle.machine.specs.Events.{Event}
 use Rattle.machine.specs.Devices.{device?, deliver}
-use Rattle.machine.specs.Entry.{pushed}
 use Rattle.machine.specs.declared.Act.{Act}
 use Rattle.machine.specs.declared.Act.the-variants as act
 use Rattle.machine.specs.Step.{planOf, outcomeOf, stepOf}
-use Rattle.machine_laws.specs.Bounds.{Each, Tidy, TidyCore, EventFits, ActFits, MayWrite}
-use Rattle.machine_laws.proofs.Cases.{bool-cases, eq-of, lt-of, ge-of, eq-self, is-eq}
+use Rattle.machine_laws.specs.Bounds.{Each, Tidy, EventFits, ActFits, MayWrite}
+use Rattle.machine_laws.proofs.Cases.{bool-cases, eq-of, lt-of, ge-of, is-eq}
 use Rattle.machine_laws.proofs.Memory.{over, commit-at, commit-length, word-back}
 use Rattle.machine_laws.proofs.Writes.{perform-writes, step-byte}
-use Rattle.machine_laws.proofs.Steps.{deliver-tidy, deliver-size, plan-fits, step-length}
+use Rattle.machine_laws.proofs.Steps.{deliver-tidy, plan-fits, step-length}
 use Rattle.machine_laws.proofs.Records.{record-read}
 use Rattle.journal.proofs.Record.{bytes-length, record-length}
-use Rattle.journal.specs.Record.{firstStored, addressOf, addressIn, bytesFrom, fieldsOf, journalRecord, placed, stateOut, memoryOut}
+use Rattle.journal.specs.Record.{addressOf, addressIn, bytesFrom, fieldsOf, journalRecord, placed, stateOut, memoryOut}
 
 -- ---- which bytes a step can write: device bytes, and the eight bytes at its address
 

@@ -1,10 +1,10 @@
 -- The ring: what keeping a record writes and leaves, and the places behind the next one. Assumes nothing.
-use Prim.Native.Nat.{ℕ, zero, suc, _+_, _-_, _*_, _/_, _%_, _<_, _≤_, min}
+use Prim.Native.Nat.{ℕ, suc, _+_, _-_, _*_, _/_, _%_, _<_, _≤_, min}
 use native.Mathlib.Nat.{min-le-left}
 use native.Mathlib.Omega.{arith}
-use mathlib.Core.Bool.{Bool, true, false, cond, not, _&&_}
+use mathlib.Core.Bool.{true, not, _&&_}
 use mathlib.Core.List.{List, [], _∷_, _++_, append-assoc}
-use mathlib.Core.Logic.{_⊎_, inl, inr, ⊎-elim, _≢_}
+use mathlib.Core.Logic.{_⊎_, inl, inr, _≢_}
 use mathlib.Core.Path.{_≡_, refl, sym, ap, subst, _∙_}
 use lib.Dec.{eqb, ltb, leb}
 use lib.ListN.{length, take, drop, set, length-take, length-drop}
@@ -12,7 +12,7 @@ use lib.Seq.{sets, sets-eq, length-sets, ext-getD, take-at, drop-at, length-take
 use Rattle.machine.specs.Memory.{byteAt}
 use Rattle.machine_laws.proofs.Cases.{bool-cases, eq-of, neq-of, lt-of, ge-of, le-of, is-eq}
 use Rattle.machine_laws.proofs.Cases.{not-eq, is-lt, not-lt, is-le, and-left, and-right, and-both}
-use Rattle.journal.specs.Ring.{Journal, journalOf, placesOf, recordAt, following, preceding, oneMore, keep, journalFits}
+use Rattle.journal.specs.Ring.{Journal, placesOf, recordAt, following, preceding, oneMore, keep, journalFits}
 use Rattle.journal.specs.Back.{lowered, loweredPlace}
 
 -- ---- a record written at one place

@@ -1,7 +1,6 @@
 -- The session, computed: what is in the journal after the run, and what going back leaves. Each fact is the definitions worked
 -- out on these bytes. Assumes nothing.
-use Prim.Native.Nat.{ℕ}
-use mathlib.Core.List.{List, [], _∷_}
+use mathlib.Core.List.{[], _∷_}
 use mathlib.Core.Path.{_≡_, refl}
 use lib.Dec.{lit<}
 use lib.ListN.{take, drop, replicate}
@@ -16,7 +15,7 @@ use Rattle.machine.specs.Log.{loggedNext}
 use Rattle.machine.specs.Logged.{runLogged}
 use Rattle.machine.specs.Refusal.{recordFits, eventsFitBelow, inOrderBelow, twinsBelow}
 use Rattle.journal.specs.Record.{addressOf, bytesFrom, fieldsOf, journalRecord, placed, memoryOut}
-use Rattle.journal.specs.Ring.{Journal, recordAt, keep, journalAfter, journalFits}
+use Rattle.journal.specs.Ring.{recordAt, keep, journalAfter, journalFits}
 use Rattle.journal.specs.Back.{Lent, oneBack, backOf}
 use Rattle.journal.specs.Call.{journalVerdict, runJournalOf, backVerdict, backCallOf}
 use Rattle.machine_laws.proofs.Memory.{commit-bytes}

@@ -1,19 +1,17 @@
 -- The record and the memory of a tidy state are accepted again, with any event list that is lawful: the record has the
 -- zero bits that rule 4 asks for, and the count is the state's. Assumes nothing.
-use Prim.Native.Nat.{ℕ, _+_, _*_, _/_, _%_, _<_, _≤_}
+use Prim.Native.Nat.{ℕ, _+_, _/_, _%_, _<_, _≤_}
 use native.Mathlib.Omega.{arith}
-use mathlib.Core.Bool.{Bool, true, false, cond, not, _&&_}
+use mathlib.Core.Bool.{true, false, cond, not}
 use mathlib.Core.List.{List, [], _∷_}
 use mathlib.Core.Path.{_≡_, refl, sym, ap, _∙_}
 use mir.Val.{boolByte}
-use lib.Dec.{eqb, ltb}
 use lib.ListN.{length}
 use Rattle.word.proofs.Laws.{bit-le}
 use Rattle.machine.specs.declared.Verdict.the-variants.{Accepted}
 use Rattle.machine.specs.State.{State}
 use Rattle.machine.specs.Memory.{byteAt}
 use Rattle.machine.specs.Record.{twoAt, fourAt, stateIn, recordOf}
-use Rattle.machine.specs.Events.{eventCount}
 use Rattle.machine.specs.Refusal.{Rule, rulesOf, firstBroken, recordFits, verdictOf}
 use Rattle.machine_laws.specs.Bounds.{Each, Tidy}
 use Rattle.machine_laws.proofs.Cases.{is-eq, is-lt, not-lt, and-both}

@@ -13,16 +13,16 @@ use Rattle.machine.specs.Record.{stateIn, recordOf}
 use Rattle.machine.specs.Events.{Event}
 use Rattle.machine.specs.Devices.{eventOn, deliverAt}
 use Rattle.machine.specs.Step.{stepOf, finished}
-use Rattle.machine.specs.Run.{Run, ran, runOf}
+use Rattle.machine.specs.Run.{ran, runOf}
 use Rattle.machine_laws.specs.Bounds.{Tidy}
 use Rattle.machine_laws.proofs.Cases.{bool-cases}
 use Rattle.machine_laws.proofs.Runs.{step-halted, step-live, run-zero, run-next}
 use Rattle.machine_laws.proofs.Records.{record-read}
 use Rattle.machine_laws.proofs.Steps.{step-tidy, step-count}
 use Rattle.journal.specs.Ring.{Journal}
-use Rattle.journal.specs.Back.{Lent, lentOf, lowered}
+use Rattle.journal.specs.Back.{lentOf, lowered}
 use Rattle.journal_laws.specs.Past.{Past, next, Taken, Newest, Recalls, dueAt, SameDue, earlier}
-use Rattle.journal_laws.specs.Session.{Course, without}
+use Rattle.journal_laws.specs.Session.{without}
 
 -- ---- due events
 

@@ -31,14 +31,13 @@ use Rattle.journal.proofs.Calls.{after-zero, after-next, journal-call, journal-
 use Rattle.journal.proofs.Calls.{back-passed, back-answer}
 use Rattle.journal_laws.specs.Past.{Past, next, Recalls, SameDue, earlier}
 use Rattle.journal_laws.specs.Session.{Call, lentAfter, Course, without, earlierBy, courseFrom, Began, Found}
-use Rattle.journal_laws.specs.Session.{WentBack}
 use Rattle.journal_laws.specs.On.{Way, plain, keeping, Leg, verdictBy, leftBy, legVerdict, legLeft, legSteps, ranOn}
 use Rattle.journal_laws.specs.On.{Part, part, did, asked, total, DueAgain, Again, RunsOn}
-use Rattle.journal_laws.specs.On.{LawfulLeg, LongEnough, LogsEnough, AllAccepted, RanOn, RunsOnAgain}
+use Rattle.journal_laws.specs.On.{LawfulLeg, LongEnough, LogsEnough, AllAccepted, RunsOnAgain}
 use Rattle.journal_laws.proofs.Recall.{recalls-most, back-journal}
 use Rattle.journal_laws.proofs.Again.{next-tidy, next-count, earlier-found, earlier-tidy, earlier-count, again-part}
 use Rattle.journal_laws.proofs.Accepted.{verdict-again}
-use Rattle.journal_laws.proofs.Session.{Told, told, goes-back, memory-in, split-kept, course-lent}
+use Rattle.journal_laws.proofs.Session.{told, goes-back, memory-in, split-kept, course-lent}
 
 -- ---- one run, by either call
 

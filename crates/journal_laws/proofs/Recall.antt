@@ -23,7 +23,7 @@ use Rattle.journal.specs.Record.{journalRecord, stateOut, memoryOut}
 use Rattle.journal.specs.Ring.{Journal, journalOf, placesOf, recordAt, preceding, keep, journalAfter}
 use Rattle.journal.specs.Back.{Lent, lentOf, lowered, oneBack, backOf, loweredPlace}
 use Rattle.journal_laws.specs.Past.{Past, past, Taken, Newest, rewound, Recalls, pastsOf}
-use Rattle.journal_laws.specs.Session.{Course, courseOf, without, Found, WentBack}
+use Rattle.journal_laws.specs.Session.{courseOf, without, WentBack}
 use Rattle.journal.proofs.Restore.{record-whole, state-back, memory-back}
 use Rattle.journal.proofs.Calls.{after-zero, after-next, back-zero, back-suc}
 use Rattle.journal.proofs.Ring.{record-same, record-other, RingFits, preceding-following, lowered-zero, preceding-lowered}

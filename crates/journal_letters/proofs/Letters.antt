@@ -2,7 +2,7 @@
 -- themselves. Assumes nothing.
 use Prim.Native.Nat.{_-_, _≤_}
 use native.Mathlib.Omega.{arith}
-use mathlib.Core.List.{List, [], _∷_}
+use mathlib.Core.List.{[]}
 use mathlib.Core.Path.{_≡_, refl, subst}
 use lib.Dec.{lit<, lit≤}
 use lib.ListN.{replicate}
@@ -19,19 +19,19 @@ use Rattle.machine.specs.Run.{runOf}
 use Rattle.machine.specs.Log.{loggedNext, shownOn, logBytes}
 use Rattle.machine.specs.Logged.{runLogged, recordsOf}
 use Rattle.machine.specs.Refusal.{recordFits, eventFits, eventsFitBelow, inOrder, inOrderBelow, twinsBelow, eventBelow, callVerdict}
-use Rattle.machine.specs.Call.{Closing, runCallOf}
+use Rattle.machine.specs.Call.{runCallOf}
 use Rattle.journal.specs.Record.{addressOf, bytesFrom, fieldsOf, journalRecord, placed, memoryOut}
-use Rattle.journal.specs.Ring.{Journal, keep, journalAfter, journalFits}
-use Rattle.journal.specs.Back.{Lent, oneBack, backOf}
-use Rattle.journal.specs.Call.{JournalClosing, journalVerdict, runJournalOf, backVerdict, BackClosing, backCallOf}
+use Rattle.journal.specs.Ring.{keep, journalAfter, journalFits}
+use Rattle.journal.specs.Back.{oneBack, backOf}
+use Rattle.journal.specs.Call.{journalVerdict, runJournalOf, backVerdict, backCallOf}
 use Rattle.machine_laws.proofs.Memory.{commit-bytes}
 use Rattle.journal_laws.specs.Past.{dueAt, pastsOf}
-use Rattle.journal_laws.specs.Session.{lentAfter, Course, earlierBy, courseIn, courseFrom, Began, Found, WentBack}
-use Rattle.journal_laws.specs.On.{LawfulEvents, LogsEnough, did, asked, total, DueAgain, Again, ranOn, RanOn}
+use Rattle.journal_laws.specs.Session.{lentAfter, earlierBy, courseIn, courseFrom, Began, Found, WentBack}
+use Rattle.journal_laws.specs.On.{LawfulEvents, LogsEnough, did, asked, total, DueAgain, ranOn, RanOn}
 use Rattle.journal_laws.proofs.Bytes.{low?, zeros-bytes, bytes-of}
 use Rattle.journal_laws.proofs.Session.{goes-back}
 use Rattle.journal_laws.proofs.On.{runs-on, runs-on-again}
-use Rattle.journal_letters.specs.Letters.{program, memory, r, first, second, x, session, y, z, later, legs, tight}
+use Rattle.journal_letters.specs.Letters.{program, r, first, second, x, session, y, z, later, legs, tight}
 
 -- ---- the session, and going back
 

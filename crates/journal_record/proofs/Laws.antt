@@ -6,10 +6,10 @@ use mathlib.Core.Bool.{Bool, true, false, cond, _&&_}
 use mathlib.Core.List.{List, [], _∷_, _++_, append-assoc, append-nil}
 use mathlib.Core.Logic.{_≢_}
 use mathlib.Core.Path.{_≡_, refl, sym, ap, subst, _∙_}
-use lib.Dec.{eqb, ltb, leb}
-use lib.ListN.{length, take, drop, set, getD, drop-of-length-le, length-append, length-drop}
+use lib.Dec.{leb}
+use lib.ListN.{length, take, drop, set, drop-of-length-le, length-append}
 use lib.Seq.{sets, sets-eq, drop-cons, getD-take, take-at, drop-drop}
-use Rattle.machine.specs.State.{Core, State, wrap}
+use Rattle.machine.specs.State.{State, wrap}
 use Rattle.machine.specs.Memory.{byteAt, even, lowByte, highByte}
 use Rattle.machine.specs.Record.{recordOf}
 use Rattle.machine.specs.Devices.{device?}

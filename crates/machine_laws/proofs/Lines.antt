@@ -2,13 +2,13 @@
 -- stay eight of four bits, and that no line waits exactly where all are zero. The laws are over every place k at which a
 -- field of four bits begins. Assumes nothing.
 use Prim.Native.Nat.{ℕ, zero, suc, _+_, _-_, _*_, _/_, _%_, _^_, _≤_, _<_}
-use mathlib.Core.Bool.{Bool, cond}
+use mathlib.Core.Bool.{cond}
 use mathlib.Core.Logic.{_⊎_, inl, inr, ⊎-elim, _≢_}
 use mathlib.Core.Path.{_≡_, refl, sym, ap, subst, _∙_}
-use native.Mathlib.Nat.{mod-lt, add-mul, one-mul, div-eq-of-lt}
+use native.Mathlib.Nat.{mod-lt, add-mul, div-eq-of-lt}
 use native.Mathlib.Omega.{arith}
 use lib.Dec.{ltb}
-use lib.Pow.{pow-pos, pow-add, split, high, low, field, shr-shr, shr-lt, mod-mod-pow}
+use lib.Pow.{pow-pos, split, high, low, field, shr-shr, shr-lt, mod-mod-pow}
 use Rattle.word.proofs.Laws.{order, same-above, same-fits}
 use Rattle.machine.specs.Devices.{eventsWaiting, waiting, raised, fallen}
 use Rattle.machine_laws.specs.Lines.{CountsOne, TakesOne, OthersStay, NoneWaiting}

@@ -16,7 +16,7 @@ use Rattle.machine.specs.Record.{fourAt, recordOf}
 use Rattle.machine.specs.Events.{eventsOf}
 use Rattle.machine.specs.Step.{stepOf}
 use Rattle.machine.specs.Refusal.{verdictOf, callVerdict, refusalNumber}
-use Rattle.machine.specs.Run.{Run, ran, runOf, reasonOf, reasonNumber}
+use Rattle.machine.specs.Run.{ran, runOf, reasonOf, reasonNumber}
 use Rattle.machine.specs.Logged.{Logged, runLogged, reasonLogged}
 use Rattle.machine.specs.Call.{replyNumber, roomOf, logAfter}
 use Rattle.machine.specs.Depth.{depth, depthFrom, deepestFrom}

@@ -1,10 +1,10 @@
 -- The log's parts: what is shown, a record's bytes, and the device bytes kept and put back. Assumes nothing.
-use Prim.Native.Nat.{ℕ, suc, _+_, _*_, _/_, _%_, _<_, _≤_}
+use Prim.Native.Nat.{ℕ, _+_, _/_, _%_, _<_, _≤_}
 use native.Mathlib.Nat.{div-div-eq-div-mul, min-eq-left}
 use native.Mathlib.Numerals.{add-one, unary-clauses}
 use native.Mathlib.Omega.{arith}
 use mathlib.Core.Bool.{Bool, true, false, cond, not, _&&_, _||_, true≢false, false≢true}
-use mathlib.Core.List.{List, [], _∷_, _++_}
+use mathlib.Core.List.{List, [], _∷_}
 use mathlib.Core.Logic.{_≢_}
 use mathlib.Core.Path.{_≡_, refl, sym, ap, _∙_}
 use lib.Dec.{eqb, ltb}
@@ -16,8 +16,8 @@ use Rattle.machine.specs.State.{State}
 use Rattle.machine.specs.Memory.{byteAt, wordNumber}
 use Rattle.machine.specs.Record.{countByte}
 use Rattle.machine.specs.Devices.{statusOf, ena?, input?}
-use Rattle.machine.specs.Log.{Shown, shown, shownOn, loggedOf, shownBytes}
-use Rattle.machine_laws.proofs.Cases.{bool-cases, is-lt, not-lt, is-eq, not-eq, eq-of, neq-of}
+use Rattle.machine.specs.Log.{shown, shownOn, loggedOf, shownBytes}
+use Rattle.machine_laws.proofs.Cases.{bool-cases, is-lt, not-lt, eq-of, neq-of}
 use Rattle.run_laws.proofs.LogBytes.{sets-append}
 use Rattle.little_endian.specs.Bytes.{fourPut}
 use Rattle.output_log.specs.Showing.{storedOf}

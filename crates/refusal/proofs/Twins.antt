@@ -1,7 +1,7 @@
 -- One pass over a list in order finds what the definition finds: `Swept` is what the pass holds before record k, and the
 -- laws follow it from turn to turn. Assumes nothing.
-use Prim.Native.Nat.{ℕ, zero, suc, _+_, _*_, _/_, _%_, _^_, _<_, _≤_}
-use mathlib.Core.Bool.{Bool, true, false, cond, _&&_, _||_, or-true, or-false, and-false}
+use Prim.Native.Nat.{ℕ, suc, _+_, _*_, _^_, _<_, _≤_}
+use mathlib.Core.Bool.{true, false, cond, _&&_, _||_, or-true, or-false, and-false}
 use mathlib.Core.List.{List}
 use mathlib.Core.Logic.{_≢_}
 use mathlib.Core.Path.{_≡_, refl, sym, ap, subst, _∙_}
@@ -12,7 +12,7 @@ use Rattle.word.specs.Psw.{bitOf, putBit}
 use Rattle.word.proofs.Laws.{put-same, put-other}
 use Rattle.machine.specs.Memory.{byteAt}
 use Rattle.machine.specs.Events.{eventAt, eventCount}
-use Rattle.machine.specs.Refusal.{eventsFitBelow, eventBelow, twinsBelow}
+use Rattle.machine.specs.Refusal.{eventBelow, twinsBelow}
 use Rattle.machine_laws.proofs.Cases.{bool-cases, eq-of, neq-of, is-eq, not-eq, lt-of, ge-of, and-both}
 use Rattle.machine_laws.proofs.Twins.{event-unmet, twins-none, twins-next, twins-longer}
 use Rattle.devices.specs.Cursor.{Ordered}

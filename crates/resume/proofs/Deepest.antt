@@ -2,7 +2,7 @@
 -- was in slices, and Depth bounds it. Assumes nothing.
 use Prim.Native.Nat.{ℕ, zero, suc, _+_, _-_, _<_, _≤_}
 use native.Mathlib.Omega.{arith}
-use mathlib.Core.Bool.{Bool, true, false, cond}
+use mathlib.Core.Bool.{cond}
 use mathlib.Core.List.{List, [], _∷_}
 use mathlib.Core.Logic.{_≢_}
 use mathlib.Core.Path.{_≡_, refl, sym, ap, subst, _∙_}
@@ -24,7 +24,7 @@ use Rattle.run_laws.proofs.Room.{logged-le}
 use Rattle.run_laws.proofs.Verdicts.{call-start}
 use Rattle.run_laws.proofs.Depth.{depth-append, depth-slices, open-le}
 use Rattle.resume.specs.Frames.{Frame, older, chained, framesAfter, after, act, frames}
-use Rattle.resume.specs.Depth.{DepthPremises, lowest}
+use Rattle.resume.specs.Depth.{lowest}
 use Rattle.resume.specs.Deepest.{deepestOf, deepestLeft, Reaches, Carried, Bounded, CallBounded}
 use Rattle.resume.proofs.Depth as frame
 

@@ -1,17 +1,15 @@
 -- A call that leaves what `runCallOf` gives keeps demand 3. Assumes nothing.
-use Prim.Native.Nat.{ℕ, suc}
+use Prim.Native.Nat.{ℕ}
 use mathlib.Core.List.{List}
 use mathlib.Core.Path.{_≡_, ap, _∙_}
-use Rattle.machine.specs.State.{State}
 use Rattle.machine.specs.Memory.{byteAt}
 use Rattle.machine.specs.Record.{stateIn}
 use Rattle.machine.specs.Events.{eventsOf}
 use Rattle.machine.specs.Run.{runOf}
-use Rattle.machine.specs.Call.{Closing, runOn, runCallOf}
+use Rattle.machine.specs.Call.{runOn, runCallOf}
 use Rattle.run_laws.proofs.Calls.{accepted-call, left-state, done-state}
-use Rattle.resume.specs.Resume.{Premises}
 use Rattle.resume.proofs.Resume.{resumes}
-use Rattle.resume.specs.Resumption.{CallResumes, Resumption}
+use Rattle.resume.specs.Resumption.{Resumption}
 
 -- demand 3 of a call whose exit memory and record are those of `runCallOf`, at the steps done
 pub call-resumes : (memory r events log : List ℕ) (n : ℕ) (memory′ r′ : List ℕ) → memory′ ≡ runCallOf memory r events log n .memory

@@ -19,8 +19,7 @@ use Rattle.machine.specs.Effect.{effectOf}
 use Rattle.machine.specs.declared.Act.{Act}
 use Rattle.machine.specs.Step.{Outcome, planned, Interrupt, pulls, chains, accepts, nothing, interruptOf, returns?, advanced, executed}
 use Rattle.machine.specs.declared.Act.the-variants as acts
-use Rattle.machine.specs.Step.{faulting}
-use Rattle.machine.specs.Step.{instructionOf, chosen, planOf, perform, outcomeOf, closed, finished}
+use Rattle.machine.specs.Step.{faulting, instructionOf, chosen, planOf, perform, outcomeOf, closed, finished}
 use Rattle.machine_laws.proofs.Memory.{over, commit-at, commit-append}
 use Rattle.machine_laws.proofs.Plans.{plan-live}
 use Rattle.machine_laws.proofs.Runs.{step-live, run-step}

@@ -27,16 +27,14 @@ use Rattle.resume.specs.TrapExample.{program, memory, r, events}
 use Rattle.resume.proofs.Resume.{resumes}
 use Rattle.resume.proofs.Trace.{zeros-length, word-is, fetch-plan, interrupt-plan, vectored-is, pulled-is, known, Row, next-row}
 use Rattle.resume.proofs.Trace.{next-state, next-frames, next-steps, act-is}
-use Rattle.resume.proofs.RowFacts.{_▸_, below, zeros-bytes, bytes-of, small, small-writes, frame-found, OwnTrap, Restored}
-use Rattle.resume.proofs.RowFacts.{Awake}
+use Rattle.resume.proofs.RowFacts.{_▸_, below, zeros-bytes, bytes-of, small, small-writes, frame-found, OwnTrap, Restored, Awake}
 use Rattle.resume.proofs.RowFacts.{ReadsOwn, calm-at, no-trap, own-trap, no-pull, others-read, reads-at, awake-before, found-at}
 use Rattle.resume.proofs.RowFacts.{own-at}
 use Rattle.resume.proofs.TrapRows.{ev, s, row0, row1, row2, row3, row4, row5, row6, row7, row8, row9, row10, row11, row12, row13}
 use Rattle.resume.proofs.TrapRows.{trap-plan, nested-plan, loaded-is, c0, c0′, c1, c2, c2′, c3, c4, c5, c6, c7, c8, c9, c10, c11}
 use Rattle.resume.proofs.TrapRows.{c12, c13}
 use Rattle.resume.proofs.TrapRows.{c14, c15, trapPush, nestedPush, word, trapped, stored, nested, entered, waiting, trapFrame}
-use Rattle.resume.proofs.TrapRows.{nestedFrame}
-use Rattle.resume.proofs.TrapRows.{entryFrame, chainedFrame, both, g1, g2, g3}
+use Rattle.resume.proofs.TrapRows.{nestedFrame, entryFrame, chainedFrame, both, g1, g2, g3}
 
 -- ---- an accepted start
 

@@ -1,30 +1,29 @@
 -- The run call with a journal from its parts: refused, or run. Assumes nothing.
-use Prim.Native.Nat.{ℕ, _+_, _<_, _≤_}
+use Prim.Native.Nat.{ℕ, _≤_}
 use native.Mathlib.Omega.{arith}
 use mathlib.Core.Bool.{Bool, true, false, cond}
 use mathlib.Core.List.{List}
 use mathlib.Core.Logic.{_≢_}
 use mathlib.Core.Path.{_≡_, refl, sym, ap, subst, _∙_}
 use lib.ListN.{length}
-use lib.Dec.{eqb}
 use Rattle.machine.specs.declared.Depth.{Depth}
 use Rattle.machine.specs.declared.Machine.{Machine}
 use Rattle.machine.specs.declared.Reason.{Reason}
 use Rattle.machine.specs.declared.Verdict.{Verdict}
 use Rattle.machine.specs.declared.Verdict.the-variants.{Accepted, JournalFit}
-use Rattle.machine.specs.State.{State, stateOf}
+use Rattle.machine.specs.State.{stateOf}
 use Rattle.machine.specs.Record.{stateIn, recordOf}
 use Rattle.machine.specs.Events.{eventsOf}
 use Rattle.machine.specs.Refusal.{callVerdict, refusalNumber, accepted?}
 use Rattle.machine.specs.Run.{reasonNumber}
 use Rattle.machine.specs.Logged.{Logged, runLogged, reasonLogged}
-use Rattle.machine.specs.Call.{Closing, replyNumber, roomOf, logAfter, turnedBack, closing, runOn, runCallOf}
+use Rattle.machine.specs.Call.{Closing, replyNumber, roomOf, logAfter, runOn}
 use Rattle.machine.specs.Depth.{depth, depthFrom, deepestFrom}
 use Rattle.machine_laws.specs.Passed.{Passed}
-use Rattle.machine_laws.proofs.Cases.{is-eq, not-eq}
+use Rattle.machine_laws.proofs.Cases.{not-eq}
 use Rattle.machine_laws.proofs.Records.{is-accepted}
 use Rattle.run_laws.proofs.Calls.{accepted-call}
-use Rattle.journal.specs.Ring.{Journal, journalOf, journalAfter, journalFits}
+use Rattle.journal.specs.Ring.{Journal, journalAfter, journalFits}
 use Rattle.journal.specs.Call.{journalVerdict, JournalClosing, runJournalOf, journalDeepest}
 use Rattle.journal.proofs.Ring.{RingFits}
 use Rattle.journal.proofs.Calls.{verdict-before, verdict-fourteen, journal-accepts, journal-call, journal-ring}

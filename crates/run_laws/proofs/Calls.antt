@@ -3,10 +3,10 @@
 use Prim.Native.Nat.{ℕ, _+_, _-_, _*_, _/_, _%_, _<_, _≤_}
 use native.Mathlib.Nat.{min-eq-left}
 use native.Mathlib.Omega.{arith}
-use mathlib.Core.Bool.{Bool, true, false, cond}
+use mathlib.Core.Bool.{true, false, cond}
 use mathlib.Core.List.{List, _++_}
 use mathlib.Core.Logic.{_≢_}
-use mathlib.Core.Path.{_≡_, refl, sym, ap, _∙_}
+use mathlib.Core.Path.{_≡_, sym, ap, _∙_}
 use lib.ListN.{length, take, drop, length-append, length-take, take-append-drop}
 use lib.Seq.{sets, length-sets, take-all, take-append-seam}
 use Rattle.machine.specs.declared.Verdict.the-variants.{Accepted}
@@ -14,11 +14,11 @@ use Rattle.machine.specs.State.{State}
 use Rattle.machine.specs.Memory.{byteAt}
 use Rattle.machine.specs.Record.{stateIn, recordOf}
 use Rattle.machine.specs.Events.{Event, eventsOf}
-use Rattle.machine.specs.Run.{Run, runOf, reasonNumber}
+use Rattle.machine.specs.Run.{runOf, reasonNumber}
 use Rattle.machine.specs.Log.{logBytes}
-use Rattle.machine.specs.Logged.{Logged, ranOf, joined, runLogged, reasonLogged}
+use Rattle.machine.specs.Logged.{Logged, joined, runLogged, reasonLogged}
 use Rattle.machine.specs.Refusal.{verdictOf, callVerdict, refusalNumber}
-use Rattle.machine.specs.Call.{Closing, replyNumber, runReply, roomOf, turnedBack, closing, closingOf, runOn, runCallOf}
+use Rattle.machine.specs.Call.{replyNumber, runReply, roomOf, turnedBack, closing, closingOf, runOn, runCallOf}
 use Rattle.machine_laws.specs.Bounds.{Bytes}
 use Rattle.machine_laws.proofs.Cases.{bool-cases, not-eq}
 use Rattle.machine_laws.proofs.Records.{passed, closing-read}

@@ -1,13 +1,12 @@
 -- The depth of a run: over slices, over a stretch that is uneventful, in one step more, and in a run with a log. Assumes nothing.
-use Prim.Native.Nat.{ℕ, zero, suc, _+_, _-_, _<_, _≤_}
+use Prim.Native.Nat.{ℕ, zero, suc, _+_, _-_, _≤_}
 use native.Mathlib.Nat.{add-suc, add-zero}
 use native.Mathlib.Numerals.{add-one}
 use native.Mathlib.Omega.{arith}
-use mathlib.Core.Bool.{Bool, true, false, cond, true≢false}
+use mathlib.Core.Bool.{true, cond, true≢false}
 use mathlib.Core.List.{List, [], _∷_}
 use mathlib.Core.Logic.{_≢_}
-use mathlib.Core.Path.{_≡_, refl, sym, ap, subst, _∙_}
-use lib.Dec.{ltb}
+use mathlib.Core.Path.{_≡_, refl, sym, ap, _∙_}
 use lib.ListN.{length}
 use Rattle.machine.specs.declared.Act.{Act}
 use Rattle.machine.specs.declared.Act.the-variants as act
@@ -16,15 +15,13 @@ use Rattle.machine.specs.declared.Verdict.the-variants.{Accepted}
 use Rattle.machine.specs.State.{State}
 use Rattle.machine.specs.Record.{stateIn}
 use Rattle.machine.specs.Events.{Event, eventsOf}
-use Rattle.machine.specs.Devices.{deliver}
-use Rattle.machine.specs.Step.{planOf}
 use Rattle.machine.specs.Run.{ran, runOf}
-use Rattle.machine.specs.Logged.{Logged, runLogged}
+use Rattle.machine.specs.Logged.{runLogged}
 use Rattle.machine.specs.Uneventful.{uneventful?, nextAct, Uneventful}
 use Rattle.machine.specs.Refusal.{callVerdict, refusalNumber, accepted?}
 use Rattle.machine.specs.Call.{runOn}
-use Rattle.machine.specs.Depth.{depth, deeper, shallower, depthAfter, depthFrom, deepestFrom, callDeepest}
-use Rattle.machine_laws.proofs.Cases.{bool-cases, not-eq}
+use Rattle.machine.specs.Depth.{depth, depthAfter, depthFrom, deepestFrom, callDeepest}
+use Rattle.machine_laws.proofs.Cases.{not-eq}
 use Rattle.machine_laws.proofs.Runs.{run-append}
 use Rattle.run_laws.proofs.Room.{logged-run, logged-slices}
 

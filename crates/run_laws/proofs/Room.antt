@@ -15,7 +15,7 @@ use Rattle.machine.specs.Devices.{statusOf, input?, ena?, deliver}
 use Rattle.machine.specs.declared.Act.{Act}
 use Rattle.machine.specs.declared.Act.the-variants as act
 use Rattle.machine.specs.Step.{planOf, stepOf}
-use Rattle.machine.specs.Run.{Run, ran, runOf}
+use Rattle.machine.specs.Run.{ran, runOf}
 use Rattle.machine_laws.proofs.Cases.{bool-cases, lt-of, ge-of, is-lt, not-lt}
 use Rattle.machine_laws.proofs.Runs.{run-zero, run-next, run-stays}
 use Rattle.machine.specs.Log.{Shown, shownOn, loggedOf, loggedNext}

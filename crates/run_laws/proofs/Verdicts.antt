@@ -1,14 +1,13 @@
 -- The verdict on a run call: that on its start, and then the log's length. Assumes nothing.
 use Prim.Native.Nat.{ℕ, _+_, _%_, _≤_}
 use native.Mathlib.Omega.{arith}
-use mathlib.Core.Bool.{Bool, true, false, cond, not}
+use mathlib.Core.Bool.{false, cond, not}
 use mathlib.Core.List.{List, [], _∷_, _++_}
 use mathlib.Core.Logic.{_≢_}
 use mathlib.Core.Path.{_≡_, refl, sym, ap, _∙_}
 use lib.Dec.{eqb, ltb}
 use lib.ListN.{length}
 use borrow.Author.Tests.{not-false}
-use Rattle.machine.specs.declared.Verdict.{Verdict}
 use Rattle.machine.specs.declared.Verdict.the-variants.{Accepted, LogLength}
 use Rattle.machine.specs.Record.{fourAt}
 use Rattle.machine.specs.Refusal.{Rule, rule, rulesOf, callRules, firstBroken, verdictOf, callVerdict, refusalNumber, accepted?}

@@ -4,7 +4,6 @@ use mathlib.Core.List.{List}
 use Prim.Native.Nat.{ℕ, _+_, _<_, _≤_}
 use native.Mathlib.Numerals.{add-one}
 use native.Mathlib.Nat.{min-eq-left}
-use native.Mathlib.Omega.{arith}
 use lib.ListN.{length, getD, set, take, drop, length-take, drop-of-length-le}
 use lib.Seq.{sets, drop-cons}
 

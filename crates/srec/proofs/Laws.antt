@@ -15,8 +15,7 @@ use Rattle.word.proofs.Laws.{bool-cases}
 use Rattle.lines.specs.Lines.{textOf, none}
 use Rattle.srec.specs.Digits.{digitsOf, digitOf, allDigits, pairsOf, sumOf}
 use Rattle.srec.specs.declared.Refusal.the-variants.{Accepted, Form, Checksum, Room}
-use Rattle.srec.specs.Record.{isAccepted, bytesOf, kindOf, countOf, addressOf, known}
-use Rattle.srec.specs.Record.{shapedOf, summedOf, passesOf, faultOf, Loadable}
+use Rattle.srec.specs.Record.{isAccepted, bytesOf, kindOf, countOf, addressOf, known, shapedOf, summedOf, passesOf, faultOf, Loadable}
 use Rattle.srec.specs.Write.{sealed, lineOf, dataLines, spanText, spanLength}
 use Rattle.srec.specs.Load.{verdict, verdictFrom, Sound}
 

@@ -1,6 +1,6 @@
 -- The figure turn by turn, and what is known of a call that is not refused. Assumes nothing.
 use Prim.Native.Nat.{ℕ, zero, suc, _+_, _*_, _<_, _≤_}
-use mathlib.Core.Bool.{Bool, true, false, cond, not, _&&_, _||_, and-false, true≢false, false≢true}
+use mathlib.Core.Bool.{Bool, true, false, cond, not, _&&_, _||_, and-false, true≢false}
 use mathlib.Core.List.{List}
 use mathlib.Core.Logic.{_≢_}
 use mathlib.Core.Path.{_≡_, refl, sym, ap, subst, _∙_}
@@ -9,7 +9,7 @@ use native.Mathlib.Numerals.{add-one}
 use lib.Dec.{eqb, ltb}
 use lib.ListN.{length}
 use Rattle.machine.specs.Record.{twoAt}
-use Rattle.machine_laws.proofs.Cases.{bool-cases, eq-of, neq-of, ge-of}
+use Rattle.machine_laws.proofs.Cases.{bool-cases, eq-of, neq-of}
 use Rattle.machine.specs.Depth.{greater}
 use Rattle.stack_need.specs.Need.{given?, levelOf, costOf, dearest, sumAbove, usesFit, needRefused?, needOf, needReply}
 use Rattle.stack_need.proofs.Need.{need-is, top-small, sum-small}

@@ -1,14 +1,14 @@
 -- The run meets the premises in plain numbers, and not those downwards modulo 65,536: after its second step SP stands 2
 -- above where entry left it. Its stacks reach exactly the 8 bytes of the figure. Assumes nothing.
-use Prim.Native.Nat.{ℕ, suc, _+_, _*_, _%_, _<_, _≤_}
-use mathlib.Core.Bool.{Bool, true, false, true≢false}
+use Prim.Native.Nat.{ℕ, suc, _+_, _%_, _<_, _≤_}
+use mathlib.Core.Bool.{true, false, true≢false}
 use mathlib.Core.List.{List, [], _∷_}
 use mathlib.Core.Path.{_≡_, refl, sym, ap, subst, _∙_}
 use native.Mathlib.Omega.{arith}
 use lib.Dec.{lit<}
 use lib.ListN.{length}
 use Rattle.isa.specs.Decode.{decodeOf}
-use Rattle.machine.specs.State.{Core, State, sp}
+use Rattle.machine.specs.State.{sp}
 use Rattle.machine.specs.Events.{eventAt}
 use Rattle.machine.specs.Step.{outcome}
 use Rattle.machine.specs.Refusal.{verdictOf, recordFits, eventFits, eventsFitBelow, inOrder, inOrderBelow, eventBelow, twinsBelow}
@@ -21,8 +21,7 @@ use Rattle.resume.proofs.RowFacts.{_▸_, zeros-bytes, bytes-of, small-writes, 
 use Rattle.resume.proofs.RowFacts as facts
 use Rattle.resume.proofs.Example.{fetched}
 use Rattle.stack_need.specs.Need.{given?, levelOf, useOf, total, free?, choices, allowed?, largest, needOf, usesFit, needRefused?}
-use Rattle.stack_need.specs.Stack.{below, Handler, Enters, return?, works?, handlers, opened}
-use Rattle.stack_need.specs.Stack.{StackPremises, PlainPremises, PlainWithin}
+use Rattle.stack_need.specs.Stack.{below, Handler, Enters, return?, works?, handlers, opened, StackPremises, PlainPremises, PlainWithin}
 use Rattle.stack_need.proofs.Stack.{plain-within}
 use Rattle.stack_example.specs.Example.{vectors}
 use Rattle.stack_example.specs.Above.{program, memory, events, devices, uses}

@@ -1,7 +1,6 @@
 -- The rows of the run whose handler holds SP above where entry left it. Each equation is computed by the checker from the
 -- bytes that the step reads. Assumes nothing.
-use Prim.Native.Nat.{ℕ}
-use mathlib.Core.Bool.{Bool, true, false, cond}
+use mathlib.Core.Bool.{false}
 use mathlib.Core.List.{List, [], _∷_, _++_}
 use mathlib.Core.Path.{_≡_, refl, ap, _∙_}
 use lib.Dec.{lit<}
@@ -24,7 +23,7 @@ use Rattle.machine_laws.proofs.Runs.{run-zero}
 use Rattle.resume.specs.Frames.{Frame, frame, after, frames}
 use Rattle.resume.specs.Example.{zeros, r}
 use Rattle.resume.proofs.Trace.{word-is, fetch-plan, interrupt-is, interrupt-plan, vectored-is, pulled-is, known, event-known}
-use Rattle.stack_need.specs.Stack.{Handler, handlers, opened}
+use Rattle.stack_need.specs.Stack.{handlers, opened}
 use Rattle.stack_example.specs.Above.{program, memory, events}
 use Rattle.stack_example.proofs.Trace.{Row, next-row}
 use Rattle.stack_example.proofs.Rows.{firstPush, c0, c1, h1}

@@ -1,13 +1,13 @@
 -- The run meets the premises, and after its sixth step SP lies exactly as far below as the figure says. Assumes nothing.
-use Prim.Native.Nat.{ℕ, suc, _+_, _*_, _%_, _<_, _≤_}
-use mathlib.Core.Bool.{Bool, true, false, true≢false}
+use Prim.Native.Nat.{ℕ, suc, _%_, _<_, _≤_}
+use mathlib.Core.Bool.{true, false, true≢false}
 use mathlib.Core.List.{List, [], _∷_}
-use mathlib.Core.Path.{_≡_, refl, sym, ap, subst, _∙_}
+use mathlib.Core.Path.{_≡_, refl, sym, subst, _∙_}
 use native.Mathlib.Omega.{arith}
 use lib.Dec.{lit<}
 use lib.ListN.{length}
 use Rattle.isa.specs.Decode.{decodeOf}
-use Rattle.machine.specs.State.{Core, State, sp}
+use Rattle.machine.specs.State.{sp}
 use Rattle.machine.specs.Events.{eventAt}
 use Rattle.machine.specs.Step.{outcome}
 use Rattle.machine.specs.Refusal.{verdictOf, recordFits, eventFits, eventsFitBelow, inOrder, inOrderBelow, eventBelow, twinsBelow}

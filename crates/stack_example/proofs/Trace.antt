@@ -1,7 +1,7 @@
 -- A row for each step of a run: state, act, open frames, their handlers and the application's SP when the outermost frame
 -- opened; and the next row from it. Assumes nothing.
 use Prim.Native.Nat.{ℕ, suc, _+_}
-use mathlib.Core.Bool.{Bool, true, false, cond}
+use mathlib.Core.Bool.{false, cond}
 use mathlib.Core.List.{List, _++_}
 use mathlib.Core.Path.{_≡_, ap, _∙_}
 use Rattle.machine.specs.State.{Core, State, sp}
@@ -9,7 +9,6 @@ use Rattle.machine.specs.Memory.{Write, commit}
 use Rattle.machine.specs.Events.{Event}
 use Rattle.machine.specs.Devices.{deliver}
 use Rattle.machine.specs.declared.Act.{Act}
-use Rattle.machine.specs.declared.Act.the-variants as acts
 use Rattle.machine.specs.Step.{Outcome, planned, planOf, perform, closed, finished}
 use Rattle.machine_laws.proofs.Runs.{step-live, run-step}
 use Rattle.resume.specs.Frames.{Frame, framesAfter, after, due, act, frames, none?}

@@ -1,12 +1,11 @@
 -- The largest total over all choices is the sum over the levels of the dearest. Assumes nothing.
-use Prim.Native.Nat.{ℕ, zero, suc, _+_, _*_, _-_, _/_, _%_, _<_, _≤_}
+use Prim.Native.Nat.{ℕ, zero, suc, _+_, _*_, _-_, _<_, _≤_}
 use mathlib.Core.Bool.{Bool, true, false, cond, not, _&&_, true≢false, false≢true}
 use mathlib.Core.List.{List, [], _∷_, _++_}
 use mathlib.Core.Logic.{_≢_}
 use mathlib.Core.Path.{_≡_, refl, sym, ap, subst, _∙_}
 use native.Mathlib.Omega.{arith}
-use lib.Dec.{eqb, ltb, lit<}
-use Rattle.word.specs.Psw.{current}
+use lib.Dec.{eqb, ltb}
 use Rattle.machine.specs.Record.{twoAt}
 use Rattle.machine_laws.specs.Bounds.{Each}
 use Rattle.machine_laws.proofs.Cases.{bool-cases, eq-of, neq-of, lt-of, ge-of, is-eq, not-eq, is-lt, not-lt, eq-self, and-left, and-right}

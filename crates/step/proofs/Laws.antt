@@ -21,22 +21,20 @@ use Rattle.machine.specs.declared.Access.the-variants as asks
 use Rattle.machine.specs.declared.Act.{Act}
 use Rattle.machine.specs.declared.Act.the-variants as act
 use Rattle.machine.specs.State.{Core, State, coreOf, pc, wrap}
-use Rattle.machine.specs.Memory.{byteAt, wordAt, firstByte, commit, valueAt}
+use Rattle.machine.specs.Memory.{byteAt, wordAt, firstByte}
 use Rattle.machine.specs.Events.{Event}
-use Rattle.machine.specs.Devices.{fallen, deliver, loadWrites, storeWrites}
+use Rattle.machine.specs.Devices.{deliver}
 use Rattle.machine.specs.Cex.{skips?, lowered}
-use Rattle.machine.specs.Entry.{priority, bestFrom, best, above, pushes, pulled}
-use Rattle.machine.specs.Effect.{Effect, effectOf, loaded}
+use Rattle.machine.specs.Entry.{priority, best}
+use Rattle.machine.specs.Effect.{Effect, effectOf}
 use Rattle.machine.specs.Step as step
 use Rattle.machine.specs.Step.{Plan, Interrupt, planned, chosen, returns?, interruptOf, advanced, faulting, allowed, odd?, granted}
-use Rattle.machine.specs.Step.{executed, instructionOf, planOf}
-use Rattle.machine.specs.Step.{outcome, entered, chained, perform, closed, finished, stepOf}
+use Rattle.machine.specs.Step.{executed, instructionOf, planOf, perform, closed, finished, stepOf}
 use Rattle.machine_laws.specs.Bounds.{Quits}
-use Rattle.machine_laws.proofs.Cases.{bool-cases, and-left, and-both}
+use Rattle.machine_laws.proofs.Cases.{bool-cases}
 use Rattle.machine_laws.proofs.Effects.{effect-fault-core}
 use Rattle.machine_laws.proofs.Plans.{plan-live, instruction-cases, granted-cases}
 use Rattle.machine_laws.proofs.Runs.{step-live}
-use Rattle.devices.specs.Cursor.{stateFrom}
 use Rattle.step.specs.Planned.{Asked, Within}
 use Rattle.entry.specs.Lines.{lineAbove}
 use Rattle.entry.proofs.Lines.{line-is, line-isnt}

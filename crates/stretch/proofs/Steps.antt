@@ -41,8 +41,7 @@ use Rattle.entry.proofs.Lines.{line-no-lines, line-isnt}
 use Rattle.stretch_memory.specs.Ordinary.{aligned?, inside?, ordinary?}
 use Rattle.stretch_memory.specs.Served.{running, carriedOut, Untouched, Served, Taken}
 use Rattle.stretch_memory.proofs.Laws.{ordinary-granted}
-use Rattle.stretch.specs.Stretch.{Undisturbed, Awake, NoneAbove, Passes, OneStep, Reaches, Goes, Stepped, Stepping}
-use Rattle.stretch.specs.Stretch.{Walked}
+use Rattle.stretch.specs.Stretch.{Undisturbed, Awake, NoneAbove, Passes, OneStep, Reaches, Goes, Stepped, Stepping, Walked}
 
 -- ---- an ordinary access
 

@@ -24,7 +24,7 @@ use Rattle.machine.specs.Step.{Plan, allowed, odd?, granted, executed, perform}
 use Rattle.machine_laws.proofs.Cases.{and-right, eq-of}
 use Rattle.machine_laws.proofs.Plans.{granted-even}
 use Rattle.execute.proofs.Laws.{loading, storing}
-use Rattle.stretch_registers.specs.Effected.{Past, Keeps, Tried}
+use Rattle.stretch_registers.specs.Effected.{Past, Tried}
 use Rattle.stretch_registers.proofs.Laws.{pc-set, pc-back}
 use Rattle.stretch_memory.specs.Ordinary.{aligned?, inside?, storable?, ordinary?}
 use Rattle.stretch_memory.specs.Served.{running, carriedOut, Served, Taken}

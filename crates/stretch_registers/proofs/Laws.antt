@@ -1,24 +1,22 @@
 -- What an instruction that touches registers, flags and the CEX state alone leaves. l is the registers, p the PSW and x the CEX
 -- state before it; pc is PC past it. Assumes nothing.
-use Prim.Native.Nat.{ℕ, suc, _+_, _-_, _*_, _/_, _%_, _^_, _<_, _≤_}
+use Prim.Native.Nat.{ℕ, _+_, _-_, _*_, _/_, _%_, _<_, _≤_}
 use mathlib.Core.Bool.{Bool, true, false, cond}
-use mathlib.Core.List.{List, [], _∷_}
+use mathlib.Core.List.{List}
 use mathlib.Core.Logic.{inl, inr, ⊎-elim}
 use mathlib.Core.Path.{_≡_, refl, sym, ap, _∙_}
 use native.Mathlib.Nat.{mod-eq-of-lt}
 use native.Mathlib.Omega.{arith}
-use borrow.Author.Tests.{ne-eqb}
-use borrow.Author.Tests.{lt-ltb, le-ltb, ltb-true, ltb-false}
+use borrow.Author.Tests.{ne-eqb, lt-ltb, le-ltb, ltb-true, ltb-false}
 use lib.Bits.{bitAnd, bitOr, or-shr, or-mod, or-lt, or-zero-r, and-shr, and-mod, and-lt, and-mask}
 use lib.Dec.{eqb, ltb}
-use lib.IntN.{ℤ, pos, negsuc}
+use lib.IntN.{ℤ}
 use lib.ListN.{getD, set}
-use lib.Seq.{getD-set-other, set-getD, set-set}
+use lib.Seq.{getD-set-other, set-getD}
 use Rattle.word.proofs.Laws.{bool-cases}
-use Rattle.word.specs.Psw.{asleep?, current}
+use Rattle.word.specs.Psw.{current}
 use Rattle.alu.specs.declared.Op.{Op}
 use Rattle.alu.specs.declared.Op.the-variants.{Swpb, Sxt}
-use Rattle.alu.specs.declared.Computed.{Computed}
 use Rattle.alu.proofs.Laws.{alu-asleep, alu-current}
 use Rattle.word.specs.Width.{widthOf, low, withLow}
 use Rattle.word.specs.Offset.{signedOf}

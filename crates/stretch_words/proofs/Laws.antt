@@ -15,10 +15,9 @@ use Rattle.word.specs.Offset.{signedOf}
 use Rattle.alu.specs.declared.Op.{Op}
 use Rattle.isa.specs.declared.Instr.{Instr}
 use Rattle.isa.specs.declared.Instr.the-variants as i
-use Rattle.isa.specs.Decode.{unaryOf, controlOf, relativeOf, decodeOf}
-use Rattle.machine.specs.State.{coreOf}
+use Rattle.isa.specs.Decode.{unaryOf, controlOf, decodeOf}
 use Rattle.machine.specs.Effect.{effectOf, constantOf, binaryOp, flagsOnly?, takenOf}
-use Rattle.stretch_registers.specs.Effected.{Past, Tried, Done, Computes, outcome}
+use Rattle.stretch_registers.specs.Effected.{Past, Tried, Computes, outcome}
 use Rattle.stretch_registers.proofs.Laws.{computes-tried, tests-done, jumps, stays, branch-target}
 use Rattle.stretch_memory.specs.Served.{Taken}
 use Rattle.stretch_memory.proofs.Laws.{tried-taken}

@@ -3,18 +3,18 @@ use Prim.Native.Nat.{ℕ, zero, suc, _+_, _-_, _<_, _≤_}
 use native.Mathlib.Nat.{add-suc, add-zero, zero-add}
 use native.Mathlib.Omega.{arith}
 use mathlib.Core.Bool.{Bool, true, false, cond, _||_, true≢false}
-use mathlib.Core.List.{List, [], _∷_, _++_, append-assoc, append-nil}
+use mathlib.Core.List.{List, _++_, append-assoc, append-nil}
 use mathlib.Core.Path.{_≡_, refl, sym, ap, subst, _∙_}
 use lib.Dec.{ltb}
 use lib.ListN.{length, length-append}
 use Rattle.machine.specs.State.{State}
 use Rattle.machine.specs.Events.{Event}
 use Rattle.machine.specs.Step.{stepOf}
-use Rattle.machine.specs.Run.{Run, ran, runOf}
+use Rattle.machine.specs.Run.{ran, runOf}
 use Rattle.machine_laws.proofs.Cases.{bool-cases, lt-of, ge-of, is-lt, not-lt}
 use Rattle.machine_laws.proofs.Runs.{run-zero, run-next, run-stays}
 use Rattle.run_laws.proofs.Room.{neither}
-use Rattle.trace.specs.Trace.{Entry, tracedOf}
+use Rattle.trace.specs.Trace.{tracedOf}
 use Rattle.trace.specs.Traced.{Traced, traced, ranOf, fresh, over?, onward, runTraced, tracesOf, joined}
 
 -- ---- the run, one step more

@@ -1,13 +1,11 @@
 -- What one step adds to a trace: which kinds, its one act, filters, and none where nothing that is asked for happens.
 -- Assumes nothing.
-use Prim.Native.Nat.{ℕ, suc, _+_, _%_, _<_, _≤_}
+use Prim.Native.Nat.{ℕ, _<_}
 use native.Mathlib.Omega.{arith}
-use mathlib.Core.Bool.{Bool, true, false, cond, not, true≢false, false≢true}
+use mathlib.Core.Bool.{true, false, cond, true≢false}
 use mathlib.Core.List.{List, [], _∷_, _++_}
-use mathlib.Core.Logic.{_≢_}
-use mathlib.Core.Path.{_≡_, refl, sym, ap, subst, _∙_}
+use mathlib.Core.Path.{_≡_, refl, sym, ap, _∙_}
 use lib.Dec.{eqb, ltb}
-use lib.ListN.{length}
 use Rattle.word.specs.Psw.{bitOf, faulted?, current}
 use Rattle.machine.specs.declared.Access.{Access}
 use Rattle.machine.specs.declared.Access.the-variants as access
@@ -17,13 +15,13 @@ use Rattle.machine.specs.State.{Core, State}
 use Rattle.machine.specs.Events.{Event}
 use Rattle.machine.specs.Devices.{eventOn, deliver}
 use Rattle.machine.specs.Entry.{priority}
-use Rattle.machine.specs.Step.{Plan, planned, advanced, faulting, allowed, granted, planOf, stepOf}
+use Rattle.machine.specs.Step.{advanced, faulting, allowed, granted, planOf, stepOf}
 use Rattle.machine.specs.Uneventful.{uneventful?, nextAct}
 use Rattle.machine_laws.specs.Bounds.{Each}
 use Rattle.machine_laws.proofs.Cases.{bool-cases, not-eq}
 use Rattle.machine_laws.proofs.Plans.{plan-cases, instruction-cases, granted-cases}
 use Rattle.machine_laws.proofs.Steps.{deliver-halted}
-use Rattle.trace.specs.Trace.{Entry, entry, eventEntry, eventsTraced, kindOf, actEntry, stepTraced, asked, tracedOf}
+use Rattle.trace.specs.Trace.{Entry, eventEntry, eventsTraced, kindOf, actEntry, stepTraced, asked, tracedOf}
 use Rattle.trace.specs.Kinds.{allKinds, actKinds, Fewer, Sparse, NoneOf}
 
 -- ---- a step has an act

@@ -20,7 +20,7 @@ use Rattle.machine_laws.proofs.Cases.{bool-cases, eq-of, is-eq, is-lt, not-eq, 
 use Rattle.machine_laws.proofs.Records.{passed, is-accepted}
 use Rattle.trace.specs.Traced.{Traced, runTraced, reasonTraced}
 use Rattle.trace.specs.Before.{Apart}
-use Rattle.trace.specs.Call.{Closing, misfits, refusalOf, roomOf, traceAfter, turnedBack, closing, runOn, traceCallOf}
+use Rattle.trace.specs.Call.{Closing, misfits, refusalOf, roomOf, traceAfter, closing, runOn, traceCallOf}
 use Rattle.trace.proofs.Room.{traced-le}
 use Rattle.trace.proofs.Before.{events-apart}
 use Rattle.trace.proofs.Enough.{records-few}

@@ -5,24 +5,6 @@ use borrow.Author.Needs.{needs}
 use Rattle.alu.proofs.add_into.Statement.{statement}
 use Rattle.alu.proofs.add_into.Tie as tie
 
-low-bits-requires : tie.Need-low-bits-requires
-low-bits-requires c κs = search needs
-
-low-bits-requires-2 : tie.Need-low-bits-requires-2
-low-bits-requires-2 c κs = search needs
-
-add-with-carry-requires : tie.Need-add-with-carry-requires
-add-with-carry-requires c κs = search needs
-
-signs-differ-requires : tie.Need-signs-differ-requires
-signs-differ-requires c κs = search needs
-
-signs-differ-requires-2 : tie.Need-signs-differ-requires-2
-signs-differ-requires-2 c κs = search needs
-
-sum-into-requires : tie.Need-sum-into-requires
-sum-into-requires c κs = search needs
-
 returns : tie.Need-returns
 unfolding overflowOf
 returns c =
@@ -41,11 +23,5 @@ returns c =
 pub add-into-spec : {M : Type 1} → statement M
 add-into-spec =
     tie.close
-    (tie.spec
-    low-bits-requires
-    low-bits-requires-2
-    add-with-carry-requires
-    signs-differ-requires
-    signs-differ-requires-2
-    sum-into-requires
-    returns)
+    (tie.spec (λ c κs. search needs) (λ c κs. search needs) (λ c κs. search needs) (λ c κs. search needs) (λ c κs. search needs)
+    (λ c κs. search needs) returns)

@@ -10,18 +10,6 @@ use borrow.Author.Needs.{needs}
 use Rattle.alu.proofs.add_with_carry.Statement.{statement}
 use Rattle.alu.proofs.add_with_carry.Tie as tie
 
-ones-requires : tie.Need-ones-requires
-ones-requires c κs = search needs
-
-cast-mask : tie.Need-cast-mask
-cast-mask c = search needs
-
-add-sum : tie.Need-add-sum
-add-sum c = search needs
-
-add-sum-2 : tie.Need-add-sum-2
-add-sum-2 c = search needs
-
 cast-t7 : tie.Need-cast-t7
 cast-t7 c = omega (arith, and-le-r (c .before .args .a + c .before .args .b + c .before .args .carry) (c .ones .result))
 
@@ -31,4 +19,4 @@ returns c = simp (c .ones .ensures, and-mask, suc-ones) (refl, mod-lt _ (pow-pos
 
 pub add-with-carry-spec : {M : Type 1} → statement M
 add-with-carry-spec =
-    tie.close (tie.spec ones-requires cast-mask add-sum add-sum-2 cast-t7 returns)
+    tie.close (tie.spec (λ c κs. search needs) (λ c. search needs) (λ c. search needs) (λ c. search needs) cast-t7 returns)

@@ -6,137 +6,17 @@ use borrow.Author.Needs.{needs}
 use Rattle.alu.proofs.alu.Statement.{statement}
 use Rattle.alu.proofs.alu.Tie as tie
 
-low-bits-requires : tie.Need-low-bits-requires
-low-bits-requires c κs = search needs
-
-low-bits-requires-2 : tie.Need-low-bits-requires-2
-low-bits-requires-2 c κs = search needs
-
-enum-told : tie.Need-enum-told
-enum-told c = search needs
-
-add-into-requires : tie.Need-add-into-requires
-add-into-requires c κs = search needs
-
-enum-told-2 : tie.Need-enum-told-2
-enum-told-2 c = search needs
-
-add-into-requires-2 : tie.Need-add-into-requires-2
-add-into-requires-2 c κs = search needs
-
-enum-told-3 : tie.Need-enum-told-3
-enum-told-3 c = search needs
-
-difference-into-requires : tie.Need-difference-into-requires
-difference-into-requires c κs = search needs
-
-enum-told-4 : tie.Need-enum-told-4
-enum-told-4 c = search needs
-
-subtract-into-requires : tie.Need-subtract-into-requires
-subtract-into-requires c κs = search needs
-
-enum-told-5 : tie.Need-enum-told-5
-enum-told-5 c = search needs
-
-difference-into-requires-2 : tie.Need-difference-into-requires-2
-difference-into-requires-2 c κs = search needs
-
-tested-only-requires : tie.Need-tested-only-requires
-tested-only-requires c κs = search needs
-
-enum-told-6 : tie.Need-enum-told-6
-enum-told-6 c = search needs
-
-decimal-into-requires : tie.Need-decimal-into-requires
-decimal-into-requires c κs = search needs
-
-enum-told-7 : tie.Need-enum-told-7
-enum-told-7 c = search needs
-
 logic-into-requires : tie.Need-logic-into-requires
 logic-into-requires c κs = and-lt _ _ _ (c .before .before .before .low-bits .ensures .1) (c .before .before .low-bits2 .ensures .1)
-
-enum-told-8 : tie.Need-enum-told-8
-enum-told-8 c = search needs
 
 logic-into-requires-2 : tie.Need-logic-into-requires-2
 logic-into-requires-2 c κs = or-lt _ _ _ (c .before .before .before .low-bits .ensures .1) (c .before .before .low-bits2 .ensures .1)
 
-enum-told-9 : tie.Need-enum-told-9
-enum-told-9 c = search needs
-
 logic-into-requires-3 : tie.Need-logic-into-requires-3
 logic-into-requires-3 c κs = xor-lt _ _ _ (c .before .before .before .low-bits .ensures .1) (c .before .before .low-bits2 .ensures .1)
 
-enum-told-10 : tie.Need-enum-told-10
-enum-told-10 c = search needs
-
 logic-into-requires-4 : tie.Need-logic-into-requires-4
 logic-into-requires-4 c κs = lt-of-le-of-lt (and-le-l _ _) (c .before .before .before .low-bits .ensures .1)
-
-tested-only-requires-2 : tie.Need-tested-only-requires-2
-tested-only-requires-2 c κs = search needs
-
-enum-told-11 : tie.Need-enum-told-11
-enum-told-11 c = search needs
-
-mask-of-requires : tie.Need-mask-of-requires
-mask-of-requires c κs = search needs
-
-clear-into-requires : tie.Need-clear-into-requires
-clear-into-requires c κs = search needs
-
-enum-told-12 : tie.Need-enum-told-12
-enum-told-12 c = search needs
-
-mask-of-requires-2 : tie.Need-mask-of-requires-2
-mask-of-requires-2 c κs = search needs
-
-raise-into-requires : tie.Need-raise-into-requires
-raise-into-requires c κs = search needs
-
-enum-told-13 : tie.Need-enum-told-13
-enum-told-13 c = search needs
-
-top-requires : tie.Need-top-requires
-top-requires c κs = search needs
-
-flag-requires : tie.Need-flag-requires
-flag-requires c κs = search needs
-
-shift-into-requires : tie.Need-shift-into-requires
-shift-into-requires c κs = search needs
-
-enum-told-14 : tie.Need-enum-told-14
-enum-told-14 c = search needs
-
-shift-into-requires-2 : tie.Need-shift-into-requires-2
-shift-into-requires-2 c κs = search needs
-
-enum-told-15 : tie.Need-enum-told-15
-enum-told-15 c = search needs
-
-turned-bits-requires : tie.Need-turned-bits-requires
-turned-bits-requires c κs = search needs
-
-logic-into-requires-5 : tie.Need-logic-into-requires-5
-logic-into-requires-5 c κs = search needs
-
-enum-told-16 : tie.Need-enum-told-16
-enum-told-16 c = search needs
-
-mul-high : tie.Need-mul-high
-mul-high c = search needs
-
-add-value : tie.Need-add-value
-add-value c = search needs
-
-enum-told-17 : tie.Need-enum-told-17
-enum-told-17 c = search needs
-
-extend-requires : tie.Need-extend-requires
-extend-requires c κs = search needs
 
 returns : tie.Need-returns
 unfolding aluOf
@@ -221,65 +101,12 @@ returns-17 c = simp (c .before .enum-told17 .given .1, c .extend .ensures)
 pub alu-spec : {M : Type 1} → statement M
 alu-spec =
     tie.close
-    (tie.spec
-    low-bits-requires
-    low-bits-requires-2
-    enum-told
-    add-into-requires
-    enum-told-2
-    add-into-requires-2
-    enum-told-3
-    difference-into-requires
-    enum-told-4
-    subtract-into-requires
-    enum-told-5
-    difference-into-requires-2
-    tested-only-requires
-    enum-told-6
-    decimal-into-requires
-    enum-told-7
-    logic-into-requires
-    enum-told-8
-    logic-into-requires-2
-    enum-told-9
-    logic-into-requires-3
-    enum-told-10
-    logic-into-requires-4
-    tested-only-requires-2
-    enum-told-11
-    mask-of-requires
-    clear-into-requires
-    enum-told-12
-    mask-of-requires-2
-    raise-into-requires
-    enum-told-13
-    top-requires
-    flag-requires
-    shift-into-requires
-    enum-told-14
-    shift-into-requires-2
-    enum-told-15
-    turned-bits-requires
-    logic-into-requires-5
-    enum-told-16
-    mul-high
-    add-value
-    enum-told-17
-    extend-requires
-    returns
-    returns-2
-    returns-3
-    returns-4
-    returns-5
-    returns-6
-    returns-7
-    returns-8
-    returns-9
-    returns-10
-    returns-11
-    returns-12
-    returns-13
-    returns-14
-    returns-15
-    returns-16
-    returns-17)
+    (tie.spec (λ c κs. search needs) (λ c κs. search needs) (λ c. search needs) (λ c κs. search needs) (λ c. search needs)
+    (λ c κs. search needs) (λ c. search needs) (λ c κs. search needs) (λ c. search needs) (λ c κs. search needs) (λ c. search needs)
+    (λ c κs. search needs) (λ c κs. search needs) (λ c. search needs) (λ c κs. search needs) (λ c. search needs) logic-into-requires
+    (λ c. search needs) logic-into-requires-2 (λ c. search needs) logic-into-requires-3 (λ c. search needs) logic-into-requires-4
+    (λ c κs. search needs) (λ c. search needs) (λ c κs. search needs) (λ c κs. search needs) (λ c. search needs) (λ c κs. search needs)
+    (λ c κs. search needs) (λ c. search needs) (λ c κs. search needs) (λ c κs. search needs) (λ c κs. search needs) (λ c. search needs)
+    (λ c κs. search needs) (λ c. search needs) (λ c κs. search needs) (λ c κs. search needs) (λ c. search needs) (λ c. search needs)
+    (λ c. search needs) (λ c. search needs) (λ c κs. search needs) returns returns-2 returns-3 returns-4 returns-5 returns-6 returns-7
+    returns-8 returns-9 returns-10 returns-11 returns-12 returns-13 returns-14 returns-15 returns-16 returns-17)

@@ -7,9 +7,6 @@ use borrow.Author.Needs.{needs}
 use Rattle.alu.proofs.below.Statement.{statement}
 use Rattle.alu.proofs.below.Tie as tie
 
-top-requires : tie.Need-top-requires
-top-requires c κs = search needs
-
 returns : tie.Need-returns
 returns c =
     let a = c .before .args in
@@ -17,4 +14,4 @@ returns c =
     turned-order (widthOf (a .byte) - 1) (a .a) (a .b) (c .top .ensures) (rw h (c .before .pre .0)) (rw h (c .before .pre .1))
 
 pub below-spec : {M : Type 1} → statement M
-below-spec = tie.close (tie.spec top-requires returns)
+below-spec = tie.close (tie.spec (λ c κs. search needs) returns)

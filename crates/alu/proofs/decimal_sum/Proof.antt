@@ -5,18 +5,6 @@ use borrow.Author.Needs.{needs}
 use Rattle.alu.proofs.decimal_sum.Statement.{statement}
 use Rattle.alu.proofs.decimal_sum.Tie as tie
 
-digit-pair-requires : tie.Need-digit-pair-requires
-digit-pair-requires c κs = search needs
-
-digit-pair-requires-2 : tie.Need-digit-pair-requires-2
-digit-pair-requires-2 c κs = search needs
-
-mul-t9 : tie.Need-mul-t9
-mul-t9 c = search needs
-
-add-t12 : tie.Need-add-t12
-add-t12 c = search needs
-
 returns : tie.Need-returns
 unfolding widthOf
 returns c = rw (c .if1 .taken) (c .before .digit-pair .ensures .0, search needs)
@@ -29,4 +17,4 @@ returns-2 c =
 
 pub decimal-sum-spec : {M : Type 1} → statement M
 decimal-sum-spec =
-    tie.close (tie.spec digit-pair-requires digit-pair-requires-2 mul-t9 add-t12 returns returns-2)
+    tie.close (tie.spec (λ c κs. search needs) (λ c κs. search needs) (λ c. search needs) (λ c. search needs) returns returns-2)

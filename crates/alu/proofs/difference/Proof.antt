@@ -21,21 +21,6 @@ carries m a b h =
     ⊎-elim (λ (q : b ≤ a). rw (le-leb b a q) (le-leb m (a + (m - 1 - b) + 1) (omega arith)))
     (λ (q : a < b). rw (lt-leb b a q) (lt-leb m (a + (m - 1 - b) + 1) (omega arith))) (order b a)
 
-ones-requires : tie.Need-ones-requires
-ones-requires c κs = search needs
-
-cast-mask : tie.Need-cast-mask
-cast-mask c = search needs
-
-add-d : tie.Need-add-d
-add-d c = search needs
-
-add-d-2 : tie.Need-add-d-2
-add-d-2 c = search needs
-
-sub-d : tie.Need-sub-d
-sub-d c = search needs
-
 cast-t6 : tie.Need-cast-t6
 cast-t6 c = omega (arith, and-le-r (c .before .args .a + (c .ones .result + 1) - c .before .args .b) (c .ones .result))
 
@@ -50,4 +35,5 @@ returns c =
 
 pub difference-spec : {M : Type 1} → statement M
 difference-spec =
-    tie.close (tie.spec ones-requires cast-mask add-d add-d-2 sub-d cast-t6 returns)
+    tie.close
+    (tie.spec (λ c κs. search needs) (λ c. search needs) (λ c. search needs) (λ c. search needs) (λ c. search needs) cast-t6 returns)

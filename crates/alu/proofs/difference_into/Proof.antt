@@ -6,24 +6,6 @@ use borrow.Author.Needs.{needs}
 use Rattle.alu.proofs.difference_into.Statement.{statement}
 use Rattle.alu.proofs.difference_into.Tie as tie
 
-low-bits-requires : tie.Need-low-bits-requires
-low-bits-requires c κs = search needs
-
-low-bits-requires-2 : tie.Need-low-bits-requires-2
-low-bits-requires-2 c κs = search needs
-
-difference-requires : tie.Need-difference-requires
-difference-requires c κs = search needs
-
-top-requires : tie.Need-top-requires
-top-requires c κs = search needs
-
-below-requires : tie.Need-below-requires
-below-requires c κs = search needs
-
-sum-into-requires : tie.Need-sum-into-requires
-sum-into-requires c κs = search needs
-
 returns : tie.Need-returns
 returns c =
     let t = c .before .before .before in
@@ -42,11 +24,5 @@ returns c =
 pub difference-into-spec : {M : Type 1} → statement M
 difference-into-spec =
     tie.close
-    (tie.spec
-    low-bits-requires
-    low-bits-requires-2
-    difference-requires
-    top-requires
-    below-requires
-    sum-into-requires
-    returns)
+    (tie.spec (λ c κs. search needs) (λ c κs. search needs) (λ c κs. search needs) (λ c κs. search needs) (λ c κs. search needs)
+    (λ c κs. search needs) returns)

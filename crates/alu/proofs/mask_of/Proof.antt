@@ -4,15 +4,6 @@ use Rattle.alu.proofs.Bits.{mask-shifted, mask-zero}
 use Rattle.alu.proofs.mask_of.Statement.{statement}
 use Rattle.alu.proofs.mask_of.Tie as tie
 
-low-bits-requires : tie.Need-low-bits-requires
-low-bits-requires c κs = search needs
-
-width-requires : tie.Need-width-requires
-width-requires c κs = search needs
-
-shl-result : tie.Need-shl-result
-shl-result c = search needs
-
 returns : tie.Need-returns
 returns c =
     let w = c .before .width .ensures in
@@ -24,4 +15,4 @@ returns-2 c =
     mask-zero (n .before .args .src) (n .low-bits .ensures .0) (c .before .width .ensures .0) (c .if1 .left)
 
 pub mask-of-spec : {M : Type 1} → statement M
-mask-of-spec = tie.close (tie.spec low-bits-requires width-requires shl-result returns returns-2)
+mask-of-spec = tie.close (tie.spec (λ c κs. search needs) (λ c κs. search needs) (λ c. search needs) returns returns-2)

@@ -6,12 +6,6 @@ use borrow.Author.Needs.{needs}
 use Rattle.alu.proofs.shift_into.Statement.{statement}
 use Rattle.alu.proofs.shift_into.Tie as tie
 
-low-bits-requires : tie.Need-low-bits-requires
-low-bits-requires c κs = search needs
-
-top-requires : tie.Need-top-requires
-top-requires c κs = search needs
-
 mul-v : tie.Need-mul-v
 mul-v c =
     let s = c .before .before in
@@ -22,25 +16,11 @@ add-v c =
     let s = c .before .before in
     omega (arith, mul-le-mul-right (c .top .result) (s .pre), fits-word (s .args .byte), two-halves (s .args .byte))
 
-put-carry-requires : tie.Need-put-carry-requires
-put-carry-requires c κs = search needs
-
 logic-into-requires : tie.Need-logic-into-requires
 logic-into-requires c κs =
     let s = c .before .before .before in
     omega (arith, mul-le-mul-right (c .before .top .result) (s .pre), two-halves (s .args .byte))
 
-returns : tie.Need-returns
-returns c = cc
-
 pub shift-into-spec : {M : Type 1} → statement M
 shift-into-spec =
-    tie.close
-    (tie.spec
-    low-bits-requires
-    top-requires
-    mul-v
-    add-v
-    put-carry-requires
-    logic-into-requires
-    returns)
+    tie.close (tie.spec (λ c κs. search needs) (λ c κs. search needs) mul-v add-v (λ c κs. search needs) logic-into-requires (λ c. cc))

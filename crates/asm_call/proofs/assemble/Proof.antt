@@ -1,26 +1,11 @@
 use Rattle.asm_call.proofs.Laws.{verdict-found, image-found, call-refused, call-accepted}
 use lib.Seq.{length-take-le}
-use Rattle.asm_call.specs.Call.{Assembled, assembled, assembleReply}
+use Rattle.asm_call.specs.Call.{Assembled}
 use native.Mathlib.Omega.{arith}
-use mathlib.Core.Path.{_≡_, refl, sym, ap, _∙_}
+use mathlib.Core.Path.{sym, ap}
 use borrow.Author.Needs.{needs}
 use Rattle.asm_call.proofs.assemble.Statement.{statement}
 use Rattle.asm_call.proofs.assemble.Tie as tie
-
-slice-aggregate-collect : tie.Need-slice-aggregate-collect
-slice-aggregate-collect c = search needs
-
-slice-aggregate-collect-2 : tie.Need-slice-aggregate-collect-2
-slice-aggregate-collect-2 c = search needs
-
-slice-aggregate-collect-3 : tie.Need-slice-aggregate-collect-3
-slice-aggregate-collect-3 c = search needs
-
-collect-requires : tie.Need-collect-requires
-collect-requires c κs = search needs
-
-array-share-prefix-places : tie.Need-array-share-prefix-places
-array-share-prefix-places c = search needs
 
 slice-aggregate-uses : tie.Need-slice-aggregate-uses
 slice-aggregate-uses c =
@@ -30,9 +15,6 @@ slice-aggregate-uses c =
     (length-take-le (collect .result .count) (collect .last .1 .0)
     (omega (arith, collect .ensures .1 .within, collect .ensures .1 .places)))
 
-array-share-prefix-keys : tie.Need-array-share-prefix-keys
-array-share-prefix-keys c = search needs
-
 slice-aggregate-uses-2 : tie.Need-slice-aggregate-uses-2
 slice-aggregate-uses-2 c =
     let c5 = c .before .before .before .before .before in
@@ -41,9 +23,6 @@ slice-aggregate-uses-2 c =
     (length-take-le (collect .result .count) (collect .last .1 .1 .0)
     (omega (arith, collect .ensures .1 .within, collect .ensures .1 .keys)))
 
-array-share-prefix-values : tie.Need-array-share-prefix-values
-array-share-prefix-values c = search needs
-
 slice-aggregate-uses-3 : tie.Need-slice-aggregate-uses-3
 slice-aggregate-uses-3 c =
     let c6 = c .before .before .before .before .before .before in
@@ -51,15 +30,6 @@ slice-aggregate-uses-3 c =
     sym
     (length-take-le (collect .result .count) (collect .last .1 .1 .1 .0)
     (omega (arith, collect .ensures .1 .within, collect .ensures .1 .values)))
-
-uses-requires : tie.Need-uses-requires
-uses-requires c κs = search needs
-
-decide-requires : tie.Need-decide-requires
-decide-requires c κs = search needs
-
-reply-requires : tie.Need-reply-requires
-reply-requires c κs = search needs
 
 returns : tie.Need-returns
 returns c =
@@ -78,9 +48,6 @@ returns c =
     (decide .ensures)) (c1 .if1 .taken) (c .reply .ensures) in
     (ap (λ (x : Assembled). x .reply) e, ap (λ (x : Assembled). x .memory) e)
 
-array-share-prefix-places-2 : tie.Need-array-share-prefix-places-2
-array-share-prefix-places-2 c = search needs
-
 slice-aggregate-image : tie.Need-slice-aggregate-image
 slice-aggregate-image c =
     let c12 = c .before .before .before .before .before .before .before .before .before .before .before .before in
@@ -89,9 +56,6 @@ slice-aggregate-image c =
     (length-take-le (collect .result .count) (collect .last .1 .0)
     (omega (arith, collect .ensures .1 .within, collect .ensures .1 .places)))
 
-array-share-prefix-keys-2 : tie.Need-array-share-prefix-keys-2
-array-share-prefix-keys-2 c = search needs
-
 slice-aggregate-image-2 : tie.Need-slice-aggregate-image-2
 slice-aggregate-image-2 c =
     let c13 = c .before .before .before .before .before .before .before .before .before .before .before .before .before in
@@ -99,9 +63,6 @@ slice-aggregate-image-2 c =
     sym
     (length-take-le (collect .result .count) (collect .last .1 .1 .0)
     (omega (arith, collect .ensures .1 .within, collect .ensures .1 .keys)))
-
-array-share-prefix-values-2 : tie.Need-array-share-prefix-values-2
-array-share-prefix-values-2 c = search needs
 
 slice-aggregate-image-3 : tie.Need-slice-aggregate-image-3
 slice-aggregate-image-3 c =
@@ -116,12 +77,6 @@ image-requires c κs =
     let c10 = c .before .before .before .before .before .before .before .before .before .before in
     let c20 = c10 .before .before .before .before .before .before .before .before .before .before in
     c20 .pre .0
-
-reply-requires-2 : tie.Need-reply-requires-2
-reply-requires-2 c κs = search needs
-
-same-length : tie.Need-same-length
-same-length c = search needs
 
 returns-2 : tie.Need-returns-2
 returns-2 c =
@@ -147,28 +102,7 @@ returns-2 c =
 pub assemble-spec : {M : Type 1} → statement M
 assemble-spec =
     tie.close
-    (tie.spec
-    slice-aggregate-collect
-    slice-aggregate-collect-2
-    slice-aggregate-collect-3
-    collect-requires
-    array-share-prefix-places
-    slice-aggregate-uses
-    array-share-prefix-keys
-    slice-aggregate-uses-2
-    array-share-prefix-values
-    slice-aggregate-uses-3
-    uses-requires
-    decide-requires
-    reply-requires
-    returns
-    array-share-prefix-places-2
-    slice-aggregate-image
-    array-share-prefix-keys-2
-    slice-aggregate-image-2
-    array-share-prefix-values-2
-    slice-aggregate-image-3
-    image-requires
-    reply-requires-2
-    same-length
-    returns-2)
+    (tie.spec (λ c. search needs) (λ c. search needs) (λ c. search needs) (λ c κs. search needs) (λ c. search needs) slice-aggregate-uses
+    (λ c. search needs) slice-aggregate-uses-2 (λ c. search needs) slice-aggregate-uses-3 (λ c κs. search needs) (λ c κs. search needs)
+    (λ c κs. search needs) returns (λ c. search needs) slice-aggregate-image (λ c. search needs) slice-aggregate-image-2 (λ c. search needs)
+    slice-aggregate-image-3 image-requires (λ c κs. search needs) (λ c. search needs) returns-2)

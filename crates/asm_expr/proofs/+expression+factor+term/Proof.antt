@@ -1,5 +1,5 @@
-use mathlib.Core.Path.{_≡_, refl, sym, ap, _∙_, subst}
-use Prim.Native.Nat.{ℕ, _+_, _-_, _*_, _<_, _≤_}
+use mathlib.Core.Path.{_≡_, sym, ap, _∙_, subst}
+use Prim.Native.Nat.{ℕ, _+_, _-_, _*_, _<_}
 use native.Mathlib.Nat.{pos-of-ne-zero}
 use native.Mathlib.Omega.{arith}
 use lib.ListN.{length}
@@ -12,7 +12,6 @@ use Rattle.asm_expr.specs.Meaning.{answerOf, shut}
 use Rattle.asm_expr.proofs.Laws.{reach-factor, reach-term, plus-zero, times-zero, Going, going-none, going-start, going-sign}
 use Rattle.asm_expr.proofs.Laws.{going-ahead}
 use Rattle.asm_expr.proofs.Laws.{turn-stop, turn-fail, turn-more, shut-follow, factor-deep, factor-bracket, factor-plain, byte-is-in}
-use Prim.Native.Nat.{ℕ, _<_}
 use borrow.Fn.Kinds.{In}
 use borrow.Fn.PlainCycle.{Measures, is, falls, and}
 use Rattle.asm_expr.proofs.expression.Reads as expression
@@ -71,7 +70,8 @@ expression-Inv-loop source places keys values s at left n0 value₀ next₀ valu
 abbrev expression-μ-loop : expression-lts.MeasureT-loop
 expression-μ-loop source places keys values s at left n0 value₀ next₀ value next = length s - next
 
-expression-term-requires : (t : ℕ) → expression-lts.Need-term-requires (
+abbrev expression-claims : ℕ → expression-lts.Claims
+expression-claims t = (
   term-below t,
   term.Post,
   skip-blanks-reads.Asked,
@@ -82,49 +82,14 @@ expression-term-requires : (t : ℕ) → expression-lts.Need-term-requires (
   is-plus-reads.Learnt,
   combine-reads.Asked,
   combine-reads.Learnt,
-) (expression-at t) expression.Post expression-Inv-loop expression-μ-loop
+)
+
+expression-term-requires : (t : ℕ)
+    → expression-lts.Need-term-requires (expression-claims t) (expression-at t) expression.Post expression-Inv-loop expression-μ-loop
 expression-term-requires t c κs = (omega (arith, c .before .before .before .before .pre .0), tt)
 
-expression-enum-known-first : (t : ℕ) → expression-lts.Need-enum-known-first (
-  term-below t,
-  term.Post,
-  skip-blanks-reads.Asked,
-  skip-blanks-reads.Learnt,
-  byte-at-reads.Asked,
-  byte-at-reads.Learnt,
-  is-plus-reads.Asked,
-  is-plus-reads.Learnt,
-  combine-reads.Asked,
-  combine-reads.Learnt,
-) (expression-at t) expression.Post expression-Inv-loop expression-μ-loop
-expression-enum-known-first t c = search needs
-
-expression-enum-told : (t : ℕ) → expression-lts.Need-enum-told (
-  term-below t,
-  term.Post,
-  skip-blanks-reads.Asked,
-  skip-blanks-reads.Learnt,
-  byte-at-reads.Asked,
-  byte-at-reads.Learnt,
-  is-plus-reads.Asked,
-  is-plus-reads.Learnt,
-  combine-reads.Asked,
-  combine-reads.Learnt,
-) (expression-at t) expression.Post expression-Inv-loop expression-μ-loop
-expression-enum-told t c = search needs
-
-expression-returns : (t : ℕ) → expression-lts.Need-returns (
-  term-below t,
-  term.Post,
-  skip-blanks-reads.Asked,
-  skip-blanks-reads.Learnt,
-  byte-at-reads.Asked,
-  byte-at-reads.Learnt,
-  is-plus-reads.Asked,
-  is-plus-reads.Learnt,
-  combine-reads.Asked,
-  combine-reads.Learnt,
-) (expression-at t) expression.Post expression-Inv-loop expression-μ-loop
+expression-returns : (t : ℕ)
+    → expression-lts.Need-returns (expression-claims t) (expression-at t) expression.Post expression-Inv-loop expression-μ-loop
 unfolding expressionOf
 expression-returns t c =
     let c2 = c .before .before in
@@ -134,18 +99,8 @@ expression-returns t c =
     let f = lookUpAt (a .source .now) (a .places .now) (a .keys .now) (a .values .now) in
     going-none f plus? (termOf (a .left) s) s (a .at) (sym (c2 .term .ensures) ∙ c .enum-told .given .1)
 
-expression-loop-holds : (t : ℕ) → expression-lts.Need-loop-holds (
-  term-below t,
-  term.Post,
-  skip-blanks-reads.Asked,
-  skip-blanks-reads.Learnt,
-  byte-at-reads.Asked,
-  byte-at-reads.Learnt,
-  is-plus-reads.Asked,
-  is-plus-reads.Learnt,
-  combine-reads.Asked,
-  combine-reads.Learnt,
-) (expression-at t) expression.Post expression-Inv-loop expression-μ-loop
+expression-loop-holds : (t : ℕ)
+    → expression-lts.Need-loop-holds (expression-claims t) (expression-at t) expression.Post expression-Inv-loop expression-μ-loop
 expression-loop-holds t c =
     let c3 = c .before .before .before in
     let c8 = c3 .before .before .before .before .before in
@@ -156,60 +111,8 @@ expression-loop-holds t c =
     going-start f plus? (termOf (a .left) s) s (a .at) (g .0 .1 .0) (g .0 .0) (reach-term (a .left) s (a .at)) (sym (c3 .term .ensures)
     ∙ g .1)
 
-expression-skip-blanks-requires : (t : ℕ) → expression-lts.Need-skip-blanks-requires (
-  term-below t,
-  term.Post,
-  skip-blanks-reads.Asked,
-  skip-blanks-reads.Learnt,
-  byte-at-reads.Asked,
-  byte-at-reads.Learnt,
-  is-plus-reads.Asked,
-  is-plus-reads.Learnt,
-  combine-reads.Asked,
-  combine-reads.Learnt,
-) (expression-at t) expression.Post expression-Inv-loop expression-μ-loop
-expression-skip-blanks-requires t c κs = search needs
-
-expression-byte-at-requires : (t : ℕ) → expression-lts.Need-byte-at-requires (
-  term-below t,
-  term.Post,
-  skip-blanks-reads.Asked,
-  skip-blanks-reads.Learnt,
-  byte-at-reads.Asked,
-  byte-at-reads.Learnt,
-  is-plus-reads.Asked,
-  is-plus-reads.Learnt,
-  combine-reads.Asked,
-  combine-reads.Learnt,
-) (expression-at t) expression.Post expression-Inv-loop expression-μ-loop
-expression-byte-at-requires t c κs = search needs
-
-expression-is-plus-requires : (t : ℕ) → expression-lts.Need-is-plus-requires (
-  term-below t,
-  term.Post,
-  skip-blanks-reads.Asked,
-  skip-blanks-reads.Learnt,
-  byte-at-reads.Asked,
-  byte-at-reads.Learnt,
-  is-plus-reads.Asked,
-  is-plus-reads.Learnt,
-  combine-reads.Asked,
-  combine-reads.Learnt,
-) (expression-at t) expression.Post expression-Inv-loop expression-μ-loop
-expression-is-plus-requires t c κs = search needs
-
-expression-returns-2 : (t : ℕ) → expression-lts.Need-returns-2 (
-  term-below t,
-  term.Post,
-  skip-blanks-reads.Asked,
-  skip-blanks-reads.Learnt,
-  byte-at-reads.Asked,
-  byte-at-reads.Learnt,
-  is-plus-reads.Asked,
-  is-plus-reads.Learnt,
-  combine-reads.Asked,
-  combine-reads.Learnt,
-) (expression-at t) expression.Post expression-Inv-loop expression-μ-loop
+expression-returns-2 : (t : ℕ)
+    → expression-lts.Need-returns-2 (expression-claims t) (expression-at t) expression.Post expression-Inv-loop expression-μ-loop
 unfolding expressionOf
 expression-returns-2 t c =
     let c2 = c .before .before in
@@ -224,18 +127,8 @@ expression-returns-2 t c =
     (answerOf f (partsOf plus? (termOf (a .left) s) s (a .at))) (c3 .skip-blanks .ensures) (c2 .byte-at .ensures) (l .inv)
     (sym (c .before .is-plus .ensures) ∙ not-true _ (c .if1 .taken))
 
-expression-add-term : (t : ℕ) → expression-lts.Need-add-term (
-  term-below t,
-  term.Post,
-  skip-blanks-reads.Asked,
-  skip-blanks-reads.Learnt,
-  byte-at-reads.Asked,
-  byte-at-reads.Learnt,
-  is-plus-reads.Asked,
-  is-plus-reads.Learnt,
-  combine-reads.Asked,
-  combine-reads.Learnt,
-) (expression-at t) expression.Post expression-Inv-loop expression-μ-loop
+expression-add-term : (t : ℕ)
+    → expression-lts.Need-add-term (expression-claims t) (expression-at t) expression.Post expression-Inv-loop expression-μ-loop
 expression-add-term t c =
     let c2 = c .before .before in
     let c3 = c2 .before in
@@ -247,62 +140,14 @@ expression-add-term t c =
     (ap plus? (sym (c2 .byte-at .ensures)) ∙ sym (c .before .is-plus .ensures) ∙ not-false _ (c .if1 .left)) in
     omega arith
 
-expression-term-requires-2 : (t : ℕ) → expression-lts.Need-term-requires-2 (
-  term-below t,
-  term.Post,
-  skip-blanks-reads.Asked,
-  skip-blanks-reads.Learnt,
-  byte-at-reads.Asked,
-  byte-at-reads.Learnt,
-  is-plus-reads.Asked,
-  is-plus-reads.Learnt,
-  combine-reads.Asked,
-  combine-reads.Learnt,
-) (expression-at t) expression.Post expression-Inv-loop expression-μ-loop
+expression-term-requires-2 : (t : ℕ)
+    → expression-lts.Need-term-requires-2 (expression-claims t) (expression-at t) expression.Post expression-Inv-loop expression-μ-loop
 expression-term-requires-2 t c κs =
     let c13 = c .before .before .before .before .before .before .before .before .before .before .before .before .before in
     (omega (arith, c13 .pre .0), tt)
 
-expression-enum-known-part : (t : ℕ) → expression-lts.Need-enum-known-part (
-  term-below t,
-  term.Post,
-  skip-blanks-reads.Asked,
-  skip-blanks-reads.Learnt,
-  byte-at-reads.Asked,
-  byte-at-reads.Learnt,
-  is-plus-reads.Asked,
-  is-plus-reads.Learnt,
-  combine-reads.Asked,
-  combine-reads.Learnt,
-) (expression-at t) expression.Post expression-Inv-loop expression-μ-loop
-expression-enum-known-part t c = search needs
-
-expression-enum-told-2 : (t : ℕ) → expression-lts.Need-enum-told-2 (
-  term-below t,
-  term.Post,
-  skip-blanks-reads.Asked,
-  skip-blanks-reads.Learnt,
-  byte-at-reads.Asked,
-  byte-at-reads.Learnt,
-  is-plus-reads.Asked,
-  is-plus-reads.Learnt,
-  combine-reads.Asked,
-  combine-reads.Learnt,
-) (expression-at t) expression.Post expression-Inv-loop expression-μ-loop
-expression-enum-told-2 t c = search needs
-
-expression-returns-3 : (t : ℕ) → expression-lts.Need-returns-3 (
-  term-below t,
-  term.Post,
-  skip-blanks-reads.Asked,
-  skip-blanks-reads.Learnt,
-  byte-at-reads.Asked,
-  byte-at-reads.Learnt,
-  is-plus-reads.Asked,
-  is-plus-reads.Learnt,
-  combine-reads.Asked,
-  combine-reads.Learnt,
-) (expression-at t) expression.Post expression-Inv-loop expression-μ-loop
+expression-returns-3 : (t : ℕ)
+    → expression-lts.Need-returns-3 (expression-claims t) (expression-at t) expression.Post expression-Inv-loop expression-μ-loop
 unfolding expressionOf
 expression-returns-3 t c =
     let c2 = c .before .before in
@@ -320,32 +165,8 @@ expression-returns-3 t c =
     (answerOf f (partsOf plus? (termOf (a .left) s) s (a .at))) (c6 .skip-blanks .ensures) (c5 .byte-at .ensures) (l .inv)
     (sym (c4 .is-plus .ensures) ∙ not-false _ (c3 .if1 .left)) (sym (c2 .term2 .ensures) ∙ c .enum-told2 .given .1)
 
-expression-combine-requires : (t : ℕ) → expression-lts.Need-combine-requires (
-  term-below t,
-  term.Post,
-  skip-blanks-reads.Asked,
-  skip-blanks-reads.Learnt,
-  byte-at-reads.Asked,
-  byte-at-reads.Learnt,
-  is-plus-reads.Asked,
-  is-plus-reads.Learnt,
-  combine-reads.Asked,
-  combine-reads.Learnt,
-) (expression-at t) expression.Post expression-Inv-loop expression-μ-loop
-expression-combine-requires t c κs = search needs
-
-expression-loop-less : (t : ℕ) → expression-lts.Need-loop-less (
-  term-below t,
-  term.Post,
-  skip-blanks-reads.Asked,
-  skip-blanks-reads.Learnt,
-  byte-at-reads.Asked,
-  byte-at-reads.Learnt,
-  is-plus-reads.Asked,
-  is-plus-reads.Learnt,
-  combine-reads.Asked,
-  combine-reads.Learnt,
-) (expression-at t) expression.Post expression-Inv-loop expression-μ-loop
+expression-loop-less : (t : ℕ)
+    → expression-lts.Need-loop-less (expression-claims t) (expression-at t) expression.Post expression-Inv-loop expression-μ-loop
 expression-loop-less t c =
     let c2 = c .before .before in
     let c4 = c2 .before .before in
@@ -362,18 +183,8 @@ expression-loop-less t c =
     (sym (c4 .term2 .ensures) ∙ g .1) in
     omega (arith, h .0, h .1)
 
-expression-loop-again : (t : ℕ) → expression-lts.Need-loop-again (
-  term-below t,
-  term.Post,
-  skip-blanks-reads.Asked,
-  skip-blanks-reads.Learnt,
-  byte-at-reads.Asked,
-  byte-at-reads.Learnt,
-  is-plus-reads.Asked,
-  is-plus-reads.Learnt,
-  combine-reads.Asked,
-  combine-reads.Learnt,
-) (expression-at t) expression.Post expression-Inv-loop expression-μ-loop
+expression-loop-again : (t : ℕ)
+    → expression-lts.Need-loop-again (expression-claims t) (expression-at t) expression.Post expression-Inv-loop expression-μ-loop
 expression-loop-again t c =
     let c2 = c .before .before in
     let c4 = c2 .before .before in
@@ -395,7 +206,8 @@ expression-loop-again t c =
     (answerOf f (partsOf plus? (termOf (a .left) s) s (a .at))) (c8 .skip-blanks .ensures) (c7 .byte-at .ensures) (l .inv)
     (sym (c6 .is-plus .ensures) ∙ not-false _ (c5 .if1 .left)) (reach-term (a .left) s (q + 1)) (sym (c4 .term2 .ensures) ∙ g .1))
 
-factor-skip-blanks-requires : (t : ℕ) → factor-lts.Need-skip-blanks-requires (
+abbrev factor-claims : ℕ → factor-lts.Claims
+factor-claims t = (
   skip-blanks-reads.Asked,
   skip-blanks-reads.Learnt,
   byte-at-reads.Asked,
@@ -406,35 +218,9 @@ factor-skip-blanks-requires : (t : ℕ) → factor-lts.Need-skip-blanks-requires
   close-reads.Learnt,
   plain-reads.Asked,
   plain-reads.Learnt,
-) (factor-at t) factor.Post
-factor-skip-blanks-requires t c κs = search needs
+)
 
-factor-byte-at-requires : (t : ℕ) → factor-lts.Need-byte-at-requires (
-  skip-blanks-reads.Asked,
-  skip-blanks-reads.Learnt,
-  byte-at-reads.Asked,
-  byte-at-reads.Learnt,
-  expression-below t,
-  expression.Post,
-  close-reads.Asked,
-  close-reads.Learnt,
-  plain-reads.Asked,
-  plain-reads.Learnt,
-) (factor-at t) factor.Post
-factor-byte-at-requires t c κs = search needs
-
-factor-returns : (t : ℕ) → factor-lts.Need-returns (
-  skip-blanks-reads.Asked,
-  skip-blanks-reads.Learnt,
-  byte-at-reads.Asked,
-  byte-at-reads.Learnt,
-  expression-below t,
-  expression.Post,
-  close-reads.Asked,
-  close-reads.Learnt,
-  plain-reads.Asked,
-  plain-reads.Learnt,
-) (factor-at t) factor.Post
+factor-returns : (t : ℕ) → factor-lts.Need-returns (factor-claims t) (factor-at t) factor.Post
 unfolding answerOf
 factor-returns t c =
     let c2 = c .before .before in
@@ -447,18 +233,7 @@ factor-returns t c =
     ∙ c .before .if1 .taken in
     sym (ap (λ k. answerOf f (factorOf k s (a .at))) (c .if2 .taken) ∙ ap (answerOf f) (factor-deep s (a .at) h))
 
-factor-add-expression : (t : ℕ) → factor-lts.Need-add-expression (
-  skip-blanks-reads.Asked,
-  skip-blanks-reads.Learnt,
-  byte-at-reads.Asked,
-  byte-at-reads.Learnt,
-  expression-below t,
-  expression.Post,
-  close-reads.Asked,
-  close-reads.Learnt,
-  plain-reads.Asked,
-  plain-reads.Learnt,
-) (factor-at t) factor.Post
+factor-add-expression : (t : ℕ) → factor-lts.Need-add-expression (factor-claims t) (factor-at t) factor.Post
 factor-add-expression t c =
     let c2 = c .before .before in
     let c3 = c2 .before in
@@ -466,62 +241,15 @@ factor-add-expression t c =
     let h = byte-is-in (c8 .args .s .now) (c3 .skip-blanks .result) 39 (sym (c2 .byte-at .ensures) ∙ c .before .if1 .taken) in
     omega arith
 
-factor-sub-expression : (t : ℕ) → factor-lts.Need-sub-expression (
-  skip-blanks-reads.Asked,
-  skip-blanks-reads.Learnt,
-  byte-at-reads.Asked,
-  byte-at-reads.Learnt,
-  expression-below t,
-  expression.Post,
-  close-reads.Asked,
-  close-reads.Learnt,
-  plain-reads.Asked,
-  plain-reads.Learnt,
-) (factor-at t) factor.Post
+factor-sub-expression : (t : ℕ) → factor-lts.Need-sub-expression (factor-claims t) (factor-at t) factor.Post
 factor-sub-expression t c = pos-of-ne-zero (c .if2 .left)
 
-factor-expression-requires : (t : ℕ) → factor-lts.Need-expression-requires (
-  skip-blanks-reads.Asked,
-  skip-blanks-reads.Learnt,
-  byte-at-reads.Asked,
-  byte-at-reads.Learnt,
-  expression-below t,
-  expression.Post,
-  close-reads.Asked,
-  close-reads.Learnt,
-  plain-reads.Asked,
-  plain-reads.Learnt,
-) (factor-at t) factor.Post
+factor-expression-requires : (t : ℕ) → factor-lts.Need-expression-requires (factor-claims t) (factor-at t) factor.Post
 factor-expression-requires t c κs =
     let c8 = c .before .before .before .before .before .before .before .before in
     let h = pos-of-ne-zero (c .if2 .left) in (omega (arith, c8 .pre .0, h), tt)
 
-factor-close-requires : (t : ℕ) → factor-lts.Need-close-requires (
-  skip-blanks-reads.Asked,
-  skip-blanks-reads.Learnt,
-  byte-at-reads.Asked,
-  byte-at-reads.Learnt,
-  expression-below t,
-  expression.Post,
-  close-reads.Asked,
-  close-reads.Learnt,
-  plain-reads.Asked,
-  plain-reads.Learnt,
-) (factor-at t) factor.Post
-factor-close-requires t c κs = search needs
-
-factor-returns-2 : (t : ℕ) → factor-lts.Need-returns-2 (
-  skip-blanks-reads.Asked,
-  skip-blanks-reads.Learnt,
-  byte-at-reads.Asked,
-  byte-at-reads.Learnt,
-  expression-below t,
-  expression.Post,
-  close-reads.Asked,
-  close-reads.Learnt,
-  plain-reads.Asked,
-  plain-reads.Learnt,
-) (factor-at t) factor.Post
+factor-returns-2 : (t : ℕ) → factor-lts.Need-returns-2 (factor-claims t) (factor-at t) factor.Post
 factor-returns-2 t c =
     let c2 = c .before .before in
     let c3 = c2 .before in
@@ -538,32 +266,7 @@ factor-returns-2 t c =
     ∙ ap (λ k. answerOf f (follow (expressionOf (a .left - 1) s (k + 1)) (closed s))) (c5 .skip-blanks .ensures)
     ∙ ap (answerOf f) (sym (factor-bracket (a .left) s (a .at) (c2 .if2 .left) h))
 
-factor-plain-requires : (t : ℕ) → factor-lts.Need-plain-requires (
-  skip-blanks-reads.Asked,
-  skip-blanks-reads.Learnt,
-  byte-at-reads.Asked,
-  byte-at-reads.Learnt,
-  expression-below t,
-  expression.Post,
-  close-reads.Asked,
-  close-reads.Learnt,
-  plain-reads.Asked,
-  plain-reads.Learnt,
-) (factor-at t) factor.Post
-factor-plain-requires t c κs = search needs
-
-factor-returns-3 : (t : ℕ) → factor-lts.Need-returns-3 (
-  skip-blanks-reads.Asked,
-  skip-blanks-reads.Learnt,
-  byte-at-reads.Asked,
-  byte-at-reads.Learnt,
-  expression-below t,
-  expression.Post,
-  close-reads.Asked,
-  close-reads.Learnt,
-  plain-reads.Asked,
-  plain-reads.Learnt,
-) (factor-at t) factor.Post
+factor-returns-3 : (t : ℕ) → factor-lts.Need-returns-3 (factor-claims t) (factor-at t) factor.Post
 factor-returns-3 t c =
     let c2 = c .before .before in
     let c3 = c2 .before in
@@ -583,7 +286,8 @@ term-Inv-loop source places keys values s at left n0 value₀ next₀ value next
 abbrev term-μ-loop : term-lts.MeasureT-loop
 term-μ-loop source places keys values s at left n0 value₀ next₀ value next = length s - next
 
-term-factor-requires : (t : ℕ) → term-lts.Need-factor-requires (
+abbrev term-claims : ℕ → term-lts.Claims
+term-claims t = (
   factor-below t,
   factor.Post,
   skip-blanks-reads.Asked,
@@ -594,49 +298,12 @@ term-factor-requires : (t : ℕ) → term-lts.Need-factor-requires (
   is-times-reads.Learnt,
   combine-reads.Asked,
   combine-reads.Learnt,
-) (term-at t) term.Post term-Inv-loop term-μ-loop
+)
+
+term-factor-requires : (t : ℕ) → term-lts.Need-factor-requires (term-claims t) (term-at t) term.Post term-Inv-loop term-μ-loop
 term-factor-requires t c κs = (omega (arith, c .before .before .before .before .pre .0), tt)
 
-term-enum-known-first : (t : ℕ) → term-lts.Need-enum-known-first (
-  factor-below t,
-  factor.Post,
-  skip-blanks-reads.Asked,
-  skip-blanks-reads.Learnt,
-  byte-at-reads.Asked,
-  byte-at-reads.Learnt,
-  is-times-reads.Asked,
-  is-times-reads.Learnt,
-  combine-reads.Asked,
-  combine-reads.Learnt,
-) (term-at t) term.Post term-Inv-loop term-μ-loop
-term-enum-known-first t c = search needs
-
-term-enum-told : (t : ℕ) → term-lts.Need-enum-told (
-  factor-below t,
-  factor.Post,
-  skip-blanks-reads.Asked,
-  skip-blanks-reads.Learnt,
-  byte-at-reads.Asked,
-  byte-at-reads.Learnt,
-  is-times-reads.Asked,
-  is-times-reads.Learnt,
-  combine-reads.Asked,
-  combine-reads.Learnt,
-) (term-at t) term.Post term-Inv-loop term-μ-loop
-term-enum-told t c = search needs
-
-term-returns : (t : ℕ) → term-lts.Need-returns (
-  factor-below t,
-  factor.Post,
-  skip-blanks-reads.Asked,
-  skip-blanks-reads.Learnt,
-  byte-at-reads.Asked,
-  byte-at-reads.Learnt,
-  is-times-reads.Asked,
-  is-times-reads.Learnt,
-  combine-reads.Asked,
-  combine-reads.Learnt,
-) (term-at t) term.Post term-Inv-loop term-μ-loop
+term-returns : (t : ℕ) → term-lts.Need-returns (term-claims t) (term-at t) term.Post term-Inv-loop term-μ-loop
 unfolding termOf
 term-returns t c =
     let c2 = c .before .before in
@@ -646,18 +313,7 @@ term-returns t c =
     let f = lookUpAt (a .source .now) (a .places .now) (a .keys .now) (a .values .now) in
     going-none f times? (factorOf (a .left) s) s (a .at) (sym (c2 .factor .ensures) ∙ c .enum-told .given .1)
 
-term-loop-holds : (t : ℕ) → term-lts.Need-loop-holds (
-  factor-below t,
-  factor.Post,
-  skip-blanks-reads.Asked,
-  skip-blanks-reads.Learnt,
-  byte-at-reads.Asked,
-  byte-at-reads.Learnt,
-  is-times-reads.Asked,
-  is-times-reads.Learnt,
-  combine-reads.Asked,
-  combine-reads.Learnt,
-) (term-at t) term.Post term-Inv-loop term-μ-loop
+term-loop-holds : (t : ℕ) → term-lts.Need-loop-holds (term-claims t) (term-at t) term.Post term-Inv-loop term-μ-loop
 term-loop-holds t c =
     let c3 = c .before .before .before in
     let c8 = c3 .before .before .before .before .before in
@@ -668,60 +324,7 @@ term-loop-holds t c =
     going-start f times? (factorOf (a .left) s) s (a .at) (g .0 .1 .0) (g .0 .0) (reach-factor (a .left) s (a .at))
     (sym (c3 .factor .ensures) ∙ g .1)
 
-term-skip-blanks-requires : (t : ℕ) → term-lts.Need-skip-blanks-requires (
-  factor-below t,
-  factor.Post,
-  skip-blanks-reads.Asked,
-  skip-blanks-reads.Learnt,
-  byte-at-reads.Asked,
-  byte-at-reads.Learnt,
-  is-times-reads.Asked,
-  is-times-reads.Learnt,
-  combine-reads.Asked,
-  combine-reads.Learnt,
-) (term-at t) term.Post term-Inv-loop term-μ-loop
-term-skip-blanks-requires t c κs = search needs
-
-term-byte-at-requires : (t : ℕ) → term-lts.Need-byte-at-requires (
-  factor-below t,
-  factor.Post,
-  skip-blanks-reads.Asked,
-  skip-blanks-reads.Learnt,
-  byte-at-reads.Asked,
-  byte-at-reads.Learnt,
-  is-times-reads.Asked,
-  is-times-reads.Learnt,
-  combine-reads.Asked,
-  combine-reads.Learnt,
-) (term-at t) term.Post term-Inv-loop term-μ-loop
-term-byte-at-requires t c κs = search needs
-
-term-is-times-requires : (t : ℕ) → term-lts.Need-is-times-requires (
-  factor-below t,
-  factor.Post,
-  skip-blanks-reads.Asked,
-  skip-blanks-reads.Learnt,
-  byte-at-reads.Asked,
-  byte-at-reads.Learnt,
-  is-times-reads.Asked,
-  is-times-reads.Learnt,
-  combine-reads.Asked,
-  combine-reads.Learnt,
-) (term-at t) term.Post term-Inv-loop term-μ-loop
-term-is-times-requires t c κs = search needs
-
-term-returns-2 : (t : ℕ) → term-lts.Need-returns-2 (
-  factor-below t,
-  factor.Post,
-  skip-blanks-reads.Asked,
-  skip-blanks-reads.Learnt,
-  byte-at-reads.Asked,
-  byte-at-reads.Learnt,
-  is-times-reads.Asked,
-  is-times-reads.Learnt,
-  combine-reads.Asked,
-  combine-reads.Learnt,
-) (term-at t) term.Post term-Inv-loop term-μ-loop
+term-returns-2 : (t : ℕ) → term-lts.Need-returns-2 (term-claims t) (term-at t) term.Post term-Inv-loop term-μ-loop
 unfolding termOf
 term-returns-2 t c =
     let c2 = c .before .before in
@@ -736,18 +339,7 @@ term-returns-2 t c =
     (answerOf f (partsOf times? (factorOf (a .left) s) s (a .at))) (c3 .skip-blanks .ensures) (c2 .byte-at .ensures) (l .inv)
     (sym (c .before .is-times .ensures) ∙ not-true _ (c .if1 .taken))
 
-term-add-factor : (t : ℕ) → term-lts.Need-add-factor (
-  factor-below t,
-  factor.Post,
-  skip-blanks-reads.Asked,
-  skip-blanks-reads.Learnt,
-  byte-at-reads.Asked,
-  byte-at-reads.Learnt,
-  is-times-reads.Asked,
-  is-times-reads.Learnt,
-  combine-reads.Asked,
-  combine-reads.Learnt,
-) (term-at t) term.Post term-Inv-loop term-μ-loop
+term-add-factor : (t : ℕ) → term-lts.Need-add-factor (term-claims t) (term-at t) term.Post term-Inv-loop term-μ-loop
 term-add-factor t c =
     let c2 = c .before .before in
     let c3 = c2 .before in
@@ -759,62 +351,12 @@ term-add-factor t c =
     (ap times? (sym (c2 .byte-at .ensures)) ∙ sym (c .before .is-times .ensures) ∙ not-false _ (c .if1 .left)) in
     omega arith
 
-term-factor-requires-2 : (t : ℕ) → term-lts.Need-factor-requires-2 (
-  factor-below t,
-  factor.Post,
-  skip-blanks-reads.Asked,
-  skip-blanks-reads.Learnt,
-  byte-at-reads.Asked,
-  byte-at-reads.Learnt,
-  is-times-reads.Asked,
-  is-times-reads.Learnt,
-  combine-reads.Asked,
-  combine-reads.Learnt,
-) (term-at t) term.Post term-Inv-loop term-μ-loop
+term-factor-requires-2 : (t : ℕ) → term-lts.Need-factor-requires-2 (term-claims t) (term-at t) term.Post term-Inv-loop term-μ-loop
 term-factor-requires-2 t c κs =
     let c13 = c .before .before .before .before .before .before .before .before .before .before .before .before .before in
     (omega (arith, c13 .pre .0), tt)
 
-term-enum-known-part : (t : ℕ) → term-lts.Need-enum-known-part (
-  factor-below t,
-  factor.Post,
-  skip-blanks-reads.Asked,
-  skip-blanks-reads.Learnt,
-  byte-at-reads.Asked,
-  byte-at-reads.Learnt,
-  is-times-reads.Asked,
-  is-times-reads.Learnt,
-  combine-reads.Asked,
-  combine-reads.Learnt,
-) (term-at t) term.Post term-Inv-loop term-μ-loop
-term-enum-known-part t c = search needs
-
-term-enum-told-2 : (t : ℕ) → term-lts.Need-enum-told-2 (
-  factor-below t,
-  factor.Post,
-  skip-blanks-reads.Asked,
-  skip-blanks-reads.Learnt,
-  byte-at-reads.Asked,
-  byte-at-reads.Learnt,
-  is-times-reads.Asked,
-  is-times-reads.Learnt,
-  combine-reads.Asked,
-  combine-reads.Learnt,
-) (term-at t) term.Post term-Inv-loop term-μ-loop
-term-enum-told-2 t c = search needs
-
-term-returns-3 : (t : ℕ) → term-lts.Need-returns-3 (
-  factor-below t,
-  factor.Post,
-  skip-blanks-reads.Asked,
-  skip-blanks-reads.Learnt,
-  byte-at-reads.Asked,
-  byte-at-reads.Learnt,
-  is-times-reads.Asked,
-  is-times-reads.Learnt,
-  combine-reads.Asked,
-  combine-reads.Learnt,
-) (term-at t) term.Post term-Inv-loop term-μ-loop
+term-returns-3 : (t : ℕ) → term-lts.Need-returns-3 (term-claims t) (term-at t) term.Post term-Inv-loop term-μ-loop
 unfolding termOf
 term-returns-3 t c =
     let c2 = c .before .before in
@@ -832,32 +374,7 @@ term-returns-3 t c =
     (answerOf f (partsOf times? (factorOf (a .left) s) s (a .at))) (c6 .skip-blanks .ensures) (c5 .byte-at .ensures) (l .inv)
     (sym (c4 .is-times .ensures) ∙ not-false _ (c3 .if1 .left)) (sym (c2 .factor2 .ensures) ∙ c .enum-told2 .given .1)
 
-term-combine-requires : (t : ℕ) → term-lts.Need-combine-requires (
-  factor-below t,
-  factor.Post,
-  skip-blanks-reads.Asked,
-  skip-blanks-reads.Learnt,
-  byte-at-reads.Asked,
-  byte-at-reads.Learnt,
-  is-times-reads.Asked,
-  is-times-reads.Learnt,
-  combine-reads.Asked,
-  combine-reads.Learnt,
-) (term-at t) term.Post term-Inv-loop term-μ-loop
-term-combine-requires t c κs = search needs
-
-term-loop-less : (t : ℕ) → term-lts.Need-loop-less (
-  factor-below t,
-  factor.Post,
-  skip-blanks-reads.Asked,
-  skip-blanks-reads.Learnt,
-  byte-at-reads.Asked,
-  byte-at-reads.Learnt,
-  is-times-reads.Asked,
-  is-times-reads.Learnt,
-  combine-reads.Asked,
-  combine-reads.Learnt,
-) (term-at t) term.Post term-Inv-loop term-μ-loop
+term-loop-less : (t : ℕ) → term-lts.Need-loop-less (term-claims t) (term-at t) term.Post term-Inv-loop term-μ-loop
 term-loop-less t c =
     let c2 = c .before .before in
     let c4 = c2 .before .before in
@@ -874,18 +391,7 @@ term-loop-less t c =
     (sym (c4 .factor2 .ensures) ∙ g .1) in
     omega (arith, h .0, h .1)
 
-term-loop-again : (t : ℕ) → term-lts.Need-loop-again (
-  factor-below t,
-  factor.Post,
-  skip-blanks-reads.Asked,
-  skip-blanks-reads.Learnt,
-  byte-at-reads.Asked,
-  byte-at-reads.Learnt,
-  is-times-reads.Asked,
-  is-times-reads.Learnt,
-  combine-reads.Asked,
-  combine-reads.Learnt,
-) (term-at t) term.Post term-Inv-loop term-μ-loop
+term-loop-again : (t : ℕ) → term-lts.Need-loop-again (term-claims t) (term-at t) term.Post term-Inv-loop term-μ-loop
 term-loop-again t c =
     let c2 = c .before .before in
     let c4 = c2 .before .before in
@@ -908,93 +414,17 @@ term-loop-again t c =
     (sym (c6 .is-times .ensures) ∙ not-false _ (c5 .if1 .left)) (reach-factor (a .left) s (q + 1)) (sym (c4 .factor2 .ensures) ∙ g .1))
 
 pub +expression+factor+term-spec : {M : Type 1} → statement M
-+expression+factor+term-spec = close μ-expression μ-factor μ-term (λ t. expression-lts.spec (
-  term-below t,
-  term.Post,
-  skip-blanks-reads.Asked,
-  skip-blanks-reads.Learnt,
-  byte-at-reads.Asked,
-  byte-at-reads.Learnt,
-  is-plus-reads.Asked,
-  is-plus-reads.Learnt,
-  combine-reads.Asked,
-  combine-reads.Learnt,
-)
-    (expression-at t)
-    expression.Post
-    expression-Inv-loop
-    expression-μ-loop
-    (expression-term-requires t)
-    (expression-enum-known-first t)
-    (expression-enum-told t)
-    (expression-returns t)
-    (expression-loop-holds t)
-    (expression-skip-blanks-requires t)
-    (expression-byte-at-requires t)
-    (expression-is-plus-requires t)
-    (expression-returns-2 t)
-    (expression-add-term t)
-    (expression-term-requires-2 t)
-    (expression-enum-known-part t)
-    (expression-enum-told-2 t)
-    (expression-returns-3 t)
-    (expression-combine-requires t)
-    (expression-loop-less t)
-    (expression-loop-again t))
-    (λ t. factor-lts.spec (
-      skip-blanks-reads.Asked,
-      skip-blanks-reads.Learnt,
-      byte-at-reads.Asked,
-      byte-at-reads.Learnt,
-      expression-below t,
-      expression.Post,
-      close-reads.Asked,
-      close-reads.Learnt,
-      plain-reads.Asked,
-      plain-reads.Learnt,
-    )
-    (factor-at t)
-    factor.Post
-    (factor-skip-blanks-requires t)
-    (factor-byte-at-requires t)
-    (factor-returns t)
-    (factor-add-expression t)
-    (factor-sub-expression t)
-    (factor-expression-requires t)
-    (factor-close-requires t)
-    (factor-returns-2 t)
-    (factor-plain-requires t)
++expression+factor+term-spec = close μ-expression μ-factor μ-term (λ t. expression-lts.spec (expression-claims t)
+    (expression-at t) expression.Post expression-Inv-loop expression-μ-loop (expression-term-requires t) (λ c. search needs)
+    (λ c. search needs) (expression-returns t) (expression-loop-holds t) (λ c κs. search needs) (λ c κs. search needs)
+    (λ c κs. search needs) (expression-returns-2 t) (expression-add-term t) (expression-term-requires-2 t) (λ c. search needs)
+    (λ c. search needs) (expression-returns-3 t) (λ c κs. search needs) (expression-loop-less t) (expression-loop-again t))
+    (λ t. factor-lts.spec (factor-claims t)
+    (factor-at t) factor.Post (λ c κs. search needs) (λ c κs. search needs) (factor-returns t) (factor-add-expression t)
+    (factor-sub-expression t) (factor-expression-requires t) (λ c κs. search needs) (factor-returns-2 t) (λ c κs. search needs)
     (factor-returns-3 t))
-    λ t. term-lts.spec (
-      factor-below t,
-      factor.Post,
-      skip-blanks-reads.Asked,
-      skip-blanks-reads.Learnt,
-      byte-at-reads.Asked,
-      byte-at-reads.Learnt,
-      is-times-reads.Asked,
-      is-times-reads.Learnt,
-      combine-reads.Asked,
-      combine-reads.Learnt,
-    )
-    (term-at t)
-    term.Post
-    term-Inv-loop
-    term-μ-loop
-    (term-factor-requires t)
-    (term-enum-known-first t)
-    (term-enum-told t)
-    (term-returns t)
-    (term-loop-holds t)
-    (term-skip-blanks-requires t)
-    (term-byte-at-requires t)
-    (term-is-times-requires t)
-    (term-returns-2 t)
-    (term-add-factor t)
-    (term-factor-requires-2 t)
-    (term-enum-known-part t)
-    (term-enum-told-2 t)
-    (term-returns-3 t)
-    (term-combine-requires t)
-    (term-loop-less t)
+    λ t. term-lts.spec (term-claims t)
+    (term-at t) term.Post term-Inv-loop term-μ-loop (term-factor-requires t) (λ c. search needs) (λ c. search needs) (term-returns t)
+    (term-loop-holds t) (λ c κs. search needs) (λ c κs. search needs) (λ c κs. search needs) (term-returns-2 t) (term-add-factor t)
+    (term-factor-requires-2 t) (λ c. search needs) (λ c. search needs) (term-returns-3 t) (λ c κs. search needs) (term-loop-less t)
     (term-loop-again t)

@@ -1,22 +1,10 @@
 use Rattle.asm_expr.specs.Meaning.{shut}
 use Rattle.asm_expr.proofs.Laws.{shut-yes, shut-no, byte-is-in}
-use mathlib.Core.Path.{_≡_, refl, sym, ap, _∙_}
+use mathlib.Core.Path.{sym, ap, _∙_}
 use native.Mathlib.Omega.{arith}
 use borrow.Author.Needs.{needs}
 use Rattle.asm_expr.proofs.close.Statement.{statement}
 use Rattle.asm_expr.proofs.close.Tie as tie
-
-enum-told : tie.Need-enum-told
-enum-told c = search needs
-
-enum-known-a : tie.Need-enum-known-a
-enum-known-a c = search needs
-
-skip-blanks-requires : tie.Need-skip-blanks-requires
-skip-blanks-requires c κs = search needs
-
-byte-at-requires : tie.Need-byte-at-requires
-byte-at-requires c κs = search needs
 
 add-t9 : tie.Need-add-t9
 add-t9 c =
@@ -47,12 +35,4 @@ returns-3 c =
 pub close-spec : {M : Type 1} → statement M
 close-spec =
     tie.close
-    (tie.spec
-    enum-told
-    enum-known-a
-    skip-blanks-requires
-    byte-at-requires
-    add-t9
-    returns
-    returns-2
-    returns-3)
+    (tie.spec (λ c. search needs) (λ c. search needs) (λ c κs. search needs) (λ c κs. search needs) add-t9 returns returns-2 returns-3)

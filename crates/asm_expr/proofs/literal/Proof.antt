@@ -1,16 +1,8 @@
 use Rattle.asm_value.specs.declared.Value.the-variants.{Unknown}
 use Rattle.asm_expr.proofs.Laws.{digits-none, digits-some}
-use mathlib.Core.Path.{_≡_, refl, sym, ap, _∙_}
-use native.Mathlib.Omega.{arith}
 use borrow.Author.Needs.{needs}
 use Rattle.asm_expr.proofs.literal.Statement.{statement}
 use Rattle.asm_expr.proofs.literal.Tie as tie
-
-byte-at-requires : tie.Need-byte-at-requires
-byte-at-requires c κs = search needs
-
-digit-requires : tie.Need-digit-requires
-digit-requires c κs = search needs
 
 returns : tie.Need-returns
 returns c =
@@ -18,12 +10,6 @@ returns c =
     let c4 = c2 .before .before in
     digits-none (λ _. Unknown) (c4 .args .negative) (c4 .args .base) (c4 .args .s .now) (c4 .args .at) (c2 .byte-at .result)
     (c .before .digit .result) (c2 .byte-at .ensures) (c .before .digit .ensures .0) (c .if1 .taken)
-
-read-digits-requires : tie.Need-read-digits-requires
-read-digits-requires c κs = search needs
-
-number-requires : tie.Need-number-requires
-number-requires c κs = search needs
 
 returns-2 : tie.Need-returns-2
 returns-2 c =
@@ -38,11 +24,4 @@ returns-2 c =
 
 pub literal-spec : {M : Type 1} → statement M
 literal-spec =
-    tie.close
-    (tie.spec
-    byte-at-requires
-    digit-requires
-    returns
-    read-digits-requires
-    number-requires
-    returns-2)
+    tie.close (tie.spec (λ c κs. search needs) (λ c κs. search needs) returns (λ c κs. search needs) (λ c κs. search needs) returns-2)

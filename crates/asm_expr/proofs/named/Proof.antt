@@ -6,12 +6,6 @@ use borrow.Author.Needs.{needs}
 use Rattle.asm_expr.proofs.named.Statement.{statement}
 use Rattle.asm_expr.proofs.named.Tie as tie
 
-read-word-requires : tie.Need-read-word-requires
-read-word-requires c κs = search needs
-
-word-number-requires : tie.Need-word-number-requires
-word-number-requires c κs = search needs
-
 returns : tie.Need-returns
 returns c =
     let c2 = c .before .before in
@@ -43,5 +37,4 @@ returns-2 c =
     (c3 .read-word .ensures .0)
 
 pub named-spec : {M : Type 1} → statement M
-named-spec =
-    tie.close (tie.spec read-word-requires word-number-requires returns look-up-requires returns-2)
+named-spec = tie.close (tie.spec (λ c κs. search needs) (λ c κs. search needs) returns look-up-requires returns-2)

@@ -1,5 +1,5 @@
 use mathlib.Core.Bool.{true, false}
-use mathlib.Core.Path.{_≡_, refl, sym, ap, _∙_}
+use mathlib.Core.Path.{sym, ap, _∙_}
 use Prim.Native.Nat.{_+_}
 use native.Mathlib.Omega.{arith}
 use Rattle.asm_value.specs.declared.Value.the-variants.{Unknown}
@@ -9,15 +9,6 @@ use Rattle.asm_expr.proofs.Laws.{plain-name, plain-minus, plain-ten, pl
 use borrow.Author.Needs.{needs}
 use Rattle.asm_expr.proofs.plain.Statement.{statement}
 use Rattle.asm_expr.proofs.plain.Tie as tie
-
-byte-at-requires : tie.Need-byte-at-requires
-byte-at-requires c κs = search needs
-
-is-letter-requires : tie.Need-is-letter-requires
-is-letter-requires c κs = search needs
-
-named-requires : tie.Need-named-requires
-named-requires c κs = search needs
 
 returns : tie.Need-returns
 returns c =
@@ -37,16 +28,10 @@ add-byte-at c =
     let c8 = c3 .before .before .before .before .before in
     let h = byte-is-in (c8 .args .s .now) (c8 .args .at) 34 (sym (c3 .byte-at .ensures) ∙ c .if2 .taken) in omega arith
 
-byte-at-requires-2 : tie.Need-byte-at-requires-2
-byte-at-requires-2 c κs = search needs
-
 add-literal : tie.Need-add-literal
 add-literal c =
     let c10 = c .before .before .before .before .before .before .before .before .before .before in
     let h = byte-is-in (c10 .args .s .now) (c10 .args .at + 1) 44 (sym (c .before .byte-at2 .ensures) ∙ c .if3 .taken) in omega arith
-
-literal-requires : tie.Need-literal-requires
-literal-requires c κs = search needs
 
 returns-2 : tie.Need-returns-2
 returns-2 c =
@@ -72,9 +57,6 @@ add-literal-2 c =
     let c10 = c5 .before .before .before .before .before in
     let h = byte-is-in (c10 .args .s .now) (c10 .args .at) 34 (sym (c5 .byte-at .ensures) ∙ c2 .if2 .taken) in omega arith
 
-literal-requires-2 : tie.Need-literal-requires-2
-literal-requires-2 c κs = search needs
-
 returns-3 : tie.Need-returns-3
 returns-3 c =
     let c2 = c .before .before in
@@ -97,9 +79,6 @@ add-literal-3 c =
     let c4 = c .before .before .before .before in
     let c9 = c4 .before .before .before .before .before in
     let h = byte-is-in (c9 .args .s .now) (c9 .args .at) 35 (sym (c4 .byte-at .ensures) ∙ c .if4 .taken) in omega arith
-
-literal-requires-3 : tie.Need-literal-requires-3
-literal-requires-3 c κs = search needs
 
 returns-4 : tie.Need-returns-4
 returns-4 c =
@@ -133,20 +112,6 @@ returns-5 c =
 pub plain-spec : {M : Type 1} → statement M
 plain-spec =
     tie.close
-    (tie.spec
-    byte-at-requires
-    is-letter-requires
-    named-requires
-    returns
-    add-byte-at
-    byte-at-requires-2
-    add-literal
-    literal-requires
-    returns-2
-    add-literal-2
-    literal-requires-2
-    returns-3
-    add-literal-3
-    literal-requires-3
-    returns-4
+    (tie.spec (λ c κs. search needs) (λ c κs. search needs) (λ c κs. search needs) returns add-byte-at (λ c κs. search needs) add-literal
+    (λ c κs. search needs) returns-2 add-literal-2 (λ c κs. search needs) returns-3 add-literal-3 (λ c κs. search needs) returns-4
     returns-5)

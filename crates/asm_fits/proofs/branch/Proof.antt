@@ -1,26 +1,8 @@
-use Rattle.asm_fits.specs.Fits.{mapFit, fitOf, byteFit, wordFit, constantFit, constantNumber, immediateFit}
+use Rattle.asm_fits.specs.Fits.{wordFit}
 use Rattle.asm_fits.proofs.Laws.{branch-number, branch-unknown, branch-outside}
 use borrow.Author.Needs.{needs}
 use Rattle.asm_fits.proofs.branch.Statement.{statement}
 use Rattle.asm_fits.proofs.branch.Tie as tie
-
-word-requires : tie.Need-word-requires
-word-requires c κs = search needs
-
-enum-known-n : tie.Need-enum-known-n
-enum-known-n c = search needs
-
-way-requires : tie.Need-way-requires
-way-requires c κs = search needs
-
-steps-requires : tie.Need-steps-requires
-steps-requires c κs = search needs
-
-enum-told : tie.Need-enum-told
-enum-told c = search needs
-
-enum-told-2 : tie.Need-enum-told-2
-enum-told-2 c = search needs
 
 returns : tie.Need-returns
 returns c =
@@ -56,13 +38,5 @@ returns-3 c =
 pub branch-spec : {M : Type 1} → statement M
 branch-spec =
     tie.close
-    (tie.spec
-    word-requires
-    enum-known-n
-    way-requires
-    steps-requires
-    enum-told
-    enum-told-2
-    returns
-    returns-2
-    returns-3)
+    (tie.spec (λ c κs. search needs) (λ c. search needs) (λ c κs. search needs) (λ c κs. search needs) (λ c. search needs)
+    (λ c. search needs) returns returns-2 returns-3)

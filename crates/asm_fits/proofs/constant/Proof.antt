@@ -1,23 +1,10 @@
-use Rattle.asm_fits.specs.Fits.{mapFit, fitOf, byteFit, wordFit, constantFit, constantNumber, immediateFit}
+use Rattle.asm_fits.specs.Fits.{constantFit}
 use mathlib.Core.Path.{_≡_, sym, ap, _∙_}
-use mir.Val.{toZ, ofZ, SFits}
+use mir.Val.{toZ, ofZ}
 use mir.Syntax.{w32}
-use mathlib.Core.Path.{_≡_}
 use borrow.Author.Needs.{needs}
 use Rattle.asm_fits.proofs.constant.Statement.{statement}
 use Rattle.asm_fits.proofs.constant.Tie as tie
-
-enum-known-v : tie.Need-enum-known-v
-enum-known-v c = search needs
-
-constant-number-requires : tie.Need-constant-number-requires
-constant-number-requires c κs = search needs
-
-enum-told : tie.Need-enum-told
-enum-told c = search needs
-
-enum-told-2 : tie.Need-enum-told-2
-enum-told-2 c = search needs
 
 returns : tie.Need-returns
 returns c =
@@ -34,12 +21,4 @@ returns-3 c = (sym (ap constantFit (c .enum-told2 .given .1)), tt)
 
 pub constant-spec : {M : Type 1} → statement M
 constant-spec =
-    tie.close
-    (tie.spec
-    enum-known-v
-    constant-number-requires
-    enum-told
-    enum-told-2
-    returns
-    returns-2
-    returns-3)
+    tie.close (tie.spec (λ c. search needs) (λ c κs. search needs) (λ c. search needs) (λ c. search needs) returns returns-2 returns-3)

@@ -7,9 +7,6 @@ use borrow.Author.Needs.{needs}
 use Rattle.asm_fits.proofs.constant_number.Statement.{statement}
 use Rattle.asm_fits.proofs.constant_number.Tie as tie
 
-magnitude-requires : tie.Need-magnitude-requires
-magnitude-requires c κs = search needs
-
 returns : tie.Need-returns
 returns c =
     let c1 = c .before in
@@ -31,9 +28,6 @@ returns-2 c =
           (is-minus (c3 .args .z) (c3 .fits .z) (magnitude .result) (magnitude .ensures) (c1 .if1 .taken)) (c .if2 .left),
       tt,
     )
-
-cast-t5 : tie.Need-cast-t5
-cast-t5 c = search needs
 
 returns-3 : tie.Need-returns-3
 returns-3 c =
@@ -124,14 +118,4 @@ returns-8 c =
 pub constant-number-spec : {M : Type 1} → statement M
 constant-number-spec =
     tie.close
-    (tie.spec
-    magnitude-requires
-    returns
-    returns-2
-    cast-t5
-    returns-3
-    returns-4
-    returns-5
-    returns-6
-    returns-7
-    returns-8)
+    (tie.spec (λ c κs. search needs) returns returns-2 (λ c. search needs) returns-3 returns-4 returns-5 returns-6 returns-7 returns-8)

@@ -1,11 +1,8 @@
 use Rattle.asm_fits.proofs.Laws.{below-at, count-below}
-use Rattle.asm_fits.specs.Fits.{mapFit, fitOf, byteFit, wordFit, constantFit, constantNumber, immediateFit}
+use Rattle.asm_fits.specs.Fits.{fitOf}
 use borrow.Author.Needs.{needs}
 use Rattle.asm_fits.proofs.count.Statement.{statement}
 use Rattle.asm_fits.proofs.count.Tie as tie
-
-ranged-requires : tie.Need-ranged-requires
-ranged-requires c κs = search needs
 
 returns : tie.Need-returns
 returns c =
@@ -17,4 +14,4 @@ returns c =
     )
 
 pub count-spec : {M : Type 1} → statement M
-count-spec = tie.close (tie.spec ranged-requires returns)
+count-spec = tie.close (tie.spec (λ c κs. search needs) returns)

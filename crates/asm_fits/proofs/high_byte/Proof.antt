@@ -1,18 +1,9 @@
 use native.Mathlib.Omega.{arith}
-use Prim.Native.Nat.{ℕ, _+_, _-_, _/_, _%_}
+use Prim.Native.Nat.{ℕ, _/_}
 use Rattle.asm_fits.proofs.Laws.{map-number, map-unknown, map-outside}
 use borrow.Author.Needs.{needs}
 use Rattle.asm_fits.proofs.high_byte.Statement.{statement}
 use Rattle.asm_fits.proofs.high_byte.Tie as tie
-
-enum-known-f : tie.Need-enum-known-f
-enum-known-f c = search needs
-
-enum-told : tie.Need-enum-told
-enum-told c = search needs
-
-enum-told-2 : tie.Need-enum-told-2
-enum-told-2 c = search needs
 
 returns : tie.Need-returns
 returns c =
@@ -27,5 +18,4 @@ returns-3 : tie.Need-returns-3
 returns-3 c = (map-outside (λ (n : ℕ). n / 256) (c .before .before .args .f) (c .enum-told2 .given .1), tt)
 
 pub high-byte-spec : {M : Type 1} → statement M
-high-byte-spec =
-    tie.close (tie.spec enum-known-f enum-told enum-told-2 returns returns-2 returns-3)
+high-byte-spec = tie.close (tie.spec (λ c. search needs) (λ c. search needs) (λ c. search needs) returns returns-2 returns-3)

@@ -1,15 +1,12 @@
 use borrow.Author.Tests.{eq-eqb, ne-eqb}
 use lib.Dec.{eqb}
 use mathlib.Core.Bool.{Bool, cond}
-use Prim.Native.Nat.{ℕ, _+_, _-_, _/_, _%_}
-use Rattle.asm_fits.specs.Fits.{mapFit, fitOf, byteFit, wordFit, constantFit, constantNumber, immediateFit}
-use mathlib.Core.Path.{_≡_, sym, ap, _∙_}
+use Prim.Native.Nat.{ℕ, _/_, _%_}
+use Rattle.asm_fits.specs.Fits.{mapFit, byteFit, wordFit}
+use mathlib.Core.Path.{sym, ap, _∙_}
 use borrow.Author.Needs.{needs}
 use Rattle.asm_fits.proofs.immediate.Statement.{statement}
 use Rattle.asm_fits.proofs.immediate.Tie as tie
-
-byte-requires : tie.Need-byte-requires
-byte-requires c κs = search needs
 
 returns : tie.Need-returns
 returns c =
@@ -25,12 +22,6 @@ returns c =
       c .byte .ensures .1,
     )
 
-word-requires : tie.Need-word-requires
-word-requires c κs = search needs
-
-high-byte-requires : tie.Need-high-byte-requires
-high-byte-requires c κs = search needs
-
 returns-2 : tie.Need-returns-2
 returns-2 c =
     let c1 = c .before in
@@ -42,12 +33,6 @@ returns-2 c =
           ∙ rw (c3 .if1 .left, eq-eqb (c4 .args .op) 3 (c2 .if2 .taken)),
       c .high-byte .ensures .1,
     )
-
-word-requires-2 : tie.Need-word-requires-2
-word-requires-2 c κs = search needs
-
-low-byte-requires : tie.Need-low-byte-requires
-low-byte-requires c κs = search needs
 
 returns-3 : tie.Need-returns-3
 returns-3 c =
@@ -64,12 +49,5 @@ returns-3 c =
 pub immediate-spec : {M : Type 1} → statement M
 immediate-spec =
     tie.close
-    (tie.spec
-    byte-requires
-    returns
-    word-requires
-    high-byte-requires
-    returns-2
-    word-requires-2
-    low-byte-requires
-    returns-3)
+    (tie.spec (λ c κs. search needs) returns (λ c κs. search needs) (λ c κs. search needs) returns-2 (λ c κs. search needs)
+    (λ c κs. search needs) returns-3)

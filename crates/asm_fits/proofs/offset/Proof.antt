@@ -1,23 +1,11 @@
 use Rattle.asm_fits.specs.Fits.{mapFit}
 use mathlib.Core.Path.{ap, _∙_}
 use native.Mathlib.Omega.{arith}
-use Prim.Native.Nat.{ℕ, _+_, _-_, _/_, _%_}
+use Prim.Native.Nat.{ℕ, _%_}
 use Rattle.asm_fits.proofs.Laws.{map-number, map-unknown, map-outside}
 use borrow.Author.Needs.{needs}
 use Rattle.asm_fits.proofs.offset.Statement.{statement}
 use Rattle.asm_fits.proofs.offset.Tie as tie
-
-ranged-requires : tie.Need-ranged-requires
-ranged-requires c κs = search needs
-
-enum-known-n : tie.Need-enum-known-n
-enum-known-n c = search needs
-
-enum-told : tie.Need-enum-told
-enum-told c = search needs
-
-enum-told-2 : tie.Need-enum-told-2
-enum-told-2 c = search needs
 
 returns : tie.Need-returns
 returns c =
@@ -46,5 +34,4 @@ returns-3 c =
 
 pub offset-spec : {M : Type 1} → statement M
 offset-spec =
-    tie.close
-    (tie.spec ranged-requires enum-known-n enum-told enum-told-2 returns returns-2 returns-3)
+    tie.close (tie.spec (λ c κs. search needs) (λ c. search needs) (λ c. search needs) (λ c. search needs) returns returns-2 returns-3)

@@ -1,19 +1,10 @@
-use mir.Val.{toZ, ofZ, SFits}
+use mir.Val.{toZ, ofZ}
 use mir.Syntax.{w32}
 use mathlib.Core.Path.{_≡_}
 use Rattle.asm_fits.proofs.Laws.{ranged-in, ranged-out, ranged-unknown, ranged-outside}
 use borrow.Author.Needs.{needs}
 use Rattle.asm_fits.proofs.ranged.Statement.{statement}
 use Rattle.asm_fits.proofs.ranged.Tie as tie
-
-enum-known-v : tie.Need-enum-known-v
-enum-known-v c = search needs
-
-within-requires : tie.Need-within-requires
-within-requires c κs = search needs
-
-residue-requires : tie.Need-residue-requires
-residue-requires c κs = search needs
 
 returns : tie.Need-returns
 returns c =
@@ -26,12 +17,6 @@ returns c =
     let e : toZ w32 (ofZ w32 (v .given .0 .0)) ≡ v .given .0 .0 = search needs in
     ranged-in (a .below) (a .limit) (a .v) (v .given .0 .0) (c2 .within .result) (c .residue .result) (v .given .1)
     (rw e at (c2 .within .ensures)) (c1 .if1 .taken) (rw e at (c .residue .ensures))
-
-enum-told : tie.Need-enum-told
-enum-told c = search needs
-
-enum-told-2 : tie.Need-enum-told-2
-enum-told-2 c = search needs
 
 returns-2 : tie.Need-returns-2
 returns-2 c =
@@ -57,13 +42,5 @@ returns-4 c =
 pub ranged-spec : {M : Type 1} → statement M
 ranged-spec =
     tie.close
-    (tie.spec
-    enum-known-v
-    within-requires
-    residue-requires
-    returns
-    enum-told
-    enum-told-2
-    returns-2
-    returns-3
-    returns-4)
+    (tie.spec (λ c. search needs) (λ c κs. search needs) (λ c κs. search needs) returns (λ c. search needs) (λ c. search needs) returns-2
+    returns-3 returns-4)

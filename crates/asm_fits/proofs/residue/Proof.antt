@@ -3,15 +3,6 @@ use borrow.Author.Needs.{needs}
 use Rattle.asm_fits.proofs.residue.Statement.{statement}
 use Rattle.asm_fits.proofs.residue.Tie as tie
 
-magnitude-requires : tie.Need-magnitude-requires
-magnitude-requires c κs = search needs
-
-cast-n : tie.Need-cast-n
-cast-n c = search needs
-
-sub-result : tie.Need-sub-result
-sub-result c = search needs
-
 returns : tie.Need-returns
 returns c =
     let c1 = c .before in
@@ -29,4 +20,4 @@ returns-2 c =
     (is-plus (c2 .args .z) (c2 .fits .z) (magnitude .result) (magnitude .ensures) (c .if1 .left))
 
 pub residue-spec : {M : Type 1} → statement M
-residue-spec = tie.close (tie.spec magnitude-requires cast-n sub-result returns returns-2)
+residue-spec = tie.close (tie.spec (λ c κs. search needs) (λ c. search needs) (λ c. search needs) returns returns-2)

@@ -7,17 +7,11 @@ use Rattle.asm_fits.proofs.steps.Tie as tie
 returns : tie.Need-returns
 returns c = (steps-odd (c .before .args .half) (c .before .args .d) (c .if1 .taken), tt)
 
-cast-t6 : tie.Need-cast-t6
-cast-t6 c = search needs
-
 returns-2 : tie.Need-returns-2
 returns-2 c =
     let c1 = c .before in
     let c2 = c1 .before in
     (steps-up (c2 .args .half) (c2 .args .d) (c1 .if1 .left) (c .if2 .taken), omega (arith, c .if2 .taken))
-
-sub-if3 : tie.Need-sub-if3
-sub-if3 c = search needs
 
 returns-3 : tie.Need-returns-3
 returns-3 c =
@@ -25,18 +19,6 @@ returns-3 c =
     let c2 = c1 .before in
     let c3 = c2 .before in
     (steps-far (c3 .args .half) (c3 .args .d) (c2 .if1 .left) (c1 .if2 .left) (c .if3 .taken), tt)
-
-sub-t7 : tie.Need-sub-t7
-sub-t7 c = search needs
-
-sub-t8 : tie.Need-sub-t8
-sub-t8 c = search needs
-
-sub-t9 : tie.Need-sub-t9
-sub-t9 c = search needs
-
-cast-t10 : tie.Need-cast-t10
-cast-t10 c = search needs
 
 returns-4 : tie.Need-returns-4
 returns-4 c =
@@ -50,4 +32,5 @@ returns-4 c =
 pub steps-spec : {M : Type 1} → statement M
 steps-spec =
     tie.close
-    (tie.spec returns cast-t6 returns-2 sub-if3 returns-3 sub-t7 sub-t8 sub-t9 cast-t10 returns-4)
+    (tie.spec returns (λ c. search needs) returns-2 (λ c. search needs) returns-3 (λ c. search needs) (λ c. search needs)
+    (λ c. search needs) (λ c. search needs) returns-4)

@@ -3,9 +3,6 @@ use borrow.Author.Needs.{needs}
 use Rattle.asm_fits.proofs.within.Statement.{statement}
 use Rattle.asm_fits.proofs.within.Tie as tie
 
-magnitude-requires : tie.Need-magnitude-requires
-magnitude-requires c κs = search needs
-
 returns : tie.Need-returns
 returns c =
     let c1 = c .before in
@@ -25,4 +22,4 @@ returns-2 c =
     (is-plus (a .z) (c2 .fits .z) (magnitude .result) (magnitude .ensures) (c .if1 .left))
 
 pub within-spec : {M : Type 1} → statement M
-within-spec = tie.close (tie.spec magnitude-requires returns returns-2)
+within-spec = tie.close (tie.spec (λ c κs. search needs) returns returns-2)

@@ -2,11 +2,11 @@ use Rattle.asm_image.proofs.Laws.{store-end, store-more, image-last}
 use Rattle.asm_image.specs.Image.{placedFrom, placedOf, imageOf}
 use Rattle.asm_text.specs.Text.{lookUpAt}
 use Rattle.lines.specs.Lines.{linesOf}
-use lib.ListN.{length, drop, length-set}
+use lib.ListN.{length, drop}
 use borrow.Author.Needs.{needs}
 use native.Mathlib.Omega.{arith}
-use Prim.Native.Nat.{ℕ, _+_, _-_, _%_, _≤_, _<_}
-use mathlib.Core.Path.{_≡_, refl, sym, ap, _∙_}
+use Prim.Native.Nat.{_-_, _≤_}
+use mathlib.Core.Path.{_≡_, refl, sym, _∙_}
 use Rattle.asm_image.proofs.image.Statement.{statement}
 use Rattle.asm_image.proofs.image.Tie as tie
 
@@ -21,18 +21,6 @@ abbrev μ-loop : tie.MeasureT-loop
 
 loop-holds : tie.Need-loop-holds Inv-loop μ-loop
 loop-holds c = (omega arith, c .before .before .before .before .pre, refl)
-
-line-at-requires : tie.Need-line-at-requires Inv-loop μ-loop
-line-at-requires c κs = omega arith
-
-sub-part : tie.Need-sub-part Inv-loop μ-loop
-sub-part c = omega arith
-
-part-part-start : tie.Need-part-part-start Inv-loop μ-loop
-part-part-start c = search needs
-
-part-part-end : tie.Need-part-part-end Inv-loop μ-loop
-part-part-end c = search needs
 
 store-line-requires : tie.Need-store-line-requires Inv-loop μ-loop
 store-line-requires c κs = c .before .before .before .before .loop .inv .1
@@ -57,9 +45,6 @@ returns c =
     (cut .result .stop) (cut .result .next) (c8 .loop .p) (c8 .loop .memory) (stored .last .0) (cut .ensures) (stored .ensures .0)
     (stored .result .end) (stored .ensures .1 .1) (c .if1 .taken)
     ∙ c8 .loop .inv .2
-
-loop-less : tie.Need-loop-less Inv-loop μ-loop
-loop-less c = omega arith
 
 loop-again : tie.Need-loop-again Inv-loop μ-loop
 loop-again c =
@@ -93,18 +78,5 @@ returns-2 c =
 pub image-spec : {M : Type 1} → statement M
 image-spec =
     tie.close
-    (tie.spec
-    Inv-loop
-    μ-loop
-    loop-holds
-    line-at-requires
-    sub-part
-    part-part-start
-    part-part-end
-    store-line-requires
-    same-length
-    returns
-    loop-less
-    loop-again
-    same-length-2
-    returns-2)
+    (tie.spec Inv-loop μ-loop loop-holds (λ c κs. omega arith) (λ c. omega arith) (λ c. search needs) (λ c. search needs)
+    store-line-requires same-length returns (λ c. omega arith) loop-again same-length-2 returns-2)

@@ -3,18 +3,6 @@ use borrow.Author.Needs.{needs}
 use Rattle.asm_image.proofs.store.Statement.{statement}
 use Rattle.asm_image.proofs.store.Tie as tie
 
-layout-of-requires : tie.Need-layout-of-requires
-layout-of-requires c κs = search needs
-
-size-requires : tie.Need-size-requires
-size-requires c κs = search needs
-
-used-requires : tie.Need-used-requires
-used-requires c κs = search needs
-
-enum-known-n : tie.Need-enum-known-n
-enum-known-n c = search needs
-
 put-requires : tie.Need-put-requires
 put-requires c κs =
     let c2 = c .before .before in
@@ -26,15 +14,6 @@ put-requires c κs =
       used-room (c8 .args .p) (c8 .args .x) (c6 .layout-of .result) (c5 .size .result) (c4 .used .result) (c6 .layout-of .ensures)
           (c5 .size .ensures) (c4 .used .ensures) (c2 .n .given .0 .0) (c2 .n .given .1),
     )
-
-enum-told : tie.Need-enum-told
-enum-told c = search needs
-
-enum-told-2 : tie.Need-enum-told-2
-enum-told-2 c = search needs
-
-same-length : tie.Need-same-length
-same-length c = search needs
 
 returns : tie.Need-returns
 returns c =
@@ -72,15 +51,5 @@ returns-3 c =
 pub store-spec : {M : Type 1} → statement M
 store-spec =
     tie.close
-    (tie.spec
-    layout-of-requires
-    size-requires
-    used-requires
-    enum-known-n
-    put-requires
-    enum-told
-    enum-told-2
-    same-length
-    returns
-    returns-2
-    returns-3)
+    (tie.spec (λ c κs. search needs) (λ c κs. search needs) (λ c κs. search needs) (λ c. search needs) put-requires (λ c. search needs)
+    (λ c. search needs) (λ c. search needs) returns returns-2 returns-3)

@@ -2,16 +2,10 @@ use Rattle.asm_line.specs.Line.{lineOf}
 use Rattle.asm_text.specs.Text.{lookUpAt}
 use Rattle.asm_sweeps.proofs.Laws.{form-line, form-none}
 use Rattle.asm_image.proofs.Laws.{image-fault, image-one, place-fault, place-line}
-use mathlib.Core.Path.{_≡_, refl, sym, ap, _∙_}
+use mathlib.Core.Path.{sym, _∙_}
 use borrow.Author.Needs.{needs}
 use Rattle.asm_image.proofs.store_line.Statement.{statement}
 use Rattle.asm_image.proofs.store_line.Tie as tie
-
-read-line-requires : tie.Need-read-line-requires
-read-line-requires c κs = search needs
-
-enum-known-r : tie.Need-enum-known-r
-enum-known-r c = search needs
 
 enum-told : tie.Need-enum-told
 enum-told c = search needs
@@ -30,24 +24,6 @@ returns c =
         form-none (read .result) (lineOf names (a .part .now)) (read .ensures) (enum-told .given .1) .1,
       ),
     )
-
-store-requires : tie.Need-store-requires
-store-requires c κs = search needs
-
-layout-of-requires : tie.Need-layout-of-requires
-layout-of-requires c κs = search needs
-
-is-stop-requires : tie.Need-is-stop-requires
-is-stop-requires c κs = search needs
-
-after-requires : tie.Need-after-requires
-after-requires c κs = search needs
-
-place-after-requires : tie.Need-place-after-requires
-place-after-requires c κs = search needs
-
-same-length : tie.Need-same-length
-same-length c = search needs
 
 returns-2 : tie.Need-returns-2
 returns-2 c =
@@ -76,15 +52,5 @@ returns-2 c =
 pub store-line-spec : {M : Type 1} → statement M
 store-line-spec =
     tie.close
-    (tie.spec
-    read-line-requires
-    enum-known-r
-    enum-told
-    returns
-    store-requires
-    layout-of-requires
-    is-stop-requires
-    after-requires
-    place-after-requires
-    same-length
-    returns-2)
+    (tie.spec (λ c κs. search needs) (λ c. search needs) enum-told returns (λ c κs. search needs) (λ c κs. search needs)
+    (λ c κs. search needs) (λ c κs. search needs) (λ c κs. search needs) (λ c. search needs) returns-2)

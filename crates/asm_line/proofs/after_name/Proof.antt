@@ -1,5 +1,5 @@
 use mathlib.Core.Bool.{true}
-use mathlib.Core.Path.{_≡_, refl, sym, ap, _∙_}
+use mathlib.Core.Path.{sym, ap, _∙_}
 use lib.ListN.{drop}
 use Rattle.asm_text.specs.Text.{word, lookUpAt}
 use Rattle.asm_words.proofs.Laws.{number-of}
@@ -9,9 +9,6 @@ use borrow.Author.Needs.{needs}
 use Rattle.asm_line.proofs.after_name.Statement.{statement}
 use Rattle.asm_line.proofs.after_name.Tie as tie
 
-is-over-requires : tie.Need-is-over-requires
-is-over-requires c κs = search needs
-
 returns : tie.Need-returns
 returns c =
     let c6 = c .before .before .before .before .before .before in
@@ -19,18 +16,6 @@ returns c =
     let s = a .line .now in
     let f = lookUpAt (a .source .now) (a .places .now) (a .keys .now) (a .values .now) in
     name-alone f s (a .name) (a .at) (sym (c .before .is-over .ensures) ∙ c .if1 .taken)
-
-read-word-requires : tie.Need-read-word-requires
-read-word-requires c κs = search needs
-
-word-number-requires : tie.Need-word-number-requires
-word-number-requires c κs = search needs
-
-read-statement-requires : tie.Need-read-statement-requires
-read-statement-requires c κs = search needs
-
-end-line-requires : tie.Need-end-line-requires
-end-line-requires c κs = search needs
 
 returns-2 : tie.Need-returns-2
 returns-2 c =
@@ -53,11 +38,5 @@ returns-2 c =
 pub after-name-spec : {M : Type 1} → statement M
 after-name-spec =
     tie.close
-    (tie.spec
-    is-over-requires
-    returns
-    read-word-requires
-    word-number-requires
-    read-statement-requires
-    end-line-requires
+    (tie.spec (λ c κs. search needs) returns (λ c κs. search needs) (λ c κs. search needs) (λ c κs. search needs) (λ c κs. search needs)
     returns-2)

@@ -1,35 +1,12 @@
-use mathlib.Core.Path.{_≡_, sym, ap, _∙_}
-use borrow.Author.Tests.{lt-ltb, le-ltb}
-use Rattle.asm_line.specs.Statement.{arithmeticFrom}
+use mathlib.Core.Path.{sym, _∙_}
 use borrow.Author.Needs.{needs}
 use Rattle.asm_line.proofs.arithmetic_from.Statement.{statement}
 use Rattle.asm_line.proofs.arithmetic_from.Tie as tie
-
-read-register-requires : tie.Need-read-register-requires
-read-register-requires c κs = search needs
-
-enum-known-a : tie.Need-enum-known-a
-enum-known-a c = search needs
-
-enum-told : tie.Need-enum-told
-enum-told c = search needs
-
-constant-requires : tie.Need-constant-requires
-constant-requires c κs = search needs
 
 returns : tie.Need-returns
 returns c =
     rw (sym (c .before .before .before .read-register .ensures) ∙ c .before .enum-told .given .1)
     (c .constant .ensures)
-
-comma-register-requires : tie.Need-comma-register-requires
-comma-register-requires c κs = search needs
-
-enum-known-d : tie.Need-enum-known-d
-enum-known-d c = search needs
-
-enum-told-2 : tie.Need-enum-told-2
-enum-told-2 c = search needs
 
 returns-2 : tie.Need-returns-2
 returns-2 c =
@@ -54,14 +31,5 @@ returns-3 c =
 pub arithmetic-from-spec : {M : Type 1} → statement M
 arithmetic-from-spec =
     tie.close
-    (tie.spec
-    read-register-requires
-    enum-known-a
-    enum-told
-    constant-requires
-    returns
-    comma-register-requires
-    enum-known-d
-    enum-told-2
-    returns-2
-    returns-3)
+    (tie.spec (λ c κs. search needs) (λ c. search needs) (λ c. search needs) (λ c κs. search needs) returns (λ c κs. search needs)
+    (λ c. search needs) (λ c. search needs) returns-2 returns-3)

@@ -10,9 +10,6 @@ returns c =
     let c6 = c .before .before .before .before .before .before in
     rw (lt-ltb (c6 .args .m) 47 (c .before .if1 .taken), c .if2 .taken)
 
-one-value-requires : tie.Need-one-value-requires
-one-value-requires c κs = search needs
-
 returns-2 : tie.Need-returns-2
 unfolding directiveOf
 returns-2 c =
@@ -33,4 +30,4 @@ returns-4 c =
     rw (le-ltb (c6 .args .m) 47 (c .before .if1 .left), le-ltb (c6 .args .m) 48 (c .if3 .left))
 
 pub directive-spec : {M : Type 1} → statement M
-directive-spec = tie.close (tie.spec returns one-value-requires returns-2 returns-3 returns-4)
+directive-spec = tie.close (tie.spec returns (λ c κs. search needs) returns-2 returns-3 returns-4)

@@ -1,25 +1,10 @@
-use mathlib.Core.Path.{_≡_, refl, sym, ap, _∙_}
+use mathlib.Core.Path.{sym, ap, _∙_}
 use Rattle.asm_operands.specs.Operands.{over?}
 use Rattle.asm_line.specs.Line.{ended}
 use Rattle.asm_line.proofs.Laws.{end-yes, end-no}
 use borrow.Author.Needs.{needs}
 use Rattle.asm_line.proofs.end_line.Statement.{statement}
 use Rattle.asm_line.proofs.end_line.Tie as tie
-
-enum-known-x : tie.Need-enum-known-x
-enum-known-x c = search needs
-
-enum-told : tie.Need-enum-told
-enum-told c = search needs
-
-returns : tie.Need-returns
-returns c = search needs
-
-skip-blanks-requires : tie.Need-skip-blanks-requires
-skip-blanks-requires c κs = search needs
-
-is-over-requires : tie.Need-is-over-requires
-is-over-requires c κs = search needs
 
 returns-2 : tie.Need-returns-2
 returns-2 c =
@@ -46,11 +31,4 @@ returns-3 c =
 pub end-line-spec : {M : Type 1} → statement M
 end-line-spec =
     tie.close
-    (tie.spec
-    enum-known-x
-    enum-told
-    returns
-    skip-blanks-requires
-    is-over-requires
-    returns-2
-    returns-3)
+    (tie.spec (λ c. search needs) (λ c. search needs) (λ c. search needs) (λ c κs. search needs) (λ c κs. search needs) returns-2 returns-3)

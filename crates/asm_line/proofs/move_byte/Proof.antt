@@ -1,5 +1,4 @@
-use mathlib.Core.Path.{_≡_, sym, ap, _∙_}
-use borrow.Author.Tests.{lt-ltb, le-ltb}
+use mathlib.Core.Path.{sym, ap, _∙_}
 use Rattle.asm_line.specs.Statement.{moveByte}
 use Rattle.asm_operands.specs.Operands.{valueAt}
 use Rattle.asm_line.specs.declared.Stated.the-variants.{Fits}
@@ -8,27 +7,9 @@ use borrow.Author.Needs.{needs}
 use Rattle.asm_line.proofs.move_byte.Statement.{statement}
 use Rattle.asm_line.proofs.move_byte.Tie as tie
 
-factor-requires : tie.Need-factor-requires
-factor-requires c κs = search needs
-
-enum-known-a : tie.Need-enum-known-a
-enum-known-a c = search needs
-
-enum-told : tie.Need-enum-told
-enum-told c = search needs
-
 returns : tie.Need-returns
 unfolding moveByte valueAt
 returns c = rw (sym (c .before .before .factor .ensures) ∙ c .enum-told .given .1)
-
-comma-register-requires : tie.Need-comma-register-requires
-comma-register-requires c κs = search needs
-
-enum-known-d : tie.Need-enum-known-d
-enum-known-d c = search needs
-
-enum-told-2 : tie.Need-enum-told-2
-enum-told-2 c = search needs
 
 returns-2 : tie.Need-returns-2
 unfolding moveByte valueAt
@@ -40,9 +21,6 @@ returns-2 c =
       sym (c6 .factor .ensures) ∙ c4 .a .given .1,
       sym (c2 .comma-register .ensures) ∙ c .enum-told2 .given .1,
     )
-
-is-number-requires : tie.Need-is-number-requires
-is-number-requires c κs = search needs
 
 returns-3 : tie.Need-returns-3
 unfolding moveByte valueAt
@@ -61,14 +39,5 @@ returns-3 c =
 pub move-byte-spec : {M : Type 1} → statement M
 move-byte-spec =
     tie.close
-    (tie.spec
-    factor-requires
-    enum-known-a
-    enum-told
-    returns
-    comma-register-requires
-    enum-known-d
-    enum-told-2
-    returns-2
-    is-number-requires
-    returns-3)
+    (tie.spec (λ c κs. search needs) (λ c. search needs) (λ c. search needs) returns (λ c κs. search needs) (λ c. search needs)
+    (λ c. search needs) returns-2 (λ c κs. search needs) returns-3)

@@ -4,18 +4,12 @@ use borrow.Author.Needs.{needs}
 use Rattle.asm_line.proofs.on_control.Statement.{statement}
 use Rattle.asm_line.proofs.on_control.Tie as tie
 
-one-value-requires : tie.Need-one-value-requires
-one-value-requires c κs = search needs
-
 returns : tie.Need-returns
 unfolding onControl
 returns c =
     let c6 = c .before .before .before .before .before .before in
     rw (lt-ltb (c6 .args .m) 31 (c .before .if1 .taken))
     (c .one-value .ensures)
-
-on-flags-requires : tie.Need-on-flags-requires
-on-flags-requires c κs = search needs
 
 returns-2 : tie.Need-returns-2
 unfolding onControl
@@ -27,9 +21,6 @@ returns-2 c =
       lt-ltb (c7 .args .m) 33 (c .before .if2 .taken),
     )
     (c .on-flags .ensures)
-
-read-conditional-requires : tie.Need-read-conditional-requires
-read-conditional-requires c κs = search needs
 
 returns-3 : tie.Need-returns-3
 unfolding onControl
@@ -43,12 +34,4 @@ returns-3 c =
     (c .read-conditional .ensures)
 
 pub on-control-spec : {M : Type 1} → statement M
-on-control-spec =
-    tie.close
-    (tie.spec
-    one-value-requires
-    returns
-    on-flags-requires
-    returns-2
-    read-conditional-requires
-    returns-3)
+on-control-spec = tie.close (tie.spec (λ c κs. search needs) returns (λ c κs. search needs) returns-2 (λ c κs. search needs) returns-3)

@@ -1,18 +1,9 @@
-use mathlib.Core.Path.{_≡_, sym, ap, _∙_}
+use mathlib.Core.Path.{sym, _∙_}
 use borrow.Author.Tests.{lt-ltb, le-ltb}
 use Rattle.asm_line.specs.Statement.{onFlags}
 use borrow.Author.Needs.{needs}
 use Rattle.asm_line.proofs.on_flags.Statement.{statement}
 use Rattle.asm_line.proofs.on_flags.Tie as tie
-
-read-flags-requires : tie.Need-read-flags-requires
-read-flags-requires c κs = search needs
-
-enum-known-f : tie.Need-enum-known-f
-enum-known-f c = search needs
-
-enum-told : tie.Need-enum-told
-enum-told c = search needs
 
 returns : tie.Need-returns
 unfolding onFlags
@@ -41,5 +32,4 @@ returns-3 c =
     )
 
 pub on-flags-spec : {M : Type 1} → statement M
-on-flags-spec =
-    tie.close (tie.spec read-flags-requires enum-known-f enum-told returns returns-2 returns-3)
+on-flags-spec = tie.close (tie.spec (λ c κs. search needs) (λ c. search needs) (λ c. search needs) returns returns-2 returns-3)

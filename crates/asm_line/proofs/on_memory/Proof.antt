@@ -4,18 +4,12 @@ use borrow.Author.Needs.{needs}
 use Rattle.asm_line.proofs.on_memory.Statement.{statement}
 use Rattle.asm_line.proofs.on_memory.Tie as tie
 
-read-load-requires : tie.Need-read-load-requires
-read-load-requires c κs = search needs
-
 returns : tie.Need-returns
 unfolding onMemory
 returns c =
     let c6 = c .before .before .before .before .before .before in
     rw (lt-ltb (c6 .args .m) 35 (c .before .if1 .taken))
     (c .read-load .ensures)
-
-read-store-requires : tie.Need-read-store-requires
-read-store-requires c κs = search needs
 
 returns-2 : tie.Need-returns-2
 unfolding onMemory
@@ -27,9 +21,6 @@ returns-2 c =
       lt-ltb (c7 .args .m) 36 (c .before .if2 .taken),
     )
     (c .read-store .ensures)
-
-move-byte-requires : tie.Need-move-byte-requires
-move-byte-requires c κs = search needs
 
 returns-3 : tie.Need-returns-3
 unfolding onMemory
@@ -43,9 +34,6 @@ returns-3 c =
       lt-ltb (c8 .args .m) 40 (c .before .if3 .taken),
     )
     (c .move-byte .ensures)
-
-load-relative-requires : tie.Need-load-relative-requires
-load-relative-requires c κs = search needs
 
 returns-4 : tie.Need-returns-4
 unfolding onMemory
@@ -61,9 +49,6 @@ returns-4 c =
       lt-ltb (c9 .args .m) 41 (c .before .if4 .taken),
     )
     (c .load-relative .ensures)
-
-store-relative-requires : tie.Need-store-relative-requires
-store-relative-requires c κs = search needs
 
 returns-5 : tie.Need-returns-5
 unfolding onMemory
@@ -83,14 +68,5 @@ returns-5 c =
 pub on-memory-spec : {M : Type 1} → statement M
 on-memory-spec =
     tie.close
-    (tie.spec
-    read-load-requires
-    returns
-    read-store-requires
-    returns-2
-    move-byte-requires
-    returns-3
-    load-relative-requires
-    returns-4
-    store-relative-requires
-    returns-5)
+    (tie.spec (λ c κs. search needs) returns (λ c κs. search needs) returns-2 (λ c κs. search needs) returns-3 (λ c κs. search needs)
+    returns-4 (λ c κs. search needs) returns-5)

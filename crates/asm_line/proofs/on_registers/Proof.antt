@@ -4,21 +4,12 @@ use borrow.Author.Needs.{needs}
 use Rattle.asm_line.proofs.on_registers.Statement.{statement}
 use Rattle.asm_line.proofs.on_registers.Tie as tie
 
-sub-read-arithmetic : tie.Need-sub-read-arithmetic
-sub-read-arithmetic c = search needs
-
-read-arithmetic-requires : tie.Need-read-arithmetic-requires
-read-arithmetic-requires c κs = search needs
-
 returns : tie.Need-returns
 unfolding onRegisters
 returns c =
     let c6 = c .before .before .before .before .before .before in
     rw (lt-ltb (c6 .args .m) 22 (c .before .if1 .taken))
     (c .read-arithmetic .ensures)
-
-read-move-requires : tie.Need-read-move-requires
-read-move-requires c κs = search needs
 
 returns-2 : tie.Need-returns-2
 unfolding onRegisters
@@ -30,9 +21,6 @@ returns-2 c =
       lt-ltb (c7 .args .m) 23 (c .before .if2 .taken),
     )
     (c .read-move .ensures)
-
-read-exchange-requires : tie.Need-read-exchange-requires
-read-exchange-requires c κs = search needs
 
 returns-3 : tie.Need-returns-3
 unfolding onRegisters
@@ -46,9 +34,6 @@ returns-3 c =
       lt-ltb (c8 .args .m) 24 (c .before .if3 .taken),
     )
     (c .read-exchange .ensures)
-
-read-unary-requires : tie.Need-read-unary-requires
-read-unary-requires c κs = search needs
 
 returns-4 : tie.Need-returns-4
 unfolding onRegisters
@@ -64,9 +49,6 @@ returns-4 c =
       lt-ltb (c9 .args .m) 27 (c .before .if4 .taken),
     )
     (c .read-unary .ensures)
-
-one-register-requires : tie.Need-one-register-requires
-one-register-requires c κs = search needs
 
 returns-5 : tie.Need-returns-5
 unfolding onRegisters
@@ -86,15 +68,5 @@ returns-5 c =
 pub on-registers-spec : {M : Type 1} → statement M
 on-registers-spec =
     tie.close
-    (tie.spec
-    sub-read-arithmetic
-    read-arithmetic-requires
-    returns
-    read-move-requires
-    returns-2
-    read-exchange-requires
-    returns-3
-    read-unary-requires
-    returns-4
-    one-register-requires
-    returns-5)
+    (tie.spec (λ c. search needs) (λ c κs. search needs) returns (λ c κs. search needs) returns-2 (λ c κs. search needs) returns-3
+    (λ c κs. search needs) returns-4 (λ c κs. search needs) returns-5)

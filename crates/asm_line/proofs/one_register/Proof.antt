@@ -1,18 +1,9 @@
-use mathlib.Core.Path.{_≡_, sym, ap, _∙_}
+use mathlib.Core.Path.{sym, _∙_}
 use borrow.Author.Tests.{lt-ltb, le-ltb}
 use Rattle.asm_line.specs.Statement.{oneRegister}
 use borrow.Author.Needs.{needs}
 use Rattle.asm_line.proofs.one_register.Statement.{statement}
 use Rattle.asm_line.proofs.one_register.Tie as tie
-
-read-register-requires : tie.Need-read-register-requires
-read-register-requires c κs = search needs
-
-enum-known-d : tie.Need-enum-known-d
-enum-known-d c = search needs
-
-enum-told : tie.Need-enum-told
-enum-told c = search needs
 
 returns : tie.Need-returns
 unfolding oneRegister
@@ -41,5 +32,4 @@ returns-3 c =
     )
 
 pub one-register-spec : {M : Type 1} → statement M
-one-register-spec =
-    tie.close (tie.spec read-register-requires enum-known-d enum-told returns returns-2 returns-3)
+one-register-spec = tie.close (tie.spec (λ c κs. search needs) (λ c. search needs) (λ c. search needs) returns returns-2 returns-3)

@@ -1,5 +1,4 @@
-use mathlib.Core.Path.{_≡_, sym, ap, _∙_}
-use borrow.Author.Tests.{lt-ltb, le-ltb}
+use mathlib.Core.Path.{sym, ap, _∙_}
 use Rattle.asm_line.specs.Statement.{oneValue}
 use Rattle.asm_operands.specs.Operands.{valueAt}
 use Rattle.asm_line.specs.declared.Stated.the-variants.{Fits}
@@ -7,21 +6,9 @@ use borrow.Author.Needs.{needs}
 use Rattle.asm_line.proofs.one_value.Statement.{statement}
 use Rattle.asm_line.proofs.one_value.Tie as tie
 
-factor-requires : tie.Need-factor-requires
-factor-requires c κs = search needs
-
-enum-known-a : tie.Need-enum-known-a
-enum-known-a c = search needs
-
-enum-told : tie.Need-enum-told
-enum-told c = search needs
-
 returns : tie.Need-returns
 unfolding oneValue valueAt
 returns c = rw (sym (c .before .before .factor .ensures) ∙ c .enum-told .given .1)
-
-with-value-requires : tie.Need-with-value-requires
-with-value-requires c κs = search needs
 
 returns-2 : tie.Need-returns-2
 unfolding oneValue valueAt
@@ -31,5 +18,4 @@ returns-2 c =
 
 pub one-value-spec : {M : Type 1} → statement M
 one-value-spec =
-    tie.close
-    (tie.spec factor-requires enum-known-a enum-told returns with-value-requires returns-2)
+    tie.close (tie.spec (λ c κs. search needs) (λ c. search needs) (λ c. search needs) returns (λ c κs. search needs) returns-2)

@@ -1,31 +1,12 @@
-use mathlib.Core.Path.{_≡_, sym, ap, _∙_}
-use borrow.Author.Tests.{lt-ltb, le-ltb}
+use mathlib.Core.Path.{sym, _∙_}
 use Rattle.asm_line.specs.Statement.{exchange}
 use borrow.Author.Needs.{needs}
 use Rattle.asm_line.proofs.read_exchange.Statement.{statement}
 use Rattle.asm_line.proofs.read_exchange.Tie as tie
 
-read-register-requires : tie.Need-read-register-requires
-read-register-requires c κs = search needs
-
-enum-known-a : tie.Need-enum-known-a
-enum-known-a c = search needs
-
-enum-told : tie.Need-enum-told
-enum-told c = search needs
-
 returns : tie.Need-returns
 unfolding exchange
 returns c = rw (sym (c .before .before .read-register .ensures) ∙ c .enum-told .given .1)
-
-comma-register-requires : tie.Need-comma-register-requires
-comma-register-requires c κs = search needs
-
-enum-known-d : tie.Need-enum-known-d
-enum-known-d c = search needs
-
-enum-told-2 : tie.Need-enum-told-2
-enum-told-2 c = search needs
 
 returns-2 : tie.Need-returns-2
 unfolding exchange
@@ -52,13 +33,5 @@ returns-3 c =
 pub read-exchange-spec : {M : Type 1} → statement M
 read-exchange-spec =
     tie.close
-    (tie.spec
-    read-register-requires
-    enum-known-a
-    enum-told
-    returns
-    comma-register-requires
-    enum-known-d
-    enum-told-2
-    returns-2
-    returns-3)
+    (tie.spec (λ c κs. search needs) (λ c. search needs) (λ c. search needs) returns (λ c κs. search needs) (λ c. search needs)
+    (λ c. search needs) returns-2 returns-3)

@@ -1,5 +1,5 @@
 use mathlib.Core.Bool.{true, false}
-use mathlib.Core.Path.{_≡_, refl, sym, ap, _∙_}
+use mathlib.Core.Path.{_≡_, sym, ap, _∙_}
 use lib.ListN.{drop}
 use Rattle.asm_text.specs.Text.{byteAt, blank?, letter?, after, word, lookUpAt}
 use Rattle.asm_words.proofs.Laws.{number-of}
@@ -9,12 +9,6 @@ use Rattle.asm_line.proofs.Laws.{statement-there, line-empty, line-word
 use borrow.Author.Needs.{needs}
 use Rattle.asm_line.proofs.read_line.Statement.{statement}
 use Rattle.asm_line.proofs.read_line.Tie as tie
-
-skip-blanks-requires : tie.Need-skip-blanks-requires
-skip-blanks-requires c κs = search needs
-
-is-over-requires : tie.Need-is-over-requires
-is-over-requires c κs = search needs
 
 returns : tie.Need-returns
 unfolding lineOf
@@ -27,18 +21,6 @@ returns c =
     let q = c2 .skip-blanks .result in
     let z = ap (lineFrom f s) (c2 .skip-blanks .ensures) in
     line-empty f s q (sym (c .before .is-over .ensures) ∙ c .if1 .taken) ∙ z
-
-read-word-requires : tie.Need-read-word-requires
-read-word-requires c κs = search needs
-
-word-number-requires : tie.Need-word-number-requires
-word-number-requires c κs = search needs
-
-read-statement-requires : tie.Need-read-statement-requires
-read-statement-requires c κs = search needs
-
-end-line-requires : tie.Need-end-line-requires
-end-line-requires c κs = search needs
 
 returns-2 : tie.Need-returns-2
 unfolding lineOf
@@ -62,18 +44,6 @@ returns-2 c =
     let x = statement-there f s false q (c3 .word-number .result) (c4 .read-word .result .next) (c .before .read-statement .result) e
     (c4 .read-word .ensures .0) (c .before .read-statement .ensures) in
     c .end-line .ensures ∙ ap (ended s false q) x ∙ line-word f s q h (c3 .word-number .result) e (c2 .if2 .taken) ∙ z
-
-byte-at-requires : tie.Need-byte-at-requires
-byte-at-requires c κs = search needs
-
-is-letter-requires : tie.Need-is-letter-requires
-is-letter-requires c κs = search needs
-
-skip-blanks-requires-2 : tie.Need-skip-blanks-requires-2
-skip-blanks-requires-2 c κs = search needs
-
-after-name-requires : tie.Need-after-name-requires
-after-name-requires c κs = search needs
 
 returns-3 : tie.Need-returns-3
 unfolding lineOf
@@ -128,18 +98,6 @@ returns-4 c =
 pub read-line-spec : {M : Type 1} → statement M
 read-line-spec =
     tie.close
-    (tie.spec
-    skip-blanks-requires
-    is-over-requires
-    returns
-    read-word-requires
-    word-number-requires
-    read-statement-requires
-    end-line-requires
-    returns-2
-    byte-at-requires
-    is-letter-requires
-    skip-blanks-requires-2
-    after-name-requires
-    returns-3
+    (tie.spec (λ c κs. search needs) (λ c κs. search needs) returns (λ c κs. search needs) (λ c κs. search needs) (λ c κs. search needs)
+    (λ c κs. search needs) returns-2 (λ c κs. search needs) (λ c κs. search needs) (λ c κs. search needs) (λ c κs. search needs) returns-3
     returns-4)

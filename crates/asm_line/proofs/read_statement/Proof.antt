@@ -1,5 +1,4 @@
-use borrow.Author.Tests.{lt-ltb, le-ltb}
-use borrow.Author.Tests.{eq-eqb, ne-eqb}
+use borrow.Author.Tests.{lt-ltb, le-ltb, eq-eqb, ne-eqb}
 use Rattle.asm_line.specs.Statement.{statementOf}
 use borrow.Author.Needs.{needs}
 use Rattle.asm_line.proofs.read_statement.Statement.{statement}
@@ -8,9 +7,6 @@ use Rattle.asm_line.proofs.read_statement.Tie as tie
 returns : tie.Need-returns
 unfolding statementOf
 returns c = rw (eq-eqb (c .before .before .before .before .before .args .m) 0 (c .if1 .taken))
-
-one-value-requires : tie.Need-one-value-requires
-one-value-requires c κs = search needs
 
 returns-2 : tie.Need-returns-2
 unfolding statementOf
@@ -22,9 +18,6 @@ returns-2 c =
       lt-ltb (c7 .args .m) 10 (c .before .if2 .taken),
     )
     (c .one-value .ensures)
-
-on-registers-requires : tie.Need-on-registers-requires
-on-registers-requires c κs = search needs
 
 returns-3 : tie.Need-returns-3
 unfolding statementOf
@@ -38,9 +31,6 @@ returns-3 c =
       lt-ltb (c8 .args .m) 29 (c .before .if3 .taken),
     )
     (c .on-registers .ensures)
-
-on-control-requires : tie.Need-on-control-requires
-on-control-requires c κs = search needs
 
 returns-4 : tie.Need-returns-4
 unfolding statementOf
@@ -56,9 +46,6 @@ returns-4 c =
       lt-ltb (c9 .args .m) 34 (c .before .if4 .taken),
     )
     (c .on-control .ensures)
-
-on-memory-requires : tie.Need-on-memory-requires
-on-memory-requires c κs = search needs
 
 returns-5 : tie.Need-returns-5
 unfolding statementOf
@@ -76,9 +63,6 @@ returns-5 c =
       lt-ltb (c10 .args .m) 42 (c .before .if5 .taken),
     )
     (c .on-memory .ensures)
-
-directive-requires : tie.Need-directive-requires
-directive-requires c κs = search needs
 
 returns-6 : tie.Need-returns-6
 unfolding statementOf
@@ -100,15 +84,5 @@ returns-6 c =
 pub read-statement-spec : {M : Type 1} → statement M
 read-statement-spec =
     tie.close
-    (tie.spec
-    returns
-    one-value-requires
-    returns-2
-    on-registers-requires
-    returns-3
-    on-control-requires
-    returns-4
-    on-memory-requires
-    returns-5
-    directive-requires
-    returns-6)
+    (tie.spec returns (λ c κs. search needs) returns-2 (λ c κs. search needs) returns-3 (λ c κs. search needs) returns-4
+    (λ c κs. search needs) returns-5 (λ c κs. search needs) returns-6)

@@ -1,4 +1,3 @@
-use borrow.Author.Needs.{needs}
 use borrow.Author.Tests.{lt-ltb, le-ltb}
 use Rattle.asm_line.specs.Statement.{withValue}
 use Rattle.asm_line.proofs.with_value.Statement.{statement}
@@ -134,15 +133,4 @@ returns-9 c =
     )
 
 pub with-value-spec : {M : Type 1} → statement M
-with-value-spec =
-    tie.close
-    (tie.spec
-    returns
-    returns-2
-    returns-3
-    returns-4
-    returns-5
-    returns-6
-    returns-7
-    returns-8
-    returns-9)
+with-value-spec = tie.close (tie.spec returns returns-2 returns-3 returns-4 returns-5 returns-6 returns-7 returns-8 returns-9)

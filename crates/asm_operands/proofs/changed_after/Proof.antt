@@ -1,4 +1,4 @@
-use mathlib.Core.Path.{_≡_, refl, sym, ap, _∙_}
+use mathlib.Core.Path.{sym, ap, _∙_}
 use native.Mathlib.Omega.{arith}
 use Rattle.asm_expr.proofs.Laws.{byte-is-in}
 use Rattle.asm_operands.specs.Operands.{changedAfter}
@@ -7,21 +7,9 @@ use borrow.Author.Needs.{needs}
 use Rattle.asm_operands.proofs.changed_after.Statement.{statement}
 use Rattle.asm_operands.proofs.changed_after.Tie as tie
 
-enum-known-found : tie.Need-enum-known-found
-enum-known-found c = search needs
-
-enum-told : tie.Need-enum-told
-enum-told c = search needs
-
 returns : tie.Need-returns
 unfolding changedAfter
 returns c = sym (ap (changedAfter (c .before .before .before .args .line .now)) (c .enum-told .given .1))
-
-skip-blanks-requires : tie.Need-skip-blanks-requires
-skip-blanks-requires c κs = search needs
-
-byte-at-requires : tie.Need-byte-at-requires
-byte-at-requires c κs = search needs
 
 add-t8 : tie.Need-add-t8
 add-t8 c =
@@ -75,14 +63,5 @@ returns-4 c =
 pub changed-after-spec : {M : Type 1} → statement M
 changed-after-spec =
     tie.close
-    (tie.spec
-    enum-known-found
-    enum-told
-    returns
-    skip-blanks-requires
-    byte-at-requires
-    add-t8
-    returns-2
-    add-t9
-    returns-3
-    returns-4)
+    (tie.spec (λ c. search needs) (λ c. search needs) returns (λ c κs. search needs) (λ c κs. search needs) add-t8 returns-2 add-t9
+    returns-3 returns-4)

@@ -1,18 +1,12 @@
-use mathlib.Core.Path.{_≡_, refl, sym, ap, _∙_}
+use mathlib.Core.Path.{sym, ap, _∙_}
 use Prim.Native.Nat.{_+_}
 use native.Mathlib.Omega.{arith}
 use Rattle.asm_expr.proofs.Laws.{byte-is-in}
-use Rattle.asm_operands.specs.Operands.{comma?, commaRegister, registerAt}
+use Rattle.asm_operands.specs.Operands.{commaRegister, registerAt}
 use Rattle.asm_operands.proofs.Laws.{is-comma, no-comma}
 use borrow.Author.Needs.{needs}
 use Rattle.asm_operands.proofs.comma_register.Statement.{statement}
 use Rattle.asm_operands.proofs.comma_register.Tie as tie
-
-skip-blanks-requires : tie.Need-skip-blanks-requires
-skip-blanks-requires c κs = search needs
-
-byte-at-requires : tie.Need-byte-at-requires
-byte-at-requires c κs = search needs
 
 add-read-register : tie.Need-add-read-register
 add-read-register c =
@@ -20,9 +14,6 @@ add-read-register c =
     let c4 = c2 .before .before in
     let h = byte-is-in (c4 .args .line .now) (c2 .skip-blanks .result) 43 (sym (c .before .byte-at .ensures) ∙ c .if1 .taken) in
     omega arith
-
-read-register-requires : tie.Need-read-register-requires
-read-register-requires c κs = search needs
 
 returns : tie.Need-returns
 unfolding commaRegister
@@ -46,11 +37,4 @@ returns-2 c =
 
 pub comma-register-spec : {M : Type 1} → statement M
 comma-register-spec =
-    tie.close
-    (tie.spec
-    skip-blanks-requires
-    byte-at-requires
-    add-read-register
-    read-register-requires
-    returns
-    returns-2)
+    tie.close (tie.spec (λ c κs. search needs) (λ c κs. search needs) add-read-register (λ c κs. search needs) returns returns-2)

@@ -1,19 +1,13 @@
-use mathlib.Core.Path.{_≡_, refl, sym, ap, _∙_}
+use mathlib.Core.Path.{sym, ap, _∙_}
 use Prim.Native.Nat.{_+_}
 use native.Mathlib.Omega.{arith}
 use Rattle.asm_expr.proofs.Laws.{byte-is-in}
 use Rattle.asm_text.specs.Text.{lookUpAt}
-use Rattle.asm_operands.specs.Operands.{comma?, commaValue, valueAt}
+use Rattle.asm_operands.specs.Operands.{commaValue, valueAt}
 use Rattle.asm_operands.proofs.Laws.{is-comma, no-comma}
 use borrow.Author.Needs.{needs}
 use Rattle.asm_operands.proofs.comma_value.Statement.{statement}
 use Rattle.asm_operands.proofs.comma_value.Tie as tie
-
-skip-blanks-requires : tie.Need-skip-blanks-requires
-skip-blanks-requires c κs = search needs
-
-byte-at-requires : tie.Need-byte-at-requires
-byte-at-requires c κs = search needs
 
 add-factor : tie.Need-add-factor
 add-factor c =
@@ -21,9 +15,6 @@ add-factor c =
     let c7 = c2 .before .before .before .before .before in
     let h = byte-is-in (c7 .args .line .now) (c2 .skip-blanks .result) 43 (sym (c .before .byte-at .ensures) ∙ c .if1 .taken) in
     omega arith
-
-factor-requires : tie.Need-factor-requires
-factor-requires c κs = search needs
 
 returns : tie.Need-returns
 unfolding commaValue valueAt
@@ -47,6 +38,4 @@ returns-2 c =
     (c .before .byte-at .ensures) (c .if1 .left))
 
 pub comma-value-spec : {M : Type 1} → statement M
-comma-value-spec =
-    tie.close
-    (tie.spec skip-blanks-requires byte-at-requires add-factor factor-requires returns returns-2)
+comma-value-spec = tie.close (tie.spec (λ c κs. search needs) (λ c κs. search needs) add-factor (λ c κs. search needs) returns returns-2)

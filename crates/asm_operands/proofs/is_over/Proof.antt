@@ -8,12 +8,9 @@ returns : tie.Need-returns
 unfolding over?
 returns c = simp (le-leb _ _ (c .if1 .taken))
 
-shared-slice-read-result : tie.Need-shared-slice-read-result
-shared-slice-read-result c = search needs
-
 returns-2 : tie.Need-returns-2
 unfolding over?
 returns-2 c = simp (lt-leb _ _ (c .before .if1 .left))
 
 pub is-over-spec : {M : Type 1} → statement M
-is-over-spec = tie.close (tie.spec returns shared-slice-read-result returns-2)
+is-over-spec = tie.close (tie.spec returns (λ c. search needs) returns-2)

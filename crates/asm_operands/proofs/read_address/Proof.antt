@@ -1,4 +1,4 @@
-use mathlib.Core.Path.{_≡_, refl, sym, ap, _∙_}
+use mathlib.Core.Path.{sym, ap, _∙_}
 use Prim.Native.Nat.{_+_}
 use native.Mathlib.Omega.{arith}
 use Rattle.asm_expr.proofs.Laws.{byte-is-in}
@@ -8,24 +8,12 @@ use borrow.Author.Needs.{needs}
 use Rattle.asm_operands.proofs.read_address.Statement.{statement}
 use Rattle.asm_operands.proofs.read_address.Tie as tie
 
-skip-blanks-requires : tie.Need-skip-blanks-requires
-skip-blanks-requires c κs = search needs
-
-byte-at-requires : tie.Need-byte-at-requires
-byte-at-requires c κs = search needs
-
 add-read-register : tie.Need-add-read-register
 add-read-register c =
     let c2 = c .before .before in
     let c4 = c2 .before .before in
     let h = byte-is-in (c4 .args .line .now) (c2 .skip-blanks .result) 42 (sym (c .before .byte-at .ensures) ∙ c .if1 .taken) in
     omega arith
-
-read-register-requires : tie.Need-read-register-requires
-read-register-requires c κs = search needs
-
-changed-before-requires : tie.Need-changed-before-requires
-changed-before-requires c κs = search needs
 
 returns : tie.Need-returns
 unfolding addressAt
@@ -49,12 +37,6 @@ add-read-register-2 c =
     let h = byte-is-in (c5 .args .line .now) (c3 .skip-blanks .result) 44 (sym (c2 .byte-at .ensures) ∙ c .if2 .taken) in
     omega arith
 
-read-register-requires-2 : tie.Need-read-register-requires-2
-read-register-requires-2 c κs = search needs
-
-changed-before-requires-2 : tie.Need-changed-before-requires-2
-changed-before-requires-2 c κs = search needs
-
 returns-2 : tie.Need-returns-2
 unfolding addressAt
 returns-2 c =
@@ -73,12 +55,6 @@ returns-2 c =
     )
     (c .changed-before2 .ensures ∙ ap (changedBefore 1 0) (c .before .read-register2 .ensures ∙ ap (λ k. registerAt s (k + 1))
     (c5 .skip-blanks .ensures)))
-
-read-register-requires-3 : tie.Need-read-register-requires-3
-read-register-requires-3 c κs = search needs
-
-changed-after-requires : tie.Need-changed-after-requires
-changed-after-requires c κs = search needs
 
 returns-3 : tie.Need-returns-3
 unfolding addressAt
@@ -101,17 +77,5 @@ returns-3 c =
 pub read-address-spec : {M : Type 1} → statement M
 read-address-spec =
     tie.close
-    (tie.spec
-    skip-blanks-requires
-    byte-at-requires
-    add-read-register
-    read-register-requires
-    changed-before-requires
-    returns
-    add-read-register-2
-    read-register-requires-2
-    changed-before-requires-2
-    returns-2
-    read-register-requires-3
-    changed-after-requires
-    returns-3)
+    (tie.spec (λ c κs. search needs) (λ c κs. search needs) add-read-register (λ c κs. search needs) (λ c κs. search needs) returns
+    add-read-register-2 (λ c κs. search needs) (λ c κs. search needs) returns-2 (λ c κs. search needs) (λ c κs. search needs) returns-3)

@@ -8,15 +8,6 @@ use borrow.Author.Needs.{needs}
 use Rattle.asm_operands.proofs.read_condition.Statement.{statement}
 use Rattle.asm_operands.proofs.read_condition.Tie as tie
 
-skip-blanks-requires : tie.Need-skip-blanks-requires
-skip-blanks-requires c κs = search needs
-
-read-word-requires : tie.Need-read-word-requires
-read-word-requires c κs = search needs
-
-condition-number-requires : tie.Need-condition-number-requires
-condition-number-requires c κs = search needs
-
 returns : tie.Need-returns
 unfolding conditionAt
 returns c =
@@ -45,6 +36,4 @@ returns-2 c =
     below-no 16 conditionOf s (a .at) q (c .before .condition-number .result) (c3 .skip-blanks .ensures) e (c .if1 .left)
 
 pub read-condition-spec : {M : Type 1} → statement M
-read-condition-spec =
-    tie.close
-    (tie.spec skip-blanks-requires read-word-requires condition-number-requires returns returns-2)
+read-condition-spec = tie.close (tie.spec (λ c κs. search needs) (λ c κs. search needs) (λ c κs. search needs) returns returns-2)

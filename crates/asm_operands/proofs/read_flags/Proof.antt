@@ -5,15 +5,6 @@ use borrow.Author.Needs.{needs}
 use Rattle.asm_operands.proofs.read_flags.Statement.{statement}
 use Rattle.asm_operands.proofs.read_flags.Tie as tie
 
-skip-blanks-requires : tie.Need-skip-blanks-requires
-skip-blanks-requires c κs = search needs
-
-flags-number-requires : tie.Need-flags-number-requires
-flags-number-requires c κs = search needs
-
-name-end-requires : tie.Need-name-end-requires
-name-end-requires c κs = search needs
-
 returns : tie.Need-returns
 unfolding flagsAt
 returns c =
@@ -38,6 +29,4 @@ returns-2 c =
     (c .if1 .left)
 
 pub read-flags-spec : {M : Type 1} → statement M
-read-flags-spec =
-    tie.close
-    (tie.spec skip-blanks-requires flags-number-requires name-end-requires returns returns-2)
+read-flags-spec = tie.close (tie.spec (λ c κs. search needs) (λ c κs. search needs) (λ c κs. search needs) returns returns-2)

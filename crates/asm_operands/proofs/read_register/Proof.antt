@@ -8,15 +8,6 @@ use borrow.Author.Needs.{needs}
 use Rattle.asm_operands.proofs.read_register.Statement.{statement}
 use Rattle.asm_operands.proofs.read_register.Tie as tie
 
-skip-blanks-requires : tie.Need-skip-blanks-requires
-skip-blanks-requires c κs = search needs
-
-read-word-requires : tie.Need-read-word-requires
-read-word-requires c κs = search needs
-
-register-number-requires : tie.Need-register-number-requires
-register-number-requires c κs = search needs
-
 returns : tie.Need-returns
 unfolding registerAt
 returns c =
@@ -45,6 +36,4 @@ returns-2 c =
     below-no 8 registerOf s (a .at) q (c .before .register-number .result) (c3 .skip-blanks .ensures) e (c .if1 .left)
 
 pub read-register-spec : {M : Type 1} → statement M
-read-register-spec =
-    tie.close
-    (tie.spec skip-blanks-requires read-word-requires register-number-requires returns returns-2)
+read-register-spec = tie.close (tie.spec (λ c κs. search needs) (λ c κs. search needs) (λ c κs. search needs) returns returns-2)

@@ -1,13 +1,10 @@
-use mathlib.Core.Path.{_≡_, refl, sym, ap, _∙_}
+use mathlib.Core.Path.{sym, _∙_}
 use native.Mathlib.Omega.{arith}
 use Rattle.asm_expr.proofs.Laws.{byte-is-in}
 use Rattle.asm_operands.proofs.Laws.{no-width, width-glued, width-byte, width-word, width-other}
 use borrow.Author.Needs.{needs}
 use Rattle.asm_operands.proofs.read_width.Statement.{statement}
 use Rattle.asm_operands.proofs.read_width.Tie as tie
-
-byte-at-requires : tie.Need-byte-at-requires
-byte-at-requires c κs = search needs
 
 returns : tie.Need-returns
 returns c =
@@ -19,12 +16,6 @@ add-byte-at c =
     let c3 = c .before .before .before in
     let h = byte-is-in (c3 .args .line .now) (c3 .args .at) 45 (sym (c .before .byte-at .ensures) ∙ c .if1 .left) in
     omega arith
-
-byte-at-requires-2 : tie.Need-byte-at-requires-2
-byte-at-requires-2 c κs = search needs
-
-is-name-byte-requires : tie.Need-is-name-byte-requires
-is-name-byte-requires c κs = search needs
 
 returns-2 : tie.Need-returns-2
 returns-2 c =
@@ -44,9 +35,6 @@ add-byte-at-2 c =
     let c6 = c4 .before .before in
     let h = byte-is-in (c6 .args .line .now) (c6 .args .at) 45 (sym (c4 .byte-at .ensures) ∙ c3 .if1 .left) in
     omega arith
-
-byte-at-requires-3 : tie.Need-byte-at-requires-3
-byte-at-requires-3 c κs = search needs
 
 add-t8 : tie.Need-add-t8
 add-t8 c =
@@ -111,17 +99,5 @@ returns-5 c =
 pub read-width-spec : {M : Type 1} → statement M
 read-width-spec =
     tie.close
-    (tie.spec
-    byte-at-requires
-    returns
-    add-byte-at
-    byte-at-requires-2
-    is-name-byte-requires
-    returns-2
-    add-byte-at-2
-    byte-at-requires-3
-    add-t8
-    returns-3
-    add-t9
-    returns-4
-    returns-5)
+    (tie.spec (λ c κs. search needs) returns add-byte-at (λ c κs. search needs) (λ c κs. search needs) returns-2 add-byte-at-2
+    (λ c κs. search needs) add-t8 returns-3 add-t9 returns-4 returns-5)

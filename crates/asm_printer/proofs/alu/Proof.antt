@@ -7,25 +7,10 @@ use Rattle.asm_printer.proofs.Laws.{two-operands, of-register}
 use Rattle.asm_printer.proofs.alu.Statement.{statement}
 use Rattle.asm_printer.proofs.alu.Tie as tie
 
-add-m : tie.Need-add-m
-add-m c = search needs
-
-of-registers-requires : tie.Need-of-registers-requires
-of-registers-requires c κs = search needs
-
 returns : tie.Need-returns
 unfolding textFor
 returns c =
     λ p. rw (eq-eqb _ 0 (c .before .if1 .taken)) (c .of-registers .ensures)
-
-constant-requires : tie.Need-constant-requires
-constant-requires c κs = search needs
-
-register-requires : tie.Need-register-requires
-register-requires c κs = search needs
-
-statement-requires : tie.Need-statement-requires
-statement-requires c κs = search needs
 
 returns-2 : tie.Need-returns-2
 unfolding textFor
@@ -39,11 +24,5 @@ returns-2 c =
 pub alu-spec : {M : Type 1} → statement M
 alu-spec =
     tie.close
-    (tie.spec
-    add-m
-    of-registers-requires
-    returns
-    constant-requires
-    register-requires
-    statement-requires
+    (tie.spec (λ c. search needs) (λ c κs. search needs) returns (λ c κs. search needs) (λ c κs. search needs) (λ c κs. search needs)
     returns-2)

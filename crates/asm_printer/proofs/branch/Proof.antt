@@ -7,15 +7,6 @@ use Rattle.asm_printer.proofs.Laws.{one-operand}
 use Rattle.asm_printer.proofs.branch.Statement.{statement}
 use Rattle.asm_printer.proofs.branch.Tie as tie
 
-target-requires : tie.Need-target-requires
-target-requires c κs = search needs
-
-hex-word-requires : tie.Need-hex-word-requires
-hex-word-requires c κs = search needs
-
-statement-requires : tie.Need-statement-requires
-statement-requires c κs = search needs
-
 returns : tie.Need-returns
 unfolding branchText
 returns c =
@@ -24,14 +15,10 @@ returns c =
     (c .statement .ensures ∙ ap (phrase (a .m) 0) (one-operand _ _ (c .before .hex-word .ensures))
     ∙ ap (λ (t : ℕ). phrase (a .m) 0 (hexText 4 t)) (c .before .before .target .ensures))
 
-word-requires : tie.Need-word-requires
-word-requires c κs = search needs
-
 returns-2 : tie.Need-returns-2
 unfolding branchText
 returns-2 c = rw (ne-eqb _ 0 (c .before .if1 .left)) (c .word .ensures)
 
 pub branch-spec : {M : Type 1} → statement M
 branch-spec =
-    tie.close
-    (tie.spec target-requires hex-word-requires statement-requires returns word-requires returns-2)
+    tie.close (tie.spec (λ c κs. search needs) (λ c κs. search needs) (λ c κs. search needs) returns (λ c κs. search needs) returns-2)

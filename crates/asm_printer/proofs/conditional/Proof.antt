@@ -5,18 +5,6 @@ use Rattle.asm_printer.proofs.Laws.{three-operands}
 use Rattle.asm_printer.proofs.conditional.Statement.{statement}
 use Rattle.asm_printer.proofs.conditional.Tie as tie
 
-condition-requires : tie.Need-condition-requires
-condition-requires c κs = search needs
-
-count-requires : tie.Need-count-requires
-count-requires c κs = search needs
-
-count-requires-2 : tie.Need-count-requires-2
-count-requires-2 c κs = search needs
-
-statement-requires : tie.Need-statement-requires
-statement-requires c κs = search needs
-
 returns : tie.Need-returns
 returns c =
     let at-count = c .before .before in
@@ -25,6 +13,4 @@ returns c =
     (three-operands _ _ _ _ _ _ (at-count .before .condition .ensures) (at-count .count .ensures) (c .before .count2 .ensures))
 
 pub conditional-spec : {M : Type 1} → statement M
-conditional-spec =
-    tie.close
-    (tie.spec condition-requires count-requires count-requires-2 statement-requires returns)
+conditional-spec = tie.close (tie.spec (λ c κs. search needs) (λ c κs. search needs) (λ c κs. search needs) (λ c κs. search needs) returns)

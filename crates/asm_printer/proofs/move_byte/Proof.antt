@@ -7,18 +7,6 @@ use Rattle.asm_printer.proofs.Laws.{two-operands, of-register}
 use Rattle.asm_printer.proofs.move_byte.Statement.{statement}
 use Rattle.asm_printer.proofs.move_byte.Tie as tie
 
-hex-byte-requires : tie.Need-hex-byte-requires
-hex-byte-requires c κs = search needs
-
-register-requires : tie.Need-register-requires
-register-requires c κs = search needs
-
-add-statement : tie.Need-add-statement
-add-statement c = search needs
-
-statement-requires : tie.Need-statement-requires
-statement-requires c κs = search needs
-
 returns : tie.Need-returns
 unfolding textFor
 returns c =
@@ -28,6 +16,4 @@ returns c =
     c .statement .ensures ∙ ap (phrase (36 + w / 2048 % 4) 0) (two-operands _ _ _ _ (c .before .before .hex-byte .ensures) d)
 
 pub move-byte-spec : {M : Type 1} → statement M
-move-byte-spec =
-    tie.close
-    (tie.spec hex-byte-requires register-requires add-statement statement-requires returns)
+move-byte-spec = tie.close (tie.spec (λ c κs. search needs) (λ c κs. search needs) (λ c. search needs) (λ c κs. search needs) returns)

@@ -6,17 +6,8 @@ use Rattle.asm_printer.proofs.Laws.{one-operand}
 use Rattle.asm_printer.proofs.of_flags.Statement.{statement}
 use Rattle.asm_printer.proofs.of_flags.Tie as tie
 
-word-requires : tie.Need-word-requires
-word-requires c κs = search needs
-
 returns : tie.Need-returns
 returns c = rw (eq-eqb _ 0 (c .before .if1 .taken)) (c .word .ensures)
-
-flags-requires : tie.Need-flags-requires
-flags-requires c κs = search needs
-
-statement-requires : tie.Need-statement-requires
-statement-requires c κs = search needs
 
 returns-2 : tie.Need-returns-2
 returns-2 c =
@@ -24,5 +15,4 @@ returns-2 c =
     (c .statement .ensures ∙ ap (phrase (c .before .before .before .args .m) 0) (one-operand _ _ (c .before .flags .ensures)))
 
 pub of-flags-spec : {M : Type 1} → statement M
-of-flags-spec =
-    tie.close (tie.spec word-requires returns flags-requires statement-requires returns-2)
+of-flags-spec = tie.close (tie.spec (λ c κs. search needs) returns (λ c κs. search needs) (λ c κs. search needs) returns-2)

@@ -5,15 +5,9 @@ use Rattle.asm_printer.proofs.Laws.{one-operand}
 use Rattle.asm_printer.proofs.of_number.Statement.{statement}
 use Rattle.asm_printer.proofs.of_number.Tie as tie
 
-count-requires : tie.Need-count-requires
-count-requires c κs = search needs
-
-statement-requires : tie.Need-statement-requires
-statement-requires c κs = search needs
-
 returns : tie.Need-returns
 returns c =
     c .statement .ensures ∙ ap (phrase (c .before .before .args .m) 0) (one-operand _ _ (c .before .count .ensures .long))
 
 pub of-number-spec : {M : Type 1} → statement M
-of-number-spec = tie.close (tie.spec count-requires statement-requires returns)
+of-number-spec = tie.close (tie.spec (λ c κs. search needs) (λ c κs. search needs) returns)

@@ -5,15 +5,6 @@ use Rattle.asm_printer.proofs.Laws.{two-operands, of-register}
 use Rattle.asm_printer.proofs.of_registers.Statement.{statement}
 use Rattle.asm_printer.proofs.of_registers.Tie as tie
 
-register-requires : tie.Need-register-requires
-register-requires c κs = search needs
-
-register-requires-2 : tie.Need-register-requires-2
-register-requires-2 c κs = search needs
-
-statement-requires : tie.Need-statement-requires
-statement-requires c κs = search needs
-
 returns : tie.Need-returns
 returns c =
     let a = c .before .before .before .args in
@@ -22,5 +13,4 @@ returns c =
     c .statement .ensures ∙ ap (phrase (a .m) (a .wb)) (two-operands _ _ _ _ (s .long) d)
 
 pub of-registers-spec : {M : Type 1} → statement M
-of-registers-spec =
-    tie.close (tie.spec register-requires register-requires-2 statement-requires returns)
+of-registers-spec = tie.close (tie.spec (λ c κs. search needs) (λ c κs. search needs) (λ c κs. search needs) returns)

@@ -6,24 +6,6 @@ use Rattle.asm_printer.proofs.Laws.{five-puts}
 use Rattle.asm_printer.proofs.put_parts.Statement.{statement}
 use Rattle.asm_printer.proofs.put_parts.Tie as tie
 
-put-letters-requires : tie.Need-put-letters-requires
-put-letters-requires c κs = search needs
-
-put-size-mark-requires : tie.Need-put-size-mark-requires
-put-size-mark-requires c κs = search needs
-
-put-letters-requires-2 : tie.Need-put-letters-requires-2
-put-letters-requires-2 c κs = search needs
-
-put-behind-requires : tie.Need-put-behind-requires
-put-behind-requires c κs = search needs
-
-put-behind-requires-2 : tie.Need-put-behind-requires-2
-put-behind-requires-2 c κs = search needs
-
-same-length : tie.Need-same-length
-same-length c = search needs
-
 returns : tie.Need-returns
 unfolding partsText operandsText
 returns c =
@@ -46,11 +28,5 @@ returns c =
 pub put-parts-spec : {M : Type 1} → statement M
 put-parts-spec =
     tie.close
-    (tie.spec
-    put-letters-requires
-    put-size-mark-requires
-    put-letters-requires-2
-    put-behind-requires
-    put-behind-requires-2
-    same-length
-    returns)
+    (tie.spec (λ c κs. search needs) (λ c κs. search needs) (λ c κs. search needs) (λ c κs. search needs) (λ c κs. search needs)
+    (λ c. search needs) returns)

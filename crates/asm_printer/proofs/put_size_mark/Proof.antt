@@ -6,29 +6,11 @@ use Rattle.asm_printer.proofs.Laws.{put-then}
 use Rattle.asm_printer.proofs.put_size_mark.Statement.{statement}
 use Rattle.asm_printer.proofs.put_size_mark.Tie as tie
 
-put-requires : tie.Need-put-requires
-put-requires c κs = search needs
-
-same-length : tie.Need-same-length
-same-length c = search needs
-
 returns : tie.Need-returns
 returns c =
     let at-put = c .before .before in
     let e = eq-eqb _ 0 (at-put .before .before .if1 .taken) in
     (rw e (at-put .put .ensures .0), rw e (at-put .put .ensures .1), omega arith)
-
-put-requires-2 : tie.Need-put-requires-2
-put-requires-2 c κs = search needs
-
-put-requires-3 : tie.Need-put-requires-3
-put-requires-3 c κs = search needs
-
-put-requires-4 : tie.Need-put-requires-4
-put-requires-4 c κs = search needs
-
-same-length-2 : tie.Need-same-length-2
-same-length-2 c = search needs
 
 returns-2 : tie.Need-returns-2
 returns-2 c =
@@ -48,12 +30,5 @@ returns-2 c =
 pub put-size-mark-spec : {M : Type 1} → statement M
 put-size-mark-spec =
     tie.close
-    (tie.spec
-    put-requires
-    same-length
-    returns
-    put-requires-2
-    put-requires-3
-    put-requires-4
-    same-length-2
-    returns-2)
+    (tie.spec (λ c κs. search needs) (λ c. search needs) returns (λ c κs. search needs) (λ c κs. search needs) (λ c κs. search needs)
+    (λ c. search needs) returns-2)

@@ -8,18 +8,6 @@ use Rattle.asm_printer.proofs.Laws.{three-operands, of-register}
 use Rattle.asm_printer.proofs.relative.Statement.{statement}
 use Rattle.asm_printer.proofs.relative.Tie as tie
 
-offset-requires : tie.Need-offset-requires
-offset-requires c κs = search needs
-
-register-requires : tie.Need-register-requires
-register-requires c κs = search needs
-
-register-requires-2 : tie.Need-register-requires-2
-register-requires-2 c κs = search needs
-
-statement-requires : tie.Need-statement-requires
-statement-requires c κs = search needs
-
 returns : tie.Need-returns
 unfolding textFor
 returns c =
@@ -30,9 +18,6 @@ returns c =
     rw (lt-ltb w 0xC000 (omega arith))
     (c .statement .ensures
     ∙ ap (phrase 40 (w / 64 % 2)) (three-operands _ _ _ _ _ _ (s .long) (c .before .before .before .before .offset .ensures) d))
-
-statement-requires-2 : tie.Need-statement-requires-2
-statement-requires-2 c κs = search needs
 
 returns-2 : tie.Need-returns-2
 unfolding textFor
@@ -48,11 +33,5 @@ returns-2 c =
 pub relative-spec : {M : Type 1} → statement M
 relative-spec =
     tie.close
-    (tie.spec
-    offset-requires
-    register-requires
-    register-requires-2
-    statement-requires
-    returns
-    statement-requires-2
+    (tie.spec (λ c κs. search needs) (λ c κs. search needs) (λ c κs. search needs) (λ c κs. search needs) returns (λ c κs. search needs)
     returns-2)

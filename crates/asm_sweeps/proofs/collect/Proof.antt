@@ -1,14 +1,13 @@
 use Rattle.asm_sweeps.proofs.Names.{apart-of, holds-as}
 use Rattle.asm_sweeps.proofs.Laws.{collect-end, collect-more, table-last, table-start, holds-start}
 use Rattle.asm_sweeps.specs.Places.{tableFrom, tableOf}
-use Rattle.asm_sweeps.specs.Held.{tableAt, Holds, lineAt, Apart}
+use Rattle.asm_sweeps.specs.Held.{tableAt, Holds}
 use Rattle.asm_sweeps.specs.declared.Tally.{Tally}
 use Rattle.lines.specs.Lines.{linesOf}
-use lib.ListN.{length, drop, take, set}
-use borrow.Author.Needs.{needs}
+use lib.ListN.{length, drop}
 use native.Mathlib.Omega.{arith}
-use Prim.Native.Nat.{ℕ, _+_, _-_, _≤_, _<_}
-use mathlib.Core.Path.{_≡_, refl, sym, ap, _∙_}
+use Prim.Native.Nat.{_+_, _-_, _≤_}
+use mathlib.Core.Path.{_≡_, sym, ap, _∙_}
 use Rattle.asm_sweeps.proofs.collect.Statement.{statement}
 use Rattle.asm_sweeps.proofs.collect.Tie as tie
 
@@ -30,9 +29,6 @@ loop-holds c =
       ap (tableFrom (linesOf (a .source .now))) (table-start (a .source .now) (a .places .now) (a .values .now)),
       holds-start (a .source .now) (a .places .now) (a .keys .now) (a .values .now) (c3 .pre .0) (c3 .pre .1) (c3 .pre .2),
     )
-
-line-at-requires : tie.Need-line-at-requires Inv-loop μ-loop
-line-at-requires c κs = omega arith
 
 name-line-requires : tie.Need-name-line-requires Inv-loop μ-loop
 name-line-requires c κs =
@@ -84,9 +80,6 @@ next-line-requires c κs =
     let c16 = c12 .before .before .before .before in
     omega (arith, c6 .name-line .ensures .1 .1 .1, c12 .loop .inv .1, c16 .good .0 .1)
 
-loop-less : tie.Need-loop-less Inv-loop μ-loop
-loop-less c = omega arith
-
 loop-again : tie.Need-loop-again Inv-loop μ-loop
 loop-again c =
     let c1 = c .before in
@@ -129,20 +122,5 @@ returns-2 c =
 pub collect-spec : {M : Type 1} → statement M
 collect-spec =
     tie.close
-    (tie.spec
-    Inv-loop
-    μ-loop
-    loop-holds
-    line-at-requires
-    name-line-requires
-    same-length
-    same-length-2
-    same-length-3
-    returns
-    next-line-requires
-    loop-less
-    loop-again
-    same-length-4
-    same-length-5
-    same-length-6
-    returns-2)
+    (tie.spec Inv-loop μ-loop loop-holds (λ c κs. omega arith) name-line-requires same-length same-length-2 same-length-3 returns
+    next-line-requires (λ c. omega arith) loop-again same-length-4 same-length-5 same-length-6 returns-2)

@@ -6,9 +6,6 @@ use Rattle.asm_sweeps.proofs.decide.Tie as tie
 returns : tie.Need-returns
 returns c = decide-form (c .before .args .form) (c .before .args .t) (c .before .args .u) (c .if1 .taken)
 
-least-requires : tie.Need-least-requires
-least-requires c κs = search needs
-
 returns-2 : tie.Need-returns-2
 returns-2 c =
     let c1 = c .before in
@@ -48,4 +45,4 @@ returns-5 c =
     (c .if4 .left)
 
 pub decide-spec : {M : Type 1} → statement M
-decide-spec = tie.close (tie.spec returns least-requires returns-2 returns-3 returns-4 returns-5)
+decide-spec = tie.close (tie.spec returns (λ c κs. search needs) returns-2 returns-3 returns-4 returns-5)

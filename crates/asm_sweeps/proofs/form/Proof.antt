@@ -1,11 +1,11 @@
 use Rattle.asm_sweeps.proofs.Laws.{form-fault, form-end, form-more, form-last}
 use Rattle.asm_sweeps.specs.Form.{formFrom, formOf}
 use Rattle.lines.specs.Lines.{linesOf}
-use lib.ListN.{length, drop, take, set}
+use lib.ListN.{length, drop}
 use borrow.Author.Needs.{needs}
 use native.Mathlib.Omega.{arith}
-use Prim.Native.Nat.{ℕ, _+_, _-_, _≤_, _<_}
-use mathlib.Core.Path.{_≡_, refl, sym, ap, _∙_}
+use Prim.Native.Nat.{_+_, _-_, _≤_}
+use mathlib.Core.Path.{_≡_, refl, sym, _∙_}
 use Rattle.asm_sweeps.proofs.form.Statement.{statement}
 use Rattle.asm_sweeps.proofs.form.Tie as tie
 
@@ -15,24 +15,6 @@ Inv-loop source at₀ number₀ at number =
 
 abbrev μ-loop : tie.MeasureT-loop
 μ-loop source at₀ number₀ at number = length source - at
-
-loop-holds : tie.Need-loop-holds Inv-loop μ-loop
-loop-holds c = (omega arith, omega arith, refl)
-
-line-at-requires : tie.Need-line-at-requires Inv-loop μ-loop
-line-at-requires c κs = omega arith
-
-sub-part : tie.Need-sub-part Inv-loop μ-loop
-sub-part c = omega arith
-
-part-part-start : tie.Need-part-part-start Inv-loop μ-loop
-part-part-start c = search needs
-
-part-part-end : tie.Need-part-part-end Inv-loop μ-loop
-part-part-end c = search needs
-
-form-line-requires : tie.Need-form-line-requires Inv-loop μ-loop
-form-line-requires c κs = tt
 
 returns : tie.Need-returns Inv-loop μ-loop
 returns c =
@@ -56,12 +38,6 @@ returns-2 c =
     form-end (c8 .args .source .now) (c6 .loop .at) (cut .result .stop) (cut .result .next) (cut .ensures) (c6 .loop .number)
     (sym (c2 .form-line .ensures .0) ∙ c1 .if1 .left) (sym (c2 .form-line .ensures .1) ∙ c .if2 .taken)
     ∙ c6 .loop .inv .2
-
-add-number : tie.Need-add-number Inv-loop μ-loop
-add-number c = search needs
-
-loop-less : tie.Need-loop-less Inv-loop μ-loop
-loop-less c = omega arith
 
 loop-again : tie.Need-loop-again Inv-loop μ-loop
 loop-again c =
@@ -87,18 +63,5 @@ returns-3 c =
 pub form-spec : {M : Type 1} → statement M
 form-spec =
     tie.close
-    (tie.spec
-    Inv-loop
-    μ-loop
-    loop-holds
-    line-at-requires
-    sub-part
-    part-part-start
-    part-part-end
-    form-line-requires
-    returns
-    returns-2
-    add-number
-    loop-less
-    loop-again
-    returns-3)
+    (tie.spec Inv-loop μ-loop (λ c. (omega arith, omega arith, refl)) (λ c κs. omega arith) (λ c. omega arith) (λ c. search needs)
+    (λ c. search needs) (λ c κs. tt) returns returns-2 (λ c. search needs) (λ c. omega arith) loop-again returns-3)

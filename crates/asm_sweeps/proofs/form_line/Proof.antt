@@ -1,46 +1,13 @@
-use Rattle.asm_sweeps.specs.Form.{noNames, faulty?, end?}
+use Rattle.asm_sweeps.specs.Form.{noNames}
 use Rattle.asm_line.specs.Line.{lineOf}
 use Rattle.asm_value.specs.declared.Value.{Value}
 use mathlib.Core.List.{List, []}
 use Rattle.asm_sweeps.proofs.Laws.{form-line, form-none, no-names}
-use Prim.Native.Nat.{ℕ, _+_, _-_, _≤_, _<_}
-use mathlib.Core.Path.{_≡_, refl, sym, ap, _∙_}
+use Prim.Native.Nat.{ℕ}
+use mathlib.Core.Path.{ap, _∙_}
 use borrow.Author.Needs.{needs}
 use Rattle.asm_sweeps.proofs.form_line.Statement.{statement}
 use Rattle.asm_sweeps.proofs.form_line.Tie as tie
-
-array-share-prefix-places : tie.Need-array-share-prefix-places
-array-share-prefix-places c = search needs
-
-slice-aggregate-read-line : tie.Need-slice-aggregate-read-line
-slice-aggregate-read-line c = search needs
-
-array-share-prefix-keys : tie.Need-array-share-prefix-keys
-array-share-prefix-keys c = search needs
-
-slice-aggregate-read-line-2 : tie.Need-slice-aggregate-read-line-2
-slice-aggregate-read-line-2 c = search needs
-
-array-share-prefix-values : tie.Need-array-share-prefix-values
-array-share-prefix-values c = search needs
-
-slice-aggregate-read-line-3 : tie.Need-slice-aggregate-read-line-3
-slice-aggregate-read-line-3 c = search needs
-
-read-line-requires : tie.Need-read-line-requires
-read-line-requires c κs = search needs
-
-enum-known-r : tie.Need-enum-known-r
-enum-known-r c = search needs
-
-layout-of-requires : tie.Need-layout-of-requires
-layout-of-requires c κs = search needs
-
-is-stop-requires : tie.Need-is-stop-requires
-is-stop-requires c κs = search needs
-
-enum-told : tie.Need-enum-told
-enum-told c = search needs
 
 returns : tie.Need-returns
 returns c =
@@ -66,17 +33,5 @@ returns-2 c =
 pub form-line-spec : {M : Type 1} → statement M
 form-line-spec =
     tie.close
-    (tie.spec
-    array-share-prefix-places
-    slice-aggregate-read-line
-    array-share-prefix-keys
-    slice-aggregate-read-line-2
-    array-share-prefix-values
-    slice-aggregate-read-line-3
-    read-line-requires
-    enum-known-r
-    layout-of-requires
-    is-stop-requires
-    enum-told
-    returns
-    returns-2)
+    (tie.spec (λ c. search needs) (λ c. search needs) (λ c. search needs) (λ c. search needs) (λ c. search needs) (λ c. search needs)
+    (λ c κs. search needs) (λ c. search needs) (λ c κs. search needs) (λ c κs. search needs) (λ c. search needs) returns returns-2)

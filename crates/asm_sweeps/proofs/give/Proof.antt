@@ -1,63 +1,32 @@
 use mir.Val.{toZ, ofZ}
 use mir.Syntax.{w32}
-use Rattle.asm_sweeps.proofs.Names.{note-line}
-use Rattle.asm_sweeps.proofs.Names.{note-count, holds-as, give-known, give-full, give-new, holds-new}
+use Rattle.asm_sweeps.proofs.Names.{note-line, note-count, holds-as, give-known, give-full, give-new, holds-new}
 use Rattle.asm_sweeps.specs.Places.{oneMore}
 use Rattle.asm_sweeps.specs.declared.Tally.{Tally}
-use Rattle.asm_sweeps.specs.Held.{tableAt, Holds, lineAt, Apart}
+use Rattle.asm_sweeps.specs.Held.{tableAt}
 use lib.Seq.{length-take-le}
 use Rattle.asm_text.specs.Text.{word}
-use lib.ListN.{length, drop, take, set}
+use lib.ListN.{drop}
 use native.Mathlib.Omega.{arith}
 use mathlib.Core.Path.{_≡_, refl, sym, ap, _∙_}
 use borrow.Author.Needs.{needs}
 use Rattle.asm_sweeps.proofs.give.Statement.{statement}
 use Rattle.asm_sweeps.proofs.give.Tie as tie
 
-read-word-requires : tie.Need-read-word-requires
-read-word-requires c κs = search needs
-
-slice-reshare-prefix-look-up : tie.Need-slice-reshare-prefix-look-up
-slice-reshare-prefix-look-up c = search needs
-
 slice-aggregate-look-up : tie.Need-slice-aggregate-look-up
 slice-aggregate-look-up c =
     let c5 = c .before .before .before .before .before in
     sym (length-take-le (c5 .args .t .count) (c5 .args .places .now) (omega (arith, c5 .pre .within, c5 .pre .places)))
-
-slice-reshare-prefix-look-up-2 : tie.Need-slice-reshare-prefix-look-up-2
-slice-reshare-prefix-look-up-2 c = search needs
 
 slice-aggregate-look-up-2 : tie.Need-slice-aggregate-look-up-2
 slice-aggregate-look-up-2 c =
     let c6 = c .before .before .before .before .before .before in
     sym (length-take-le (c6 .args .t .count) (c6 .args .keys .now) (omega (arith, c6 .pre .within, c6 .pre .keys)))
 
-slice-reshare-prefix-look-up-3 : tie.Need-slice-reshare-prefix-look-up-3
-slice-reshare-prefix-look-up-3 c = search needs
-
 slice-aggregate-look-up-3 : tie.Need-slice-aggregate-look-up-3
 slice-aggregate-look-up-3 c =
     let c7 = c .before .before .before .before .before .before .before in
     sym (length-take-le (c7 .args .t .count) (c7 .args .values .now) (omega (arith, c7 .pre .within, c7 .pre .values)))
-
-look-up-requires : tie.Need-look-up-requires
-look-up-requires c κs = search needs
-
-is-known-requires : tie.Need-is-known-requires
-is-known-requires c κs = search needs
-
-note-unknown-requires : tie.Need-note-unknown-requires
-note-unknown-requires c κs = search needs
-
-same-length : tie.Need-same-length
-same-length c = search needs
-
-same-length-2 : tie.Need-same-length-2
-same-length-2 c = search needs
-
-same-length-3 : tie.Need-same-length-3
-same-length-3 c = search needs
 
 returns : tie.Need-returns
 returns c =
@@ -77,18 +46,6 @@ returns c =
         (ap (λ (x : Tally). x .line) (note-unknown .ensures)),
       ),
     )
-
-note-unknown-requires-2 : tie.Need-note-unknown-requires-2
-note-unknown-requires-2 c κs = search needs
-
-same-length-4 : tie.Need-same-length-4
-same-length-4 c = search needs
-
-same-length-5 : tie.Need-same-length-5
-same-length-5 c = search needs
-
-same-length-6 : tie.Need-same-length-6
-same-length-6 c = search needs
 
 returns-2 : tie.Need-returns-2
 returns-2 c =
@@ -110,44 +67,11 @@ returns-2 c =
       ),
     )
 
-mul-places : tie.Need-mul-places
-mul-places c = search needs
-
-slice-write-places : tie.Need-slice-write-places
-slice-write-places c = search needs
-
-mul-keys : tie.Need-mul-keys
-mul-keys c = search needs
-
-slice-write-keys : tie.Need-slice-write-keys
-slice-write-keys c = search needs
-
-stored-requires : tie.Need-stored-requires
-stored-requires c κs = search needs
-
-mul-t20 : tie.Need-mul-t20
-mul-t20 c = search needs
-
-slice-set-from-values : tie.Need-slice-set-from-values
-slice-set-from-values c = search needs
-
-note-value-requires : tie.Need-note-value-requires
-note-value-requires c κs = search needs
-
 one-more-requires : tie.Need-one-more-requires
 one-more-requires c κs =
     let c2 = c .before .before in
     let c13 = c2 .before .before .before .before .before .before .before .before .before .before .before in
     omega (arith, ap (λ (x : Tally). x .count) (c .note-value .ensures) ∙ note-count (c13 .args .t) (c13 .args .v), c2 .if2 .left)
-
-same-length-7 : tie.Need-same-length-7
-same-length-7 c = search needs
-
-same-length-8 : tie.Need-same-length-8
-same-length-8 c = search needs
-
-same-length-9 : tie.Need-same-length-9
-same-length-9 c = search needs
 
 returns-3 : tie.Need-returns-3
 returns-3 c =
@@ -180,36 +104,8 @@ returns-3 c =
 pub give-spec : {M : Type 1} → statement M
 give-spec =
     tie.close
-    (tie.spec
-    read-word-requires
-    slice-reshare-prefix-look-up
-    slice-aggregate-look-up
-    slice-reshare-prefix-look-up-2
-    slice-aggregate-look-up-2
-    slice-reshare-prefix-look-up-3
-    slice-aggregate-look-up-3
-    look-up-requires
-    is-known-requires
-    note-unknown-requires
-    same-length
-    same-length-2
-    same-length-3
-    returns
-    note-unknown-requires-2
-    same-length-4
-    same-length-5
-    same-length-6
-    returns-2
-    mul-places
-    slice-write-places
-    mul-keys
-    slice-write-keys
-    stored-requires
-    mul-t20
-    slice-set-from-values
-    note-value-requires
-    one-more-requires
-    same-length-7
-    same-length-8
-    same-length-9
-    returns-3)
+    (tie.spec (λ c κs. search needs) (λ c. search needs) slice-aggregate-look-up (λ c. search needs) slice-aggregate-look-up-2
+    (λ c. search needs) slice-aggregate-look-up-3 (λ c κs. search needs) (λ c κs. search needs) (λ c κs. search needs) (λ c. search needs)
+    (λ c. search needs) (λ c. search needs) returns (λ c κs. search needs) (λ c. search needs) (λ c. search needs) (λ c. search needs)
+    returns-2 (λ c. search needs) (λ c. search needs) (λ c. search needs) (λ c. search needs) (λ c κs. search needs) (λ c. search needs)
+    (λ c. search needs) (λ c κs. search needs) one-more-requires (λ c. search needs) (λ c. search needs) (λ c. search needs) returns-3)

@@ -1,69 +1,31 @@
 use Rattle.asm_sweeps.proofs.Names.{line-word, name-within}
 use Rattle.asm_sweeps.proofs.Laws.{name-fault, end-fault, name-none, name-some, end-line, holds-on, line-on, named-in}
-use Prim.Native.Nat.{ℕ, _+_, _-_, _≤_, _<_}
+use Prim.Native.Nat.{_+_}
 use Rattle.asm_text.specs.Text.{word}
-use Rattle.asm_sweeps.proofs.Names.{line-word}
 use borrow.Author.Tests.{not-true, not-false}
-use Rattle.asm_sweeps.proofs.Laws.{name-fault, end-fault, name-none, name-some, end-line, holds-on, line-on}
-use Rattle.asm_sweeps.specs.Held.{tableAt, Holds, lineAt, Apart}
+use Rattle.asm_sweeps.specs.Held.{tableAt, lineAt}
 use lib.Seq.{length-take-le}
-use lib.ListN.{length, drop, take, set}
+use lib.ListN.{drop}
 use native.Mathlib.Omega.{arith}
-use mathlib.Core.Path.{_≡_, refl, sym, ap, _∙_}
+use mathlib.Core.Path.{refl, sym, _∙_}
 use borrow.Author.Needs.{needs}
 use Rattle.asm_sweeps.proofs.name_line.Statement.{statement}
 use Rattle.asm_sweeps.proofs.name_line.Tie as tie
-
-sub-part : tie.Need-sub-part
-sub-part c = search needs
-
-part-part-start : tie.Need-part-part-start
-part-part-start c = search needs
-
-part-part-end : tie.Need-part-part-end
-part-part-end c = search needs
-
-slice-reshare-prefix-read-line : tie.Need-slice-reshare-prefix-read-line
-slice-reshare-prefix-read-line c = search needs
 
 slice-aggregate-read-line : tie.Need-slice-aggregate-read-line
 slice-aggregate-read-line c =
     let c5 = c .before .before .before .before .before in
     sym (length-take-le (c5 .args .t .count) (c5 .args .places .now) (omega (arith, c5 .pre .0 .within, c5 .pre .0 .places)))
 
-slice-reshare-prefix-read-line-2 : tie.Need-slice-reshare-prefix-read-line-2
-slice-reshare-prefix-read-line-2 c = search needs
-
 slice-aggregate-read-line-2 : tie.Need-slice-aggregate-read-line-2
 slice-aggregate-read-line-2 c =
     let c6 = c .before .before .before .before .before .before in
     sym (length-take-le (c6 .args .t .count) (c6 .args .keys .now) (omega (arith, c6 .pre .0 .within, c6 .pre .0 .keys)))
 
-slice-reshare-prefix-read-line-3 : tie.Need-slice-reshare-prefix-read-line-3
-slice-reshare-prefix-read-line-3 c = search needs
-
 slice-aggregate-read-line-3 : tie.Need-slice-aggregate-read-line-3
 slice-aggregate-read-line-3 c =
     let c7 = c .before .before .before .before .before .before .before in
     sym (length-take-le (c7 .args .t .count) (c7 .args .values .now) (omega (arith, c7 .pre .0 .within, c7 .pre .0 .values)))
-
-read-line-requires : tie.Need-read-line-requires
-read-line-requires c κs = search needs
-
-enum-known-r : tie.Need-enum-known-r
-enum-known-r c = search needs
-
-enum-told : tie.Need-enum-told
-enum-told c = search needs
-
-same-length : tie.Need-same-length
-same-length c = search needs
-
-same-length-2 : tie.Need-same-length-2
-same-length-2 c = search needs
-
-same-length-3 : tie.Need-same-length-3
-same-length-3 c = search needs
 
 returns : tie.Need-returns
 returns c =
@@ -80,27 +42,6 @@ returns c =
         (c10 .pre .0, refl),
       ),
     )
-
-layout-of-requires : tie.Need-layout-of-requires
-layout-of-requires c κs = search needs
-
-is-stop-requires : tie.Need-is-stop-requires
-is-stop-requires c κs = search needs
-
-after-requires : tie.Need-after-requires
-after-requires c κs = search needs
-
-placed-at-requires : tie.Need-placed-at-requires
-placed-at-requires c κs = search needs
-
-same-length-4 : tie.Need-same-length-4
-same-length-4 c = search needs
-
-same-length-5 : tie.Need-same-length-5
-same-length-5 c = search needs
-
-same-length-6 : tie.Need-same-length-6
-same-length-6 c = search needs
 
 returns-2 : tie.Need-returns-2
 returns-2 c =
@@ -136,9 +77,6 @@ returns-2 c =
       ),
     )
 
-name-value-requires : tie.Need-name-value-requires
-name-value-requires c κs = search needs
-
 add-give : tie.Need-add-give
 add-give c =
     let c4 = c .before .before .before .before in
@@ -167,15 +105,6 @@ give-requires c κs =
     (lineAt (a .source .now) (a .at) (a .stop)) (c12 .read-line .result) (c12 .read-line .ensures) (g .0 .0) (g .0 .1 .0)
     (g .0 .1 .1 .0) (g .1) (c8 .layout-of .result) (c8 .layout-of .ensures) (c6 .after .result) (c6 .after .ensures)
     (c5 .placed-at .result) (c5 .placed-at .ensures)
-
-same-length-7 : tie.Need-same-length-7
-same-length-7 c = search needs
-
-same-length-8 : tie.Need-same-length-8
-same-length-8 c = search needs
-
-same-length-9 : tie.Need-same-length-9
-same-length-9 c = search needs
 
 returns-3 : tie.Need-returns-3
 returns-3 c =
@@ -223,35 +152,8 @@ returns-3 c =
 pub name-line-spec : {M : Type 1} → statement M
 name-line-spec =
     tie.close
-    (tie.spec
-    sub-part
-    part-part-start
-    part-part-end
-    slice-reshare-prefix-read-line
-    slice-aggregate-read-line
-    slice-reshare-prefix-read-line-2
-    slice-aggregate-read-line-2
-    slice-reshare-prefix-read-line-3
-    slice-aggregate-read-line-3
-    read-line-requires
-    enum-known-r
-    enum-told
-    same-length
-    same-length-2
-    same-length-3
-    returns
-    layout-of-requires
-    is-stop-requires
-    after-requires
-    placed-at-requires
-    same-length-4
-    same-length-5
-    same-length-6
-    returns-2
-    name-value-requires
-    add-give
-    give-requires
-    same-length-7
-    same-length-8
-    same-length-9
-    returns-3)
+    (tie.spec (λ c. search needs) (λ c. search needs) (λ c. search needs) (λ c. search needs) slice-aggregate-read-line (λ c. search needs)
+    slice-aggregate-read-line-2 (λ c. search needs) slice-aggregate-read-line-3 (λ c κs. search needs) (λ c. search needs)
+    (λ c. search needs) (λ c. search needs) (λ c. search needs) (λ c. search needs) returns (λ c κs. search needs) (λ c κs. search needs)
+    (λ c κs. search needs) (λ c κs. search needs) (λ c. search needs) (λ c. search needs) (λ c. search needs) returns-2
+    (λ c κs. search needs) add-give give-requires (λ c. search needs) (λ c. search needs) (λ c. search needs) returns-3)

@@ -1,26 +1,8 @@
 use Rattle.asm_sweeps.specs.Uses.{noteUse}
-use mathlib.Core.Path.{_≡_, refl, sym, ap, _∙_}
+use mathlib.Core.Path.{sym, ap, _∙_}
 use borrow.Author.Needs.{needs}
 use Rattle.asm_sweeps.proofs.note_use.Statement.{statement}
 use Rattle.asm_sweeps.proofs.note_use.Tie as tie
-
-enum-told : tie.Need-enum-told
-enum-told c = search needs
-
-enum-told-2 : tie.Need-enum-told-2
-enum-told-2 c = search needs
-
-note-unknown-requires : tie.Need-note-unknown-requires
-note-unknown-requires c κs = search needs
-
-enum-told-3 : tie.Need-enum-told-3
-enum-told-3 c = search needs
-
-note-outside-requires : tie.Need-note-outside-requires
-note-outside-requires c κs = search needs
-
-returns : tie.Need-returns
-returns c = search needs
 
 returns-2 : tie.Need-returns-2
 returns-2 c = c .note-unknown .ensures ∙ sym (ap (noteUse (c .before .before .before .args .t)) (c .before .enum-told2 .given .1))
@@ -31,12 +13,5 @@ returns-3 c = c .note-outside .ensures ∙ sym (ap (noteUse (c .before .before .
 pub note-use-spec : {M : Type 1} → statement M
 note-use-spec =
     tie.close
-    (tie.spec
-    enum-told
-    enum-told-2
-    note-unknown-requires
-    enum-told-3
-    note-outside-requires
-    returns
-    returns-2
-    returns-3)
+    (tie.spec (λ c. search needs) (λ c. search needs) (λ c κs. search needs) (λ c. search needs) (λ c κs. search needs) (λ c. search needs)
+    returns-2 returns-3)

@@ -1,17 +1,8 @@
 use Rattle.asm_sweeps.specs.Uses.{placeAfter}
-use mathlib.Core.Path.{_≡_, refl, sym, ap, _∙_}
+use mathlib.Core.Path.{sym, ap}
 use borrow.Author.Needs.{needs}
 use Rattle.asm_sweeps.proofs.place_after.Statement.{statement}
 use Rattle.asm_sweeps.proofs.place_after.Tie as tie
-
-enum-known-n : tie.Need-enum-known-n
-enum-known-n c = search needs
-
-enum-told : tie.Need-enum-told
-enum-told c = search needs
-
-enum-told-2 : tie.Need-enum-told-2
-enum-told-2 c = search needs
 
 returns : tie.Need-returns
 unfolding placeAfter
@@ -26,5 +17,4 @@ unfolding placeAfter
 returns-3 c = sym (ap (placeAfter (c .before .before .args .p)) (c .enum-told2 .given .1))
 
 pub place-after-spec : {M : Type 1} → statement M
-place-after-spec =
-    tie.close (tie.spec enum-known-n enum-told enum-told-2 returns returns-2 returns-3)
+place-after-spec = tie.close (tie.spec (λ c. search needs) (λ c. search needs) (λ c. search needs) returns returns-2 returns-3)

@@ -1,19 +1,10 @@
 use mir.Val.{toZ, ofZ}
 use mir.Syntax.{w32}
 use Rattle.asm_sweeps.specs.Places.{storedOf}
-use mathlib.Core.Path.{_≡_, refl, sym, ap, _∙_}
+use mathlib.Core.Path.{_≡_, sym, ap, _∙_}
 use borrow.Author.Needs.{needs}
 use Rattle.asm_sweeps.proofs.stored.Statement.{statement}
 use Rattle.asm_sweeps.proofs.stored.Tie as tie
-
-enum-known-v : tie.Need-enum-known-v
-enum-known-v c = search needs
-
-enum-told : tie.Need-enum-told
-enum-told c = search needs
-
-enum-told-2 : tie.Need-enum-told-2
-enum-told-2 c = search needs
 
 returns : tie.Need-returns
 returns c =
@@ -27,4 +18,4 @@ returns-3 : tie.Need-returns-3
 returns-3 c = sym (ap storedOf (c .enum-told2 .given .1))
 
 pub stored-spec : {M : Type 1} → statement M
-stored-spec = tie.close (tie.spec enum-known-v enum-told enum-told-2 returns returns-2 returns-3)
+stored-spec = tie.close (tie.spec (λ c. search needs) (λ c. search needs) (λ c. search needs) returns returns-2 returns-3)

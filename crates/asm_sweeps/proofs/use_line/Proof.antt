@@ -1,19 +1,10 @@
 use Rattle.asm_line.specs.Line.{lineOf}
 use Rattle.asm_text.specs.Text.{lookUpAt}
 use Rattle.asm_sweeps.proofs.Laws.{use-fault, use-end-fault, use-line, use-end, use-same}
-use mathlib.Core.Path.{_≡_, refl, sym, ap, _∙_}
+use mathlib.Core.Path.{refl}
 use borrow.Author.Needs.{needs}
 use Rattle.asm_sweeps.proofs.use_line.Statement.{statement}
 use Rattle.asm_sweeps.proofs.use_line.Tie as tie
-
-read-line-requires : tie.Need-read-line-requires
-read-line-requires c κs = search needs
-
-enum-known-r : tie.Need-enum-known-r
-enum-known-r c = search needs
-
-enum-told : tie.Need-enum-told
-enum-told c = search needs
 
 returns : tie.Need-returns
 returns c =
@@ -25,27 +16,6 @@ returns c =
       use-fault (read .result) (lineOf names (a .part .now)) (read .ensures) (a .t) (c .enum-told .given .1),
       (use-end-fault (read .result) (lineOf names (a .part .now)) (read .ensures) (a .t) (c .enum-told .given .1), refl),
     )
-
-layout-of-requires : tie.Need-layout-of-requires
-layout-of-requires c κs = search needs
-
-is-stop-requires : tie.Need-is-stop-requires
-is-stop-requires c κs = search needs
-
-used-requires : tie.Need-used-requires
-used-requires c κs = search needs
-
-note-use-requires : tie.Need-note-use-requires
-note-use-requires c κs = search needs
-
-after-requires : tie.Need-after-requires
-after-requires c κs = search needs
-
-place-after-requires : tie.Need-place-after-requires
-place-after-requires c κs = search needs
-
-at-place-requires : tie.Need-at-place-requires
-at-place-requires c κs = search needs
 
 returns-2 : tie.Need-returns-2
 returns-2 c =
@@ -82,16 +52,5 @@ returns-2 c =
 pub use-line-spec : {M : Type 1} → statement M
 use-line-spec =
     tie.close
-    (tie.spec
-    read-line-requires
-    enum-known-r
-    enum-told
-    returns
-    layout-of-requires
-    is-stop-requires
-    used-requires
-    note-use-requires
-    after-requires
-    place-after-requires
-    at-place-requires
-    returns-2)
+    (tie.spec (λ c κs. search needs) (λ c. search needs) (λ c. search needs) returns (λ c κs. search needs) (λ c κs. search needs)
+    (λ c κs. search needs) (λ c κs. search needs) (λ c κs. search needs) (λ c κs. search needs) (λ c κs. search needs) returns-2)

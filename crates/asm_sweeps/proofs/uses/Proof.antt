@@ -3,11 +3,11 @@ use Rattle.asm_sweeps.specs.Uses.{usesFrom, usesOf}
 use Rattle.asm_sweeps.specs.declared.Tally.{Tally}
 use Rattle.asm_text.specs.Text.{lookUpAt}
 use Rattle.lines.specs.Lines.{linesOf}
-use lib.ListN.{length, drop, take, set}
+use lib.ListN.{length, drop}
 use borrow.Author.Needs.{needs}
 use native.Mathlib.Omega.{arith}
-use Prim.Native.Nat.{ℕ, _+_, _-_, _≤_, _<_}
-use mathlib.Core.Path.{_≡_, refl, sym, ap, _∙_}
+use Prim.Native.Nat.{_+_, _-_, _≤_}
+use mathlib.Core.Path.{_≡_, refl, ap, _∙_}
 use Rattle.asm_sweeps.proofs.uses.Statement.{statement}
 use Rattle.asm_sweeps.proofs.uses.Tie as tie
 
@@ -18,24 +18,6 @@ Inv-loop source places keys values at₀ t₀ at t =
 
 abbrev μ-loop : tie.MeasureT-loop
 μ-loop source places keys values at₀ t₀ at t = length source - at
-
-loop-holds : tie.Need-loop-holds Inv-loop μ-loop
-loop-holds c = (omega arith, omega arith, refl)
-
-line-at-requires : tie.Need-line-at-requires Inv-loop μ-loop
-line-at-requires c κs = omega arith
-
-sub-part : tie.Need-sub-part Inv-loop μ-loop
-sub-part c = omega arith
-
-part-part-start : tie.Need-part-part-start Inv-loop μ-loop
-part-part-start c = search needs
-
-part-part-end : tie.Need-part-part-end Inv-loop μ-loop
-part-part-end c = search needs
-
-use-line-requires : tie.Need-use-line-requires Inv-loop μ-loop
-use-line-requires c κs = tt
 
 returns : tie.Need-returns Inv-loop μ-loop
 returns c =
@@ -58,9 +40,6 @@ next-line-requires c κs =
     let c5 = c1 .before .before .before .before in
     let c9 = c5 .before .before .before .before in
     omega (arith, c1 .use-line .ensures .1 .1, c5 .loop .inv .1, c9 .good .0 .1)
-
-loop-less : tie.Need-loop-less Inv-loop μ-loop
-loop-less c = omega arith
 
 loop-again : tie.Need-loop-again Inv-loop μ-loop
 loop-again c =
@@ -93,17 +72,5 @@ returns-2 c =
 pub uses-spec : {M : Type 1} → statement M
 uses-spec =
     tie.close
-    (tie.spec
-    Inv-loop
-    μ-loop
-    loop-holds
-    line-at-requires
-    sub-part
-    part-part-start
-    part-part-end
-    use-line-requires
-    returns
-    next-line-requires
-    loop-less
-    loop-again
-    returns-2)
+    (tie.spec Inv-loop μ-loop (λ c. (omega arith, omega arith, refl)) (λ c κs. omega arith) (λ c. omega arith) (λ c. search needs)
+    (λ c. search needs) (λ c κs. tt) returns next-line-requires (λ c. omega arith) loop-again returns-2)

@@ -1,8 +1,6 @@
 use Rattle.asm_text.proofs.Laws.{both-true}
 use Rattle.asm_text.specs.Text.{digitOf}
-use mathlib.Core.Path.{_≡_, refl, sym, ap, _∙_}
 use native.Mathlib.Omega.{arith}
-use borrow.Author.Needs.{needs}
 use Rattle.asm_text.proofs.digit.Statement.{statement}
 use Rattle.asm_text.proofs.digit.Tie as tie
 
@@ -33,6 +31,4 @@ unfolding digitOf
 returns-3 c = (simp (c .before .if1 .left, c .if2 .left), omega arith)
 
 pub digit-spec : {M : Type 1} → statement M
-digit-spec =
-    tie.close
-    (tie.spec sub-result cast-result returns sub-result-2 cast-result-2 returns-2 returns-3)
+digit-spec = tie.close (tie.spec sub-result cast-result returns sub-result-2 cast-result-2 returns-2 returns-3)

@@ -23,9 +23,6 @@ Inv-loop source places keys values s at key k₀ k =
 abbrev μ-loop : tie.MeasureT-loop
 μ-loop source places keys values s at key k₀ k = length places - k
 
-loop-holds : tie.Need-loop-holds Inv-loop μ-loop
-loop-holds c = (omega arith, refl)
-
 returns : tie.Need-returns Inv-loop μ-loop
 returns c =
     let c2 = c .before .before in
@@ -46,27 +43,6 @@ returns-2 c =
     (omega arith) (omega arith) (omega arith))
     ∙ c3 .loop .inv .1
 
-mul-is-name : tie.Need-mul-is-name Inv-loop μ-loop
-mul-is-name c = search needs
-
-shared-slice-read-is-name : tie.Need-shared-slice-read-is-name Inv-loop μ-loop
-shared-slice-read-is-name c = search needs
-
-mul-is-name-2 : tie.Need-mul-is-name-2 Inv-loop μ-loop
-mul-is-name-2 c = search needs
-
-shared-slice-read-is-name-2 : tie.Need-shared-slice-read-is-name-2 Inv-loop μ-loop
-shared-slice-read-is-name-2 c = search needs
-
-is-name-requires : tie.Need-is-name-requires Inv-loop μ-loop
-is-name-requires c κs = search needs
-
-mul-t17 : tie.Need-mul-t17 Inv-loop μ-loop
-mul-t17 c = search needs
-
-shared-slice-copy-out-t19 : tie.Need-shared-slice-copy-out-t19 Inv-loop μ-loop
-shared-slice-copy-out-t19 c = search needs
-
 returns-3 : tie.Need-returns-3 Inv-loop μ-loop
 returns-3 c =
     let c2 = c .before .before in
@@ -83,12 +59,6 @@ returns-3 c =
     ap Known e
     ∙ sym (look-hit (a .source .now) (a .places .now) (a .keys .now) (a .values .now) n k (omega arith) (omega arith) (omega arith) h)
     ∙ c8 .loop .inv .1
-
-add-k : tie.Need-add-k Inv-loop μ-loop
-add-k c = search needs
-
-loop-less : tie.Need-loop-less Inv-loop μ-loop
-loop-less c = search needs
 
 loop-again : tie.Need-loop-again Inv-loop μ-loop
 loop-again c =
@@ -116,21 +86,6 @@ returns-4 c =
 pub look-up-spec : {M : Type 1} → statement M
 look-up-spec =
     tie.close
-    (tie.spec
-    Inv-loop
-    μ-loop
-    loop-holds
-    returns
-    returns-2
-    mul-is-name
-    shared-slice-read-is-name
-    mul-is-name-2
-    shared-slice-read-is-name-2
-    is-name-requires
-    mul-t17
-    shared-slice-copy-out-t19
-    returns-3
-    add-k
-    loop-less
-    loop-again
-    returns-4)
+    (tie.spec Inv-loop μ-loop (λ c. (omega arith, refl)) returns returns-2 (λ c. search needs) (λ c. search needs) (λ c. search needs)
+    (λ c. search needs) (λ c κs. search needs) (λ c. search needs) (λ c. search needs) returns-3 (λ c. search needs) (λ c. search needs)
+    loop-again returns-4)

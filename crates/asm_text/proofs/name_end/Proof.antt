@@ -1,9 +1,9 @@
 use lib.ListN.{length}
-use Prim.Native.Nat.{_-_, _<_}
+use Prim.Native.Nat.{_-_}
 use borrow.Author.Tests.{not-true, not-false}
 use Rattle.asm_text.proofs.Laws.{kind-in, after-more, after-stop, name-zero}
-use Rattle.asm_text.specs.Text.{byteAt, after, nameByte?}
-use mathlib.Core.Path.{_≡_, refl, sym, ap, _∙_}
+use Rattle.asm_text.specs.Text.{after, nameByte?}
+use mathlib.Core.Path.{_≡_, refl, sym, _∙_}
 use native.Mathlib.Omega.{arith}
 use borrow.Author.Needs.{needs}
 use Rattle.asm_text.proofs.name_end.Statement.{statement}
@@ -14,15 +14,6 @@ Inv-loop s at i₀ i = after nameByte? s i ≡ after nameByte? s at
 
 abbrev μ-loop : tie.MeasureT-loop
 μ-loop s at i₀ i = length s - i
-
-loop-holds : tie.Need-loop-holds Inv-loop μ-loop
-loop-holds c = refl
-
-byte-at-requires : tie.Need-byte-at-requires Inv-loop μ-loop
-byte-at-requires c κs = search needs
-
-is-name-byte-requires : tie.Need-is-name-byte-requires Inv-loop μ-loop
-is-name-byte-requires c κs = search needs
 
 returns : tie.Need-returns Inv-loop μ-loop
 returns c =
@@ -58,14 +49,4 @@ loop-again c =
 
 pub name-end-spec : {M : Type 1} → statement M
 name-end-spec =
-    tie.close
-    (tie.spec
-    Inv-loop
-    μ-loop
-    loop-holds
-    byte-at-requires
-    is-name-byte-requires
-    returns
-    add-i
-    loop-less
-    loop-again)
+    tie.close (tie.spec Inv-loop μ-loop (λ c. refl) (λ c κs. search needs) (λ c κs. search needs) returns add-i loop-less loop-again)

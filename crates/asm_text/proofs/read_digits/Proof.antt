@@ -1,7 +1,7 @@
 use lib.ListN.{length, drop}
-use Prim.Native.Nat.{_-_, _<_, _≤_, _^_, _+_, _*_, min}
+use Prim.Native.Nat.{_-_, _<_, _≤_, _^_, _+_}
 use Rattle.asm_text.proofs.Laws.{sat, sat-numeral, digit-in, sat-more, sat-stop, digits-more, digits-stop}
-use Rattle.asm_text.specs.Text.{byteAt, after, digit?, digitOf, numeral}
+use Rattle.asm_text.specs.Text.{byteAt, after, digit?, digitOf}
 use mathlib.Core.Path.{_≡_, refl, sym, ap, _∙_}
 use native.Mathlib.Omega.{arith}
 use borrow.Author.Needs.{needs}
@@ -15,15 +15,6 @@ Inv-loop s at base i₀ size₀ i size = (size ≤ 2 ^ 32) × (sat base size (dr
 abbrev μ-loop : tie.MeasureT-loop
 μ-loop s at base i₀ size₀ i size = length s - i
 
-loop-holds : tie.Need-loop-holds Inv-loop μ-loop
-loop-holds c = (omega arith, refl, refl)
-
-byte-at-requires : tie.Need-byte-at-requires Inv-loop μ-loop
-byte-at-requires c κs = search needs
-
-digit-requires : tie.Need-digit-requires Inv-loop μ-loop
-digit-requires c κs = search needs
-
 returns : tie.Need-returns Inv-loop μ-loop
 returns c =
     let c2 = c .before .before in
@@ -36,9 +27,6 @@ returns c =
       sym (sat-stop (c5 .args .base) (c5 .args .s .now) (c3 .loop .i) (c3 .loop .size) d) ∙ c3 .loop .inv .1
           ∙ sat-numeral (c5 .args .base) (omega arith) 0 (drop (c5 .args .at) (c5 .args .s .now)),
     )
-
-grow-requires : tie.Need-grow-requires Inv-loop μ-loop
-grow-requires c κs = search needs
 
 add-i : tie.Need-add-i Inv-loop μ-loop
 add-i c =
@@ -79,14 +67,5 @@ loop-again c =
 pub read-digits-spec : {M : Type 1} → statement M
 read-digits-spec =
     tie.close
-    (tie.spec
-    Inv-loop
-    μ-loop
-    loop-holds
-    byte-at-requires
-    digit-requires
-    returns
-    grow-requires
-    add-i
-    loop-less
-    loop-again)
+    (tie.spec Inv-loop μ-loop (λ c. (omega arith, refl, refl)) (λ c κs. search needs) (λ c κs. search needs) returns (λ c κs. search needs)
+    add-i loop-less loop-again)

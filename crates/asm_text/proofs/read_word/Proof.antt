@@ -20,16 +20,6 @@ Inv-loop s at i₀ n₀ key₀ i n key =
 abbrev μ-loop : tie.MeasureT-loop
 μ-loop s at i₀ n₀ key₀ i n key = length s - i
 
-loop-holds : tie.Need-loop-holds Inv-loop μ-loop
-unfolding spelled keyOf
-loop-holds c = (omega arith, refl, refl, refl)
-
-byte-at-requires : tie.Need-byte-at-requires Inv-loop μ-loop
-byte-at-requires c κs = search needs
-
-is-name-byte-requires : tie.Need-is-name-byte-requires Inv-loop μ-loop
-is-name-byte-requires c κs = search needs
-
 returns : tie.Need-returns Inv-loop μ-loop
 returns c =
     let c2 = c .before .before in
@@ -45,12 +35,6 @@ returns c =
         sym (key-stop s i (c3 .loop .key) h) ∙ c3 .loop .inv .2,
       ),
     )
-
-spell-requires : tie.Need-spell-requires Inv-loop μ-loop
-spell-requires c κs = search needs
-
-mix-requires : tie.Need-mix-requires Inv-loop μ-loop
-mix-requires c κs = search needs
 
 add-i : tie.Need-add-i Inv-loop μ-loop
 add-i c =
@@ -105,15 +89,5 @@ loop-again c =
 pub read-word-spec : {M : Type 1} → statement M
 read-word-spec =
     tie.close
-    (tie.spec
-    Inv-loop
-    μ-loop
-    loop-holds
-    byte-at-requires
-    is-name-byte-requires
-    returns
-    spell-requires
-    mix-requires
-    add-i
-    loop-less
-    loop-again)
+    (tie.spec Inv-loop μ-loop (λ c. unfold spelled keyOf in (omega arith, refl, refl, refl)) (λ c κs. search needs) (λ c κs. search needs)
+    returns (λ c κs. search needs) (λ c κs. search needs) add-i loop-less loop-again)

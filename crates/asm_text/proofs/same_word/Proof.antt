@@ -16,21 +16,6 @@ Inv-loop t p s q i₀ j₀ i j = same (word (drop i t)) (word (drop j s)) ≡ sa
 abbrev μ-loop : tie.MeasureT-loop
 μ-loop t p s q i₀ j₀ i j = length t - i
 
-loop-holds : tie.Need-loop-holds Inv-loop μ-loop
-loop-holds c = refl
-
-byte-at-requires : tie.Need-byte-at-requires Inv-loop μ-loop
-byte-at-requires c κs = search needs
-
-byte-at-requires-2 : tie.Need-byte-at-requires-2 Inv-loop μ-loop
-byte-at-requires-2 c κs = search needs
-
-is-name-byte-requires : tie.Need-is-name-byte-requires Inv-loop μ-loop
-is-name-byte-requires c κs = search needs
-
-is-name-byte-requires-2 : tie.Need-is-name-byte-requires-2 Inv-loop μ-loop
-is-name-byte-requires-2 c κs = search needs
-
 returns : tie.Need-returns Inv-loop μ-loop
 returns c =
     let c2 = c .before .before in
@@ -46,9 +31,6 @@ returns c =
     sym (rw (c4 .byte-at .ensures) at (c2 .is-name-byte .ensures)) ∙ not-true _ (c .before .if1 .taken) in
     let k = sym (rw (c3 .byte-at2 .ensures) at (c .is-name-byte2 .ensures)) in
     ap not (sym k) ∙ sym (same-stop t i s j h) ∙ c5 .loop .inv
-
-is-name-byte-requires-3 : tie.Need-is-name-byte-requires-3 Inv-loop μ-loop
-is-name-byte-requires-3 c κs = search needs
 
 returns-2 : tie.Need-returns-2 Inv-loop μ-loop
 returns-2 c =
@@ -150,19 +132,5 @@ loop-again c =
 pub same-word-spec : {M : Type 1} → statement M
 same-word-spec =
     tie.close
-    (tie.spec
-    Inv-loop
-    μ-loop
-    loop-holds
-    byte-at-requires
-    byte-at-requires-2
-    is-name-byte-requires
-    is-name-byte-requires-2
-    returns
-    is-name-byte-requires-3
-    returns-2
-    returns-3
-    add-i
-    add-j
-    loop-less
-    loop-again)
+    (tie.spec Inv-loop μ-loop (λ c. refl) (λ c κs. search needs) (λ c κs. search needs) (λ c κs. search needs) (λ c κs. search needs)
+    returns (λ c κs. search needs) returns-2 returns-3 add-i add-j loop-less loop-again)

@@ -1,14 +1,12 @@
-use Rattle.asm_value.specs.Value.{fitted, applied, joined, withSign}
-use mathlib.Core.Path.{_≡_, refl, sym, ap, _∙_}
-use native.Mathlib.Omega.{arith}
-use borrow.Author.Tests.{lt-ltb, le-ltb, eq-eqb, ne-eqb}
-use lib.IntN.{ℤ, pos, negsuc, _+ℤ_, _-ℤ_, _*ℤ_}
-use lib.Signed.{mag, quotZ}
-use Rattle.asm_value.proofs.Signed.{wide-is, sfits-wide, sum-fits, difference-fits, product-fits, quotient-fits, fits-on-wide}
-use Rattle.asm_value.proofs.Signed.{back-on-wide, bits-pos, minus-fits, minus-is, small, zero-bits, no-quotient, some-quotient}
-use mir.Syntax.{w32, w64}
-use mir.Val.{toZ, ofZ, SFits}
-use mir.ValLaws.{toZ-ofZ, toZ-pos}
+use Rattle.asm_value.specs.Value.{fitted, applied}
+use mathlib.Core.Path.{sym, ap, _∙_}
+use borrow.Author.Tests.{eq-eqb, ne-eqb}
+use lib.IntN.{_+ℤ_, _-ℤ_, _*ℤ_}
+use lib.Signed.{quotZ}
+use Rattle.asm_value.proofs.Signed.{sfits-wide, sum-fits, difference-fits, product-fits, quotient-fits, fits-on-wide}
+use Rattle.asm_value.proofs.Signed.{back-on-wide, bits-pos, zero-bits, no-quotient, some-quotient}
+use mir.Syntax.{w32}
+use mir.ValLaws.{toZ-ofZ}
 use borrow.Author.Needs.{needs}
 use Rattle.asm_value.proofs.apply.Statement.{statement}
 use Rattle.asm_value.proofs.apply.Tie as tie
@@ -23,9 +21,6 @@ add-fit : tie.Need-add-fit
 add-fit c = fits-on-wide (c .before .args .a) (c .before .args .b) (c .before .fits .a) (c .before .fits .b) _+ℤ_
     (sum-fits (c .before .args .a) (c .before .args .b) (c .before .fits .a) (c .before .fits .b))
 
-fit-requires : tie.Need-fit-requires
-fit-requires c κs = search needs
-
 returns : tie.Need-returns
 unfolding applied
 returns c =
@@ -38,9 +33,6 @@ sub-fit c =
     let c2 = c .before .before in
     fits-on-wide (c2 .args .a) (c2 .args .b) (c2 .fits .a) (c2 .fits .b) _-ℤ_ (difference-fits (c2 .args .a) (c2 .args .b) (c2 .fits .a)
     (c2 .fits .b))
-
-fit-requires-2 : tie.Need-fit-requires-2
-fit-requires-2 c κs = search needs
 
 returns-2 : tie.Need-returns-2
 unfolding applied
@@ -56,9 +48,6 @@ mul-fit c =
     let c3 = c .before .before .before in
     fits-on-wide (c3 .args .a) (c3 .args .b) (c3 .fits .a) (c3 .fits .b) _*ℤ_ (product-fits (c3 .args .a) (c3 .args .b) (c3 .fits .a)
     (c3 .fits .b))
-
-fit-requires-3 : tie.Need-fit-requires-3
-fit-requires-3 c κs = search needs
 
 returns-3 : tie.Need-returns-3
 unfolding applied
@@ -99,9 +88,6 @@ div-q c =
           (quotient-fits (c4 .args .a) (c4 .args .b) (c4 .fits .a) (c4 .fits .b)),
     )
 
-fit-requires-4 : tie.Need-fit-requires-4
-fit-requires-4 c κs = search needs
-
 returns-5 : tie.Need-returns-5
 unfolding applied
 returns-5 c =
@@ -117,19 +103,5 @@ returns-5 c =
 pub apply-spec : {M : Type 1} → statement M
 apply-spec =
     tie.close
-    (tie.spec
-    cast-x
-    cast-y
-    add-fit
-    fit-requires
-    returns
-    sub-fit
-    fit-requires-2
-    returns-2
-    mul-fit
-    fit-requires-3
-    returns-3
-    returns-4
-    div-q
-    fit-requires-4
-    returns-5)
+    (tie.spec cast-x cast-y add-fit (λ c κs. search needs) returns sub-fit (λ c κs. search needs) returns-2 mul-fit (λ c κs. search needs)
+    returns-3 returns-4 div-q (λ c κs. search needs) returns-5)

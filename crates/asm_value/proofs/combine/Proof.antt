@@ -1,41 +1,10 @@
-use Rattle.asm_value.specs.Value.{applied, joined}
-use mathlib.Core.Path.{_≡_, refl, sym, ap, _∙_}
+use Rattle.asm_value.specs.Value.{joined}
+use mathlib.Core.Path.{_≡_}
 use mir.Syntax.{w32}
-use mir.Val.{toZ, ofZ, SFits}
-use mir.ValLaws.{toZ-ofZ}
+use mir.Val.{toZ, ofZ}
 use borrow.Author.Needs.{needs}
 use Rattle.asm_value.proofs.combine.Statement.{statement}
 use Rattle.asm_value.proofs.combine.Tie as tie
-
-enum-told : tie.Need-enum-told
-enum-told c = search needs
-
-enum-told-2 : tie.Need-enum-told-2
-enum-told-2 c = search needs
-
-enum-told-3 : tie.Need-enum-told-3
-enum-told-3 c = search needs
-
-enum-told-4 : tie.Need-enum-told-4
-enum-told-4 c = search needs
-
-enum-told-5 : tie.Need-enum-told-5
-enum-told-5 c = search needs
-
-enum-known-a : tie.Need-enum-known-a
-enum-known-a c = search needs
-
-enum-told-6 : tie.Need-enum-told-6
-enum-told-6 c = search needs
-
-enum-told-7 : tie.Need-enum-told-7
-enum-told-7 c = search needs
-
-enum-known-b : tie.Need-enum-known-b
-enum-known-b c = search needs
-
-apply-requires : tie.Need-apply-requires
-apply-requires c κs = search needs
 
 returns : tie.Need-returns
 unfolding joined
@@ -75,21 +44,6 @@ returns-7 c =
 pub combine-spec : {M : Type 1} → statement M
 combine-spec =
     tie.close
-    (tie.spec
-    enum-told
-    enum-told-2
-    enum-told-3
-    enum-told-4
-    enum-told-5
-    enum-known-a
-    enum-told-6
-    enum-told-7
-    enum-known-b
-    apply-requires
-    returns
-    returns-2
-    returns-3
-    returns-4
-    returns-5
-    returns-6
-    returns-7)
+    (tie.spec (λ c. search needs) (λ c. search needs) (λ c. search needs) (λ c. search needs) (λ c. search needs) (λ c. search needs)
+    (λ c. search needs) (λ c. search needs) (λ c. search needs) (λ c κs. search needs) returns returns-2 returns-3 returns-4 returns-5
+    returns-6 returns-7)

@@ -1,4 +1,3 @@
-use mathlib.Core.Path.{_≡_, refl, sym, ap, _∙_}
 use Prim.Native.Nat.{_/_, _%_}
 use native.Mathlib.Omega.{arith}
 use borrow.Author.Tests.{eq-eqb, ne-eqb}
@@ -6,9 +5,6 @@ use Rattle.asm_words.specs.Words.{addFlag}
 use borrow.Author.Needs.{needs}
 use Rattle.asm_words.proofs.add_flag.Statement.{statement}
 use Rattle.asm_words.proofs.add_flag.Tie as tie
-
-add-result : tie.Need-add-result
-add-result c = search needs
 
 returns : tie.Need-returns
 unfolding addFlag
@@ -33,9 +29,6 @@ returns-2 c =
       ),
       omega arith,
     )
-
-add-result-2 : tie.Need-add-result-2
-add-result-2 c = search needs
 
 returns-3 : tie.Need-returns-3
 unfolding addFlag
@@ -64,9 +57,6 @@ returns-4 c =
       ),
       omega arith,
     )
-
-add-result-3 : tie.Need-add-result-3
-add-result-3 c = search needs
 
 returns-5 : tie.Need-returns-5
 unfolding addFlag
@@ -101,9 +91,6 @@ returns-6 c =
       ),
       omega arith,
     )
-
-add-result-4 : tie.Need-add-result-4
-add-result-4 c = search needs
 
 returns-7 : tie.Need-returns-7
 unfolding addFlag
@@ -142,9 +129,6 @@ returns-8 c =
       ),
       omega arith,
     )
-
-add-result-5 : tie.Need-add-result-5
-add-result-5 c = search needs
 
 returns-9 : tie.Need-returns-9
 unfolding addFlag
@@ -209,20 +193,5 @@ returns-11 c =
 pub add-flag-spec : {M : Type 1} → statement M
 add-flag-spec =
     tie.close
-    (tie.spec
-    add-result
-    returns
-    returns-2
-    add-result-2
-    returns-3
-    returns-4
-    add-result-3
-    returns-5
-    returns-6
-    add-result-4
-    returns-7
-    returns-8
-    add-result-5
-    returns-9
-    returns-10
-    returns-11)
+    (tie.spec (λ c. search needs) returns returns-2 (λ c. search needs) returns-3 returns-4 (λ c. search needs) returns-5 returns-6
+    (λ c. search needs) returns-7 returns-8 (λ c. search needs) returns-9 returns-10 returns-11)

@@ -18,15 +18,6 @@ Inv-loop s at i₀ f₀ i f = (f < 32) × (flagsFrom f (word (drop i s)) ≡ fla
 abbrev μ-loop : tie.MeasureT-loop
 μ-loop s at i₀ f₀ i f = length s - i
 
-loop-holds : tie.Need-loop-holds Inv-loop μ-loop
-loop-holds c = (omega arith, refl)
-
-byte-at-requires : tie.Need-byte-at-requires Inv-loop μ-loop
-byte-at-requires c κs = search needs
-
-is-name-byte-requires : tie.Need-is-name-byte-requires Inv-loop μ-loop
-is-name-byte-requires c κs = search needs
-
 returns : tie.Need-returns Inv-loop μ-loop
 unfolding flagsOf
 returns c =
@@ -56,9 +47,6 @@ returns-2 c =
     let w = word (drop (c6 .args .at) s) in
     let e : c4 .loop .f ≡ flagsFrom 0 w = sym (flags-stop s i (c4 .loop .f) h) ∙ c4 .loop .inv .1 in
     rw (ne-eqb (flagsFrom 0 w) 0 (λ z. c .if2 .left (e ∙ z))) e
-
-add-flag-requires : tie.Need-add-flag-requires Inv-loop μ-loop
-add-flag-requires c κs = search needs
 
 returns-3 : tie.Need-returns-3 Inv-loop μ-loop
 unfolding flagsOf
@@ -125,16 +113,5 @@ loop-again c =
 pub flags-number-spec : {M : Type 1} → statement M
 flags-number-spec =
     tie.close
-    (tie.spec
-    Inv-loop
-    μ-loop
-    loop-holds
-    byte-at-requires
-    is-name-byte-requires
-    returns
-    returns-2
-    add-flag-requires
-    returns-3
-    add-i
-    loop-less
-    loop-again)
+    (tie.spec Inv-loop μ-loop (λ c. (omega arith, refl)) (λ c κs. search needs) (λ c κs. search needs) returns returns-2
+    (λ c κs. search needs) returns-3 add-i loop-less loop-again)

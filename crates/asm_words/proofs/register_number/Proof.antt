@@ -1,5 +1,4 @@
 use native.Mathlib.Omega.{arith}
-use borrow.Author.Needs.{needs}
 use borrow.Author.Tests.{eq-eqb, ne-eqb}
 use Rattle.asm_text.proofs.Laws.{both-true}
 use Rattle.asm_words.specs.Words.{registerNumber}
@@ -77,6 +76,4 @@ returns-6 c =
     )
 
 pub register-number-spec : {M : Type 1} → statement M
-register-number-spec =
-    tie.close
-    (tie.spec sub-result cast-result returns returns-2 returns-3 returns-4 returns-5 returns-6)
+register-number-spec = tie.close (tie.spec sub-result cast-result returns returns-2 returns-3 returns-4 returns-5 returns-6)

@@ -6,21 +6,6 @@ use borrow.Author.Needs.{needs}
 use Rattle.asm_words.proofs.word_number.Statement.{statement}
 use Rattle.asm_words.proofs.word_number.Tie as tie
 
-mul-from : tie.Need-mul-from
-mul-from c = search needs
-
-array-read-from : tie.Need-array-read-from
-array-read-from c = search needs
-
-add-to : tie.Need-add-to
-add-to c = search needs
-
-mul-to : tie.Need-mul-to
-mul-to c = search needs
-
-array-read-to : tie.Need-array-read-to
-array-read-to c = search needs
-
 mul-row-number : tie.Need-mul-row-number
 unfolding starts
 mul-row-number c = start-fits (c .args .p % 61)
@@ -37,9 +22,6 @@ part-row-number-end : tie.Need-part-row-number-end
 unfolding starts
 part-row-number-end c = start-le (c .before .args .p % 61 + 1)
 
-row-number-requires : tie.Need-row-number-requires
-row-number-requires c κs = search needs
-
 returns : tie.Need-returns
 unfolding group starts table
 returns c = c .row-number .ensures ∙ group-is (c .before .before .before .args .p)
@@ -47,15 +29,5 @@ returns c = c .row-number .ensures ∙ group-is (c .before .before .before .args
 pub word-number-spec : {M : Type 1} → statement M
 word-number-spec =
     tie.close
-    (tie.spec
-    mul-from
-    array-read-from
-    add-to
-    mul-to
-    array-read-to
-    mul-row-number
-    sub-row-number
-    part-row-number-start
-    part-row-number-end
-    row-number-requires
-    returns)
+    (tie.spec (λ c. search needs) (λ c. search needs) (λ c. search needs) (λ c. search needs) (λ c. search needs) mul-row-number
+    sub-row-number part-row-number-start part-row-number-end (λ c κs. search needs) returns)

@@ -1,24 +1,18 @@
 use lib.IntN.{ℤ}
-use mir.Val.{toZ, ofZ, SFits}
-use mir.Syntax.{w16, w32}
+use mir.Val.{toZ, ofZ}
+use mir.Syntax.{w16}
 use Rattle.asm_fits.proofs.Laws.{number-below}
 use Rattle.word.specs.Offset.{signedOf}
 use Rattle.isa.specs.declared.Instr.the-variants as i
-use Rattle.asm_fits.specs.Fits.{wordFit, byteFit, countFit, offsetFit, immediateFit, constantFit, branchFit}
+use Rattle.asm_fits.specs.Fits.{branchFit}
 use Rattle.asm_write.specs.Written.{numberOf}
 use Rattle.asm_write.proofs.Laws.{coded-number, coded-unknown, coded-outside}
 use native.Mathlib.Omega.{arith}
 use Prim.Native.Nat.{ℕ, _+_}
-use mathlib.Core.Path.{_≡_, refl, sym, ap, _∙_}
+use mathlib.Core.Path.{_≡_, ap}
 use borrow.Author.Needs.{needs}
 use Rattle.asm_write.proofs.branch.Statement.{statement}
 use Rattle.asm_write.proofs.branch.Tie as tie
-
-branch-requires : tie.Need-branch-requires
-branch-requires c κs = search needs
-
-enum-known-n : tie.Need-enum-known-n
-enum-known-n c = search needs
 
 signed-requires : tie.Need-signed-requires
 signed-requires c κs =
@@ -26,15 +20,6 @@ signed-requires c κs =
     let c3 = c1 .before .before in
     let h = number-below (512 + 512) (c1 .n .given .0 .0) (c3 .branch .result) (c1 .n .given .1) (c3 .branch .ensures .1) in
     (omega arith, omega (arith, h))
-
-word-of-requires : tie.Need-word-of-requires
-word-of-requires c κs = search needs
-
-enum-told : tie.Need-enum-told
-enum-told c = search needs
-
-enum-told-2 : tie.Need-enum-told-2
-enum-told-2 c = search needs
 
 returns : tie.Need-returns
 unfolding numberOf
@@ -71,13 +56,5 @@ returns-3 c =
 pub branch-spec : {M : Type 1} → statement M
 branch-spec =
     tie.close
-    (tie.spec
-    branch-requires
-    enum-known-n
-    signed-requires
-    word-of-requires
-    enum-told
-    enum-told-2
-    returns
-    returns-2
-    returns-3)
+    (tie.spec (λ c κs. search needs) (λ c. search needs) signed-requires (λ c κs. search needs) (λ c. search needs) (λ c. search needs)
+    returns returns-2 returns-3)

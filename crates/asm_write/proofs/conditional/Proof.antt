@@ -1,27 +1,13 @@
 use Rattle.asm_fits.proofs.Laws.{number-below}
 use Rattle.isa.specs.declared.Instr.the-variants as i
-use Rattle.asm_fits.specs.Fits.{wordFit, byteFit, countFit, offsetFit, immediateFit, constantFit, branchFit}
+use Rattle.asm_fits.specs.Fits.{countFit}
 use Rattle.asm_write.specs.Written.{numberOf}
 use Rattle.asm_write.proofs.Laws.{both-number, both-unknown, both-outside, unknown-both}
 use Rattle.asm_write.proofs.Laws.{outside-number, outside-unknown, outside-outside}
 use native.Mathlib.Omega.{arith}
-use Prim.Native.Nat.{ℕ, _+_}
-use mathlib.Core.Path.{_≡_, refl, sym, ap, _∙_}
 use borrow.Author.Needs.{needs}
 use Rattle.asm_write.proofs.conditional.Statement.{statement}
 use Rattle.asm_write.proofs.conditional.Tie as tie
-
-count-requires : tie.Need-count-requires
-count-requires c κs = search needs
-
-count-requires-2 : tie.Need-count-requires-2
-count-requires-2 c κs = search needs
-
-enum-known-a : tie.Need-enum-known-a
-enum-known-a c = search needs
-
-enum-known-b : tie.Need-enum-known-b
-enum-known-b c = search needs
 
 cast-t11 : tie.Need-cast-t11
 cast-t11 c =
@@ -34,30 +20,6 @@ cast-t12 c =
     let c1 = c .before in
     let c6 = c1 .before .before .before .before .before in
     let h = number-below 8 (c1 .b .given .0 .0) (c6 .count2 .result) (c1 .b .given .1) (c6 .count2 .ensures .1) in omega (arith, h)
-
-word-of-requires : tie.Need-word-of-requires
-word-of-requires c κs = search needs
-
-enum-told : tie.Need-enum-told
-enum-told c = search needs
-
-enum-told-2 : tie.Need-enum-told-2
-enum-told-2 c = search needs
-
-enum-told-3 : tie.Need-enum-told-3
-enum-told-3 c = search needs
-
-enum-told-4 : tie.Need-enum-told-4
-enum-told-4 c = search needs
-
-enum-told-5 : tie.Need-enum-told-5
-enum-told-5 c = search needs
-
-enum-told-6 : tie.Need-enum-told-6
-enum-told-6 c = search needs
-
-enum-told-7 : tie.Need-enum-told-7
-enum-told-7 c = search needs
 
 returns : tie.Need-returns
 unfolding numberOf
@@ -140,25 +102,6 @@ returns-7 c =
 pub conditional-spec : {M : Type 1} → statement M
 conditional-spec =
     tie.close
-    (tie.spec
-    count-requires
-    count-requires-2
-    enum-known-a
-    enum-known-b
-    cast-t11
-    cast-t12
-    word-of-requires
-    enum-told
-    enum-told-2
-    enum-told-3
-    enum-told-4
-    enum-told-5
-    enum-told-6
-    enum-told-7
-    returns
-    returns-2
-    returns-3
-    returns-4
-    returns-5
-    returns-6
-    returns-7)
+    (tie.spec (λ c κs. search needs) (λ c κs. search needs) (λ c. search needs) (λ c. search needs) cast-t11 cast-t12 (λ c κs. search needs)
+    (λ c. search needs) (λ c. search needs) (λ c. search needs) (λ c. search needs) (λ c. search needs) (λ c. search needs)
+    (λ c. search needs) returns returns-2 returns-3 returns-4 returns-5 returns-6 returns-7)

@@ -3,21 +3,6 @@ use borrow.Author.Needs.{needs}
 use Rattle.asm_write.proofs.used.Statement.{statement}
 use Rattle.asm_write.proofs.used.Tie as tie
 
-layout-of-requires : tie.Need-layout-of-requires
-layout-of-requires c κs = search needs
-
-size-requires : tie.Need-size-requires
-size-requires c κs = search needs
-
-number-requires : tie.Need-number-requires
-number-requires c κs = search needs
-
-enum-known-n : tie.Need-enum-known-n
-enum-known-n c = search needs
-
-misplaced-requires : tie.Need-misplaced-requires
-misplaced-requires c κs = search needs
-
 returns : tie.Need-returns
 returns c =
     let c1 = c .before in
@@ -29,12 +14,6 @@ returns c =
     used-misplaced (c8 .args .p) (c8 .args .x) (c7 .layout-of .result) (c6 .size .result) (c5 .number .result) (c7 .layout-of .ensures)
     (c6 .size .ensures) (c5 .number .ensures) (c3 .n .given .0 .0) (c1 .misplaced .result) (c3 .n .given .1) (c1 .misplaced .ensures)
     (c .if1 .taken)
-
-enum-told : tie.Need-enum-told
-enum-told c = search needs
-
-enum-told-2 : tie.Need-enum-told-2
-enum-told-2 c = search needs
 
 returns-2 : tie.Need-returns-2
 returns-2 c =
@@ -69,15 +48,5 @@ returns-4 c =
 pub used-spec : {M : Type 1} → statement M
 used-spec =
     tie.close
-    (tie.spec
-    layout-of-requires
-    size-requires
-    number-requires
-    enum-known-n
-    misplaced-requires
-    returns
-    enum-told
-    enum-told-2
-    returns-2
-    returns-3
-    returns-4)
+    (tie.spec (λ c κs. search needs) (λ c κs. search needs) (λ c κs. search needs) (λ c. search needs) (λ c κs. search needs) returns
+    (λ c. search needs) (λ c. search needs) returns-2 returns-3 returns-4)

@@ -4,15 +4,6 @@ use borrow.Author.Needs.{needs}
 use Rattle.asm_write.proofs.word_of.Statement.{statement}
 use Rattle.asm_write.proofs.word_of.Tie as tie
 
-encode-requires : tie.Need-encode-requires
-encode-requires c κs = search needs
-
-enum-known-w : tie.Need-enum-known-w
-enum-known-w c = search needs
-
-enum-told : tie.Need-enum-told
-enum-told c = search needs
-
 returns : tie.Need-returns
 returns c =
     let c1 = c .before in
@@ -27,4 +18,4 @@ returns-2 c =
     encoded-refused (c2 .encode .result) (encodeOf (c3 .args .x)) (c2 .encode .ensures) (c .enum-told .given .1)
 
 pub word-of-spec : {M : Type 1} → statement M
-word-of-spec = tie.close (tie.spec encode-requires enum-known-w enum-told returns returns-2)
+word-of-spec = tie.close (tie.spec (λ c κs. search needs) (λ c. search needs) (λ c. search needs) returns returns-2)

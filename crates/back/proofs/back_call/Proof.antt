@@ -1,5 +1,5 @@
 -- Refused, nothing is touched; accepted, what `go_back` gives is stored. Assumes nothing.
-use mathlib.Core.Path.{_≡_, refl, sym, ap, _∙_}
+use mathlib.Core.Path.{sym, ap, _∙_}
 use native.Mathlib.Omega.{arith}
 use denote.Ref.{now}
 use borrow.Author.Needs.{needs}
@@ -9,20 +9,8 @@ use Rattle.back.proofs.Laws.{lentAt, refused-answer, passed-of}
 use Rattle.back.proofs.back_call.Statement.{statement}
 use Rattle.back.proofs.back_call.Tie as tie
 
-back-verdict-requires : tie.Need-back-verdict-requires
-back-verdict-requires c κs = search needs
-
-refusal-number-requires : tie.Need-refusal-number-requires
-refusal-number-requires c κs = search needs
-
 cast-refused : tie.Need-cast-refused
 cast-refused c = omega (arith, c .refusal-number .ensures .1)
-
-same-length : tie.Need-same-length
-same-length c = search needs
-
-same-length-2 : tie.Need-same-length-2
-same-length-2 c = search needs
 
 returns : tie.Need-returns
 returns c =
@@ -56,12 +44,6 @@ go-back-requires c κs =
     let p = back-passed (a .k) x (passed-of (a .k) x _ r (c .before .before .if1 .left)) in
     (p .memory-size, p .state-size, p .ring .small, p .ring .place, p .few)
 
-same-length-3 : tie.Need-same-length-3
-same-length-3 c = search needs
-
-same-length-4 : tie.Need-same-length-4
-same-length-4 c = search needs
-
 returns-2 : tie.Need-returns-2
 returns-2 c =
     let a = c .before .before .before .before .before .before .before .before .before .before .before .before .before .before .before
@@ -75,15 +57,5 @@ returns-2 c =
 pub back-call-spec : {M : Type 1} → statement M
 back-call-spec =
     tie.close
-    (tie.spec
-    back-verdict-requires
-    refusal-number-requires
-    cast-refused
-    same-length
-    same-length-2
-    returns
-    cast-go-back
-    go-back-requires
-    same-length-3
-    same-length-4
-    returns-2)
+    (tie.spec (λ c κs. search needs) (λ c κs. search needs) cast-refused (λ c. search needs) (λ c. search needs) returns cast-go-back
+    go-back-requires (λ c. search needs) (λ c. search needs) returns-2)

@@ -1,12 +1,9 @@
-use mathlib.Core.Path.{_≡_, refl, sym, ap, _∙_}
+use mathlib.Core.Path.{sym, _∙_}
 use borrow.Author.Tests.{eq-eqb, ne-eqb, lt-ltb, le-ltb, not-true, not-false}
 use Rattle.journal.specs.Call.{backVerdict}
 use borrow.Author.Needs.{needs}
 use Rattle.back.proofs.back_verdict.Statement.{statement}
 use Rattle.back.proofs.back_verdict.Tie as tie
-
-journal-fits-requires : tie.Need-journal-fits-requires
-journal-fits-requires c κs = search needs
 
 returns : tie.Need-returns
 unfolding backVerdict
@@ -47,5 +44,4 @@ returns-5 c =
     )
 
 pub back-verdict-spec : {M : Type 1} → statement M
-back-verdict-spec =
-    tie.close (tie.spec journal-fits-requires returns returns-2 returns-3 returns-4 returns-5)
+back-verdict-spec = tie.close (tie.spec (λ c κs. search needs) returns returns-2 returns-3 returns-4 returns-5)

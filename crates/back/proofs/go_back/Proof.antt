@@ -1,5 +1,5 @@
-use Prim.Native.Nat.{ℕ, _+_, _-_, _*_, _/_, _≤_, _<_}
-use mathlib.Core.Path.{_≡_, refl, sym, ap, _∙_}
+use Prim.Native.Nat.{_≤_, _<_}
+use mathlib.Core.Path.{_≡_, refl, sym, _∙_}
 use native.Mathlib.Omega.{arith}
 use borrow.Author.Needs.{needs}
 use denote.Ref.{now}
@@ -18,32 +18,14 @@ Inv-loop memory₀ state₀ journal k places left₀ c₀ p₀ memory state left
 abbrev μ-loop : tie.MeasureT-loop
 μ-loop memory₀ state₀ journal k places left₀ c₀ p₀ memory state left c p = left
 
-cast-places : tie.Need-cast-places Inv-loop μ-loop
-cast-places c = omega arith
-
 loop-holds : tie.Need-loop-holds Inv-loop μ-loop
 loop-holds c = let s = c .before .before .before in (s .pre .0, s .pre .1, s .pre .3, s .pre .4, refl)
-
-place-before-requires : tie.Need-place-before-requires Inv-loop μ-loop
-place-before-requires c κs = search needs
-
-cast-copy-out : tie.Need-cast-copy-out Inv-loop μ-loop
-cast-copy-out c = omega arith
 
 copy-out-requires : tie.Need-copy-out-requires Inv-loop μ-loop
 copy-out-requires c κs =
     let l = c .before .before .before .before .loop in
     let q = c .before .before .place-before .ensures .1 in
     (l .inv .0, l .inv .1, omega arith)
-
-sub-c : tie.Need-sub-c Inv-loop μ-loop
-sub-c c = omega arith
-
-sub-left : tie.Need-sub-left Inv-loop μ-loop
-sub-left c = omega arith
-
-loop-less : tie.Need-loop-less Inv-loop μ-loop
-loop-less c = omega arith
 
 loop-again : tie.Need-loop-again Inv-loop μ-loop
 loop-again c =
@@ -76,18 +58,5 @@ returns c =
 pub go-back-spec : {M : Type 1} → statement M
 go-back-spec =
     tie.close
-    (tie.spec
-    Inv-loop
-    μ-loop
-    cast-places
-    loop-holds
-    place-before-requires
-    cast-copy-out
-    copy-out-requires
-    sub-c
-    sub-left
-    loop-less
-    loop-again
-    same-length
-    same-length-2
-    returns)
+    (tie.spec Inv-loop μ-loop (λ c. omega arith) loop-holds (λ c κs. search needs) (λ c. omega arith) copy-out-requires (λ c. omega arith)
+    (λ c. omega arith) (λ c. omega arith) loop-again same-length same-length-2 returns)

@@ -1,6 +1,6 @@
 -- `back::put_bytes` meets its contract. The loop's invariant: what is left to copy, copied, gives what the whole does.
 -- Assumes nothing.
-use Prim.Native.Nat.{ℕ, _+_, _-_, _%_, _≤_, _<_}
+use Prim.Native.Nat.{_+_, _-_, _%_, _≤_}
 use mathlib.Core.Path.{_≡_, refl, sym, ap, _∙_}
 use native.Mathlib.Omega.{arith}
 use borrow.Author.Needs.{needs}
@@ -20,27 +20,6 @@ abbrev μ-loop : tie.MeasureT-loop
 
 loop-holds : tie.Need-loop-holds Inv-loop μ-loop
 loop-holds c = let s = c .before .before in (s .pre .0, omega arith, omega arith, refl)
-
-cast-x : tie.Need-cast-x Inv-loop μ-loop
-cast-x c = search needs
-
-add-memory : tie.Need-add-memory Inv-loop μ-loop
-add-memory c = search needs
-
-shared-slice-read-memory : tie.Need-shared-slice-read-memory Inv-loop μ-loop
-shared-slice-read-memory c = search needs
-
-slice-write-memory : tie.Need-slice-write-memory Inv-loop μ-loop
-slice-write-memory c = search needs
-
-wrapping-add-u16-requires : tie.Need-wrapping-add-u16-requires Inv-loop μ-loop
-wrapping-add-u16-requires c κs = search needs
-
-add-i : tie.Need-add-i Inv-loop μ-loop
-add-i c = search needs
-
-loop-less : tie.Need-loop-less Inv-loop μ-loop
-loop-less c = search needs
 
 loop-again : tie.Need-loop-again Inv-loop μ-loop
 loop-again c =
@@ -71,17 +50,5 @@ returns c =
 pub put-bytes-spec : {M : Type 1} → statement M
 put-bytes-spec =
     tie.close
-    (tie.spec
-    Inv-loop
-    μ-loop
-    loop-holds
-    cast-x
-    add-memory
-    shared-slice-read-memory
-    slice-write-memory
-    wrapping-add-u16-requires
-    add-i
-    loop-less
-    loop-again
-    same-length
-    returns)
+    (tie.spec Inv-loop μ-loop loop-holds (λ c. search needs) (λ c. search needs) (λ c. search needs) (λ c. search needs)
+    (λ c κs. search needs) (λ c. search needs) (λ c. search needs) loop-again same-length returns)

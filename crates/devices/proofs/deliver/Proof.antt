@@ -40,27 +40,6 @@ loop-holds c =
       λ core h. index-start (now (s .args .events)) (s .args .count) (s .args .next) _ (s .pre .1 .0),
     )
 
-step-at-requires : tie.Need-step-at-requires Inv-loop μ-loop
-step-at-requires c κs = omega arith
-
-mul-event-on : tie.Need-mul-event-on Inv-loop μ-loop
-mul-event-on c = omega arith
-
-add-event-on : tie.Need-add-event-on Inv-loop μ-loop
-add-event-on c = omega arith
-
-shared-slice-read-event-on : tie.Need-shared-slice-read-event-on Inv-loop μ-loop
-shared-slice-read-event-on c = omega arith
-
-mul-event-on-2 : tie.Need-mul-event-on-2 Inv-loop μ-loop
-mul-event-on-2 c = omega arith
-
-add-event-on-2 : tie.Need-add-event-on-2 Inv-loop μ-loop
-add-event-on-2 c = omega arith
-
-shared-slice-read-event-on-2 : tie.Need-shared-slice-read-event-on-2 Inv-loop μ-loop
-shared-slice-read-event-on-2 c = omega arith
-
 event-on-requires : tie.Need-event-on-requires Inv-loop μ-loop
 event-on-requires c κs =
     let s = c .before .before .before .before .before .before .before .before .before .before in
@@ -68,12 +47,6 @@ event-on-requires c κs =
     let l = c .before .before .before .before .before .before .before .loop in
     let t = c .before .before .before .before .before .before .loop-test .taken in
     (omega (arith, l .inv .0, s .pre .0), device-lt b (eventCount b) (l .at) (s .pre .1 .1 .1) t)
-
-add-at : tie.Need-add-at Inv-loop μ-loop
-add-at c = omega arith
-
-loop-less : tie.Need-loop-less Inv-loop μ-loop
-loop-less c = omega arith
 
 loop-again : tie.Need-loop-again Inv-loop μ-loop
 loop-again c =
@@ -137,22 +110,6 @@ returns-2 c =
 pub deliver-spec : {M : Type 1} → statement M
 deliver-spec =
     tie.close
-    (tie.spec
-    Inv-loop
-    μ-loop
-    loop-holds
-    step-at-requires
-    mul-event-on
-    add-event-on
-    shared-slice-read-event-on
-    mul-event-on-2
-    add-event-on-2
-    shared-slice-read-event-on-2
-    event-on-requires
-    add-at
-    loop-less
-    loop-again
-    same-length
-    returns
-    same-length-2
-    returns-2)
+    (tie.spec Inv-loop μ-loop loop-holds (λ c κs. omega arith) (λ c. omega arith) (λ c. omega arith) (λ c. omega arith) (λ c. omega arith)
+    (λ c. omega arith) (λ c. omega arith) event-on-requires (λ c. omega arith) (λ c. omega arith) loop-again same-length returns
+    same-length-2 returns-2)

@@ -25,5 +25,4 @@ returns-3 c =
     (line-absent (now (a .mem)) (a .lines) (a .level) _ (b .0) (c .if1 .left) (b .1), omega arith)
 
 pub best-above-spec : {M : Type 1} → statement M
-best-above-spec =
-    tie.close (tie.spec (λ c κs. search needs) (λ c κs. search needs) returns returns-2 returns-3)
+best-above-spec = tie.close (tie.spec (λ c κs. search needs) (λ c κs. search needs) returns returns-2 returns-3)

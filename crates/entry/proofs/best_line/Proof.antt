@@ -14,9 +14,6 @@ Inv-loop mem lines d₀ e₀ d e = (d ≤ 8) × (e ≤ 8) × (e ≡ bestFrom (8 
 abbrev μ-loop : tie.MeasureT-loop
 μ-loop mem lines d₀ e₀ d e = d
 
-loop-holds : tie.Need-loop-holds Inv-loop μ-loop
-loop-holds c = (omega arith, omega arith, sym (best-none 8 _ _))
-
 loop-again : tie.Need-loop-again Inv-loop μ-loop
 loop-again c =
     let b = c .before .before .before .before in
@@ -44,15 +41,5 @@ returns c =
 pub best-line-spec : {M : Type 1} → statement M
 best-line-spec =
     tie.close
-    (tie.spec
-    Inv-loop
-    μ-loop
-    loop-holds
-    (λ c. search needs)
-    (λ c κs. search needs)
-    (λ c κs. search needs)
-    (λ c. search needs)
-    loop-again
-    (λ c. search needs)
-    loop-again-2
-    returns)
+    (tie.spec Inv-loop μ-loop (λ c. (omega arith, omega arith, sym (best-none 8 _ _))) (λ c. search needs) (λ c κs. search needs)
+    (λ c κs. search needs) (λ c. search needs) loop-again (λ c. search needs) loop-again-2 returns)

@@ -18,5 +18,4 @@ returns-3 : tie.Need-returns-3
 returns-3 c = (simp (le-ltb _ _ (c .if1 .left)), omega arith)
 
 pub better-of-spec : {M : Type 1} → statement M
-better-of-spec =
-    tie.close (tie.spec (λ c κs. search needs) (λ c κs. search needs) returns returns-2 returns-3)
+better-of-spec = tie.close (tie.spec (λ c κs. search needs) (λ c κs. search needs) returns returns-2 returns-3)

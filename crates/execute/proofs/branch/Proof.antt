@@ -29,12 +29,5 @@ returns-2 c =
 pub branch-spec : {M : Type 1} → statement M
 branch-spec =
     tie.close
-    (tie.spec
-    (λ c κs. search needs)
-    (λ c κs. search needs)
-    branch-target-requires
-    (λ c κs. search needs)
-    (λ c κs. search needs)
-    returns
-    (λ c κs. search needs)
-    returns-2)
+    (tie.spec (λ c κs. search needs) (λ c κs. search needs) branch-target-requires (λ c κs. search needs) (λ c κs. search needs) returns
+    (λ c κs. search needs) returns-2)

@@ -4,9 +4,5 @@ use Rattle.machine.specs.Effect.{effectOf}
 use Rattle.execute.proofs.clear_flags.Statement.{statement}
 use Rattle.execute.proofs.clear_flags.Tie as tie
 
-returns : tie.Need-returns
-unfolding effectOf
-returns c = λ regs. cc
-
 pub clear-flags-spec : {M : Type 1} → statement M
-clear-flags-spec = tie.close (tie.spec (λ c κs. search needs) (λ c κs. search needs) returns)
+clear-flags-spec = tie.close (tie.spec (λ c κs. search needs) (λ c κs. search needs) (λ c regs. unfold effectOf in cc))

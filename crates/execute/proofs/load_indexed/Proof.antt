@@ -14,11 +14,4 @@ returns c =
     (c .adjust-index .ensures) _
 
 pub load-indexed-spec : {M : Type 1} → statement M
-load-indexed-spec =
-    tie.close
-    (tie.spec
-    (λ c κs. search needs)
-    (λ c κs. search needs)
-    (λ c κs. search needs)
-    (λ c κs. search needs)
-    returns)
+load-indexed-spec = tie.close (tie.spec (λ c κs. search needs) (λ c κs. search needs) (λ c κs. search needs) (λ c κs. search needs) returns)

@@ -4,18 +4,8 @@ use Rattle.machine.specs.Effect.{effectOf}
 use Rattle.execute.proofs.mov.Statement.{statement}
 use Rattle.execute.proofs.mov.Tie as tie
 
-returns : tie.Need-returns
-unfolding effectOf
-returns c = cc
-
 pub mov-spec : {M : Type 1} → statement M
 mov-spec =
     tie.close
-    (tie.spec
-    (λ c κs. search needs)
-    (λ c κs. search needs)
-    (λ c κs. search needs)
-    (λ c κs. search needs)
-    (λ c κs. search needs)
-    (λ c κs. search needs)
-    returns)
+    (tie.spec (λ c κs. search needs) (λ c κs. search needs) (λ c κs. search needs) (λ c κs. search needs) (λ c κs. search needs)
+    (λ c κs. search needs) (λ c. unfold effectOf in cc))

@@ -13,11 +13,4 @@ returns c =
     (d .get .ensures) (c .before .before .before .alu .ensures) (c .before .put .ensures) (c .asks-nothing .ensures)
 
 pub one-operand-spec : {M : Type 1} → statement M
-one-operand-spec =
-    tie.close
-    (tie.spec
-    (λ c κs. search needs)
-    (λ c κs. search needs)
-    (λ c κs. search needs)
-    (λ c κs. search needs)
-    returns)
+one-operand-spec = tie.close (tie.spec (λ c κs. search needs) (λ c κs. search needs) (λ c κs. search needs) (λ c κs. search needs) returns)

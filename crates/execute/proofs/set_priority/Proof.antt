@@ -23,11 +23,4 @@ returns-2 c =
     λ regs. rw (le-ltb _ _ down) (cc)
 
 pub set-priority-spec : {M : Type 1} → statement M
-set-priority-spec =
-    tie.close
-    (tie.spec
-    (λ c κs. search needs)
-    returns
-    (λ c κs. search needs)
-    (λ c κs. search needs)
-    returns-2)
+set-priority-spec = tie.close (tie.spec (λ c κs. search needs) returns (λ c κs. search needs) (λ c κs. search needs) returns-2)

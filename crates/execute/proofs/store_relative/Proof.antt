@@ -13,10 +13,4 @@ returns c =
     rw (t, c .before .before .get .ensures, c .get2 .ensures)
 
 pub store-relative-spec : {M : Type 1} → statement M
-store-relative-spec =
-    tie.close
-    (tie.spec
-    (λ c κs. search needs)
-    (λ c κs. search needs)
-    (λ c κs. search needs)
-    returns)
+store-relative-spec = tie.close (tie.spec (λ c κs. search needs) (λ c κs. search needs) (λ c κs. search needs) returns)

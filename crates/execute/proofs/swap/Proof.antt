@@ -4,17 +4,8 @@ use Rattle.machine.specs.Effect.{effectOf}
 use Rattle.execute.proofs.swap.Statement.{statement}
 use Rattle.execute.proofs.swap.Tie as tie
 
-returns : tie.Need-returns
-unfolding effectOf
-returns c ignored = cc
-
 pub swap-spec : {M : Type 1} → statement M
 swap-spec =
     tie.close
-    (tie.spec
-    (λ c κs. search needs)
-    (λ c κs. search needs)
-    (λ c κs. search needs)
-    (λ c κs. search needs)
-    (λ c κs. search needs)
-    returns)
+    (tie.spec (λ c κs. search needs) (λ c κs. search needs) (λ c κs. search needs) (λ c κs. search needs) (λ c κs. search needs)
+    (λ c ignored. unfold effectOf in cc))

@@ -13,12 +13,5 @@ returns-3 c = c .pulled .ensures ∙ ap (λ m. movedBy m (c .before .before .bef
 pub by-spec : {M : Type 1} → statement M
 by-spec =
     tie.close
-    (tie.spec
-    (λ c. search needs)
-    (λ c. search needs)
-    (λ c κs. search needs)
-    (λ c. search needs)
-    (λ c κs. search needs)
-    (λ c. search needs)
-    returns-2
-    returns-3)
+    (tie.spec (λ c. search needs) (λ c. search needs) (λ c κs. search needs) (λ c. search needs) (λ c κs. search needs) (λ c. search needs)
+    returns-2 returns-3)

@@ -10,9 +10,6 @@ use borrow.Author.Needs.{needs}
 use Rattle.isa.proofs.encode_bl.Statement.{statement}
 use Rattle.isa.proofs.encode_bl.Tie as tie
 
-magnitude-requires : tie.Need-magnitude-requires
-magnitude-requires c κs = search needs
-
 returns : tie.Need-returns
 unfolding encodeOf
 returns c =
@@ -21,9 +18,6 @@ returns c =
     let m : p .magnitude .result ≡ mag z = mag-back z (p .before .fits .off) (p .magnitude .ensures) in
     let h : 4096 ≤ mag z = omega arith in
     search (needs, lt-ltb, le-ltb)
-
-offset-bits-requires : tie.Need-offset-bits-requires
-offset-bits-requires c κs = search needs
 
 returns-2 : tie.Need-returns-2
 unfolding encodeOf
@@ -36,4 +30,4 @@ returns-2 c =
     search (needs, lt-ltb, le-ltb, b)
 
 pub encode-bl-spec : {M : Type 1} → statement M
-encode-bl-spec = tie.close (tie.spec magnitude-requires returns offset-bits-requires returns-2)
+encode-bl-spec = tie.close (tie.spec (λ c κs. search needs) returns (λ c κs. search needs) returns-2)

@@ -10,13 +10,6 @@ use borrow.Author.Needs.{needs}
 use Rattle.isa.proofs.encode_branch.Statement.{statement}
 use Rattle.isa.proofs.encode_branch.Tie as tie
 
-returns : tie.Need-returns
-unfolding encodeOf
-returns c = search (needs, lt-ltb, le-ltb)
-
-magnitude-requires : tie.Need-magnitude-requires
-magnitude-requires c κs = search needs
-
 returns-2 : tie.Need-returns-2
 unfolding encodeOf
 returns-2 c =
@@ -25,18 +18,6 @@ returns-2 c =
     let m : p .magnitude .result ≡ mag z = mag-back z (p .before .before .fits .off) (p .magnitude .ensures) in
     let h : 512 ≤ mag z = omega arith in
     search (needs, lt-ltb, le-ltb)
-
-mul-t5 : tie.Need-mul-t5
-mul-t5 c = search needs
-
-add-t6 : tie.Need-add-t6
-add-t6 c = search needs
-
-offset-bits-requires : tie.Need-offset-bits-requires
-offset-bits-requires c κs = search needs
-
-add-t8 : tie.Need-add-t8
-add-t8 c = search needs
 
 returns-3 : tie.Need-returns-3
 unfolding encodeOf
@@ -51,12 +32,5 @@ returns-3 c =
 pub encode-branch-spec : {M : Type 1} → statement M
 encode-branch-spec =
     tie.close
-    (tie.spec
-    returns
-    magnitude-requires
-    returns-2
-    mul-t5
-    add-t6
-    offset-bits-requires
-    add-t8
-    returns-3)
+    (tie.spec (λ c. unfold encodeOf in search (needs, lt-ltb, le-ltb)) (λ c κs. search needs) returns-2 (λ c. search needs)
+    (λ c. search needs) (λ c κs. search needs) (λ c. search needs) returns-3)

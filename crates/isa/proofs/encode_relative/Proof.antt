@@ -9,9 +9,6 @@ use borrow.Author.Needs.{needs}
 use Rattle.isa.proofs.encode_relative.Statement.{statement}
 use Rattle.isa.proofs.encode_relative.Tie as tie
 
-magnitude-requires : tie.Need-magnitude-requires
-magnitude-requires c κs = search needs
-
 returns : tie.Need-returns
 returns c =
     let p = c .before in
@@ -44,30 +41,6 @@ returns-4 c =
     let h : mag z < 64 = omega arith in
     search (needs, lt-ltb, le-ltb)
 
-offset-bits-requires : tie.Need-offset-bits-requires
-offset-bits-requires c κs = search needs
-
-mul-t8 : tie.Need-mul-t8
-mul-t8 c = search needs
-
-add-t9 : tie.Need-add-t9
-add-t9 c = search needs
-
-mul-t11 : tie.Need-mul-t11
-mul-t11 c = search needs
-
-add-t12 : tie.Need-add-t12
-add-t12 c = search needs
-
-mul-t14 : tie.Need-mul-t14
-mul-t14 c = search needs
-
-add-t15 : tie.Need-add-t15
-add-t15 c = search needs
-
-add-t17 : tie.Need-add-t17
-add-t17 c = search needs
-
 returns-5 : tie.Need-returns-5
 returns-5 c =
     let p = c .before .before .before .before .before in
@@ -80,18 +53,5 @@ returns-5 c =
 pub encode-relative-spec : {M : Type 1} → statement M
 encode-relative-spec =
     tie.close
-    (tie.spec
-    magnitude-requires
-    returns
-    returns-2
-    returns-3
-    returns-4
-    offset-bits-requires
-    mul-t8
-    add-t9
-    mul-t11
-    add-t12
-    mul-t14
-    add-t15
-    add-t17
-    returns-5)
+    (tie.spec (λ c κs. search needs) returns returns-2 returns-3 returns-4 (λ c κs. search needs) (λ c. search needs) (λ c. search needs)
+    (λ c. search needs) (λ c. search needs) (λ c. search needs) (λ c. search needs) (λ c. search needs) returns-5)

@@ -1,4 +1,3 @@
-use Prim.Native.Nat.{ℕ}
 use mathlib.Core.Path.{_≡_, sym, ap, _∙_}
 use native.Mathlib.Omega.{arith}
 use Rattle.isa_card.specs.Words.{countOf}
@@ -15,12 +14,6 @@ returns c =
 
 returns-2 : tie.Need-returns-2
 returns-2 c = (sym (no-operation (c .before .before .args .operation) 0 (omega arith) .0), omega arith)
-
-block-of-requires : tie.Need-block-of-requires
-block-of-requires c κs = search needs
-
-is-twice-requires : tie.Need-is-twice-requires
-is-twice-requires c κs = search needs
 
 add-result : tie.Need-add-result
 add-result c =
@@ -49,6 +42,4 @@ returns-4 c =
     (count-once o b e (omega arith) (omega arith) (sym (c .before .is-twice .ensures) ∙ c .if3 .left), omega (arith, small .1))
 
 pub count-of-spec : {M : Type 1} → statement M
-count-of-spec =
-    tie.close
-    (tie.spec returns returns-2 block-of-requires is-twice-requires add-result returns-3 returns-4)
+count-of-spec = tie.close (tie.spec returns returns-2 (λ c κs. search needs) (λ c κs. search needs) add-result returns-3 returns-4)

@@ -18,9 +18,6 @@ returns c =
 returns-2 : tie.Need-returns-2
 returns-2 c = let a = c .before .before .args in sym (no-operation (a .operation) (a .word) (omega arith) .1)
 
-block-of-requires : tie.Need-block-of-requires
-block-of-requires c κs = search needs
-
 add-if3 : tie.Need-add-if3
 add-if3 c =
     let called = c .before in
@@ -28,18 +25,12 @@ add-if3 c =
     let small = block-small o (called .block-of .result) (called .block-of .ensures) (omega arith) (omega arith) in
     omega (arith, small .0)
 
-at-least-requires : tie.Need-at-least-requires
-at-least-requires c κs = search needs
-
 returns-3 : tie.Need-returns-3
 returns-3 c =
     let called = c .before .before .before in
     let a = called .before .before .before .args in
     next-first (a .operation) (a .word) (c .at-least .result) (called .block-of .result) (called .block-of .ensures)
     (omega arith) (omega arith) (c .before .if3 .taken) (c .at-least .ensures)
-
-is-twice-requires : tie.Need-is-twice-requires
-is-twice-requires c κs = search needs
 
 returns-4 : tie.Need-returns-4
 returns-4 c =
@@ -70,9 +61,6 @@ add-at-least c =
     let small = block-small o (called .block-of .result) (called .block-of .ensures) (omega arith) (omega arith) in
     omega (arith, small .0)
 
-at-least-requires-2 : tie.Need-at-least-requires-2
-at-least-requires-2 c κs = search needs
-
 returns-5 : tie.Need-returns-5
 returns-5 c =
     let asked = c .before .before .before .before .before in
@@ -96,18 +84,5 @@ returns-6 c =
 pub next-of-spec : {M : Type 1} → statement M
 next-of-spec =
     tie.close
-    (tie.spec
-    returns
-    returns-2
-    block-of-requires
-    add-if3
-    at-least-requires
-    returns-3
-    is-twice-requires
-    returns-4
-    add-if5
-    add-if5-2
-    add-at-least
-    at-least-requires-2
-    returns-5
-    returns-6)
+    (tie.spec returns returns-2 (λ c κs. search needs) add-if3 (λ c κs. search needs) returns-3 (λ c κs. search needs) returns-4 add-if5
+    add-if5-2 add-at-least (λ c κs. search needs) returns-5 returns-6)

@@ -10,12 +10,6 @@ use borrow.Author.Needs.{needs}
 use Rattle.isa_number.proofs.twos.Statement.{statement}
 use Rattle.isa_number.proofs.twos.Tie as tie
 
-magnitude-requires : tie.Need-magnitude-requires
-magnitude-requires c κs = search needs
-
-sub-result : tie.Need-sub-result
-sub-result c = search needs
-
 returns : tie.Need-returns
 returns c =
     let z = c .before .before .args .z in
@@ -25,9 +19,6 @@ returns c =
     let b : bitsOf 0x8000 z ≡ 0x8000 + 0x8000 - suc (mag z) = down-bits z f 0x8000 (c .before .if1 .taken) in
     omega arith
 
-magnitude-requires-2 : tie.Need-magnitude-requires-2
-magnitude-requires-2 c κs = search needs
-
 returns-2 : tie.Need-returns-2
 returns-2 c =
     let z = c .before .before .args .z in
@@ -36,5 +27,4 @@ returns-2 c =
     m ∙ sym (up-bits z f 0x8000 (c .before .if1 .left))
 
 pub twos-spec : {M : Type 1} → statement M
-twos-spec =
-    tie.close (tie.spec magnitude-requires sub-result returns magnitude-requires-2 returns-2)
+twos-spec = tie.close (tie.spec (λ c κs. search needs) (λ c. search needs) returns (λ c κs. search needs) returns-2)

@@ -3,55 +3,10 @@ use borrow.Author.Tests.{lt-ltb, le-ltb}
 use Rattle.isa_ranges.proofs.alu_operation.Statement.{statement}
 use Rattle.isa_ranges.proofs.alu_operation.Tie as tie
 
-returns : tie.Need-returns
-returns c = search (needs, lt-ltb, le-ltb)
-
-returns-2 : tie.Need-returns-2
-returns-2 c = search (needs, lt-ltb, le-ltb)
-
-returns-3 : tie.Need-returns-3
-returns-3 c = search (needs, lt-ltb, le-ltb)
-
-returns-4 : tie.Need-returns-4
-returns-4 c = search (needs, lt-ltb, le-ltb)
-
-returns-5 : tie.Need-returns-5
-returns-5 c = search (needs, lt-ltb, le-ltb)
-
-returns-6 : tie.Need-returns-6
-returns-6 c = search (needs, lt-ltb, le-ltb)
-
-returns-7 : tie.Need-returns-7
-returns-7 c = search (needs, lt-ltb, le-ltb)
-
-returns-8 : tie.Need-returns-8
-returns-8 c = search (needs, lt-ltb, le-ltb)
-
-returns-9 : tie.Need-returns-9
-returns-9 c = search (needs, lt-ltb, le-ltb)
-
-returns-10 : tie.Need-returns-10
-returns-10 c = search (needs, lt-ltb, le-ltb)
-
-returns-11 : tie.Need-returns-11
-returns-11 c = search (needs, lt-ltb, le-ltb)
-
-returns-12 : tie.Need-returns-12
-returns-12 c = search (needs, lt-ltb, le-ltb)
-
 pub alu-operation-spec : {M : Type 1} → statement M
 alu-operation-spec =
     tie.close
-    (tie.spec
-    returns
-    returns-2
-    returns-3
-    returns-4
-    returns-5
-    returns-6
-    returns-7
-    returns-8
-    returns-9
-    returns-10
-    returns-11
-    returns-12)
+    (tie.spec (λ c. search (needs, lt-ltb, le-ltb)) (λ c. search (needs, lt-ltb, le-ltb)) (λ c. search (needs, lt-ltb, le-ltb))
+    (λ c. search (needs, lt-ltb, le-ltb)) (λ c. search (needs, lt-ltb, le-ltb)) (λ c. search (needs, lt-ltb, le-ltb))
+    (λ c. search (needs, lt-ltb, le-ltb)) (λ c. search (needs, lt-ltb, le-ltb)) (λ c. search (needs, lt-ltb, le-ltb))
+    (λ c. search (needs, lt-ltb, le-ltb)) (λ c. search (needs, lt-ltb, le-ltb)) (λ c. search (needs, lt-ltb, le-ltb)))

@@ -4,11 +4,8 @@ use borrow.Author.Needs.{needs}
 use Rattle.isa_ranges.proofs.ends_of.Statement.{statement}
 use Rattle.isa_ranges.proofs.ends_of.Tie as tie
 
-bits-ends-requires : tie.Need-bits-ends-requires
-bits-ends-requires c κs = search needs
-
 returns : tie.Need-returns
 returns c = c .bits-ends .ensures ∙ bits-rows (c .before .args .w) (search needs)
 
 pub ends-of-spec : {M : Type 1} → statement M
-ends-of-spec = tie.close (tie.spec bits-ends-requires returns)
+ends-of-spec = tie.close (tie.spec (λ c κs. search needs) returns)

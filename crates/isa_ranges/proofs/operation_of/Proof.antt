@@ -4,75 +4,6 @@ use borrow.Author.Needs.{needs}
 use Rattle.isa_ranges.proofs.operation_of.Statement.{statement}
 use Rattle.isa_ranges.proofs.operation_of.Tie as tie
 
-enum-told : tie.Need-enum-told
-enum-told c = search needs
-
-enum-told-2 : tie.Need-enum-told-2
-enum-told-2 c = search needs
-
-enum-known-i : tie.Need-enum-known-i
-enum-known-i c = search needs
-
-branch-operation-requires : tie.Need-branch-operation-requires
-branch-operation-requires c κs = search needs
-
-enum-known-i-2 : tie.Need-enum-known-i-2
-enum-known-i-2 c = search needs
-
-alu-operation-requires : tie.Need-alu-operation-requires
-alu-operation-requires c κs = search needs
-
-enum-told-3 : tie.Need-enum-told-3
-enum-told-3 c = search needs
-
-enum-told-4 : tie.Need-enum-told-4
-enum-told-4 c = search needs
-
-enum-known-i-3 : tie.Need-enum-known-i-3
-enum-known-i-3 c = search needs
-
-unary-operation-requires : tie.Need-unary-operation-requires
-unary-operation-requires c κs = search needs
-
-enum-told-5 : tie.Need-enum-told-5
-enum-told-5 c = search needs
-
-enum-told-6 : tie.Need-enum-told-6
-enum-told-6 c = search needs
-
-enum-told-7 : tie.Need-enum-told-7
-enum-told-7 c = search needs
-
-enum-told-8 : tie.Need-enum-told-8
-enum-told-8 c = search needs
-
-enum-told-9 : tie.Need-enum-told-9
-enum-told-9 c = search needs
-
-enum-told-10 : tie.Need-enum-told-10
-enum-told-10 c = search needs
-
-enum-told-11 : tie.Need-enum-told-11
-enum-told-11 c = search needs
-
-enum-told-12 : tie.Need-enum-told-12
-enum-told-12 c = search needs
-
-enum-told-13 : tie.Need-enum-told-13
-enum-told-13 c = search needs
-
-enum-known-i-4 : tie.Need-enum-known-i-4
-enum-known-i-4 c = search needs
-
-mov-imm-operation-requires : tie.Need-mov-imm-operation-requires
-mov-imm-operation-requires c κs = search needs
-
-enum-told-14 : tie.Need-enum-told-14
-enum-told-14 c = search needs
-
-enum-told-15 : tie.Need-enum-told-15
-enum-told-15 c = search needs
-
 returns : tie.Need-returns
 unfolding operationIn
 returns c = sym (ap operationIn (c .enum-told .given .1))
@@ -152,46 +83,9 @@ returns-19 c = sym (ap operationIn (c .enum-told15 .given .1))
 pub operation-of-spec : {M : Type 1} → statement M
 operation-of-spec =
     tie.close
-    (tie.spec
-    enum-told
-    enum-told-2
-    enum-known-i
-    branch-operation-requires
-    enum-known-i-2
-    alu-operation-requires
-    enum-told-3
-    enum-told-4
-    enum-known-i-3
-    unary-operation-requires
-    enum-told-5
-    enum-told-6
-    enum-told-7
-    enum-told-8
-    enum-told-9
-    enum-told-10
-    enum-told-11
-    enum-told-12
-    enum-told-13
-    enum-known-i-4
-    mov-imm-operation-requires
-    enum-told-14
-    enum-told-15
-    returns
-    returns-2
-    returns-3
-    returns-4
-    returns-5
-    returns-6
-    returns-7
-    returns-8
-    returns-9
-    returns-10
-    returns-11
-    returns-12
-    returns-13
-    returns-14
-    returns-15
-    returns-16
-    returns-17
-    returns-18
-    returns-19)
+    (tie.spec (λ c. search needs) (λ c. search needs) (λ c. search needs) (λ c κs. search needs) (λ c. search needs) (λ c κs. search needs)
+    (λ c. search needs) (λ c. search needs) (λ c. search needs) (λ c κs. search needs) (λ c. search needs) (λ c. search needs)
+    (λ c. search needs) (λ c. search needs) (λ c. search needs) (λ c. search needs) (λ c. search needs) (λ c. search needs)
+    (λ c. search needs) (λ c. search needs) (λ c κs. search needs) (λ c. search needs) (λ c. search needs) returns returns-2 returns-3
+    returns-4 returns-5 returns-6 returns-7 returns-8 returns-9 returns-10 returns-11 returns-12 returns-13 returns-14 returns-15 returns-16
+    returns-17 returns-18 returns-19)

@@ -1,59 +1,11 @@
 use Prim.Native.Nat.{ℕ}
-use mathlib.Core.Path.{_≡_, refl, sym, ap, _∙_}
+use mathlib.Core.Path.{sym, ap, _∙_}
 use Rattle.machine.specs.State.{down}
 use Rattle.machine.specs.Memory.{even}
 use Rattle.journal.specs.Record.{addressOf}
 use borrow.Author.Needs.{needs}
 use Rattle.journal_record.proofs.address_of.Statement.{statement}
 use Rattle.journal_record.proofs.address_of.Tie as tie
-
-enum-told : tie.Need-enum-told
-enum-told c = search needs
-
-enum-told-2 : tie.Need-enum-told-2
-enum-told-2 c = search needs
-
-enum-told-3 : tie.Need-enum-told-3
-enum-told-3 c = search needs
-
-enum-told-4 : tie.Need-enum-told-4
-enum-told-4 c = search needs
-
-frame-at-requires : tie.Need-frame-at-requires
-frame-at-requires c κs = search needs
-
-enum-told-5 : tie.Need-enum-told-5
-enum-told-5 c = search needs
-
-enum-told-6 : tie.Need-enum-told-6
-enum-told-6 c = search needs
-
-frame-at-requires-2 : tie.Need-frame-at-requires-2
-frame-at-requires-2 c κs = search needs
-
-enum-told-7 : tie.Need-enum-told-7
-enum-told-7 c = search needs
-
-enum-told-8 : tie.Need-enum-told-8
-enum-told-8 c = search needs
-
-enum-told-9 : tie.Need-enum-told-9
-enum-told-9 c = search needs
-
-frame-at-requires-3 : tie.Need-frame-at-requires-3
-frame-at-requires-3 c κs = search needs
-
-enum-told-10 : tie.Need-enum-told-10
-enum-told-10 c = search needs
-
-enum-told-11 : tie.Need-enum-told-11
-enum-told-11 c = search needs
-
-enum-known-a : tie.Need-enum-known-a
-enum-known-a c = search needs
-
-stored-at-requires : tie.Need-stored-at-requires
-stored-at-requires c κs = search needs
 
 returns : tie.Need-returns
 unfolding addressOf
@@ -109,32 +61,7 @@ returns-12 c k q = c .stored-at .ensures ∙ ap (λ a. addressOf a k) (sym (c .b
 pub address-of-spec : {M : Type 1} → statement M
 address-of-spec =
     tie.close
-    (tie.spec
-    enum-told
-    enum-told-2
-    enum-told-3
-    enum-told-4
-    frame-at-requires
-    enum-told-5
-    enum-told-6
-    frame-at-requires-2
-    enum-told-7
-    enum-told-8
-    enum-told-9
-    frame-at-requires-3
-    enum-told-10
-    enum-told-11
-    enum-known-a
-    stored-at-requires
-    returns
-    returns-2
-    returns-3
-    returns-4
-    returns-5
-    returns-6
-    returns-7
-    returns-8
-    returns-9
-    returns-10
-    returns-11
-    returns-12)
+    (tie.spec (λ c. search needs) (λ c. search needs) (λ c. search needs) (λ c. search needs) (λ c κs. search needs) (λ c. search needs)
+    (λ c. search needs) (λ c κs. search needs) (λ c. search needs) (λ c. search needs) (λ c. search needs) (λ c κs. search needs)
+    (λ c. search needs) (λ c. search needs) (λ c. search needs) (λ c κs. search needs) returns returns-2 returns-3 returns-4 returns-5
+    returns-6 returns-7 returns-8 returns-9 returns-10 returns-11 returns-12)

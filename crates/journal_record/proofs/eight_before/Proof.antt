@@ -1,8 +1,7 @@
 use mathlib.Core.Path.{_≡_, sym, subst}
 use Rattle.journal.specs.Record.{bytesFrom}
-use Rattle.journal_record.proofs.Laws.{between}
+use Rattle.journal_record.proofs.Laws.{between, eight-wrapped}
 use native.Mathlib.Omega.{arith}
-use Rattle.journal_record.proofs.Laws.{eight-wrapped}
 use borrow.Author.Needs.{needs}
 use Rattle.journal_record.proofs.eight_before.Statement.{statement}
 use Rattle.journal_record.proofs.eight_before.Tie as tie
@@ -13,56 +12,8 @@ eight-at-requires c κs = let b = between (c .before .before .args .a) (c .if1 .
 returns : tie.Need-returns
 returns c b w = c .eight-at .ensures b _ w
 
-first-eight-requires : tie.Need-first-eight-requires
-first-eight-requires c κs = search needs
-
 returns-2 : tie.Need-returns-2
 returns-2 c b w = subst (λ z. c .first-eight .result ≡ bytesFrom b z 8) (sym (c .before .if2 .taken)) (c .first-eight .ensures b _ w)
-
-byte-before-requires : tie.Need-byte-before-requires
-byte-before-requires c κs = search needs
-
-wrapping-add-u16-requires : tie.Need-wrapping-add-u16-requires
-wrapping-add-u16-requires c κs = search needs
-
-byte-before-requires-2 : tie.Need-byte-before-requires-2
-byte-before-requires-2 c κs = search needs
-
-wrapping-add-u16-requires-2 : tie.Need-wrapping-add-u16-requires-2
-wrapping-add-u16-requires-2 c κs = search needs
-
-byte-before-requires-3 : tie.Need-byte-before-requires-3
-byte-before-requires-3 c κs = search needs
-
-wrapping-add-u16-requires-3 : tie.Need-wrapping-add-u16-requires-3
-wrapping-add-u16-requires-3 c κs = search needs
-
-byte-before-requires-4 : tie.Need-byte-before-requires-4
-byte-before-requires-4 c κs = search needs
-
-wrapping-add-u16-requires-4 : tie.Need-wrapping-add-u16-requires-4
-wrapping-add-u16-requires-4 c κs = search needs
-
-byte-before-requires-5 : tie.Need-byte-before-requires-5
-byte-before-requires-5 c κs = search needs
-
-wrapping-add-u16-requires-5 : tie.Need-wrapping-add-u16-requires-5
-wrapping-add-u16-requires-5 c κs = search needs
-
-byte-before-requires-6 : tie.Need-byte-before-requires-6
-byte-before-requires-6 c κs = search needs
-
-wrapping-add-u16-requires-6 : tie.Need-wrapping-add-u16-requires-6
-wrapping-add-u16-requires-6 c κs = search needs
-
-byte-before-requires-7 : tie.Need-byte-before-requires-7
-byte-before-requires-7 c κs = search needs
-
-wrapping-add-u16-requires-7 : tie.Need-wrapping-add-u16-requires-7
-wrapping-add-u16-requires-7 c κs = search needs
-
-byte-before-requires-8 : tie.Need-byte-before-requires-8
-byte-before-requires-8 c κs = search needs
 
 returns-3 : tie.Need-returns-3
 returns-3 c b w =
@@ -89,24 +40,7 @@ returns-3 c b w =
 pub eight-before-spec : {M : Type 1} → statement M
 eight-before-spec =
     tie.close
-    (tie.spec
-    eight-at-requires
-    returns
-    first-eight-requires
-    returns-2
-    byte-before-requires
-    wrapping-add-u16-requires
-    byte-before-requires-2
-    wrapping-add-u16-requires-2
-    byte-before-requires-3
-    wrapping-add-u16-requires-3
-    byte-before-requires-4
-    wrapping-add-u16-requires-4
-    byte-before-requires-5
-    wrapping-add-u16-requires-5
-    byte-before-requires-6
-    wrapping-add-u16-requires-6
-    byte-before-requires-7
-    wrapping-add-u16-requires-7
-    byte-before-requires-8
-    returns-3)
+    (tie.spec eight-at-requires returns (λ c κs. search needs) returns-2 (λ c κs. search needs) (λ c κs. search needs)
+    (λ c κs. search needs) (λ c κs. search needs) (λ c κs. search needs) (λ c κs. search needs) (λ c κs. search needs)
+    (λ c κs. search needs) (λ c κs. search needs) (λ c κs. search needs) (λ c κs. search needs) (λ c κs. search needs)
+    (λ c κs. search needs) (λ c κs. search needs) (λ c κs. search needs) returns-3)

@@ -1,8 +1,8 @@
 use native.Mathlib.Omega.{arith}
-use mathlib.Core.Path.{_≡_, refl, sym, ap, _∙_}
+use mathlib.Core.Path.{sym, ap, _∙_}
 use denote.Ref.{now}
 use mathlib.Core.List.{_++_}
-use lib.ListN.{length, drop, length-drop}
+use lib.ListN.{drop, length-drop}
 use lib.Seq.{sets, length-take-le}
 use Rattle.machine.specs.State.{stateOf}
 use Rattle.little_endian.specs.Bytes.{twoPut}
@@ -11,12 +11,6 @@ use borrow.Author.Needs.{needs}
 use Rattle.journal_record.proofs.fill.Statement.{statement}
 use Rattle.journal_record.proofs.fill.Tie as tie
 
-eight-before-requires : tie.Need-eight-before-requires
-eight-before-requires c κs = search needs
-
-slice-relend-prefix-write-record : tie.Need-slice-relend-prefix-write-record
-slice-relend-prefix-write-record c = search needs
-
 slice-aggregate-write-record : tie.Need-slice-aggregate-write-record
 slice-aggregate-write-record c =
     sym (length-take-le 32 (now (c .before .before .before .before .args .e)) (omega (arith, c .before .before .before .before .pre .0)))
@@ -24,27 +18,6 @@ slice-aggregate-write-record c =
 write-record-requires : tie.Need-write-record-requires
 write-record-requires c κs =
     length-take-le 32 (now (c .before .before .before .before .args .e)) (omega (arith, c .before .before .before .before .pre .0))
-
-put-bytes-requires : tie.Need-put-bytes-requires
-put-bytes-requires c κs = search needs
-
-put-two-requires : tie.Need-put-two-requires
-put-two-requires c κs = search needs
-
-slice-aggregate-put-bytes : tie.Need-slice-aggregate-put-bytes
-slice-aggregate-put-bytes c = search needs
-
-put-bytes-requires-2 : tie.Need-put-bytes-requires-2
-put-bytes-requires-2 c κs = search needs
-
-slice-aggregate-put-bytes-2 : tie.Need-slice-aggregate-put-bytes-2
-slice-aggregate-put-bytes-2 c = search needs
-
-put-bytes-requires-3 : tie.Need-put-bytes-requires-3
-put-bytes-requires-3 c κs = search needs
-
-same-length : tie.Need-same-length
-same-length c = search needs
 
 returns : tie.Need-returns
 returns c b w =
@@ -71,16 +44,6 @@ returns c b w =
 pub fill-spec : {M : Type 1} → statement M
 fill-spec =
     tie.close
-    (tie.spec
-    eight-before-requires
-    slice-relend-prefix-write-record
-    slice-aggregate-write-record
-    write-record-requires
-    put-bytes-requires
-    put-two-requires
-    slice-aggregate-put-bytes
-    put-bytes-requires-2
-    slice-aggregate-put-bytes-2
-    put-bytes-requires-3
-    same-length
+    (tie.spec (λ c κs. search needs) (λ c. search needs) slice-aggregate-write-record write-record-requires (λ c κs. search needs)
+    (λ c κs. search needs) (λ c. search needs) (λ c κs. search needs) (λ c. search needs) (λ c κs. search needs) (λ c. search needs)
     returns)

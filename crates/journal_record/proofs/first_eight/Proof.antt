@@ -3,43 +3,11 @@ use borrow.Author.Needs.{needs}
 use Rattle.journal_record.proofs.first_eight.Statement.{statement}
 use Rattle.journal_record.proofs.first_eight.Tie as tie
 
-element-copy-out-t4 : tie.Need-element-copy-out-t4
-element-copy-out-t4 c = search needs
-
-element-copy-out-t7 : tie.Need-element-copy-out-t7
-element-copy-out-t7 c = search needs
-
-element-copy-out-t10 : tie.Need-element-copy-out-t10
-element-copy-out-t10 c = search needs
-
-element-copy-out-t13 : tie.Need-element-copy-out-t13
-element-copy-out-t13 c = search needs
-
-element-copy-out-t16 : tie.Need-element-copy-out-t16
-element-copy-out-t16 c = search needs
-
-element-copy-out-t19 : tie.Need-element-copy-out-t19
-element-copy-out-t19 c = search needs
-
-element-copy-out-t22 : tie.Need-element-copy-out-t22
-element-copy-out-t22 c = search needs
-
-element-copy-out-t25 : tie.Need-element-copy-out-t25
-element-copy-out-t25 c = search needs
-
 returns : tie.Need-returns
 returns c b m w = eight-first b _ m w
 
 pub first-eight-spec : {M : Type 1} → statement M
 first-eight-spec =
     tie.close
-    (tie.spec
-    element-copy-out-t4
-    element-copy-out-t7
-    element-copy-out-t10
-    element-copy-out-t13
-    element-copy-out-t16
-    element-copy-out-t19
-    element-copy-out-t22
-    element-copy-out-t25
-    returns)
+    (tie.spec (λ c. search needs) (λ c. search needs) (λ c. search needs) (λ c. search needs) (λ c. search needs) (λ c. search needs)
+    (λ c. search needs) (λ c. search needs) returns)

@@ -1,6 +1,6 @@
 use Prim.Native.Nat.{_*_}
 use native.Mathlib.Omega.{arith}
-use mathlib.Core.Path.{_≡_, refl, sym, ap, _∙_}
+use mathlib.Core.Path.{ap, _∙_}
 use denote.Ref.{now}
 use lib.Seq.{sets}
 use Rattle.machine.specs.State.{stateOf}
@@ -20,12 +20,6 @@ cast-places c =
     let f = s .pre .1 (omega (arith, c .if1 .left)) in
     omega (arith, f .small)
 
-cast-put-record : tie.Need-cast-put-record
-cast-put-record c = search needs
-
-address-of-requires : tie.Need-address-of-requires
-address-of-requires c κs = search needs
-
 put-record-requires : tie.Need-put-record-requires
 put-record-requires c κs =
     let s = c .before .before .before .before .before .before in
@@ -43,9 +37,6 @@ place-after-requires c κs =
     let s = c .before .before .before .before .before .before .before .before .before .before in
     let f = s .pre .1 (omega (arith, c .before .before .before .before .before .before .before .if1 .left)) in
     f .place
-
-same-length : tie.Need-same-length
-same-length c = search needs
 
 returns-2 : tie.Need-returns-2
 returns-2 c =
@@ -66,13 +57,5 @@ returns-2 c =
 pub keep-step-spec : {M : Type 1} → statement M
 keep-step-spec =
     tie.close
-    (tie.spec
-    returns
-    cast-places
-    cast-put-record
-    address-of-requires
-    put-record-requires
-    one-more-requires
-    place-after-requires
-    same-length
-    returns-2)
+    (tie.spec returns cast-places (λ c. search needs) (λ c κs. search needs) put-record-requires one-more-requires place-after-requires
+    (λ c. search needs) returns-2)

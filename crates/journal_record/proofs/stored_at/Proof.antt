@@ -12,13 +12,10 @@ returns-2 : tie.Need-returns-2
 returns-2 c =
     let a = c .before .before .before .args in stored-byte (a .byte) (a .at .0) (omega (arith, c .before .if1 .left)) (c .if2 .taken)
 
-word-at-requires : tie.Need-word-at-requires
-word-at-requires c κs = search needs
-
 returns-3 : tie.Need-returns-3
 returns-3 c =
     let a = c .before .before .before .before .args in
     c .word-at .ensures ∙ stored-word (a .byte) (a .at .0) (omega (arith, c .before .before .if1 .left)) (c .before .if2 .left)
 
 pub stored-at-spec : {M : Type 1} → statement M
-stored-at-spec = tie.close (tie.spec returns returns-2 word-at-requires returns-3)
+stored-at-spec = tie.close (tie.spec returns returns-2 (λ c κs. search needs) returns-3)

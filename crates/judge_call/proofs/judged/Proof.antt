@@ -138,6 +138,5 @@ pub judged-spec : {M : Type 1} → statement M
 judged-spec =
     tie.close
     (tie.spec (λ c κs. search needs) (λ c κs. search needs) (λ c κs. search needs) tell-start-requires judge-run-requires
-    tell-close-requires
-    write-record-requires
-    kinds-requires reply-of-requires (λ c. search needs) (λ c. search needs) same-length-3 same-length-4 returns)
+    tell-close-requires write-record-requires kinds-requires reply-of-requires (λ c. search needs) (λ c. search needs) same-length-3
+    same-length-4 returns)

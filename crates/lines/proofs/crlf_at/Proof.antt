@@ -4,22 +4,13 @@ use Rattle.lines.proofs.Laws.{crlf-none, crlf-last, crlf-two}
 use Rattle.lines.proofs.crlf_at.Statement.{statement}
 use Rattle.lines.proofs.crlf_at.Tie as tie
 
-shared-slice-read-if1 : tie.Need-shared-slice-read-if1
-shared-slice-read-if1 c = search needs
-
 returns : tie.Need-returns
 returns c = crlf-none (c .before .before .args .text .now) (c .before .before .args .at) (omega arith) (c .if1 .taken)
-
-add-after : tie.Need-add-after
-add-after c = search needs
 
 returns-2 : tie.Need-returns-2
 returns-2 c =
     let c3 = c .before .before .before in
     crlf-last (c3 .args .text .now) (c3 .args .at) (omega arith) (c .if2 .taken) (c .before .if1 .left)
-
-shared-slice-read-result : tie.Need-shared-slice-read-result
-shared-slice-read-result c = search needs
 
 returns-3 : tie.Need-returns-3
 returns-3 c =
@@ -28,6 +19,4 @@ returns-3 c =
     crlf-two (c4 .args .text .now) (c4 .args .at) (omega arith) (c2 .if1 .left)
 
 pub crlf-at-spec : {M : Type 1} → statement M
-crlf-at-spec =
-    tie.close
-    (tie.spec shared-slice-read-if1 returns add-after returns-2 shared-slice-read-result returns-3)
+crlf-at-spec = tie.close (tie.spec (λ c. search needs) returns (λ c. search needs) returns-2 (λ c. search needs) returns-3)

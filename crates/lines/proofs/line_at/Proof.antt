@@ -16,20 +16,11 @@ abbrev μ-loop : tie.MeasureT-loop
 loop-holds : tie.Need-loop-holds Inv-loop μ-loop
 loop-holds c = (omega arith, omega arith, scan-start (c .before .args .text .now) (c .before .args .at))
 
-shared-slice-read-if1 : tie.Need-shared-slice-read-if1 Inv-loop μ-loop
-shared-slice-read-if1 c = omega arith
-
-add-t8 : tie.Need-add-t8 Inv-loop μ-loop
-add-t8 c = search needs
-
 returns : tie.Need-returns Inv-loop μ-loop
 returns c =
     let c3 = c .before .before .before in
     let c5 = c3 .before .before in
     scan-lf (c5 .args .text .now) _ _ (c3 .loop .inv .0) (omega arith) (c .if1 .taken) (c3 .loop .inv .2)
-
-crlf-at-requires : tie.Need-crlf-at-requires Inv-loop μ-loop
-crlf-at-requires c κs = omega arith
 
 add-t10 : tie.Need-add-t10 Inv-loop μ-loop
 add-t10 c =
@@ -43,12 +34,6 @@ returns-2 c =
     let c5 = c .before .before .before .before .before in
     let c7 = c5 .before .before in
     scan-crlf (c7 .args .text .now) _ _ (c5 .loop .inv .0) (sym (c .before .crlf-at .ensures) ∙ c .if2 .taken) (c5 .loop .inv .2)
-
-add-i : tie.Need-add-i Inv-loop μ-loop
-add-i c = search needs
-
-loop-less : tie.Need-loop-less Inv-loop μ-loop
-loop-less c = omega arith
 
 loop-again : tie.Need-loop-again Inv-loop μ-loop
 loop-again c =
@@ -70,17 +55,5 @@ returns-3 c =
 pub line-at-spec : {M : Type 1} → statement M
 line-at-spec =
     tie.close
-    (tie.spec
-    Inv-loop
-    μ-loop
-    loop-holds
-    shared-slice-read-if1
-    add-t8
-    returns
-    crlf-at-requires
-    add-t10
-    returns-2
-    add-i
-    loop-less
-    loop-again
-    returns-3)
+    (tie.spec Inv-loop μ-loop loop-holds (λ c. omega arith) (λ c. search needs) returns (λ c κs. omega arith) add-t10 returns-2
+    (λ c. search needs) (λ c. omega arith) loop-again returns-3)

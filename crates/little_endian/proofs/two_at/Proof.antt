@@ -21,12 +21,5 @@ add-result-2 c =
 pub two-at-spec : {M : Type 1} → statement M
 two-at-spec =
     tie.close
-    (tie.spec
-    (λ c. search needs)
-    cast-result
-    (λ c. search needs)
-    (λ c. search needs)
-    cast-result-2
-    mul-result
-    add-result-2
+    (tie.spec (λ c. search needs) cast-result (λ c. search needs) (λ c. search needs) cast-result-2 mul-result add-result-2
     (λ c. search needs))

@@ -9,5 +9,4 @@ returns : tie.Need-returns
 returns c = c .without-dba .ensures ∙ cleared-law (c .before .args .t)
 
 pub cleared-status-spec : {M : Type 1} → statement M
-cleared-status-spec =
-    tie.close (tie.spec (λ c. search needs) (λ c. search needs) (λ c κs. search needs) returns)
+cleared-status-spec = tie.close (tie.spec (λ c. search needs) (λ c. search needs) (λ c κs. search needs) returns)

@@ -30,14 +30,5 @@ returns c =
 pub read-word-spec : {M : Type 1} → statement M
 read-word-spec =
     tie.close
-    (tie.spec
-    (λ c κs. search needs)
-    (λ c. search needs)
-    (λ c. search needs)
-    cast-result
-    (λ c. search needs)
-    (λ c. search needs)
-    cast-result-2
-    mul-result
-    add-result-2
-    returns)
+    (tie.spec (λ c κs. search needs) (λ c. search needs) (λ c. search needs) cast-result (λ c. search needs) (λ c. search needs)
+    cast-result-2 mul-result add-result-2 returns)

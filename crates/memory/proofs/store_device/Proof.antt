@@ -12,9 +12,6 @@ returns c =
     let s = c .before .before .before .before .before in
     store-status (now (s .args .mem)) (s .args .a .0) (s .args .v) _ (s .pre .1) (c .before .before .if1 .taken) (c .stored-status .ensures)
 
-slice-write-mem-3 : tie.Need-slice-write-mem-3
-slice-write-mem-3 c = simp length-set (omega arith)
-
 returns-2 : tie.Need-returns-2
 returns-2 c =
     let s = c .before .before .before .before .before .before in
@@ -29,20 +26,6 @@ returns-3 c =
 pub store-device-spec : {M : Type 1} → statement M
 store-device-spec =
     tie.close
-    (tie.spec
-    (λ c. search needs)
-    (λ c. search needs)
-    (λ c κs. search needs)
-    (λ c. search needs)
-    (λ c. search needs)
-    returns
-    (λ c. search needs)
-    (λ c. search needs)
-    (λ c. search needs)
-    (λ c κs. search needs)
-    (λ c. search needs)
-    slice-write-mem-3
-    (λ c. search needs)
-    returns-2
-    (λ c. search needs)
-    returns-3)
+    (tie.spec (λ c. search needs) (λ c. search needs) (λ c κs. search needs) (λ c. search needs) (λ c. search needs) returns
+    (λ c. search needs) (λ c. search needs) (λ c. search needs) (λ c κs. search needs) (λ c. search needs)
+    (λ c. simp length-set (omega arith)) (λ c. search needs) returns-2 (λ c. search needs) returns-3)

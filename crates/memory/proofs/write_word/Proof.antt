@@ -9,9 +9,6 @@ use borrow.Author.Needs.{needs}
 use Rattle.memory.proofs.write_word.Statement.{statement}
 use Rattle.memory.proofs.write_word.Tie as tie
 
-slice-write-mem-2 : tie.Need-slice-write-mem-2
-slice-write-mem-2 c = simp length-set (omega arith)
-
 returns : tie.Need-returns
 returns c =
     let a = c .before .before .before .args in
@@ -20,13 +17,5 @@ returns c =
 pub write-word-spec : {M : Type 1} → statement M
 write-word-spec =
     tie.close
-    (tie.spec
-    (λ c κs. search needs)
-    (λ c. search needs)
-    (λ c. search needs)
-    (λ c. search needs)
-    (λ c. search needs)
-    (λ c. search needs)
-    slice-write-mem-2
-    (λ c. search needs)
-    returns)
+    (tie.spec (λ c κs. search needs) (λ c. search needs) (λ c. search needs) (λ c. search needs) (λ c. search needs) (λ c. search needs)
+    (λ c. simp length-set (omega arith)) (λ c. search needs) returns)

@@ -12,8 +12,7 @@ use Rattle.machine.proofs.Machine as T
 use Rattle.machine.proofs.Machine.Laws as T′
 use Rattle.turn.proofs.Laws.{behind-none, events-fit, events-ordered}
 use Rattle.run.proofs.Calls.{call-passed}
-use Rattle.open_machine.proofs.Laws.{count-fits, advance-refused, advance-ran, few-steps, few-records}
-use Rattle.open_machine.proofs.Laws.{figure-kept, figure-ran}
+use Rattle.open_machine.proofs.Laws.{count-fits, advance-refused, advance-ran, few-steps, few-records, figure-kept, figure-ran}
 use Rattle.open_machine.proofs.advance_by_value.Statement.{statement}
 use Rattle.open_machine.proofs.advance_by_value.Tie as tie
 
@@ -87,18 +86,6 @@ returns-2 c =
 pub advance-by-value-spec : {M : Type 1} → statement M
 advance-by-value-spec =
     tie.close
-    (tie.spec
-    (λ c. search needs)
-    (λ c κs. search needs)
-    (λ c. search needs)
-    (λ c κs. search needs)
-    (λ c κs. search needs)
-    (λ c. search needs)
-    (λ c. search needs)
-    returns
-    cast-run
-    run-requires
-    reply-of-requires
-    (λ c. search needs)
-    (λ c. search needs)
+    (tie.spec (λ c. search needs) (λ c κs. search needs) (λ c. search needs) (λ c κs. search needs) (λ c κs. search needs)
+    (λ c. search needs) (λ c. search needs) returns cast-run run-requires reply-of-requires (λ c. search needs) (λ c. search needs)
     returns-2)

@@ -16,24 +16,6 @@ use Rattle.open_machine.proofs.Laws.{count-fits, step-passed, step-refu
 use Rattle.open_machine.proofs.step_by_value.Statement.{statement}
 use Rattle.open_machine.proofs.step_by_value.Tie as tie
 
-slice-aggregate-write-record : tie.Need-slice-aggregate-write-record
-slice-aggregate-write-record c = search needs
-
-write-record-requires : tie.Need-write-record-requires
-write-record-requires c κs = search needs
-
-slice-aggregate-verdict : tie.Need-slice-aggregate-verdict
-slice-aggregate-verdict c = search needs
-
-verdict-requires : tie.Need-verdict-requires
-verdict-requires c κs = search needs
-
-refusal-number-requires : tie.Need-refusal-number-requires
-refusal-number-requires c κs = search needs
-
-same-length : tie.Need-same-length
-same-length c = search needs
-
 returns : tie.Need-returns
 returns c =
     let v = c .before .before in
@@ -60,16 +42,10 @@ step-requires c κs =
       events-fit _ _ _ _ p,
     )
 
-cast-reply : tie.Need-cast-reply
-cast-reply c = search needs
-
 mul-reply : tie.Need-mul-reply
 mul-reply c =
     let h = bit-le (c .before .before .before .before .before .step .result .machine .halted) in
     omega arith
-
-cast-reply-2 : tie.Need-cast-reply-2
-cast-reply-2 c = search needs
 
 mul-reply-2 : tie.Need-mul-reply-2
 mul-reply-2 c =
@@ -86,9 +62,6 @@ add-reply c =
     let k = bit-le (not (s .args .m .halted)) in
     omega arith
 
-same-length-2 : tie.Need-same-length-2
-same-length-2 c = search needs
-
 returns-2 : tie.Need-returns-2
 returns-2 c =
     let r = c .before .before .before .before .before in
@@ -104,19 +77,6 @@ returns-2 c =
 pub step-by-value-spec : {M : Type 1} → statement M
 step-by-value-spec =
     tie.close
-    (tie.spec
-    slice-aggregate-write-record
-    write-record-requires
-    slice-aggregate-verdict
-    verdict-requires
-    refusal-number-requires
-    same-length
-    returns
-    step-requires
-    cast-reply
-    mul-reply
-    cast-reply-2
-    mul-reply-2
-    add-reply
-    same-length-2
+    (tie.spec (λ c. search needs) (λ c κs. search needs) (λ c. search needs) (λ c κs. search needs) (λ c κs. search needs)
+    (λ c. search needs) returns step-requires (λ c. search needs) mul-reply (λ c. search needs) mul-reply-2 add-reply (λ c. search needs)
     returns-2)

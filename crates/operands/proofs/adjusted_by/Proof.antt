@@ -19,12 +19,4 @@ returns-3 c =
     (omega arith)
 
 pub adjusted-by-spec : {M : Type 1} → statement M
-adjusted-by-spec =
-    tie.close
-    (tie.spec
-    returns
-    (λ c κs. search needs)
-    (λ c κs. search needs)
-    returns-2
-    (λ c κs. search needs)
-    returns-3)
+adjusted-by-spec = tie.close (tie.spec returns (λ c κs. search needs) (λ c κs. search needs) returns-2 (λ c κs. search needs) returns-3)

@@ -12,11 +12,4 @@ returns-2 : tie.Need-returns-2
 returns-2 c = rw (ne-eqb _ _ (λ h. c .if1 .left (c .before .current-priority .ensures .0 ∙ h))) (refl, search needs)
 
 pub allowed-flags-spec : {M : Type 1} → statement M
-allowed-flags-spec =
-    tie.close
-    (tie.spec
-    (λ c κs. search needs)
-    (λ c. search needs)
-    (λ c. search needs)
-    returns
-    returns-2)
+allowed-flags-spec = tie.close (tie.spec (λ c κs. search needs) (λ c. search needs) (λ c. search needs) returns returns-2)

@@ -25,13 +25,5 @@ returns-4 c = let h = past (c .before .args .op) 3 (c .match .rest) in rw List·
 pub immediate-spec : {M : Type 1} → statement M
 immediate-spec =
     tie.close
-    (tie.spec
-    (λ c. search needs)
-    (λ c. search needs)
-    (λ c. search needs)
-    (λ c. search needs)
-    (λ c. search needs)
-    returns
-    returns-2
-    returns-3
-    returns-4)
+    (tie.spec (λ c. search needs) (λ c. search needs) (λ c. search needs) (λ c. search needs) (λ c. search needs) returns returns-2
+    returns-3 returns-4)

@@ -9,11 +9,5 @@ returns c = rw (c .flag .ensures .0, c .before .condition .ensures)
 pub loaded-cex-spec : {M : Type 1} → statement M
 loaded-cex-spec =
     tie.close
-    (tie.spec
-    (λ c κs. search needs)
-    (λ c κs. search needs)
-    (λ c. search needs)
-    (λ c. search needs)
-    (λ c. search needs)
-    (λ c. search needs)
+    (tie.spec (λ c κs. search needs) (λ c κs. search needs) (λ c. search needs) (λ c. search needs) (λ c. search needs) (λ c. search needs)
     returns)

@@ -23,10 +23,4 @@ returns-2 c n =
     ∙ sym (ap (λ x. ltb (a .room) (a .added + length (listed n x))) (c .enum-told2 .given .1))
 
 pub lacks-room-spec : {M : Type 1} → statement M
-lacks-room-spec =
-    tie.close
-    (tie.spec
-    (λ c. search needs)
-    (λ c. search needs)
-    returns
-    returns-2)
+lacks-room-spec = tie.close (tie.spec (λ c. search needs) (λ c. search needs) returns returns-2)

@@ -1,6 +1,5 @@
 use Prim.Native.Nat.{_/_, _%_}
 use mathlib.Core.Path.{_≡_, sym, ap, _∙_}
-use native.Mathlib.Omega.{arith}
 use borrow.Author.Needs.{needs}
 use Rattle.output_log.specs.Showing.{storedOf}
 use Rattle.output_log.proofs.odd_byte.Statement.{statement}
@@ -16,10 +15,4 @@ returns-2 c =
     e ∙ sym (ap (λ b. storedOf b v) (c .if1 .left))
 
 pub odd-byte-spec : {M : Type 1} → statement M
-odd-byte-spec =
-    tie.close
-    (tie.spec
-    (λ c. search needs)
-    returns
-    (λ c. search needs)
-    returns-2)
+odd-byte-spec = tie.close (tie.spec (λ c. search needs) returns (λ c. search needs) returns-2)

@@ -21,9 +21,6 @@ returns c =
     let a = c .before .args in
     sym (ap (λ b. cond b (sets (now (a .mem)) 0 (now (a .kept))) (now (a .mem))) (is-not (a .wanted) (c .if1 .taken)))
 
-loop-holds : tie.Need-loop-holds Inv-loop μ-loop
-loop-holds c = (omega arith, refl)
-
 slice-write-mem : tie.Need-slice-write-mem Inv-loop μ-loop
 slice-write-mem c =
     let l = c .before .before .loop in
@@ -56,15 +53,5 @@ returns-2 c =
 pub put-back-spec : {M : Type 1} → statement M
 put-back-spec =
     tie.close
-    (tie.spec
-    Inv-loop
-    μ-loop
-    returns
-    loop-holds
-    (λ c. search needs)
-    slice-write-mem
-    (λ c. search needs)
-    (λ c. search needs)
-    loop-again
-    same-length
-    returns-2)
+    (tie.spec Inv-loop μ-loop returns (λ c. (omega arith, refl)) (λ c. search needs) slice-write-mem (λ c. search needs) (λ c. search needs)
+    loop-again same-length returns-2)

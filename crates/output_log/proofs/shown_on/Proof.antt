@@ -13,12 +13,4 @@ returns-3 : tie.Need-returns-3
 returns-3 c n = shown-seen _ _ _ _ (c .before .before .if1 .left) (c .if2 .left)
 
 pub shown-on-spec : {M : Type 1} → statement M
-shown-on-spec =
-    tie.close
-    (tie.spec
-    returns
-    (λ c. search needs)
-    (λ c. search needs)
-    returns-2
-    (λ c. search needs)
-    returns-3)
+shown-on-spec = tie.close (tie.spec returns (λ c. search needs) (λ c. search needs) returns-2 (λ c. search needs) returns-3)

@@ -13,27 +13,6 @@ returns-2 : tie.Need-returns-2
 unfolding replyOf
 returns-2 c = simp (lt-ltb _ _ (c .before .if1 .left), le-ltb _ _ (c .if2 .taken))
 
-op-of-requires : tie.Need-op-of-requires
-op-of-requires c κs = search needs
-
-alu-requires : tie.Need-alu-requires
-alu-requires c κs = search needs
-
-cast-result : tie.Need-cast-result
-cast-result c = search needs
-
-mul-result : tie.Need-mul-result
-mul-result c = search needs
-
-cast-result-2 : tie.Need-cast-result-2
-cast-result-2 c = search needs
-
-mul-result-2 : tie.Need-mul-result-2
-mul-result-2 c = search needs
-
-add-result : tie.Need-add-result
-add-result c = search needs
-
 returns-3 : tie.Need-returns-3
 unfolding replyOf
 returns-3 c =
@@ -44,14 +23,5 @@ returns-3 c =
 pub probe-alu-spec : {M : Type 1} → statement M
 probe-alu-spec =
     tie.close
-    (tie.spec
-    returns
-    returns-2
-    op-of-requires
-    alu-requires
-    cast-result
-    mul-result
-    cast-result-2
-    mul-result-2
-    add-result
-    returns-3)
+    (tie.spec returns returns-2 (λ c κs. search needs) (λ c κs. search needs) (λ c. search needs) (λ c. search needs) (λ c. search needs)
+    (λ c. search needs) (λ c. search needs) returns-3)

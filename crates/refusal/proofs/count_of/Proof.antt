@@ -6,11 +6,8 @@ use Rattle.refusal.proofs.count_of.Tie as tie
 returns : tie.Need-returns
 returns c = rw (lt-ltb _ _ (c .if1 .taken))
 
-four-at-requires : tie.Need-four-at-requires
-four-at-requires c κs = search needs
-
 returns-2 : tie.Need-returns-2
 returns-2 c = rw (le-ltb _ _ (c .before .if1 .left)) (c .four-at .ensures)
 
 pub count-of-spec : {M : Type 1} → statement M
-count-of-spec = tie.close (tie.spec returns four-at-requires returns-2)
+count-of-spec = tie.close (tie.spec returns (λ c κs. search needs) returns-2)

@@ -17,22 +17,10 @@ Inv-loop events count k₀ k = (k ≤ count) × (eventsFitBelow events k ≡ tru
 abbrev μ-loop : tie.MeasureT-loop
 μ-loop events count k₀ k = count - k
 
-loop-holds : tie.Need-loop-holds Inv-loop μ-loop
-loop-holds c = (omega arith, fits-none _)
-
-event-fits-requires : tie.Need-event-fits-requires Inv-loop μ-loop
-event-fits-requires c κs = omega arith
-
 returns : tie.Need-returns Inv-loop μ-loop
 returns c =
     let b = now (c .before .before .before .before .before .args .events) in
     sym (unfit-below b _ _ (c .before .before .loop-test .taken) (sym (c .before .event-fits .ensures) ∙ not-true _ (c .if1 .taken)))
-
-add-k : tie.Need-add-k Inv-loop μ-loop
-add-k c = omega arith
-
-loop-less : tie.Need-loop-less Inv-loop μ-loop
-loop-less c = omega arith
 
 loop-again : tie.Need-loop-again Inv-loop μ-loop
 loop-again c =
@@ -50,13 +38,5 @@ returns-2 c =
 pub fields-fit-spec : {M : Type 1} → statement M
 fields-fit-spec =
     tie.close
-    (tie.spec
-    Inv-loop
-    μ-loop
-    loop-holds
-    event-fits-requires
-    returns
-    add-k
-    loop-less
-    loop-again
-    returns-2)
+    (tie.spec Inv-loop μ-loop (λ c. (omega arith, fits-none _)) (λ c κs. omega arith) returns (λ c. omega arith) (λ c. omega arith)
+    loop-again returns-2)

@@ -30,21 +30,6 @@ device-fits c =
     let b = now (start .args .events) in
     device-lt b (eventCount b) (c .before .before .loop .k) (start .pre) (c .before .loop-test .taken)
 
-step-at-requires : tie.Need-step-at-requires Inv-loop μ-loop
-step-at-requires c κs = omega arith
-
-mul-device : tie.Need-mul-device Inv-loop μ-loop
-mul-device c = omega arith
-
-add-device : tie.Need-add-device Inv-loop μ-loop
-add-device c = omega arith
-
-shared-slice-read-device : tie.Need-shared-slice-read-device Inv-loop μ-loop
-shared-slice-read-device c = omega arith
-
-marks-on-requires : tie.Need-marks-on-requires Inv-loop μ-loop
-marks-on-requires c κs = search needs
-
 marked-requires : tie.Need-marked-requires Inv-loop μ-loop
 marked-requires c κs = device-fits (c .before .before)
 
@@ -60,12 +45,6 @@ returns c =
 
 mark-requires : tie.Need-mark-requires Inv-loop μ-loop
 mark-requires c κs = device-fits (c .before .before .before .before)
-
-add-k : tie.Need-add-k Inv-loop μ-loop
-add-k c = omega arith
-
-loop-less : tie.Need-loop-less Inv-loop μ-loop
-loop-less c = omega arith
 
 loop-again : tie.Need-loop-again Inv-loop μ-loop
 loop-again c =
@@ -87,19 +66,5 @@ returns-2 c =
 pub has-twins-spec : {M : Type 1} → statement M
 has-twins-spec =
     tie.close
-    (tie.spec
-    Inv-loop
-    μ-loop
-    loop-holds
-    step-at-requires
-    mul-device
-    add-device
-    shared-slice-read-device
-    marks-on-requires
-    marked-requires
-    returns
-    mark-requires
-    add-k
-    loop-less
-    loop-again
-    returns-2)
+    (tie.spec Inv-loop μ-loop loop-holds (λ c κs. omega arith) (λ c. omega arith) (λ c. omega arith) (λ c. omega arith)
+    (λ c κs. search needs) marked-requires returns mark-requires (λ c. omega arith) (λ c. omega arith) loop-again returns-2)

@@ -5,11 +5,8 @@ use Rattle.refusal.proofs.Marks.{one-shifted, or-bit}
 use Rattle.refusal.proofs.mark.Statement.{statement}
 use Rattle.refusal.proofs.mark.Tie as tie
 
-shl-result : tie.Need-shl-result
-shl-result c = search needs
-
 returns : tie.Need-returns
 returns c = ap (bitOr (c .args .marks)) (one-shifted (c .args .d) (c .pre)) ∙ or-bit (c .args .d) (c .args .marks)
 
 pub mark-spec : {M : Type 1} → statement M
-mark-spec = tie.close (tie.spec shl-result returns)
+mark-spec = tie.close (tie.spec (λ c. search needs) returns)

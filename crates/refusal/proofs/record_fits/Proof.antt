@@ -10,18 +10,12 @@ use Rattle.machine.specs.Refusal.{recordFits}
 use Rattle.refusal.proofs.record_fits.Statement.{statement}
 use Rattle.refusal.proofs.record_fits.Tie as tie
 
-two-at-requires : tie.Need-two-at-requires
-two-at-requires c κs = search needs
-
 returns : tie.Need-returns
 unfolding recordFits
 returns c =
     let r = now (c .before .before .before .args .r) in
     let e18 = ap (λ v. ltb v 128) (sym (c .before .two-at .ensures)) ∙ le-ltb _ _ (c .if1 .taken) in
     rw (e18, and-false (eqb (twoAt r 16 / 512 % 16) 0))
-
-shared-slice-read-if2 : tie.Need-shared-slice-read-if2
-shared-slice-read-if2 c = search needs
 
 returns-2 : tie.Need-returns-2
 unfolding recordFits
@@ -31,17 +25,11 @@ returns-2 c =
     let e20 = ne-eqb _ _ (c .if2 .taken) in
     rw (e20, and-false (eqb (twoAt r 16 / 512 % 16) 0 && ltb (twoAt r 18) 128))
 
-two-at-requires-2 : tie.Need-two-at-requires-2
-two-at-requires-2 c κs = search needs
-
 returns-3 : tie.Need-returns-3
 unfolding recordFits
 returns-3 c =
     let e16 = ap (λ v. eqb (v / 512 % 16) 0) (sym (c .before .two-at2 .ensures)) ∙ ne-eqb _ _ (c .if3 .taken) in
     rw e16
-
-shared-slice-read-if4 : tie.Need-shared-slice-read-if4
-shared-slice-read-if4 c = search needs
 
 returns-4 : tie.Need-returns-4
 unfolding recordFits
@@ -54,9 +42,6 @@ returns-4 c =
     let e16 = ap (λ v. eqb (v / 512 % 16) 0) (sym (c3 .before .two-at2 .ensures)) ∙ eq-eqb _ _ (c3 .if3 .left) in
     let e21 = le-ltb _ _ (c .if4 .taken) in
     rw (e16, e18, e20, e21)
-
-two-at-requires-3 : tie.Need-two-at-requires-3
-two-at-requires-3 c κs = search needs
 
 returns-5 : tie.Need-returns-5
 unfolding recordFits
@@ -74,14 +59,5 @@ returns-5 c =
 pub record-fits-spec : {M : Type 1} → statement M
 record-fits-spec =
     tie.close
-    (tie.spec
-    two-at-requires
-    returns
-    shared-slice-read-if2
-    returns-2
-    two-at-requires-2
-    returns-3
-    shared-slice-read-if4
-    returns-4
-    two-at-requires-3
-    returns-5)
+    (tie.spec (λ c κs. search needs) returns (λ c. search needs) returns-2 (λ c κs. search needs) returns-3 (λ c. search needs) returns-4
+    (λ c κs. search needs) returns-5)

@@ -18,30 +18,12 @@ Inv-loop events n k₀ k = (k ≤ n) × (inOrderBelow events (suc k) ≡ true)
 abbrev μ-loop : tie.MeasureT-loop
 μ-loop events n k₀ k = n - k
 
-loop-holds : tie.Need-loop-holds Inv-loop μ-loop
-loop-holds c = (omega arith, order-one _)
-
-add-loop : tie.Need-add-loop Inv-loop μ-loop
-add-loop c = omega arith
-
-in-order-requires : tie.Need-in-order-requires Inv-loop μ-loop
-in-order-requires c κs = omega arith
-
-add-result : tie.Need-add-result Inv-loop μ-loop
-add-result c = omega arith
-
 returns : tie.Need-returns Inv-loop μ-loop
 returns c =
     let b = now (c .before .before .before .before .before .args .events) in
     let l = c .before .before .before .loop in
     let e = sym (c .before .in-order .ensures) ∙ not-true _ (c .if1 .taken) in
     (omega arith, (rw (add-one (l .k)) (l .inv .1), λ h. rw (add-one (l .k)) (disorder-at b (l .k) e)))
-
-add-k : tie.Need-add-k Inv-loop μ-loop
-add-k c = omega arith
-
-loop-less : tie.Need-loop-less Inv-loop μ-loop
-loop-less c = omega arith
 
 loop-again : tie.Need-loop-again Inv-loop μ-loop
 loop-again c =
@@ -59,15 +41,5 @@ returns-2 c =
 pub records-in-order-spec : {M : Type 1} → statement M
 records-in-order-spec =
     tie.close
-    (tie.spec
-    Inv-loop
-    μ-loop
-    loop-holds
-    add-loop
-    in-order-requires
-    add-result
-    returns
-    add-k
-    loop-less
-    loop-again
-    returns-2)
+    (tie.spec Inv-loop μ-loop (λ c. (omega arith, order-one _)) (λ c. omega arith) (λ c κs. omega arith) (λ c. omega arith) returns
+    (λ c. omega arith) (λ c. omega arith) loop-again returns-2)

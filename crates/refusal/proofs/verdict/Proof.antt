@@ -1,7 +1,7 @@
 -- Test by test: after k tests that were not met the verdict is the first broken rule from rule k on (`So k`), and a test that
 -- is met gives its rule's verdict. Assumes nothing.
 use Prim.Native.Nat.{ℕ, _+_}
-use mathlib.Core.Bool.{true, false, not}
+use mathlib.Core.Bool.{not}
 use mathlib.Core.List.{List}
 use mathlib.Core.Path.{_≡_, refl, sym, ap, _∙_}
 use denote.Ref.{now}
@@ -45,15 +45,6 @@ start-2 c = start-1 (c .before)
 so-2 : (c : tie.Else2) → So 2 (start-2 c)
 so-2 c = holds 1 (rules (start-2 c)) (so-1 (c .before)) (le-ltb _ _ (c .if2 .left))
 
-count-of-requires : tie.Need-count-of-requires
-count-of-requires c κs = search needs
-
-cast-sum : tie.Need-cast-sum
-cast-sum c = search needs
-
-add-sum : tie.Need-add-sum
-add-sum c = search needs
-
 returns-3 : tie.Need-returns-3
 returns-3 c = let p = c .before .before in breaks 2 (rules (start-2 p)) (so-2 p) (ap not (ne-eqb _ _ (c .if3 .taken)))
 
@@ -80,9 +71,6 @@ so-4 c =
     holds 3 (rules (start-4 c)) (so-3 (c .before))
     (ap (λ v. ltb 4294967295 (v + start-4 c .args .n)) (count-is (c .before)) ∙ le-ltb _ _ (c .if4 .left))
 
-record-fits-requires : tie.Need-record-fits-requires
-record-fits-requires c κs = search needs
-
 returns-5 : tie.Need-returns-5
 returns-5 c =
     let p = c .before .before in
@@ -95,9 +83,6 @@ so-5 : (c : tie.Else5) → So 5 (start-5 c)
 so-5 c =
     holds 4 (rules (start-5 c)) (so-4 (c .before .before)) (ap not (sym (c .before .record-fits .ensures)) ∙ c .if5 .left)
 
-events-fit-requires : tie.Need-events-fit-requires
-events-fit-requires c κs = search needs
-
 returns-6 : tie.Need-returns-6
 returns-6 c =
     let p = c .before .before in
@@ -109,12 +94,6 @@ start-6 c = start-5 (c .before .before)
 so-6 : (c : tie.Else6) → So 6 (start-6 c)
 so-6 c =
     holds 5 (rules (start-6 c)) (so-5 (c .before .before)) (ap not (sym (c .before .events-fit .ensures)) ∙ c .if6 .left)
-
-records-in-order-requires : tie.Need-records-in-order-requires
-records-in-order-requires c κs = search needs
-
-fields-fit-requires : tie.Need-fields-fit-requires
-fields-fit-requires c κs = search needs
 
 returns-7 : tie.Need-returns-7
 returns-7 c =
@@ -164,22 +143,6 @@ returns-10 c =
 pub verdict-spec : {M : Type 1} → statement M
 verdict-spec =
     tie.close
-    (tie.spec
-    returns
-    returns-2
-    count-of-requires
-    cast-sum
-    add-sum
-    returns-3
-    returns-4
-    record-fits-requires
-    returns-5
-    events-fit-requires
-    returns-6
-    records-in-order-requires
-    fields-fit-requires
-    returns-7
-    has-twins-requires
-    returns-8
-    returns-9
-    returns-10)
+    (tie.spec returns returns-2 (λ c κs. search needs) (λ c. search needs) (λ c. search needs) returns-3 returns-4 (λ c κs. search needs)
+    returns-5 (λ c κs. search needs) returns-6 (λ c κs. search needs) (λ c κs. search needs) returns-7 has-twins-requires returns-8
+    returns-9 returns-10)

@@ -81,19 +81,6 @@ returns-2 c =
 pub run-call-spec : {M : Type 1} → statement M
 run-call-spec =
     tie.close
-    (tie.spec
-    (λ c κs. search needs)
-    (λ c κs. search needs)
-    (λ c. search needs)
-    (λ c. search needs)
-    (λ c. search needs)
-    returns
-    read-record-requires
-    cast-run
-    run-requires
-    write-record-requires
-    reply-of-requires
-    (λ c. search needs)
-    (λ c. search needs)
-    (λ c. search needs)
-    returns-2)
+    (tie.spec (λ c κs. search needs) (λ c κs. search needs) (λ c. search needs) (λ c. search needs) (λ c. search needs) returns
+    read-record-requires cast-run run-requires write-record-requires reply-of-requires (λ c. search needs) (λ c. search needs)
+    (λ c. search needs) returns-2)

@@ -5,15 +5,6 @@ use Rattle.run_journal.proofs.Laws.{stays-refused, then-accepted, then-
 use Rattle.run_journal.proofs.journal_verdict.Statement.{statement}
 use Rattle.run_journal.proofs.journal_verdict.Tie as tie
 
-call-verdict-requires : tie.Need-call-verdict-requires
-call-verdict-requires c κs = search needs
-
-refusal-number-requires : tie.Need-refusal-number-requires
-refusal-number-requires c κs = search needs
-
-journal-fits-requires : tie.Need-journal-fits-requires
-journal-fits-requires c κs = search needs
-
 returns : tie.Need-returns
 returns c =
     stays-refused _ _ _ _ _ _ _ _ (c .before .before .before .call-verdict .ensures) (c .before .before .refusal-number .ensures .0)
@@ -32,12 +23,4 @@ returns-3 c =
     (not-false _ (c .if2 .left))
 
 pub journal-verdict-spec : {M : Type 1} → statement M
-journal-verdict-spec =
-    tie.close
-    (tie.spec
-    call-verdict-requires
-    refusal-number-requires
-    journal-fits-requires
-    returns
-    returns-2
-    returns-3)
+journal-verdict-spec = tie.close (tie.spec (λ c κs. search needs) (λ c κs. search needs) (λ c κs. search needs) returns returns-2 returns-3)

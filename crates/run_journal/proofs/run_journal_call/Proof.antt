@@ -10,24 +10,6 @@ use Rattle.run_journal.proofs.Laws.{figure-ran, closing-ran, journal-ra
 use Rattle.run_journal.proofs.run_journal_call.Statement.{statement}
 use Rattle.run_journal.proofs.run_journal_call.Tie as tie
 
-journal-verdict-requires : tie.Need-journal-verdict-requires
-journal-verdict-requires c κs = search needs
-
-refusal-number-requires : tie.Need-refusal-number-requires
-refusal-number-requires c κs = search needs
-
-same-length : tie.Need-same-length
-same-length c = search needs
-
-same-length-2 : tie.Need-same-length-2
-same-length-2 c = search needs
-
-same-length-3 : tie.Need-same-length-3
-same-length-3 c = search needs
-
-same-length-4 : tie.Need-same-length-4
-same-length-4 c = search needs
-
 returns : tie.Need-returns
 returns c =
     let v = c .before .before .journal-verdict .ensures in
@@ -99,18 +81,6 @@ reply-of-requires c κs =
       subst (λ x. x ≤ 1000000) (sym (r .1 .1 .1 .0)) (records-few _ _ _ _ _ _ _ _ v k i (m .result) (m .ensures)),
     )
 
-same-length-5 : tie.Need-same-length-5
-same-length-5 c = search needs
-
-same-length-6 : tie.Need-same-length-6
-same-length-6 c = search needs
-
-same-length-7 : tie.Need-same-length-7
-same-length-7 c = search needs
-
-same-length-8 : tie.Need-same-length-8
-same-length-8 c = search needs
-
 returns-2 : tie.Need-returns-2
 returns-2 c =
     let v = c .before .before .before .before .before .before .before .before .before .before .before .before .before .before .before
@@ -146,21 +116,6 @@ returns-2 c =
 pub run-journal-call-spec : {M : Type 1} → statement M
 run-journal-call-spec =
     tie.close
-    (tie.spec
-    journal-verdict-requires
-    refusal-number-requires
-    same-length
-    same-length-2
-    same-length-3
-    same-length-4
-    returns
-    read-record-requires
-    cast-run-kept
-    run-kept-requires
-    write-record-requires
-    reply-of-requires
-    same-length-5
-    same-length-6
-    same-length-7
-    same-length-8
-    returns-2)
+    (tie.spec (λ c κs. search needs) (λ c κs. search needs) (λ c. search needs) (λ c. search needs) (λ c. search needs) (λ c. search needs)
+    returns read-record-requires cast-run-kept run-kept-requires write-record-requires reply-of-requires (λ c. search needs)
+    (λ c. search needs) (λ c. search needs) (λ c. search needs) returns-2)

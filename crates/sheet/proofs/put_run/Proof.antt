@@ -60,12 +60,6 @@ put-line-requires c κs =
     let entry = at-run .before .before .before .before .before .before .before .before .before .before .before .before .before .before in
     entry .pre .2
 
-same-length : tie.Need-same-length
-same-length c = search needs
-
-same-length-2 : tie.Need-same-length-2
-same-length-2 c = search needs
-
 returns : tie.Need-returns
 returns c =
     let at-put-line = c .before .before in
@@ -92,15 +86,5 @@ returns c =
 pub put-run-spec : {M : Type 1} → statement M
 put-run-spec =
     tie.close
-    (tie.spec
-    part-requires
-    copy-requires
-    four-at-requires
-    part-requires-2
-    read-record-requires
-    part-requires-3
-    run-whole-requires
-    put-line-requires
-    same-length
-    same-length-2
-    returns)
+    (tie.spec part-requires copy-requires four-at-requires part-requires-2 read-record-requires part-requires-3 run-whole-requires
+    put-line-requires (λ c. search needs) (λ c. search needs) returns)

@@ -5,15 +5,6 @@ use Rattle.sheet.proofs.Inputs.{accepted-of, sheet-accepted, sheet-refu
 use Rattle.sheet.proofs.sheet.Statement.{statement}
 use Rattle.sheet.proofs.sheet.Tie as tie
 
-verdict-requires : tie.Need-verdict-requires
-verdict-requires c κs = search needs
-
-refusal-number-requires : tie.Need-refusal-number-requires
-refusal-number-requires c κs = search needs
-
-put-refusal-requires : tie.Need-put-refusal-requires
-put-refusal-requires c κs = search needs
-
 returns : tie.Need-returns
 returns c =
     let at-number = c .before .before .before in
@@ -49,12 +40,4 @@ returns-2 c =
     )
 
 pub sheet-spec : {M : Type 1} → statement M
-sheet-spec =
-    tie.close
-    (tie.spec
-    verdict-requires
-    refusal-number-requires
-    put-refusal-requires
-    returns
-    put-run-requires
-    returns-2)
+sheet-spec = tie.close (tie.spec (λ c κs. search needs) (λ c κs. search needs) (λ c κs. search needs) returns put-run-requires returns-2)

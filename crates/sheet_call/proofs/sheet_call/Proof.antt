@@ -13,12 +13,6 @@ returns : tie.Need-returns
 unfolding sheetCallOf
 returns c = let e = lt-ltb _ 80 (c .if1 .taken) in (rw e, rw e)
 
-sheet-requires : tie.Need-sheet-requires
-sheet-requires c κs = search needs
-
-array-share-prefix-out : tie.Need-array-share-prefix-out
-array-share-prefix-out c = search needs
-
 slice-aggregate-put-bytes : tie.Need-slice-aggregate-put-bytes
 slice-aggregate-put-bytes c =
     let fits = c .before .before .sheet .ensures .1 .1 .1 in
@@ -30,15 +24,6 @@ put-bytes-requires c κs =
     let fits = s .ensures .1 .1 .1 in
     let h = first-length (s .result) (s .last .1 .1 .0) (omega arith) in
     omega arith
-
-cast-result : tie.Need-cast-result
-cast-result c = search needs
-
-mul-result : tie.Need-mul-result
-mul-result c = search needs
-
-same-length : tie.Need-same-length
-same-length c = search needs
 
 returns-2 : tie.Need-returns-2
 unfolding sheetCallOf
@@ -57,13 +42,5 @@ returns-2 c =
 pub sheet-call-spec : {M : Type 1} → statement M
 sheet-call-spec =
     tie.close
-    (tie.spec
-    returns
-    sheet-requires
-    array-share-prefix-out
-    slice-aggregate-put-bytes
-    put-bytes-requires
-    cast-result
-    mul-result
-    same-length
-    returns-2)
+    (tie.spec returns (λ c κs. search needs) (λ c. search needs) slice-aggregate-put-bytes put-bytes-requires (λ c. search needs)
+    (λ c. search needs) (λ c. search needs) returns-2)

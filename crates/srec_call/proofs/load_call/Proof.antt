@@ -8,25 +8,10 @@ use Rattle.srec_call.proofs.Laws.{load-short, load-refused, load-done, 
 use Rattle.srec_call.proofs.load_call.Statement.{statement}
 use Rattle.srec_call.proofs.load_call.Tie as tie
 
-reply-requires : tie.Need-reply-requires
-reply-requires c κs = search needs
-
 returns : tie.Need-returns
 returns c = let s = c .before .before .before .before .args in
     let e = load-short (s .memory .now) (s .text .now) (s .pc) (c .before .if1 .taken) in
     (c .reply .ensures ∙ ap (λ (x : Loaded). x .reply) e, ap (λ (x : Loaded). x .memory) e)
-
-judge-requires : tie.Need-judge-requires
-judge-requires c κs = search needs
-
-is-accepted-requires : tie.Need-is-accepted-requires
-is-accepted-requires c κs = search needs
-
-number-requires : tie.Need-number-requires
-number-requires c κs = search needs
-
-reply-requires-2 : tie.Need-reply-requires-2
-reply-requires-2 c κs = search needs
 
 returns-2 : tie.Need-returns-2
 returns-2 c =
@@ -50,12 +35,6 @@ load-requires c κs =
     let ok = sym (c2 .is-accepted .ensures) ∙ not-false _ (c .before .if2 .left) in
     (omega arith, load-sound (c7 .args .text .now) _ (c3 .judge .ensures) ok)
 
-reply-requires-3 : tie.Need-reply-requires-3
-reply-requires-3 c κs = search needs
-
-same-length : tie.Need-same-length
-same-length c = search needs
-
 returns-3 : tie.Need-returns-3
 returns-3 c =
     let c3 = c .before .before .before in
@@ -73,15 +52,5 @@ returns-3 c =
 pub load-call-spec : {M : Type 1} → statement M
 load-call-spec =
     tie.close
-    (tie.spec
-    reply-requires
-    returns
-    judge-requires
-    is-accepted-requires
-    number-requires
-    reply-requires-2
-    returns-2
-    load-requires
-    reply-requires-3
-    same-length
-    returns-3)
+    (tie.spec (λ c κs. search needs) returns (λ c κs. search needs) (λ c κs. search needs) (λ c κs. search needs) (λ c κs. search needs)
+    returns-2 load-requires (λ c κs. search needs) (λ c. search needs) returns-3)

@@ -11,30 +11,12 @@ returns c = let s = c .before .before .before .args in
     let e = write-short (s .memory .now) (s .start) (s .size) (s .pc) (s .text .now) (c .if1 .taken) in
     (ap (λ (x : Written). x .reply) e, ap (λ (x : Written). x .text) e)
 
-add-if2 : tie.Need-add-if2
-add-if2 c = search needs
-
 returns-2 : tie.Need-returns-2
 returns-2 c =
     let c4 = c .before .before .before .before in
     let s = c4 .args in
     let e = write-past (s .memory .now) (s .start) (s .size) (s .pc) (s .text .now) (c .before .if1 .left) (c .if2 .taken) in
     (ap (λ (x : Written). x .reply) e, ap (λ (x : Written). x .text) e)
-
-add-need : tie.Need-add-need
-add-need c = search needs
-
-mul-need : tie.Need-mul-need
-mul-need c = search needs
-
-mul-need-2 : tie.Need-mul-need-2
-mul-need-2 c = search needs
-
-add-need-2 : tie.Need-add-need-2
-add-need-2 c = search needs
-
-add-need-3 : tie.Need-add-need-3
-add-need-3 c = search needs
 
 returns-3 : tie.Need-returns-3
 returns-3 c =
@@ -44,15 +26,6 @@ returns-3 c =
     let e =
     write-small (s .memory .now) (s .start) (s .size) (s .pc) (s .text .now) (c2 .if1 .left) (c .before .if2 .left) (c .if3 .taken) in
     (ap (λ (x : Written). x .reply) e, ap (λ (x : Written). x .text) e)
-
-write-requires : tie.Need-write-requires
-write-requires c κs = search needs
-
-mul-result : tie.Need-mul-result
-mul-result c = search needs
-
-same-length : tie.Need-same-length
-same-length c = search needs
 
 returns-4 : tie.Need-returns-4
 returns-4 c =
@@ -69,17 +42,5 @@ returns-4 c =
 pub write-call-spec : {M : Type 1} → statement M
 write-call-spec =
     tie.close
-    (tie.spec
-    returns
-    add-if2
-    returns-2
-    add-need
-    mul-need
-    mul-need-2
-    add-need-2
-    add-need-3
-    returns-3
-    write-requires
-    mul-result
-    same-length
-    returns-4)
+    (tie.spec returns (λ c. search needs) returns-2 (λ c. search needs) (λ c. search needs) (λ c. search needs) (λ c. search needs)
+    (λ c. search needs) returns-3 (λ c κs. search needs) (λ c. search needs) (λ c. search needs) returns-4)

@@ -20,27 +20,6 @@ Inv-loop text at₀ number₀ at number = (at ≤ length text) × (number ≤ at
 abbrev μ-loop : tie.MeasureT-loop
 μ-loop text at₀ number₀ at number = length text - at
 
-loop-holds : tie.Need-loop-holds Inv-loop μ-loop
-loop-holds c = (omega arith, omega arith, refl)
-
-line-at-requires : tie.Need-line-at-requires Inv-loop μ-loop
-line-at-requires c κs = omega arith
-
-sub-part : tie.Need-sub-part Inv-loop μ-loop
-sub-part c = omega arith
-
-part-part-start : tie.Need-part-part-start Inv-loop μ-loop
-part-part-start c = search needs
-
-part-part-end : tie.Need-part-part-end Inv-loop μ-loop
-part-part-end c = search needs
-
-fault-requires : tie.Need-fault-requires Inv-loop μ-loop
-fault-requires c κs = tt
-
-is-accepted-requires : tie.Need-is-accepted-requires Inv-loop μ-loop
-is-accepted-requires c κs = tt
-
 returns : tie.Need-returns Inv-loop μ-loop
 returns c =
     let c2 = c .before .before in
@@ -68,12 +47,6 @@ returns-2 c =
     (sym (c .before .kind .ensures) ∙ c .if2 .taken)
     ∙ c8 .loop .inv .2
 
-add-number : tie.Need-add-number Inv-loop μ-loop
-add-number c = search needs
-
-loop-less : tie.Need-loop-less Inv-loop μ-loop
-loop-less c = omega arith
-
 loop-again : tie.Need-loop-again Inv-loop μ-loop
 loop-again c =
     let c2 = c .before .before in
@@ -98,20 +71,6 @@ returns-3 c =
 pub judge-spec : {M : Type 1} → statement M
 judge-spec =
     tie.close
-    (tie.spec
-    Inv-loop
-    μ-loop
-    loop-holds
-    line-at-requires
-    sub-part
-    part-part-start
-    part-part-end
-    fault-requires
-    is-accepted-requires
-    returns
-    kind-requires
-    returns-2
-    add-number
-    loop-less
-    loop-again
+    (tie.spec Inv-loop μ-loop (λ c. (omega arith, omega arith, refl)) (λ c κs. omega arith) (λ c. omega arith) (λ c. search needs)
+    (λ c. search needs) (λ c κs. tt) (λ c κs. tt) returns kind-requires returns-2 (λ c. search needs) (λ c. omega arith) loop-again
     returns-3)

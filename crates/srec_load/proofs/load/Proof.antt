@@ -21,18 +21,6 @@ abbrev μ-loop : tie.MeasureT-loop
 loop-holds : tie.Need-loop-holds Inv-loop μ-loop
 loop-holds c = (omega arith, refl, c .before .before .pre .1, refl, refl)
 
-line-at-requires : tie.Need-line-at-requires Inv-loop μ-loop
-line-at-requires c κs = omega arith
-
-sub-part : tie.Need-sub-part Inv-loop μ-loop
-sub-part c = omega arith
-
-part-part-start : tie.Need-part-part-start Inv-loop μ-loop
-part-part-start c = search needs
-
-part-part-end : tie.Need-part-part-end Inv-loop μ-loop
-part-part-end c = search needs
-
 store-requires : tie.Need-store-requires Inv-loop μ-loop
 store-requires c κs =
     let c2 = c .before .before in
@@ -46,9 +34,6 @@ pc-requires c κs =
     let c7 = c5 .before .before in
     let c10 = c7 .before .before .before in
     sound-here (c10 .args .text .now) _ _ _ (c5 .line-at .ensures) (c7 .loop .inv .2) .0
-
-loop-less : tie.Need-loop-less Inv-loop μ-loop
-loop-less c = omega arith
 
 loop-again : tie.Need-loop-again Inv-loop μ-loop
 loop-again c =
@@ -67,9 +52,6 @@ loop-again c =
       ap (pcAfter (linesOf (drop next t))) (c .pc .ensures) ∙ pc-here t _ _ _ here (p .last) ∙ p .inv .4,
     )
 
-same-length : tie.Need-same-length Inv-loop μ-loop
-same-length c = search needs
-
 returns : tie.Need-returns Inv-loop μ-loop
 returns c = let t : List ℕ = c .before .before .before .before .args .text .now in
     let p = c .before .loop in (
@@ -80,17 +62,5 @@ returns c = let t : List ℕ = c .before .before .before .before .args .text .no
 pub load-spec : {M : Type 1} → statement M
 load-spec =
     tie.close
-    (tie.spec
-    Inv-loop
-    μ-loop
-    loop-holds
-    line-at-requires
-    sub-part
-    part-part-start
-    part-part-end
-    store-requires
-    pc-requires
-    loop-less
-    loop-again
-    same-length
-    returns)
+    (tie.spec Inv-loop μ-loop loop-holds (λ c κs. omega arith) (λ c. omega arith) (λ c. search needs) (λ c. search needs) store-requires
+    pc-requires (λ c. omega arith) loop-again (λ c. search needs) returns)

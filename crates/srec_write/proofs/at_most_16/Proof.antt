@@ -2,11 +2,5 @@ use native.Mathlib.Omega.{arith}
 use Rattle.srec_write.proofs.at_most_16.Statement.{statement}
 use Rattle.srec_write.proofs.at_most_16.Tie as tie
 
-returns : tie.Need-returns
-returns c = omega arith
-
-returns-2 : tie.Need-returns-2
-returns-2 c = omega arith
-
 pub at-most-16-spec : {M : Type 1} → statement M
-at-most-16-spec = tie.close (tie.spec returns returns-2)
+at-most-16-spec = tie.close (tie.spec (λ c. omega arith) (λ c. omega arith))

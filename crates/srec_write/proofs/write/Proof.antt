@@ -17,24 +17,6 @@ Inv-loop memory start n pc text₀ at₀ a₀ left₀ text at a left = (a + left
 abbrev μ-loop : tie.MeasureT-loop
 μ-loop memory start n pc text₀ at₀ a₀ left₀ text at a left = left
 
-loop-holds : tie.Need-loop-holds Inv-loop μ-loop
-loop-holds c = (refl, refl, omega arith, refl)
-
-at-most-16-requires : tie.Need-at-most-16-requires Inv-loop μ-loop
-at-most-16-requires c κs = tt
-
-add-stop : tie.Need-add-stop Inv-loop μ-loop
-add-stop c = omega arith
-
-sub-part : tie.Need-sub-part Inv-loop μ-loop
-sub-part c = omega arith
-
-part-part-start : tie.Need-part-part-start Inv-loop μ-loop
-part-part-start c = search needs
-
-part-part-end : tie.Need-part-part-end Inv-loop μ-loop
-part-part-end c = search needs
-
 put-line-requires : tie.Need-put-line-requires Inv-loop μ-loop
 put-line-requires c κs =
     let c2 = c .before .before in
@@ -44,12 +26,6 @@ put-line-requires c κs =
     let s = c2 .at-most-16 .result in
     let l = part-length (c7 .args .memory .now) (p .a) (p .a + s - p .a) (omega arith) in
     (omega arith, omega arith, omega arith)
-
-sub-left : tie.Need-sub-left Inv-loop μ-loop
-sub-left c = omega arith
-
-loop-less : tie.Need-loop-less Inv-loop μ-loop
-loop-less c = omega arith
 
 loop-again : tie.Need-loop-again Inv-loop μ-loop
 loop-again c =
@@ -72,21 +48,6 @@ loop-again c =
           (c6 .loop-test .taken) es (omega arith) (put .0) (put .1) ∙ p .inv .3,
     )
 
-sub-none : tie.Need-sub-none Inv-loop μ-loop
-sub-none c = search needs
-
-part-none-start : tie.Need-part-none-start Inv-loop μ-loop
-part-none-start c = search needs
-
-part-none-end : tie.Need-part-none-end Inv-loop μ-loop
-part-none-end c = search needs
-
-put-line-requires-2 : tie.Need-put-line-requires-2 Inv-loop μ-loop
-put-line-requires-2 c κs = (omega arith, omega arith, omega arith)
-
-same-length : tie.Need-same-length Inv-loop μ-loop
-same-length c = search needs
-
 returns : tie.Need-returns Inv-loop μ-loop
 returns c =
     let c2 = c .before .before in
@@ -101,22 +62,6 @@ returns c =
 pub write-spec : {M : Type 1} → statement M
 write-spec =
     tie.close
-    (tie.spec
-    Inv-loop
-    μ-loop
-    loop-holds
-    at-most-16-requires
-    add-stop
-    sub-part
-    part-part-start
-    part-part-end
-    put-line-requires
-    sub-left
-    loop-less
-    loop-again
-    sub-none
-    part-none-start
-    part-none-end
-    put-line-requires-2
-    same-length
-    returns)
+    (tie.spec Inv-loop μ-loop (λ c. (refl, refl, omega arith, refl)) (λ c κs. tt) (λ c. omega arith) (λ c. omega arith) (λ c. search needs)
+    (λ c. search needs) put-line-requires (λ c. omega arith) (λ c. omega arith) loop-again (λ c. search needs) (λ c. search needs)
+    (λ c. search needs) (λ c κs. (omega arith, omega arith, omega arith)) (λ c. search needs) returns)

@@ -22,12 +22,6 @@ with-device-requires c κs =
     let h = c .before .before .before .before .pre in
     (h .0, (h .1, c .loop-test .taken))
 
-add-d : tie.Need-add-d Inv-loop μ-loop
-add-d c = omega arith
-
-loop-less : tie.Need-loop-less Inv-loop μ-loop
-loop-less c = omega arith
-
 loop-again : tie.Need-loop-again Inv-loop μ-loop
 loop-again c =
     let l = c .before .before in
@@ -46,13 +40,4 @@ returns c =
 
 pub dearest-of-spec : {M : Type 1} → statement M
 dearest-of-spec =
-    tie.close
-    (tie.spec
-    Inv-loop
-    μ-loop
-    loop-holds
-    with-device-requires
-    add-d
-    loop-less
-    loop-again
-    returns)
+    tie.close (tie.spec Inv-loop μ-loop loop-holds with-device-requires (λ c. omega arith) (λ c. omega arith) loop-again returns)

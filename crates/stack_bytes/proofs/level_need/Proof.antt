@@ -1,5 +1,5 @@
 use mathlib.Core.Bool.{cond}
-use mathlib.Core.Path.{_≡_, sym, ap, _∙_}
+use mathlib.Core.Path.{sym, ap, _∙_}
 use denote.Ref.{now}
 use borrow.Author.Needs.{needs}
 use borrow.Author.Tests.{lt-ltb, le-ltb}
@@ -10,9 +10,6 @@ use Rattle.stack_bytes.proofs.level_need.Tie as tie
 returns : tie.Need-returns
 returns c = rw (le-ltb _ _ (c .if1 .taken))
 
-dearest-of-requires : tie.Need-dearest-of-requires
-dearest-of-requires c κs = search needs
-
 returns-2 : tie.Need-returns-2
 returns-2 c =
     let a = c .before .before .before .before .args in
@@ -20,4 +17,4 @@ returns-2 c =
     ∙ sym (ap (λ x. cond x (dearest (now (a .vectors)) (a .devices) (now (a .uses)) 8 (a .level)) 0) (lt-ltb _ _ (c .before .if1 .left)))
 
 pub level-need-spec : {M : Type 1} → statement M
-level-need-spec = tie.close (tie.spec returns dearest-of-requires returns-2)
+level-need-spec = tie.close (tie.spec returns (λ c κs. search needs) returns-2)

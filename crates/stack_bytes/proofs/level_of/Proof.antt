@@ -3,18 +3,5 @@ use Rattle.stack_need.specs.Need.{levelOf}
 use Rattle.stack_bytes.proofs.level_of.Statement.{statement}
 use Rattle.stack_bytes.proofs.level_of.Tie as tie
 
-mul-two-at : tie.Need-mul-two-at
-mul-two-at c = search needs
-
-two-at-requires : tie.Need-two-at-requires
-two-at-requires c κs = search needs
-
-cast-result : tie.Need-cast-result
-cast-result c = search needs
-
-returns : tie.Need-returns
-unfolding levelOf
-returns c = search needs
-
 pub level-of-spec : {M : Type 1} → statement M
-level-of-spec = tie.close (tie.spec mul-two-at two-at-requires cast-result returns)
+level-of-spec = tie.close (tie.spec (λ c. search needs) (λ c κs. search needs) (λ c. search needs) (λ c. unfold levelOf in search needs))

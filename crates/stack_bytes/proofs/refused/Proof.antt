@@ -18,9 +18,6 @@ returns-3 : tie.Need-returns-3
 unfolding needRefused?
 returns-3 c = rw (eq-eqb _ _ (c .before .before .if1 .left), eq-eqb _ _ (c .before .if2 .left), lt-ltb _ _ (c .if3 .taken))
 
-uses-fit-requires : tie.Need-uses-fit-requires
-uses-fit-requires c κs = search needs
-
 returns-4 : tie.Need-returns-4
 unfolding needRefused?
 returns-4 c =
@@ -29,4 +26,4 @@ returns-4 c =
     (ap not (c .uses-fit .ensures))
 
 pub refused-spec : {M : Type 1} → statement M
-refused-spec = tie.close (tie.spec returns returns-2 returns-3 uses-fit-requires returns-4)
+refused-spec = tie.close (tie.spec returns returns-2 returns-3 (λ c κs. search needs) returns-4)

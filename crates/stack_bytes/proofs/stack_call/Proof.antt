@@ -1,14 +1,11 @@
 -- The tests of refusal give what the sum asks for. Assumes nothing.
-use mathlib.Core.Path.{_≡_, sym, _∙_}
+use mathlib.Core.Path.{sym, _∙_}
 use native.Mathlib.Omega.{arith}
 use denote.Ref.{now}
 use borrow.Author.Needs.{needs}
 use Rattle.stack_bytes.proofs.Laws.{Fits, fits, sum-bounded, reply-refused, reply-bytes}
 use Rattle.stack_bytes.proofs.stack_call.Statement.{statement}
 use Rattle.stack_bytes.proofs.stack_call.Tie as tie
-
-refused-requires : tie.Need-refused-requires
-refused-requires c κs = search needs
 
 returns : tie.Need-returns
 returns c =
@@ -39,4 +36,4 @@ returns-2 c =
     (c .sum-above .ensures)
 
 pub stack-call-spec : {M : Type 1} → statement M
-stack-call-spec = tie.close (tie.spec refused-requires returns sum-above-requires mul-result returns-2)
+stack-call-spec = tie.close (tie.spec (λ c κs. search needs) returns sum-above-requires mul-result returns-2)

@@ -17,9 +17,6 @@ abbrev μ-loop : tie.MeasureT-loop
 loop-holds : tie.Need-loop-holds Inv-loop μ-loop
 loop-holds c = let a = c .before .before .args in (omega arith, sum-none (now (a .vectors)) (a .devices) (now (a .uses)) (a .p))
 
-add-level : tie.Need-add-level Inv-loop μ-loop
-add-level c = omega arith
-
 level-need-requires : tie.Need-level-need-requires Inv-loop μ-loop
 level-need-requires c κs = let h = c .before .before .before .before .pre in (h .0, h .1 .0)
 
@@ -32,9 +29,6 @@ add-sum c =
     let x = sum-bounded (now (a .vectors)) (a .devices) (now (a .uses)) f _ (a .p) _ (l .loop .inv .1) in
     let y = level-bounded (now (a .vectors)) (a .devices) (now (a .uses)) f _ (a .p) _ (c .level-need .ensures) in
     omega arith
-
-loop-less : tie.Need-loop-less Inv-loop μ-loop
-loop-less c = omega arith
 
 loop-again : tie.Need-loop-again Inv-loop μ-loop
 loop-again c =
@@ -54,14 +48,4 @@ returns c =
 
 pub sum-above-spec : {M : Type 1} → statement M
 sum-above-spec =
-    tie.close
-    (tie.spec
-    Inv-loop
-    μ-loop
-    loop-holds
-    add-level
-    level-need-requires
-    add-sum
-    loop-less
-    loop-again
-    returns)
+    tie.close (tie.spec Inv-loop μ-loop loop-holds (λ c. omega arith) level-need-requires add-sum (λ c. omega arith) loop-again returns)

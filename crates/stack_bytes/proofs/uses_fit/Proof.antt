@@ -17,12 +17,6 @@ Inv-loop uses d₀ d = (d ≤ 8) × (usesFit uses d ≡ true)
 abbrev μ-loop : tie.MeasureT-loop
 μ-loop uses d₀ d = 8 - d
 
-loop-holds : tie.Need-loop-holds Inv-loop μ-loop
-loop-holds c = (omega arith, fit-none _)
-
-mul-two-at : tie.Need-mul-two-at Inv-loop μ-loop
-mul-two-at c = omega arith
-
 two-at-requires : tie.Need-two-at-requires Inv-loop μ-loop
 two-at-requires c κs = let h = c .before .before .before .pre in omega arith
 
@@ -31,12 +25,6 @@ returns c =
     let b = now (c .before .before .before .before .before .args .uses) in
     sym (unfit-below b _ 8 (c .before .before .loop-test .taken)
     (ap (ltb 1024) (sym (c .before .two-at .ensures)) ∙ lt-ltb _ _ (c .if1 .taken)))
-
-add-d : tie.Need-add-d Inv-loop μ-loop
-add-d c = omega arith
-
-loop-less : tie.Need-loop-less Inv-loop μ-loop
-loop-less c = omega arith
 
 loop-again : tie.Need-loop-again Inv-loop μ-loop
 loop-again c =
@@ -53,14 +41,5 @@ returns-2 c =
 pub uses-fit-spec : {M : Type 1} → statement M
 uses-fit-spec =
     tie.close
-    (tie.spec
-    Inv-loop
-    μ-loop
-    loop-holds
-    mul-two-at
-    two-at-requires
-    returns
-    add-d
-    loop-less
-    loop-again
-    returns-2)
+    (tie.spec Inv-loop μ-loop (λ c. (omega arith, fit-none _)) (λ c. omega arith) two-at-requires returns (λ c. omega arith)
+    (λ c. omega arith) loop-again returns-2)

@@ -1,5 +1,5 @@
-use mathlib.Core.Bool.{Bool, cond}
-use mathlib.Core.Path.{_≡_, sym, ap, _∙_}
+use mathlib.Core.Bool.{cond}
+use mathlib.Core.Path.{sym, ap, _∙_}
 use denote.Ref.{now}
 use borrow.Author.Needs.{needs}
 use borrow.Author.Tests.{not-true, not-false}
@@ -8,9 +8,6 @@ use Rattle.stack_need.specs.Need.{costOf}
 use Rattle.stack_bytes.proofs.with_device.Statement.{statement}
 use Rattle.stack_bytes.proofs.with_device.Tie as tie
 
-counts-requires : tie.Need-counts-requires
-counts-requires c κs = search needs
-
 -- a device that does not count; one that does
 returns : tie.Need-returns
 returns c =
@@ -18,12 +15,6 @@ returns c =
     let m = a .most in
     sym (ap (λ x. cond x (greater m (costOf (now (a .uses)) (a .d))) m)
     (sym (c .before .counts .ensures) ∙ not-true _ (c .if1 .taken)))
-
-cost-of-requires : tie.Need-cost-of-requires
-cost-of-requires c κs = search needs
-
-greater-of-requires : tie.Need-greater-of-requires
-greater-of-requires c κs = search needs
 
 returns-2 : tie.Need-returns-2
 returns-2 c =
@@ -35,4 +26,4 @@ returns-2 c =
     (sym (p .before .counts .ensures) ∙ not-false _ (p .if1 .left)))
 
 pub with-device-spec : {M : Type 1} → statement M
-with-device-spec = tie.close (tie.spec counts-requires returns cost-of-requires greater-of-requires returns-2)
+with-device-spec = tie.close (tie.spec (λ c κs. search needs) returns (λ c κs. search needs) (λ c κs. search needs) returns-2)

@@ -20,11 +20,4 @@ returns c =
     (ap (sets (now (a .r)) 22) (halves (a .count) lines ∙ ap (four (a .count)) (halves (a .lines) (two 0 []))))
 
 pub put-counts-spec : {M : Type 1} → statement M
-put-counts-spec =
-    tie.close
-    (tie.spec
-    (λ c κs. search needs)
-    (λ c κs. search needs)
-    (λ c κs. search needs)
-    (λ c. search needs)
-    returns)
+put-counts-spec = tie.close (tie.spec (λ c κs. search needs) (λ c κs. search needs) (λ c κs. search needs) (λ c. search needs) returns)

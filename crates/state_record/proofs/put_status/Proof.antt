@@ -22,11 +22,4 @@ returns c = rw (c .before .before .put-two2 .ensures, c .before .before .before 
 pub put-status-spec : {M : Type 1} → statement M
 put-status-spec =
     tie.close
-    (tie.spec
-    (λ c κs. search needs)
-    (λ c κs. search needs)
-    (λ c. search needs)
-    (λ c. search needs)
-    slice-write-r-2
-    same-length
-    returns)
+    (tie.spec (λ c κs. search needs) (λ c κs. search needs) (λ c. search needs) (λ c. search needs) slice-write-r-2 same-length returns)

@@ -13,11 +13,4 @@ returns c =
     (c6 .before .before .before .before .put-registers .ensures) (c6 .put-status .ensures) (c .before .before .put-counts .ensures)
 
 pub write-record-spec : {M : Type 1} → statement M
-write-record-spec =
-    tie.close
-    (tie.spec
-    (λ c κs. search needs)
-    (λ c κs. search needs)
-    (λ c κs. search needs)
-    (λ c. search needs)
-    returns)
+write-record-spec = tie.close (tie.spec (λ c κs. search needs) (λ c κs. search needs) (λ c κs. search needs) (λ c. search needs) returns)

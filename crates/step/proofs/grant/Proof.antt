@@ -64,19 +64,5 @@ returns-6 c =
 pub grant-spec : {M : Type 1} → statement M
 grant-spec =
     tie.close
-    (tie.spec
-    (λ c. search needs)
-    (λ c. search needs)
-    (λ c. search needs)
-    (λ c. search needs)
-    (λ c κs. search needs)
-    (λ c. search needs)
-    (λ c κs. search needs)
-    priority-of-requires
-    returns
-    (λ c κs. search needs)
-    returns-2
-    returns-3
-    returns-4
-    returns-5
-    returns-6)
+    (tie.spec (λ c. search needs) (λ c. search needs) (λ c. search needs) (λ c. search needs) (λ c κs. search needs) (λ c. search needs)
+    (λ c κs. search needs) priority-of-requires returns (λ c κs. search needs) returns-2 returns-3 returns-4 returns-5 returns-6)

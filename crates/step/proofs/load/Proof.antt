@@ -24,11 +24,4 @@ returns c =
 
 pub load-spec : {M : Type 1} → statement M
 load-spec =
-    tie.close
-    (tie.spec
-    (λ c κs. search needs)
-    (λ c κs. search needs)
-    with-low-requires
-    (λ c κs. search needs)
-    (λ c. search needs)
-    returns)
+    tie.close (tie.spec (λ c κs. search needs) (λ c κs. search needs) with-low-requires (λ c κs. search needs) (λ c. search needs) returns)

@@ -14,14 +14,5 @@ returns-3 c = ap odd? (sym (c .before .before .a2 .given .1))
 pub odd-spec : {M : Type 1} → statement M
 odd-spec =
     tie.close
-    (tie.spec
-    (λ c. search needs)
-    (λ c. search needs)
-    (λ c. search needs)
-    (λ c. search needs)
-    (λ c. search needs)
-    (λ c. search needs)
-    returns-2
-    returns-3
-    (λ c. search needs)
-    (λ c. search needs))
+    (tie.spec (λ c. search needs) (λ c. search needs) (λ c. search needs) (λ c. search needs) (λ c. search needs) (λ c. search needs)
+    returns-2 returns-3 (λ c. search needs) (λ c. search needs))

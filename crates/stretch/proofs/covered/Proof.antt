@@ -49,5 +49,4 @@ returns-3 c =
 
 pub covered-spec : {M : Type 1} → statement M
 covered-spec =
-    tie.close
-    (tie.spec returns (λ c. search needs) (λ c. search needs) returns-2 (λ c. search needs) (λ c. search needs) returns-3)
+    tie.close (tie.spec returns (λ c. search needs) (λ c. search needs) returns-2 (λ c. search needs) (λ c. search needs) returns-3)

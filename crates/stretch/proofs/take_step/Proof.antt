@@ -10,21 +10,6 @@ use borrow.Author.Needs.{needs}
 use Rattle.stretch.proofs.take_step.Statement.{statement}
 use Rattle.stretch.proofs.take_step.Tie as tie
 
-fetch-requires : tie.Need-fetch-requires
-fetch-requires c κs = search needs
-
-add-set-reg : tie.Need-add-set-reg
-add-set-reg c = search needs
-
-cast-set-reg : tie.Need-cast-set-reg
-cast-set-reg c = search needs
-
-set-reg-requires : tie.Need-set-reg-requires
-set-reg-requires c κs = search needs
-
-add-take-word : tie.Need-add-take-word
-add-take-word c = search needs
-
 take-word-requires : tie.Need-take-word-requires
 take-word-requires c κs =
     let s = c .before .before .before .before in
@@ -33,9 +18,6 @@ take-word-requires c κs =
     let e = ap (λ (k : List ℕ). getD k 7 0) (s .set-reg .ensures) ∙ getD-set-same l 7 _ 0 (t .pre .3 .1) in
     let even = t .pre .2 in
     ((sym e, omega arith, omega arith), s .before .before .fetch .ensures .1, omega arith, t .pre .1)
-
-same-length : tie.Need-same-length
-same-length c = search needs
 
 returns : tie.Need-returns
 returns c =
@@ -49,12 +31,5 @@ returns c =
 pub take-step-spec : {M : Type 1} → statement M
 take-step-spec =
     tie.close
-    (tie.spec
-    fetch-requires
-    add-set-reg
-    cast-set-reg
-    set-reg-requires
-    add-take-word
-    take-word-requires
-    same-length
-    returns)
+    (tie.spec (λ c κs. search needs) (λ c. search needs) (λ c. search needs) (λ c κs. search needs) (λ c. search needs) take-word-requires
+    (λ c. search needs) returns)

@@ -29,12 +29,6 @@ abbrev μ-loop : tie.MeasureT-loop
 more : (n k s : ℕ) → s ≤ k → k ≤ n → n - (k - s) ≡ n - k + s
 more n k s h g = omega arith
 
-reg-requires : tie.Need-reg-requires Inv-loop μ-loop
-reg-requires c κs = omega arith
-
-cast-pc : tie.Need-cast-pc Inv-loop μ-loop
-cast-pc c = omega arith
-
 loop-holds : tie.Need-loop-holds Inv-loop μ-loop
 loop-holds c =
     let s = c .before .before .before in
@@ -63,9 +57,6 @@ step-back-requires c κs =
     let l = c .before .before .before .before .before .before .before .before .before .before .before .before .loop in
     long (l .regs) (l .mem) _ _ (l .p) (l .x) _ _ (l .pc) _ (l .inv .3) (c .before .before .before .before .before .take-step .ensures)
 
-same-length : tie.Need-same-length Inv-loop μ-loop
-same-length c = omega arith
-
 returns : tie.Need-returns Inv-loop μ-loop
 returns c =
     let i = c .before .before .before .before .before .before .before .before .before .before .before .before .before in
@@ -79,18 +70,6 @@ returns c =
     let none : a .n - l .left ≡ a .n - l .left + 0 = omega arith in
     let still = stays-shut (l .regs) (l .mem) _ _ (l .p) (l .x) _ _ (l .pc) _ g in
     (rw none (w .0), ((omega (arith, l .inv .0), omega arith, w .1), (λ h. still (l .inv .8 h))))
-
-cast-set-reg : tie.Need-cast-set-reg Inv-loop μ-loop
-cast-set-reg c = omega arith
-
-set-reg-requires : tie.Need-set-reg-requires Inv-loop μ-loop
-set-reg-requires c κs = omega arith
-
-sub-t31 : tie.Need-sub-t31 Inv-loop μ-loop
-sub-t31 c = omega arith
-
-same-length-2 : tie.Need-same-length-2 Inv-loop μ-loop
-same-length-2 c = omega arith
 
 returns-2 : tie.Need-returns-2 Inv-loop μ-loop
 returns-2 c =
@@ -106,12 +85,6 @@ returns-2 c =
       rw (more (a .n) (l .left) 1 (omega arith) (l .inv .0)) (w .0),
       ((omega (arith, l .inv .0), omega arith, w .1), (λ h. still (l .inv .8 h))),
     )
-
-sub-left : tie.Need-sub-left Inv-loop μ-loop
-sub-left c = omega arith
-
-loop-less : tie.Need-loop-less Inv-loop μ-loop
-loop-less c = omega arith
 
 loop-again : tie.Need-loop-again Inv-loop μ-loop
 loop-again c =
@@ -132,15 +105,6 @@ loop-again c =
       (λ h. stays-shut (l .regs) (l .mem) _ _ (l .p) (l .x) _ _ (l .pc) _ (c .before .before .before .take-step .ensures) (l .inv .8 h)),
     )
 
-cast-set-reg-2 : tie.Need-cast-set-reg-2 Inv-loop μ-loop
-cast-set-reg-2 c = omega arith
-
-set-reg-requires-2 : tie.Need-set-reg-requires-2 Inv-loop μ-loop
-set-reg-requires-2 c κs = omega arith
-
-same-length-3 : tie.Need-same-length-3 Inv-loop μ-loop
-same-length-3 c = omega arith
-
 returns-3 : tie.Need-returns-3 Inv-loop μ-loop
 returns-3 c =
     let l = c .before .before .before .loop in
@@ -152,25 +116,6 @@ returns-3 c =
 pub take-steps-spec : {M : Type 1} → statement M
 take-steps-spec =
     tie.close
-    (tie.spec
-    Inv-loop
-    μ-loop
-    reg-requires
-    cast-pc
-    loop-holds
-    take-step-requires
-    step-back-requires
-    same-length
-    returns
-    cast-set-reg
-    set-reg-requires
-    sub-t31
-    same-length-2
-    returns-2
-    sub-left
-    loop-less
-    loop-again
-    cast-set-reg-2
-    set-reg-requires-2
-    same-length-3
-    returns-3)
+    (tie.spec Inv-loop μ-loop (λ c κs. omega arith) (λ c. omega arith) loop-holds take-step-requires step-back-requires (λ c. omega arith)
+    returns (λ c. omega arith) (λ c κs. omega arith) (λ c. omega arith) (λ c. omega arith) returns-2 (λ c. omega arith) (λ c. omega arith)
+    loop-again (λ c. omega arith) (λ c κs. omega arith) (λ c. omega arith) returns-3)

@@ -1,7 +1,7 @@
 -- A step that the block skips, one that it covers or that is left alone, or steps with no block open. Assumes nothing.
 use Prim.Native.Nat.{ℕ, _+_, _-_, _%_, _<_, _≤_}
 use native.Mathlib.Omega.{arith}
-use mathlib.Core.Bool.{true, false, false≢true}
+use mathlib.Core.Bool.{false≢true}
 use mathlib.Core.Logic.{inl, inr, _⊎_}
 use mathlib.Core.Path.{_≡_, sym, ap, subst, _∙_}
 use denote.Ref.{now}
@@ -57,9 +57,6 @@ take-steps-requires c κs =
       few (k .result .steps) (s .args .left) x (k .result .cex) (k .ensures .1 .1 .1) (λ h. k .ensures .0 ∙ open-none x h .1),
     )
 
-same-length : tie.Need-same-length
-same-length c = search needs
-
 -- with no block open the CEX state is not lowered, and all steps may be taken
 shut : (c : tie.After-take-steps) → c .before .before .before .before .before .before .before .args .cex % 64 ≡ 0
     → let a = c .before .before .before .before .before .before .before .args in
@@ -104,9 +101,6 @@ control-requires c κs =
     let o = f .take-steps .ensures .1 in
     (omega arith, o .0 .2, o .1 (ap (λ (n : ℕ). n % 64) (shut f z .0) ∙ z), omega (arith, c .before .before .if3 .left))
 
-same-length-2 : tie.Need-same-length-2
-same-length-2 c = search needs
-
 returns-3 : tie.Need-returns-3
 returns-3 c =
     let f = c .before .before .before .before .before .before .before .before in
@@ -122,9 +116,6 @@ returns-3 c =
       (omega (arith, le, p .1 .0), (λ m. let h = p .1 .1 m in omega (arith, le, h)), o .1, p .1 .2),
     )
 
-same-length-3 : tie.Need-same-length-3
-same-length-3 c = search needs
-
 -- one step may be taken in an open block
 returns-4 : tie.Need-returns-4
 returns-4 c =
@@ -139,9 +130,6 @@ returns-4 c =
     let u = walked-left (now (a .regs)) (now (a .mem)) _ _ (a .psw) _ _ _ _ (w .0) 0 j in
     let g = walked-none (now (a .regs)) (now (a .mem)) _ _ (a .psw) _ _ _ _ (w .0) (a .lines) (a .cex) j in
     rw (u .1, z) (g, (omega arith, (λ e. absurd (false≢true e)), w .1 .0 .1, rw (sym (u .1)) (w .1 .0 .2)))
-
-same-length-4 : tie.Need-same-length-4
-same-length-4 c = search needs
 
 returns-5 : tie.Need-returns-5
 returns-5 c =
@@ -165,21 +153,6 @@ returns-5 c =
 pub turn-spec : {M : Type 1} → statement M
 turn-spec =
     tie.close
-    (tie.spec
-    (λ c κs. search needs)
-    (λ c κs. search needs)
-    (λ c κs. search needs)
-    (λ c κs. search needs)
-    (λ c. search needs)
-    returns
-    take-steps-requires
-    same-length
-    returns-2
-    control-requires
-    same-length-2
-    returns-3
-    same-length-3
-    returns-4
-    (λ c. search needs)
-    same-length-4
-    returns-5)
+    (tie.spec (λ c κs. search needs) (λ c κs. search needs) (λ c κs. search needs) (λ c κs. search needs) (λ c. search needs) returns
+    take-steps-requires (λ c. search needs) returns-2 control-requires (λ c. search needs) returns-3 (λ c. search needs) returns-4
+    (λ c. search needs) (λ c. search needs) returns-5)

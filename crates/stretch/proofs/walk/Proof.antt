@@ -74,15 +74,5 @@ returns-2 c = let l = c .before .before .before .before .before .before .loop in
 pub walk-spec : {M : Type 1} → statement M
 walk-spec =
     tie.close
-    (tie.spec
-    Inv-loop
-    μ-loop
-    loop-holds
-    (λ c κs. omega arith)
-    turn-requires
-    loop-less
-    loop-again
-    (λ c. omega arith)
-    returns
-    (λ c. omega arith)
-    returns-2)
+    (tie.spec Inv-loop μ-loop loop-holds (λ c κs. omega arith) turn-requires loop-less loop-again (λ c. omega arith) returns
+    (λ c. omega arith) returns-2)

@@ -7,11 +7,8 @@ use Rattle.stretch_memory.proofs.adjust.Tie as tie
 returns : tie.Need-returns
 returns c = rw (eq-eqb _ _ (c .if1 .taken)) refl
 
-set-reg-requires : tie.Need-set-reg-requires
-set-reg-requires c κs = search needs
-
 returns-2 : tie.Need-returns-2
 returns-2 c = rw (ne-eqb _ _ (c .before .before .if1 .left)) (c .set-reg .ensures)
 
 pub adjust-spec : {M : Type 1} → statement M
-adjust-spec = tie.close (tie.spec returns set-reg-requires returns-2)
+adjust-spec = tie.close (tie.spec returns (λ c κs. search needs) returns-2)

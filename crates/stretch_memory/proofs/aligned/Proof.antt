@@ -3,8 +3,5 @@ use mathlib.Core.Path.{refl}
 use Rattle.stretch_memory.proofs.aligned.Statement.{statement}
 use Rattle.stretch_memory.proofs.aligned.Tie as tie
 
-returns : tie.Need-returns
-returns c = refl
-
 pub aligned-spec : {M : Type 1} → statement M
-aligned-spec = tie.close (tie.spec returns)
+aligned-spec = tie.close (tie.spec (λ c. refl))

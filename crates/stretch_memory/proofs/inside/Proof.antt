@@ -3,8 +3,5 @@ use mathlib.Core.Path.{refl}
 use Rattle.stretch_memory.proofs.inside.Statement.{statement}
 use Rattle.stretch_memory.proofs.inside.Tie as tie
 
-returns : tie.Need-returns
-returns c = refl
-
 pub inside-spec : {M : Type 1} → statement M
-inside-spec = tie.close (tie.spec returns)
+inside-spec = tie.close (tie.spec (λ c. refl))

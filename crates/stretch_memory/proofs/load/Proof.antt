@@ -1,9 +1,8 @@
-use mathlib.Core.Path.{refl, sym, ap, _∙_}
+use mathlib.Core.Path.{sym, ap, _∙_}
 use denote.Ref.{now}
 use native.Mathlib.Omega.{arith}
 use Prim.Native.Nat.{ℕ}
 use mathlib.Core.List.{List}
-use lib.Dec.{eqb}
 use lib.ListN.{getD}
 use Rattle.machine_laws.specs.Bounds.{Bytes}
 use Rattle.machine_laws.proofs.Loads.{value-lt, load-law}
@@ -12,24 +11,12 @@ use borrow.Author.Needs.{needs}
 use Rattle.stretch_memory.proofs.load.Statement.{statement}
 use Rattle.stretch_memory.proofs.load.Tie as tie
 
-load-requires : tie.Need-load-requires
-load-requires c κs = search needs
-
-reg-requires : tie.Need-reg-requires
-reg-requires c κs = search needs
-
 with-low-requires : tie.Need-with-low-requires
 with-low-requires c κs =
     let k = c .before .before .before .before .before .before in
     let a = k .before .args in
     let bytes : Bytes (now (a .mem)) = λ i. omega (arith, k .slice-known .given i) in
     value-lt (a .byte) (now (a .mem)) (a .at) _ bytes (c .before .before .before .before .load .ensures .0)
-
-set-reg-requires : tie.Need-set-reg-requires
-set-reg-requires c κs = search needs
-
-same-length : tie.Need-same-length
-same-length c = search needs
 
 returns : tie.Need-returns
 returns c =
@@ -53,5 +40,4 @@ returns c =
 
 pub load-spec : {M : Type 1} → statement M
 load-spec =
-    tie.close
-    (tie.spec load-requires reg-requires with-low-requires set-reg-requires same-length returns)
+    tie.close (tie.spec (λ c κs. search needs) (λ c κs. search needs) with-low-requires (λ c κs. search needs) (λ c. search needs) returns)

@@ -1,9 +1,9 @@
-use mathlib.Core.Path.{refl, sym, ap, _∙_}
+use mathlib.Core.Path.{refl, sym, _∙_}
 use mathlib.Core.Logic.{inl, inr}
 use denote.Ref.{now}
 use native.Mathlib.Omega.{arith}
-use Prim.Native.Nat.{ℕ, _/_, _%_}
-use borrow.Author.Tests.{not-true, not-false}
+use Prim.Native.Nat.{_/_, _%_}
+use borrow.Author.Tests.{not-false}
 use Rattle.machine.specs.Effect.{moves?}
 use Rattle.stretch_memory.proofs.Laws.{served-load, load-effect, pc-adjusted}
 use borrow.Author.Needs.{needs}
@@ -16,29 +16,8 @@ returns c = λ psw cex. inl (refl, (refl, refl, refl, refl))
 returns-2 : tie.Need-returns-2
 returns-2 c = λ psw cex. inl (refl, (refl, refl, refl, refl))
 
-reg-requires : tie.Need-reg-requires
-reg-requires c κs = search needs
-
-adjusted-by-requires : tie.Need-adjusted-by-requires
-adjusted-by-requires c κs = search needs
-
-address-requires : tie.Need-address-requires
-address-requires c κs = search needs
-
-aligned-requires : tie.Need-aligned-requires
-aligned-requires c κs = search needs
-
 returns-3 : tie.Need-returns-3
 returns-3 c = λ psw cex. inl (refl, (refl, refl, refl, refl))
-
-adjust-requires : tie.Need-adjust-requires
-adjust-requires c κs = search needs
-
-load-requires : tie.Need-load-requires
-load-requires c κs = search needs
-
-same-length : tie.Need-same-length
-same-length c = search needs
 
 returns-4 : tie.Need-returns-4
 returns-4 c =
@@ -63,15 +42,5 @@ returns-4 c =
 pub load-indexed-spec : {M : Type 1} → statement M
 load-indexed-spec =
     tie.close
-    (tie.spec
-    returns
-    returns-2
-    reg-requires
-    adjusted-by-requires
-    address-requires
-    aligned-requires
-    returns-3
-    adjust-requires
-    load-requires
-    same-length
-    returns-4)
+    (tie.spec returns returns-2 (λ c κs. search needs) (λ c κs. search needs) (λ c κs. search needs) (λ c κs. search needs) returns-3
+    (λ c κs. search needs) (λ c κs. search needs) (λ c. search needs) returns-4)

@@ -1,9 +1,8 @@
-use mathlib.Core.Path.{refl, sym, ap, _∙_}
+use mathlib.Core.Path.{refl, sym, _∙_}
 use mathlib.Core.Logic.{inl, inr}
 use denote.Ref.{now}
-use native.Mathlib.Omega.{arith}
-use Prim.Native.Nat.{ℕ, _/_, _%_}
-use borrow.Author.Tests.{not-true, not-false}
+use Prim.Native.Nat.{_/_, _%_}
+use borrow.Author.Tests.{not-false}
 use Rattle.stretch_memory.proofs.Laws.{served-load, load-relative-effect}
 use borrow.Author.Needs.{needs}
 use Rattle.stretch_memory.proofs.load_relative.Statement.{statement}
@@ -12,23 +11,8 @@ use Rattle.stretch_memory.proofs.load_relative.Tie as tie
 returns : tie.Need-returns
 returns c = λ psw cex. inl (refl, (refl, refl, refl, refl))
 
-reg-requires : tie.Need-reg-requires
-reg-requires c κs = search needs
-
-relative-requires : tie.Need-relative-requires
-relative-requires c κs = search needs
-
-aligned-requires : tie.Need-aligned-requires
-aligned-requires c κs = search needs
-
 returns-2 : tie.Need-returns-2
 returns-2 c = λ psw cex. inl (refl, (refl, refl, refl, refl))
-
-load-requires : tie.Need-load-requires
-load-requires c κs = search needs
-
-same-length : tie.Need-same-length
-same-length c = search needs
 
 returns-3 : tie.Need-returns-3
 returns-3 c =
@@ -50,12 +34,5 @@ returns-3 c =
 pub load-relative-spec : {M : Type 1} → statement M
 load-relative-spec =
     tie.close
-    (tie.spec
-    returns
-    reg-requires
-    relative-requires
-    aligned-requires
-    returns-2
-    load-requires
-    same-length
-    returns-3)
+    (tie.spec returns (λ c κs. search needs) (λ c κs. search needs) (λ c κs. search needs) returns-2 (λ c κs. search needs)
+    (λ c. search needs) returns-3)

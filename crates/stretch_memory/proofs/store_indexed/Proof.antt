@@ -1,8 +1,8 @@
-use mathlib.Core.Path.{refl, sym, ap, _∙_}
+use mathlib.Core.Path.{refl}
 use mathlib.Core.Logic.{inl, inr}
 use denote.Ref.{now}
 use native.Mathlib.Omega.{arith}
-use Prim.Native.Nat.{ℕ, _/_, _%_}
+use Prim.Native.Nat.{_/_, _%_}
 use borrow.Author.Tests.{not-true, not-false}
 use Rattle.machine.specs.Effect.{moves?}
 use Rattle.stretch_memory.proofs.Laws.{served-store, store-effect, pc-adjusted}
@@ -13,34 +13,10 @@ use Rattle.stretch_memory.proofs.store_indexed.Tie as tie
 returns : tie.Need-returns
 returns c = λ psw cex. inl (refl, (refl, refl, refl, refl))
 
-reg-requires : tie.Need-reg-requires
-reg-requires c κs = search needs
-
-reg-requires-2 : tie.Need-reg-requires-2
-reg-requires-2 c κs = search needs
-
-adjusted-by-requires : tie.Need-adjusted-by-requires
-adjusted-by-requires c κs = search needs
-
-address-requires : tie.Need-address-requires
-address-requires c κs = search needs
-
-store-requires : tie.Need-store-requires
-store-requires c κs = search needs
-
-same-length : tie.Need-same-length
-same-length c = search needs
-
 returns-2 : tie.Need-returns-2
 returns-2 c =
     let same = c .before .before .before .store .ensures .0 (not-true _ (c .if2 .taken)) in
     λ psw cex. inl (refl, (refl, refl, refl, same))
-
-adjust-requires : tie.Need-adjust-requires
-adjust-requires c κs = search needs
-
-same-length-2 : tie.Need-same-length-2
-same-length-2 c = search needs
 
 returns-3 : tie.Need-returns-3
 returns-3 c =
@@ -66,15 +42,5 @@ returns-3 c =
 pub store-indexed-spec : {M : Type 1} → statement M
 store-indexed-spec =
     tie.close
-    (tie.spec
-    returns
-    reg-requires
-    reg-requires-2
-    adjusted-by-requires
-    address-requires
-    store-requires
-    same-length
-    returns-2
-    adjust-requires
-    same-length-2
-    returns-3)
+    (tie.spec returns (λ c κs. search needs) (λ c κs. search needs) (λ c κs. search needs) (λ c κs. search needs) (λ c κs. search needs)
+    (λ c. search needs) returns-2 (λ c κs. search needs) (λ c. search needs) returns-3)

@@ -1,36 +1,17 @@
-use mathlib.Core.Path.{refl, sym, ap, _∙_}
+use mathlib.Core.Path.{refl}
 use mathlib.Core.Logic.{inl, inr}
 use denote.Ref.{now}
-use native.Mathlib.Omega.{arith}
-use Prim.Native.Nat.{ℕ, _/_, _%_}
+use Prim.Native.Nat.{_/_, _%_}
 use borrow.Author.Tests.{not-true, not-false}
 use Rattle.stretch_memory.proofs.Laws.{served-store, store-relative-effect}
 use borrow.Author.Needs.{needs}
 use Rattle.stretch_memory.proofs.store_relative.Statement.{statement}
 use Rattle.stretch_memory.proofs.store_relative.Tie as tie
 
-reg-requires : tie.Need-reg-requires
-reg-requires c κs = search needs
-
-relative-requires : tie.Need-relative-requires
-relative-requires c κs = search needs
-
-reg-requires-2 : tie.Need-reg-requires-2
-reg-requires-2 c κs = search needs
-
-store-requires : tie.Need-store-requires
-store-requires c κs = search needs
-
-same-length : tie.Need-same-length
-same-length c = search needs
-
 returns : tie.Need-returns
 returns c =
     let same = c .before .before .before .store .ensures .0 (not-true _ (c .if1 .taken)) in
     λ psw cex. inl (refl, (refl, refl, refl, same))
-
-same-length-2 : tie.Need-same-length-2
-same-length-2 c = search needs
 
 returns-2 : tie.Need-returns-2
 returns-2 c =
@@ -52,12 +33,5 @@ returns-2 c =
 pub store-relative-spec : {M : Type 1} → statement M
 store-relative-spec =
     tie.close
-    (tie.spec
-    reg-requires
-    relative-requires
-    reg-requires-2
-    store-requires
-    same-length
-    returns
-    same-length-2
-    returns-2)
+    (tie.spec (λ c κs. search needs) (λ c κs. search needs) (λ c κs. search needs) (λ c κs. search needs) (λ c. search needs) returns
+    (λ c. search needs) returns-2)

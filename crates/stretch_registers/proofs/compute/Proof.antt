@@ -14,15 +14,6 @@ use Rattle.stretch_registers.proofs.compute.Tie as tie
 returns : tie.Need-returns
 returns c = inl (refl, refl, refl)
 
-reg-requires : tie.Need-reg-requires
-reg-requires c κs = search needs
-
-alu-requires : tie.Need-alu-requires
-alu-requires c κs = search needs
-
-set-reg-requires : tie.Need-set-reg-requires
-set-reg-requires c κs = search needs
-
 returns-2 : tie.Need-returns-2
 returns-2 c =
     let b = c .before .before in
@@ -37,4 +28,4 @@ returns-2 c =
     )
 
 pub compute-spec : {M : Type 1} → statement M
-compute-spec = tie.close (tie.spec returns reg-requires alu-requires set-reg-requires returns-2)
+compute-spec = tie.close (tie.spec returns (λ c κs. search needs) (λ c κs. search needs) (λ c κs. search needs) returns-2)

@@ -1,8 +1,7 @@
-use mathlib.Core.Path.{refl}
+use mathlib.Core.Path.{refl, _≡_}
 use mathlib.Core.Logic.{inl, inr}
 use native.Mathlib.Omega.{arith}
 use Prim.Native.Nat.{_%_, _/_}
-use mathlib.Core.Path.{_≡_}
 use borrow.Author.Tests.{lt-ltb, le-ltb}
 use Rattle.stretch_registers.proofs.Laws.{sets-flags, clears-flags}
 use borrow.Author.Needs.{needs}
@@ -11,12 +10,6 @@ use Rattle.stretch_registers.proofs.flags_word.Tie as tie
 
 returns : tie.Need-returns
 returns c = λ regs cex past. inl (refl, refl, refl, refl)
-
-cast-f : tie.Need-cast-f
-cast-f c = search needs
-
-flags-set-requires : tie.Need-flags-set-requires
-flags-set-requires c κs = search needs
 
 returns-2 : tie.Need-returns-2
 returns-2 c =
@@ -33,9 +26,6 @@ returns-2 c =
       lt-ltb w 0x4DE0 (b .if2 .taken),
     )
     (inr (sets-flags l _ x _ (w % 32) past (omega arith) slp (c .flags-set .ensures)))
-
-flags-cleared-requires : tie.Need-flags-cleared-requires
-flags-cleared-requires c κs = search needs
 
 returns-3 : tie.Need-returns-3
 returns-3 c =
@@ -54,6 +44,4 @@ returns-3 c =
     (inr (clears-flags l _ x _ (w % 32) past (omega arith) slp (c .flags-cleared .ensures)))
 
 pub flags-word-spec : {M : Type 1} → statement M
-flags-word-spec =
-    tie.close
-    (tie.spec returns cast-f flags-set-requires returns-2 flags-cleared-requires returns-3)
+flags-word-spec = tie.close (tie.spec returns (λ c. search needs) (λ c κs. search needs) returns-2 (λ c κs. search needs) returns-3)

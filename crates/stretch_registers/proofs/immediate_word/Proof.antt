@@ -10,21 +10,6 @@ use Rattle.stretch_registers.proofs.immediate_word.Tie as tie
 returns : tie.Need-returns
 returns c = λ psw cex. inl (refl, refl, refl, refl)
 
-cast-op : tie.Need-cast-op
-cast-op c = search needs
-
-cast-immediate : tie.Need-cast-immediate
-cast-immediate c = search needs
-
-reg-requires : tie.Need-reg-requires
-reg-requires c κs = search needs
-
-immediate-requires : tie.Need-immediate-requires
-immediate-requires c κs = search needs
-
-set-reg-requires : tie.Need-set-reg-requires
-set-reg-requires c κs = search needs
-
 returns-2 : tie.Need-returns-2
 returns-2 c =
     let m = c .before .before in
@@ -37,11 +22,5 @@ returns-2 c =
 pub immediate-word-spec : {M : Type 1} → statement M
 immediate-word-spec =
     tie.close
-    (tie.spec
-    returns
-    cast-op
-    cast-immediate
-    reg-requires
-    immediate-requires
-    set-reg-requires
+    (tie.spec returns (λ c. search needs) (λ c. search needs) (λ c κs. search needs) (λ c κs. search needs) (λ c κs. search needs)
     returns-2)

@@ -1,21 +1,14 @@
-use mathlib.Core.Path.{refl}
+use mathlib.Core.Path.{refl, sym, _∙_}
 use mathlib.Core.Logic.{inl, inr}
 use denote.Ref.{now}
 use native.Mathlib.Omega.{arith}
-use mathlib.Core.Path.{sym, _∙_}
 use Rattle.stretch_registers.proofs.Laws.{moves, moves-to-pc}
 use borrow.Author.Needs.{needs}
 use Rattle.stretch_registers.proofs.move_word.Statement.{statement}
 use Rattle.stretch_registers.proofs.move_word.Tie as tie
 
-reg-requires : tie.Need-reg-requires
-reg-requires c κs = search needs
-
 returns : tie.Need-returns
 returns c = λ psw wb e. inl (refl, refl, refl, refl)
-
-move-to-pc-requires : tie.Need-move-to-pc-requires
-move-to-pc-requires c κs = search needs
 
 returns-2 : tie.Need-returns-2
 returns-2 c =
@@ -26,18 +19,6 @@ returns-2 c =
     inr
     (moves-to-pc (now (start .args .regs)) psw _ _ (start .pre) wb _ _ (sym (b .if2 .left) ∙ e) (t .if1 .taken) (omega arith)
     (t .before .reg .ensures) (c .move-to-pc .ensures))
-
-reg-requires-2 : tie.Need-reg-requires-2
-reg-requires-2 c κs = search needs
-
-low-bits-requires : tie.Need-low-bits-requires
-low-bits-requires c κs = search needs
-
-with-low-requires : tie.Need-with-low-requires
-with-low-requires c κs = search needs
-
-set-reg-requires : tie.Need-set-reg-requires
-set-reg-requires c κs = search needs
 
 returns-3 : tie.Need-returns-3
 returns-3 c =
@@ -53,13 +34,5 @@ returns-3 c =
 pub move-word-spec : {M : Type 1} → statement M
 move-word-spec =
     tie.close
-    (tie.spec
-    reg-requires
-    returns
-    move-to-pc-requires
-    returns-2
-    reg-requires-2
-    low-bits-requires
-    with-low-requires
-    set-reg-requires
-    returns-3)
+    (tie.spec (λ c κs. search needs) returns (λ c κs. search needs) returns-2 (λ c κs. search needs) (λ c κs. search needs)
+    (λ c κs. search needs) (λ c κs. search needs) returns-3)

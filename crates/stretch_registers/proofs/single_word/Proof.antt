@@ -1,5 +1,5 @@
 use mathlib.Core.Path.{refl}
-use mathlib.Core.Logic.{inl, inr}
+use mathlib.Core.Logic.{inl}
 use denote.Ref.{now}
 use native.Mathlib.Omega.{arith}
 use Rattle.machine.specs.Effect.{unaryOp}
@@ -8,21 +8,6 @@ use Rattle.stretch_registers.proofs.Laws.{unary-tried, swpb-tried, sxt-
 use borrow.Author.Needs.{needs}
 use Rattle.stretch_registers.proofs.single_word.Statement.{statement}
 use Rattle.stretch_registers.proofs.single_word.Tie as tie
-
-compute-requires : tie.Need-compute-requires
-compute-requires c κs = search needs
-
-compute-requires-2 : tie.Need-compute-requires-2
-compute-requires-2 c κs = search needs
-
-compute-requires-3 : tie.Need-compute-requires-3
-compute-requires-3 c κs = search needs
-
-compute-requires-4 : tie.Need-compute-requires-4
-compute-requires-4 c κs = search needs
-
-compute-requires-5 : tie.Need-compute-requires-5
-compute-requires-5 c κs = search needs
 
 returns : tie.Need-returns
 unfolding unaryOp
@@ -64,15 +49,5 @@ returns-6 c = λ cex. inl (refl, refl, refl, refl)
 pub single-word-spec : {M : Type 1} → statement M
 single-word-spec =
     tie.close
-    (tie.spec
-    compute-requires
-    compute-requires-2
-    compute-requires-3
-    compute-requires-4
-    compute-requires-5
-    returns
-    returns-2
-    returns-3
-    returns-4
-    returns-5
-    returns-6)
+    (tie.spec (λ c κs. search needs) (λ c κs. search needs) (λ c κs. search needs) (λ c κs. search needs) (λ c κs. search needs) returns
+    returns-2 returns-3 returns-4 returns-5 returns-6)

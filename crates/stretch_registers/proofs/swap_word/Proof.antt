@@ -13,18 +13,6 @@ returns c = λ psw cex b. inl (refl, refl, refl, refl)
 returns-2 : tie.Need-returns-2
 returns-2 c = λ psw cex b. inl (refl, refl, refl, refl)
 
-reg-requires : tie.Need-reg-requires
-reg-requires c κs = search needs
-
-reg-requires-2 : tie.Need-reg-requires-2
-reg-requires-2 c κs = search needs
-
-set-reg-requires : tie.Need-set-reg-requires
-set-reg-requires c κs = search needs
-
-set-reg-requires-2 : tie.Need-set-reg-requires-2
-set-reg-requires-2 c κs = search needs
-
 returns-3 : tie.Need-returns-3
 returns-3 c =
     let s = c .before .before in
@@ -39,11 +27,4 @@ returns-3 c =
 pub swap-word-spec : {M : Type 1} → statement M
 swap-word-spec =
     tie.close
-    (tie.spec
-    returns
-    returns-2
-    reg-requires
-    reg-requires-2
-    set-reg-requires
-    set-reg-requires-2
-    returns-3)
+    (tie.spec returns returns-2 (λ c κs. search needs) (λ c κs. search needs) (λ c κs. search needs) (λ c κs. search needs) returns-3)

@@ -8,12 +8,6 @@ use borrow.Author.Needs.{needs}
 use Rattle.stretch_registers.proofs.test.Statement.{statement}
 use Rattle.stretch_registers.proofs.test.Tie as tie
 
-reg-requires : tie.Need-reg-requires
-reg-requires c κs = search needs
-
-alu-requires : tie.Need-alu-requires
-alu-requires c κs = search needs
-
 returns : tie.Need-returns
 returns c =
     let a = c .before .before .before .args in
@@ -22,4 +16,4 @@ returns c =
     (refl, ap (λ (o : Computed). o .psw) e)
 
 pub test-spec : {M : Type 1} → statement M
-test-spec = tie.close (tie.spec reg-requires alu-requires returns)
+test-spec = tie.close (tie.spec (λ c κs. search needs) (λ c κs. search needs) returns)

@@ -1,5 +1,4 @@
 use native.Mathlib.Omega.{arith}
-use denote.Ref.{now}
 use Prim.Native.Nat.{ℕ, _/_, _%_}
 use mathlib.Core.List.{List}
 use mathlib.Core.Path.{ap, _∙_}
@@ -9,13 +8,10 @@ use borrow.Author.Needs.{needs}
 use Rattle.stretch_words.proofs.constant_of.Statement.{statement}
 use Rattle.stretch_words.proofs.constant_of.Tie as tie
 
-reg-requires : tie.Need-reg-requires
-reg-requires c κs = search needs
-
 returns : tie.Need-returns
 returns c =
     let a = c .before .args in
     c .reg .ensures ∙ ap (λ (k : List ℕ). getD k (a .w / 8 % 8) 0) (c .before .pre) ∙ constant-at (a .w / 8 % 8) (omega arith)
 
 pub constant-of-spec : {M : Type 1} → statement M
-constant-of-spec = tie.close (tie.spec reg-requires returns)
+constant-of-spec = tie.close (tie.spec (λ c κs. search needs) returns)

@@ -1,16 +1,13 @@
 use native.Mathlib.Omega.{arith}
 use denote.Ref.{now}
 use mathlib.Core.Path.{_≡_, refl}
-use mathlib.Core.Logic.{inl, inr}
+use mathlib.Core.Logic.{inr}
 use Prim.Native.Nat.{_/_}
 use Rattle.machine.specs.Effect.{takenOf}
 use Rattle.stretch_words.proofs.Laws.{branches, decode-link, means, low-half}
 use borrow.Author.Needs.{needs}
 use Rattle.stretch_words.proofs.jump_word.Statement.{statement}
 use Rattle.stretch_words.proofs.jump_word.Tie as tie
-
-branch-requires : tie.Need-branch-requires
-branch-requires c κs = search needs
 
 returns : tie.Need-returns
 unfolding takenOf
@@ -22,93 +19,6 @@ returns c =
     let e : a .w / 512 ≡ 31 = omega arith in
     branches (a .w) 7 1 (now (a .regs)) (now (a .mem)) (now (a .psw)) (now (a .cex)) (a .pc) (omega arith) (omega arith) e
     (s .pre .0 .1) (s .pre .0 .0) refl (c .branch .ensures)
-
-taken-requires : tie.Need-taken-requires
-taken-requires c κs = search needs
-
-branch-requires-2 : tie.Need-branch-requires-2
-branch-requires-2 c κs = search needs
-
-taken-requires-2 : tie.Need-taken-requires-2
-taken-requires-2 c κs = search needs
-
-branch-requires-3 : tie.Need-branch-requires-3
-branch-requires-3 c κs = search needs
-
-taken-requires-3 : tie.Need-taken-requires-3
-taken-requires-3 c κs = search needs
-
-branch-requires-4 : tie.Need-branch-requires-4
-branch-requires-4 c κs = search needs
-
-taken-requires-4 : tie.Need-taken-requires-4
-taken-requires-4 c κs = search needs
-
-branch-requires-5 : tie.Need-branch-requires-5
-branch-requires-5 c κs = search needs
-
-taken-requires-5 : tie.Need-taken-requires-5
-taken-requires-5 c κs = search needs
-
-branch-requires-6 : tie.Need-branch-requires-6
-branch-requires-6 c κs = search needs
-
-taken-requires-6 : tie.Need-taken-requires-6
-taken-requires-6 c κs = search needs
-
-branch-requires-7 : tie.Need-branch-requires-7
-branch-requires-7 c κs = search needs
-
-taken-requires-7 : tie.Need-taken-requires-7
-taken-requires-7 c κs = search needs
-
-branch-requires-8 : tie.Need-branch-requires-8
-branch-requires-8 c κs = search needs
-
-taken-requires-8 : tie.Need-taken-requires-8
-taken-requires-8 c κs = search needs
-
-branch-requires-9 : tie.Need-branch-requires-9
-branch-requires-9 c κs = search needs
-
-taken-requires-9 : tie.Need-taken-requires-9
-taken-requires-9 c κs = search needs
-
-branch-requires-10 : tie.Need-branch-requires-10
-branch-requires-10 c κs = search needs
-
-taken-requires-10 : tie.Need-taken-requires-10
-taken-requires-10 c κs = search needs
-
-branch-requires-11 : tie.Need-branch-requires-11
-branch-requires-11 c κs = search needs
-
-taken-requires-11 : tie.Need-taken-requires-11
-taken-requires-11 c κs = search needs
-
-branch-requires-12 : tie.Need-branch-requires-12
-branch-requires-12 c κs = search needs
-
-taken-requires-12 : tie.Need-taken-requires-12
-taken-requires-12 c κs = search needs
-
-branch-requires-13 : tie.Need-branch-requires-13
-branch-requires-13 c κs = search needs
-
-taken-requires-13 : tie.Need-taken-requires-13
-taken-requires-13 c κs = search needs
-
-branch-requires-14 : tie.Need-branch-requires-14
-branch-requires-14 c κs = search needs
-
-taken-requires-14 : tie.Need-taken-requires-14
-taken-requires-14 c κs = search needs
-
-branch-requires-15 : tie.Need-branch-requires-15
-branch-requires-15 c κs = search needs
-
-branch-requires-16 : tie.Need-branch-requires-16
-branch-requires-16 c κs = search needs
 
 link-word-requires : tie.Need-link-word-requires
 link-word-requires c κs =
@@ -248,52 +158,11 @@ returns-17 c =
 pub jump-word-spec : {M : Type 1} → statement M
 jump-word-spec =
     tie.close
-    (tie.spec
-    branch-requires
-    returns
-    taken-requires
-    branch-requires-2
-    taken-requires-2
-    branch-requires-3
-    taken-requires-3
-    branch-requires-4
-    taken-requires-4
-    branch-requires-5
-    taken-requires-5
-    branch-requires-6
-    taken-requires-6
-    branch-requires-7
-    taken-requires-7
-    branch-requires-8
-    taken-requires-8
-    branch-requires-9
-    taken-requires-9
-    branch-requires-10
-    taken-requires-10
-    branch-requires-11
-    taken-requires-11
-    branch-requires-12
-    taken-requires-12
-    branch-requires-13
-    taken-requires-13
-    branch-requires-14
-    taken-requires-14
-    branch-requires-15
-    branch-requires-16
-    link-word-requires
-    returns-2
-    returns-3
-    returns-4
-    returns-5
-    returns-6
-    returns-7
-    returns-8
-    returns-9
-    returns-10
-    returns-11
-    returns-12
-    returns-13
-    returns-14
-    returns-15
-    returns-16
-    returns-17)
+    (tie.spec (λ c κs. search needs) returns (λ c κs. search needs) (λ c κs. search needs) (λ c κs. search needs) (λ c κs. search needs)
+    (λ c κs. search needs) (λ c κs. search needs) (λ c κs. search needs) (λ c κs. search needs) (λ c κs. search needs)
+    (λ c κs. search needs) (λ c κs. search needs) (λ c κs. search needs) (λ c κs. search needs) (λ c κs. search needs)
+    (λ c κs. search needs) (λ c κs. search needs) (λ c κs. search needs) (λ c κs. search needs) (λ c κs. search needs)
+    (λ c κs. search needs) (λ c κs. search needs) (λ c κs. search needs) (λ c κs. search needs) (λ c κs. search needs)
+    (λ c κs. search needs) (λ c κs. search needs) (λ c κs. search needs) (λ c κs. search needs) (λ c κs. search needs) link-word-requires
+    returns-2 returns-3 returns-4 returns-5 returns-6 returns-7 returns-8 returns-9 returns-10 returns-11 returns-12 returns-13 returns-14
+    returns-15 returns-16 returns-17)

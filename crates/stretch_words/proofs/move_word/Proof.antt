@@ -1,23 +1,10 @@
-use Prim.Native.Nat.{_≤_, _<_, _/_, _%_}
-use Rattle.stretch_words.proofs.Laws.{means, decode-move, decode-swap, decode-single, decode-control}
+use Rattle.stretch_words.proofs.Laws.{means, decode-move, decode-control}
 use mathlib.Core.Path.{refl}
 use denote.Ref.{now}
 use native.Mathlib.Omega.{arith}
 use borrow.Author.Needs.{needs}
 use Rattle.stretch_words.proofs.move_word.Statement.{statement}
 use Rattle.stretch_words.proofs.move_word.Tie as tie
-
-move-word-requires : tie.Need-move-word-requires
-move-word-requires c κs = search needs
-
-move-word-requires-2 : tie.Need-move-word-requires-2
-move-word-requires-2 c κs = search needs
-
-flags-word-requires : tie.Need-flags-word-requires
-flags-word-requires c κs = search needs
-
-load-word-requires : tie.Need-load-word-requires
-load-word-requires c κs = search needs
 
 returns : tie.Need-returns
 returns c =
@@ -44,22 +31,8 @@ returns-3 c =
     means _ (a .w) (now (a .regs)) (now (a .mem)) _ (now (a .psw)) (now (a .cex)) _ (now (a .cex)) _
     (decode-control (a .w) (omega arith) (omega arith)) (c .flags-word .ensures (now (a .regs)) (now (a .cex)) (s .pre .0))
 
-same-length : tie.Need-same-length
-same-length c = search needs
-
-returns-4 : tie.Need-returns-4
-returns-4 c = search needs
-
 pub move-word-spec : {M : Type 1} → statement M
 move-word-spec =
     tie.close
-    (tie.spec
-    move-word-requires
-    move-word-requires-2
-    flags-word-requires
-    load-word-requires
-    returns
-    returns-2
-    returns-3
-    same-length
-    returns-4)
+    (tie.spec (λ c κs. search needs) (λ c κs. search needs) (λ c κs. search needs) (λ c κs. search needs) returns returns-2 returns-3
+    (λ c. search needs) (λ c. search needs))

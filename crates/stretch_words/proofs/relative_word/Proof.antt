@@ -1,15 +1,8 @@
-use native.Mathlib.Omega.{arith}
 use Rattle.machine_laws.proofs.Cases.{eq-of}
 use Rattle.stretch_words.proofs.Laws.{decode-ldr, decode-str, bit-clear}
 use borrow.Author.Needs.{needs}
 use Rattle.stretch_words.proofs.relative_word.Statement.{statement}
 use Rattle.stretch_words.proofs.relative_word.Tie as tie
-
-load-relative-requires : tie.Need-load-relative-requires
-load-relative-requires c κs = search needs
-
-same-length : tie.Need-same-length
-same-length c = search needs
 
 returns : tie.Need-returns
 returns c =
@@ -19,12 +12,6 @@ returns c =
     λ psw cex. rw (decode-ldr (a .w) (s .pre .1) 1 (eq-of (d .if2 .taken)) (d .before .if1 .taken))
     (c .before .before .load-relative .ensures psw cex)
 
-load-relative-requires-2 : tie.Need-load-relative-requires-2
-load-relative-requires-2 c κs = search needs
-
-same-length-2 : tie.Need-same-length-2
-same-length-2 c = search needs
-
 returns-2 : tie.Need-returns-2
 returns-2 c =
     let d = c .before .before .before .before .before in
@@ -33,12 +20,6 @@ returns-2 c =
     λ psw cex. rw (decode-ldr (a .w) (s .pre .1) 0 (bit-clear (a .w) (d .if2 .left)) (d .before .if1 .taken))
     (c .before .before .load-relative2 .ensures psw cex)
 
-store-relative-requires : tie.Need-store-relative-requires
-store-relative-requires c κs = search needs
-
-same-length-3 : tie.Need-same-length-3
-same-length-3 c = search needs
-
 returns-3 : tie.Need-returns-3
 returns-3 c =
     let d = c .before .before .before .before .before in
@@ -46,12 +27,6 @@ returns-3 c =
     let a = s .args in
     λ psw cex. rw (decode-str (a .w) (s .pre .1) 1 (eq-of (d .if3 .taken)) (d .before .if1 .left))
     (c .before .before .store-relative .ensures psw cex)
-
-store-relative-requires-2 : tie.Need-store-relative-requires-2
-store-relative-requires-2 c κs = search needs
-
-same-length-4 : tie.Need-same-length-4
-same-length-4 c = search needs
 
 returns-4 : tie.Need-returns-4
 returns-4 c =
@@ -64,16 +39,5 @@ returns-4 c =
 pub relative-word-spec : {M : Type 1} → statement M
 relative-word-spec =
     tie.close
-    (tie.spec
-    load-relative-requires
-    same-length
-    returns
-    load-relative-requires-2
-    same-length-2
-    returns-2
-    store-relative-requires
-    same-length-3
-    returns-3
-    store-relative-requires-2
-    same-length-4
-    returns-4)
+    (tie.spec (λ c κs. search needs) (λ c. search needs) returns (λ c κs. search needs) (λ c. search needs) returns-2 (λ c κs. search needs)
+    (λ c. search needs) returns-3 (λ c κs. search needs) (λ c. search needs) returns-4)

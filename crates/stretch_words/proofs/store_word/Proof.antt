@@ -5,42 +5,6 @@ use borrow.Author.Needs.{needs}
 use Rattle.stretch_words.proofs.store_word.Statement.{statement}
 use Rattle.stretch_words.proofs.store_word.Tie as tie
 
-store-indexed-requires : tie.Need-store-indexed-requires
-store-indexed-requires c κs = search needs
-
-store-indexed-requires-2 : tie.Need-store-indexed-requires-2
-store-indexed-requires-2 c κs = search needs
-
-store-indexed-requires-3 : tie.Need-store-indexed-requires-3
-store-indexed-requires-3 c κs = search needs
-
-store-indexed-requires-4 : tie.Need-store-indexed-requires-4
-store-indexed-requires-4 c κs = search needs
-
-store-indexed-requires-5 : tie.Need-store-indexed-requires-5
-store-indexed-requires-5 c κs = search needs
-
-store-indexed-requires-6 : tie.Need-store-indexed-requires-6
-store-indexed-requires-6 c κs = search needs
-
-store-indexed-requires-7 : tie.Need-store-indexed-requires-7
-store-indexed-requires-7 c κs = search needs
-
-store-indexed-requires-8 : tie.Need-store-indexed-requires-8
-store-indexed-requires-8 c κs = search needs
-
-store-indexed-requires-9 : tie.Need-store-indexed-requires-9
-store-indexed-requires-9 c κs = search needs
-
-store-indexed-requires-10 : tie.Need-store-indexed-requires-10
-store-indexed-requires-10 c κs = search needs
-
-far-word-requires : tie.Need-far-word-requires
-far-word-requires c κs = search needs
-
-same-length : tie.Need-same-length
-same-length c = search needs
-
 returns : tie.Need-returns
 returns c =
     let d = c .before .before .before .before .before in
@@ -48,9 +12,6 @@ returns c =
     let a = s .args in
     rw (decode-store (a .w) 0 0 0 0 (omega arith) (omega arith) (omega arith) (omega arith) (d .match .keys1))
     (c .before .before .store-indexed .ensures (now (a .psw)) (now (a .cex)))
-
-same-length-2 : tie.Need-same-length-2
-same-length-2 c = search needs
 
 returns-2 : tie.Need-returns-2
 returns-2 c =
@@ -60,9 +21,6 @@ returns-2 c =
     rw (decode-store (a .w) 0 0 0 1 (omega arith) (omega arith) (omega arith) (omega arith) (d .match .keys2))
     (c .before .before .store-indexed2 .ensures (now (a .psw)) (now (a .cex)))
 
-same-length-3 : tie.Need-same-length-3
-same-length-3 c = search needs
-
 returns-3 : tie.Need-returns-3
 returns-3 c =
     let d = c .before .before .before .before .before in
@@ -70,9 +28,6 @@ returns-3 c =
     let a = s .args in
     rw (decode-store (a .w) 0 0 1 0 (omega arith) (omega arith) (omega arith) (omega arith) (d .match .keys3))
     (c .before .before .store-indexed3 .ensures (now (a .psw)) (now (a .cex)))
-
-same-length-4 : tie.Need-same-length-4
-same-length-4 c = search needs
 
 returns-4 : tie.Need-returns-4
 returns-4 c =
@@ -82,9 +37,6 @@ returns-4 c =
     rw (decode-store (a .w) 0 0 1 1 (omega arith) (omega arith) (omega arith) (omega arith) (d .match .keys4))
     (c .before .before .store-indexed4 .ensures (now (a .psw)) (now (a .cex)))
 
-same-length-5 : tie.Need-same-length-5
-same-length-5 c = search needs
-
 returns-5 : tie.Need-returns-5
 returns-5 c =
     let d = c .before .before .before .before .before in
@@ -92,9 +44,6 @@ returns-5 c =
     let a = s .args in
     rw (decode-store (a .w) 0 1 0 0 (omega arith) (omega arith) (omega arith) (omega arith) (d .match .keys5))
     (c .before .before .store-indexed5 .ensures (now (a .psw)) (now (a .cex)))
-
-same-length-6 : tie.Need-same-length-6
-same-length-6 c = search needs
 
 returns-6 : tie.Need-returns-6
 returns-6 c =
@@ -104,9 +53,6 @@ returns-6 c =
     rw (decode-store (a .w) 0 1 0 1 (omega arith) (omega arith) (omega arith) (omega arith) (d .match .keys6))
     (c .before .before .store-indexed6 .ensures (now (a .psw)) (now (a .cex)))
 
-same-length-7 : tie.Need-same-length-7
-same-length-7 c = search needs
-
 returns-7 : tie.Need-returns-7
 returns-7 c =
     let d = c .before .before .before .before .before in
@@ -114,9 +60,6 @@ returns-7 c =
     let a = s .args in
     rw (decode-store (a .w) 1 0 1 0 (omega arith) (omega arith) (omega arith) (omega arith) (d .match .keys7))
     (c .before .before .store-indexed7 .ensures (now (a .psw)) (now (a .cex)))
-
-same-length-8 : tie.Need-same-length-8
-same-length-8 c = search needs
 
 returns-8 : tie.Need-returns-8
 returns-8 c =
@@ -126,9 +69,6 @@ returns-8 c =
     rw (decode-store (a .w) 1 0 1 1 (omega arith) (omega arith) (omega arith) (omega arith) (d .match .keys8))
     (c .before .before .store-indexed8 .ensures (now (a .psw)) (now (a .cex)))
 
-same-length-9 : tie.Need-same-length-9
-same-length-9 c = search needs
-
 returns-9 : tie.Need-returns-9
 returns-9 c =
     let d = c .before .before .before .before .before in
@@ -136,9 +76,6 @@ returns-9 c =
     let a = s .args in
     rw (decode-store (a .w) 1 1 0 0 (omega arith) (omega arith) (omega arith) (omega arith) (d .match .keys9))
     (c .before .before .store-indexed9 .ensures (now (a .psw)) (now (a .cex)))
-
-same-length-10 : tie.Need-same-length-10
-same-length-10 c = search needs
 
 returns-10 : tie.Need-returns-10
 returns-10 c =
@@ -148,46 +85,11 @@ returns-10 c =
     rw (decode-store (a .w) 1 1 0 1 (omega arith) (omega arith) (omega arith) (omega arith) (d .match .keys10))
     (c .before .before .store-indexed10 .ensures (now (a .psw)) (now (a .cex)))
 
-same-length-11 : tie.Need-same-length-11
-same-length-11 c = search needs
-
-returns-11 : tie.Need-returns-11
-returns-11 c = search needs
-
 pub store-word-spec : {M : Type 1} → statement M
 store-word-spec =
     tie.close
-    (tie.spec
-    store-indexed-requires
-    store-indexed-requires-2
-    store-indexed-requires-3
-    store-indexed-requires-4
-    store-indexed-requires-5
-    store-indexed-requires-6
-    store-indexed-requires-7
-    store-indexed-requires-8
-    store-indexed-requires-9
-    store-indexed-requires-10
-    far-word-requires
-    same-length
-    returns
-    same-length-2
-    returns-2
-    same-length-3
-    returns-3
-    same-length-4
-    returns-4
-    same-length-5
-    returns-5
-    same-length-6
-    returns-6
-    same-length-7
-    returns-7
-    same-length-8
-    returns-8
-    same-length-9
-    returns-9
-    same-length-10
-    returns-10
-    same-length-11
-    returns-11)
+    (tie.spec (λ c κs. search needs) (λ c κs. search needs) (λ c κs. search needs) (λ c κs. search needs) (λ c κs. search needs)
+    (λ c κs. search needs) (λ c κs. search needs) (λ c κs. search needs) (λ c κs. search needs) (λ c κs. search needs)
+    (λ c κs. search needs) (λ c. search needs) returns (λ c. search needs) returns-2 (λ c. search needs) returns-3 (λ c. search needs)
+    returns-4 (λ c. search needs) returns-5 (λ c. search needs) returns-6 (λ c. search needs) returns-7 (λ c. search needs) returns-8
+    (λ c. search needs) returns-9 (λ c. search needs) returns-10 (λ c. search needs) (λ c. search needs))

@@ -9,153 +9,6 @@ use borrow.Author.Needs.{needs}
 use Rattle.stretch_words.proofs.take_word.Statement.{statement}
 use Rattle.stretch_words.proofs.take_word.Tie as tie
 
-register-of-requires : tie.Need-register-of-requires
-register-of-requires c κs = search needs
-
-compute-requires : tie.Need-compute-requires
-compute-requires c κs = search needs
-
-register-of-requires-2 : tie.Need-register-of-requires-2
-register-of-requires-2 c κs = search needs
-
-compute-requires-2 : tie.Need-compute-requires-2
-compute-requires-2 c κs = search needs
-
-constant-of-requires : tie.Need-constant-of-requires
-constant-of-requires c κs = search needs
-
-compute-requires-3 : tie.Need-compute-requires-3
-compute-requires-3 c κs = search needs
-
-constant-of-requires-2 : tie.Need-constant-of-requires-2
-constant-of-requires-2 c κs = search needs
-
-compute-requires-4 : tie.Need-compute-requires-4
-compute-requires-4 c κs = search needs
-
-register-of-requires-3 : tie.Need-register-of-requires-3
-register-of-requires-3 c κs = search needs
-
-compute-requires-5 : tie.Need-compute-requires-5
-compute-requires-5 c κs = search needs
-
-register-of-requires-4 : tie.Need-register-of-requires-4
-register-of-requires-4 c κs = search needs
-
-compute-requires-6 : tie.Need-compute-requires-6
-compute-requires-6 c κs = search needs
-
-constant-of-requires-3 : tie.Need-constant-of-requires-3
-constant-of-requires-3 c κs = search needs
-
-compute-requires-7 : tie.Need-compute-requires-7
-compute-requires-7 c κs = search needs
-
-constant-of-requires-4 : tie.Need-constant-of-requires-4
-constant-of-requires-4 c κs = search needs
-
-compute-requires-8 : tie.Need-compute-requires-8
-compute-requires-8 c κs = search needs
-
-register-of-requires-5 : tie.Need-register-of-requires-5
-register-of-requires-5 c κs = search needs
-
-compute-requires-9 : tie.Need-compute-requires-9
-compute-requires-9 c κs = search needs
-
-register-of-requires-6 : tie.Need-register-of-requires-6
-register-of-requires-6 c κs = search needs
-
-compute-requires-10 : tie.Need-compute-requires-10
-compute-requires-10 c κs = search needs
-
-constant-of-requires-5 : tie.Need-constant-of-requires-5
-constant-of-requires-5 c κs = search needs
-
-compute-requires-11 : tie.Need-compute-requires-11
-compute-requires-11 c κs = search needs
-
-constant-of-requires-6 : tie.Need-constant-of-requires-6
-constant-of-requires-6 c κs = search needs
-
-compute-requires-12 : tie.Need-compute-requires-12
-compute-requires-12 c κs = search needs
-
-register-of-requires-7 : tie.Need-register-of-requires-7
-register-of-requires-7 c κs = search needs
-
-compute-requires-13 : tie.Need-compute-requires-13
-compute-requires-13 c κs = search needs
-
-register-of-requires-8 : tie.Need-register-of-requires-8
-register-of-requires-8 c κs = search needs
-
-compute-requires-14 : tie.Need-compute-requires-14
-compute-requires-14 c κs = search needs
-
-constant-of-requires-7 : tie.Need-constant-of-requires-7
-constant-of-requires-7 c κs = search needs
-
-compute-requires-15 : tie.Need-compute-requires-15
-compute-requires-15 c κs = search needs
-
-constant-of-requires-8 : tie.Need-constant-of-requires-8
-constant-of-requires-8 c κs = search needs
-
-compute-requires-16 : tie.Need-compute-requires-16
-compute-requires-16 c κs = search needs
-
-register-of-requires-9 : tie.Need-register-of-requires-9
-register-of-requires-9 c κs = search needs
-
-compute-requires-17 : tie.Need-compute-requires-17
-compute-requires-17 c κs = search needs
-
-register-of-requires-10 : tie.Need-register-of-requires-10
-register-of-requires-10 c κs = search needs
-
-compute-requires-18 : tie.Need-compute-requires-18
-compute-requires-18 c κs = search needs
-
-constant-of-requires-9 : tie.Need-constant-of-requires-9
-constant-of-requires-9 c κs = search needs
-
-compute-requires-19 : tie.Need-compute-requires-19
-compute-requires-19 c κs = search needs
-
-constant-of-requires-10 : tie.Need-constant-of-requires-10
-constant-of-requires-10 c κs = search needs
-
-compute-requires-20 : tie.Need-compute-requires-20
-compute-requires-20 c κs = search needs
-
-register-of-requires-11 : tie.Need-register-of-requires-11
-register-of-requires-11 c κs = search needs
-
-test-requires : tie.Need-test-requires
-test-requires c κs = search needs
-
-register-of-requires-12 : tie.Need-register-of-requires-12
-register-of-requires-12 c κs = search needs
-
-test-requires-2 : tie.Need-test-requires-2
-test-requires-2 c κs = search needs
-
-constant-of-requires-11 : tie.Need-constant-of-requires-11
-constant-of-requires-11 c κs = search needs
-
-test-requires-3 : tie.Need-test-requires-3
-test-requires-3 c κs = search needs
-
-constant-of-requires-12 : tie.Need-constant-of-requires-12
-constant-of-requires-12 c κs = search needs
-
-test-requires-4 : tie.Need-test-requires-4
-test-requires-4 c κs = search needs
-
-logic-word-requires : tie.Need-logic-word-requires
-logic-word-requires c κs = search needs
-
 returns : tie.Need-returns
 unfolding binaryOp
 returns c =
@@ -372,88 +225,18 @@ returns-24 c =
     testing (a .w) 5 1 1 (omega arith) (omega arith) (omega arith) (d .match .keys24) (now (a .regs)) (now (a .mem)) (now (a .psw))
     (now (a .cex)) (a .pc) (s .pre .0) op.Cmp true refl refl (c .before .constant-of12 .ensures) refl (c .test4 .ensures)
 
-same-length : tie.Need-same-length
-same-length c = search needs
-
-returns-25 : tie.Need-returns-25
-returns-25 c = search needs
-
 pub take-word-spec : {M : Type 1} → statement M
 take-word-spec =
     tie.close
-    (tie.spec
-    register-of-requires
-    compute-requires
-    register-of-requires-2
-    compute-requires-2
-    constant-of-requires
-    compute-requires-3
-    constant-of-requires-2
-    compute-requires-4
-    register-of-requires-3
-    compute-requires-5
-    register-of-requires-4
-    compute-requires-6
-    constant-of-requires-3
-    compute-requires-7
-    constant-of-requires-4
-    compute-requires-8
-    register-of-requires-5
-    compute-requires-9
-    register-of-requires-6
-    compute-requires-10
-    constant-of-requires-5
-    compute-requires-11
-    constant-of-requires-6
-    compute-requires-12
-    register-of-requires-7
-    compute-requires-13
-    register-of-requires-8
-    compute-requires-14
-    constant-of-requires-7
-    compute-requires-15
-    constant-of-requires-8
-    compute-requires-16
-    register-of-requires-9
-    compute-requires-17
-    register-of-requires-10
-    compute-requires-18
-    constant-of-requires-9
-    compute-requires-19
-    constant-of-requires-10
-    compute-requires-20
-    register-of-requires-11
-    test-requires
-    register-of-requires-12
-    test-requires-2
-    constant-of-requires-11
-    test-requires-3
-    constant-of-requires-12
-    test-requires-4
-    logic-word-requires
-    returns
-    returns-2
-    returns-3
-    returns-4
-    returns-5
-    returns-6
-    returns-7
-    returns-8
-    returns-9
-    returns-10
-    returns-11
-    returns-12
-    returns-13
-    returns-14
-    returns-15
-    returns-16
-    returns-17
-    returns-18
-    returns-19
-    returns-20
-    returns-21
-    returns-22
-    returns-23
-    returns-24
-    same-length
-    returns-25)
+    (tie.spec (λ c κs. search needs) (λ c κs. search needs) (λ c κs. search needs) (λ c κs. search needs) (λ c κs. search needs)
+    (λ c κs. search needs) (λ c κs. search needs) (λ c κs. search needs) (λ c κs. search needs) (λ c κs. search needs)
+    (λ c κs. search needs) (λ c κs. search needs) (λ c κs. search needs) (λ c κs. search needs) (λ c κs. search needs)
+    (λ c κs. search needs) (λ c κs. search needs) (λ c κs. search needs) (λ c κs. search needs) (λ c κs. search needs)
+    (λ c κs. search needs) (λ c κs. search needs) (λ c κs. search needs) (λ c κs. search needs) (λ c κs. search needs)
+    (λ c κs. search needs) (λ c κs. search needs) (λ c κs. search needs) (λ c κs. search needs) (λ c κs. search needs)
+    (λ c κs. search needs) (λ c κs. search needs) (λ c κs. search needs) (λ c κs. search needs) (λ c κs. search needs)
+    (λ c κs. search needs) (λ c κs. search needs) (λ c κs. search needs) (λ c κs. search needs) (λ c κs. search needs)
+    (λ c κs. search needs) (λ c κs. search needs) (λ c κs. search needs) (λ c κs. search needs) (λ c κs. search needs)
+    (λ c κs. search needs) (λ c κs. search needs) (λ c κs. search needs) (λ c κs. search needs) returns returns-2 returns-3 returns-4
+    returns-5 returns-6 returns-7 returns-8 returns-9 returns-10 returns-11 returns-12 returns-13 returns-14 returns-15 returns-16
+    returns-17 returns-18 returns-19 returns-20 returns-21 returns-22 returns-23 returns-24 (λ c. search needs) (λ c. search needs))

@@ -23,74 +23,13 @@ put-hex-at t = and 1 put-hex-kinds.ps (is 1 put-hex-kinds.ps μ-put-hex t) put-h
 abbrev put-hex-below : ℕ → In 1 put-hex-kinds.ps
 put-hex-below t = and 1 put-hex-kinds.ps (falls 1 put-hex-kinds.ps _<_ μ-put-hex t) put-hex.Pre
 
-put-hex-returns : (t : ℕ) → put-hex-lts.Need-returns (
-  put-hex-below t,
-  put-hex.Post,
-  digit-reads.Asked,
-  digit-reads.Learnt,
-  put-reads.Asked,
-  put-reads.Learnt,
-) (put-hex-at t) put-hex.Post
+abbrev put-hex-claims : ℕ → put-hex-lts.Claims
+put-hex-claims t = (put-hex-below t, put-hex.Post, digit-reads.Asked, digit-reads.Learnt, put-reads.Asked, put-reads.Learnt)
+
+put-hex-returns : (t : ℕ) → put-hex-lts.Need-returns (put-hex-claims t) (put-hex-at t) put-hex.Post
 put-hex-returns t c = (hex-none _ _ _ (c .if1 .taken), omega arith, refl)
 
-put-hex-sub-put-hex : (t : ℕ) → put-hex-lts.Need-sub-put-hex (
-  put-hex-below t,
-  put-hex.Post,
-  digit-reads.Asked,
-  digit-reads.Learnt,
-  put-reads.Asked,
-  put-reads.Learnt,
-) (put-hex-at t) put-hex.Post
-put-hex-sub-put-hex t c = search needs
-
-put-hex-put-hex-requires : (t : ℕ) → put-hex-lts.Need-put-hex-requires (
-  put-hex-below t,
-  put-hex.Post,
-  digit-reads.Asked,
-  digit-reads.Learnt,
-  put-reads.Asked,
-  put-reads.Learnt,
-) (put-hex-at t) put-hex.Post
-put-hex-put-hex-requires t c κs = search needs
-
-put-hex-digit-requires : (t : ℕ) → put-hex-lts.Need-digit-requires (
-  put-hex-below t,
-  put-hex.Post,
-  digit-reads.Asked,
-  digit-reads.Learnt,
-  put-reads.Asked,
-  put-reads.Learnt,
-) (put-hex-at t) put-hex.Post
-put-hex-digit-requires t c κs = search needs
-
-put-hex-put-requires : (t : ℕ) → put-hex-lts.Need-put-requires (
-  put-hex-below t,
-  put-hex.Post,
-  digit-reads.Asked,
-  digit-reads.Learnt,
-  put-reads.Asked,
-  put-reads.Learnt,
-) (put-hex-at t) put-hex.Post
-put-hex-put-requires t c κs = search needs
-
-put-hex-same-length : (t : ℕ) → put-hex-lts.Need-same-length (
-  put-hex-below t,
-  put-hex.Post,
-  digit-reads.Asked,
-  digit-reads.Learnt,
-  put-reads.Asked,
-  put-reads.Learnt,
-) (put-hex-at t) put-hex.Post
-put-hex-same-length t c = search needs
-
-put-hex-returns-2 : (t : ℕ) → put-hex-lts.Need-returns-2 (
-  put-hex-below t,
-  put-hex.Post,
-  digit-reads.Asked,
-  digit-reads.Learnt,
-  put-reads.Asked,
-  put-reads.Learnt,
-) (put-hex-at t) put-hex.Post
+put-hex-returns-2 : (t : ℕ) → put-hex-lts.Need-returns-2 (put-hex-claims t) (put-hex-at t) put-hex.Post
 put-hex-returns-2 t c =
     let at-put = c .before .before in
     let at-digit = at-put .before in
@@ -105,20 +44,6 @@ put-hex-returns-2 t c =
     (rw (at-put .put .ensures .0, at-put-hex .put-hex .ensures .0, append-assoc, more, at-digit .digit .ensures), omega arith, kept)
 
 pub +put-hex-spec : {M : Type 1} → statement M
-+put-hex-spec = close μ-put-hex λ t. put-hex-lts.spec (
-  put-hex-below t,
-  put-hex.Post,
-  digit-reads.Asked,
-  digit-reads.Learnt,
-  put-reads.Asked,
-  put-reads.Learnt,
-)
-    (put-hex-at t)
-    put-hex.Post
-    (put-hex-returns t)
-    (put-hex-sub-put-hex t)
-    (put-hex-put-hex-requires t)
-    (put-hex-digit-requires t)
-    (put-hex-put-requires t)
-    (put-hex-same-length t)
-    (put-hex-returns-2 t)
++put-hex-spec = close μ-put-hex λ t. put-hex-lts.spec (put-hex-claims t)
+    (put-hex-at t) put-hex.Post (put-hex-returns t) (λ c. search needs) (λ c κs. search needs) (λ c κs. search needs) (λ c κs. search needs)
+    (λ c. search needs) (put-hex-returns-2 t)

@@ -67,18 +67,6 @@ returns-2 c =
 pub trace-call-spec : {M : Type 1} → statement M
 trace-call-spec =
     tie.close
-    (tie.spec
-    (λ c κs. search needs)
-    (λ c. search needs)
-    (λ c. search needs)
-    (λ c. search needs)
-    returns
-    read-record-requires
-    cast-run-traced
-    run-traced-requires
-    write-record-requires
-    reply-of-requires
-    (λ c. search needs)
-    (λ c. search needs)
-    (λ c. search needs)
+    (tie.spec (λ c κs. search needs) (λ c. search needs) (λ c. search needs) (λ c. search needs) returns read-record-requires
+    cast-run-traced run-traced-requires write-record-requires reply-of-requires (λ c. search needs) (λ c. search needs) (λ c. search needs)
     returns-2)

@@ -17,11 +17,4 @@ returns-2 c =
     (d .0, awaits-from _ _ _ _ _ (d .1) (c .awaiting .ensures))
 
 pub deliver-due-spec : {M : Type 1} → statement M
-deliver-due-spec =
-    tie.close
-    (tie.spec
-    returns
-    (λ c κs. search needs)
-    (λ c κs. search needs)
-    (λ c. search needs)
-    returns-2)
+deliver-due-spec = tie.close (tie.spec returns (λ c κs. search needs) (λ c κs. search needs) (λ c. search needs) returns-2)

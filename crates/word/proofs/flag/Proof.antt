@@ -5,11 +5,8 @@ use Rattle.word.proofs.Laws.{bit-le}
 use Rattle.word.proofs.flag.Statement.{statement}
 use Rattle.word.proofs.flag.Tie as tie
 
-cast-result : tie.Need-cast-result
-cast-result c = search needs
-
 returns : tie.Need-returns
 returns c = (refl, bit-le (c .args .b))
 
 pub flag-spec : {M : Type 1} → statement M
-flag-spec = tie.close (tie.spec cast-result returns)
+flag-spec = tie.close (tie.spec (λ c. search needs) returns)

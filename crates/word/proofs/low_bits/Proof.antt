@@ -5,11 +5,8 @@ use borrow.Author.Needs.{needs}
 use Rattle.word.proofs.low_bits.Statement.{statement}
 use Rattle.word.proofs.low_bits.Tie as tie
 
-ones-requires : tie.Need-ones-requires
-ones-requires c κs = search needs
-
 returns : tie.Need-returns
 returns c = mask-low (widthOf (c .before .args .byte)) (c .before .args .x) (c .ones .ensures)
 
 pub low-bits-spec : {M : Type 1} → statement M
-low-bits-spec = tie.close (tie.spec ones-requires returns)
+low-bits-spec = tie.close (tie.spec (λ c κs. search needs) returns)

@@ -11,15 +11,6 @@ use Rattle.word.proofs.Offset.{down-bits, up-bits}
 use Rattle.word.proofs.offset_bits.Statement.{statement}
 use Rattle.word.proofs.offset_bits.Tie as tie
 
-add-result : tie.Need-add-result
-add-result c = search needs
-
-sub-result : tie.Need-sub-result
-sub-result c = search needs
-
-magnitude-requires : tie.Need-magnitude-requires
-magnitude-requires c κs = search needs
-
 sub-result-2 : tie.Need-sub-result-2
 sub-result-2 c =
     let a = c .before .before .args in
@@ -37,9 +28,6 @@ returns c =
     let k : a .half + a .half - 1 - c .magnitude .result ≡ a .half + a .half - suc (mag (a .off)) = omega arith in
     (k ∙ sym b, omega arith)
 
-magnitude-requires-2 : tie.Need-magnitude-requires-2
-magnitude-requires-2 c κs = search needs
-
 returns-2 : tie.Need-returns-2
 returns-2 c =
     let a = c .before .before .args in
@@ -50,11 +38,4 @@ returns-2 c =
 pub offset-bits-spec : {M : Type 1} → statement M
 offset-bits-spec =
     tie.close
-    (tie.spec
-    add-result
-    sub-result
-    magnitude-requires
-    sub-result-2
-    returns
-    magnitude-requires-2
-    returns-2)
+    (tie.spec (λ c. search needs) (λ c. search needs) (λ c κs. search needs) sub-result-2 returns (λ c κs. search needs) returns-2)

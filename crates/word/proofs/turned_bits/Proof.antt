@@ -7,9 +7,6 @@ use borrow.Author.Needs.{needs}
 use Rattle.word.proofs.turned_bits.Statement.{statement}
 use Rattle.word.proofs.turned_bits.Tie as tie
 
-ones-requires : tie.Need-ones-requires
-ones-requires c κs = search needs
-
 sub-result : tie.Need-sub-result
 sub-result c = omega (arith, and-le-r (c .before .args .x) (c .ones .result))
 
@@ -17,4 +14,4 @@ returns : tie.Need-returns
 returns c = mask-turned (widthOf (c .before .args .byte)) (c .before .args .x) (c .ones .ensures)
 
 pub turned-bits-spec : {M : Type 1} → statement M
-turned-bits-spec = tie.close (tie.spec ones-requires sub-result returns)
+turned-bits-spec = tie.close (tie.spec (λ c κs. search needs) sub-result returns)

@@ -5,9 +5,6 @@ use borrow.Author.Needs.{needs}
 use Rattle.word.proofs.with_low.Statement.{statement}
 use Rattle.word.proofs.with_low.Tie as tie
 
-mul-result : tie.Need-mul-result
-mul-result c = search needs
-
 add-result : tie.Need-add-result
 unfolding widthOf
 add-result c = omega (arith, rw (c .if1 .taken) at (c .before .pre))
@@ -21,4 +18,4 @@ unfolding widthOf
 returns-2 c = rw (c .if1 .left) (omega arith)
 
 pub with-low-spec : {M : Type 1} → statement M
-with-low-spec = tie.close (tie.spec mul-result add-result returns returns-2)
+with-low-spec = tie.close (tie.spec (λ c. search needs) add-result returns returns-2)

@@ -1,7 +1,6 @@
 -- All is `back_call`'s, in its parts.
 use borrow.Author.Needs.{needs}
 use mathlib.Core.Path.{ap}
-use Rattle.journal.specs.Ring.{Journal}
 use Rattle.journal.specs.Back.{Lent}
 use Rattle.xm23.proofs.xm23_back.Statement.{statement}
 use Rattle.xm23.proofs.xm23_back.Tie as tie
@@ -21,10 +20,4 @@ returns c =
     )
 
 pub xm23-back-spec : {M : Type 1} → statement M
-xm23-back-spec =
-    tie.close
-    (tie.spec
-    (λ c κs. search needs)
-    (λ c. search needs)
-    (λ c. search needs)
-    returns)
+xm23-back-spec = tie.close (tie.spec (λ c κs. search needs) (λ c. search needs) (λ c. search needs) returns)

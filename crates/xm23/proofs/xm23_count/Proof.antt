@@ -5,15 +5,9 @@ use borrow.Author.Needs.{needs}
 use Rattle.xm23.proofs.xm23_count.Statement.{statement}
 use Rattle.xm23.proofs.xm23_count.Tie as tie
 
-count-of-requires : tie.Need-count-of-requires
-count-of-requires c κs = search needs
-
-mul-result : tie.Need-mul-result
-mul-result c = search needs
-
 returns : tie.Need-returns
 unfolding countReply
 returns c = ap (λ (n : ℕ). n * 0x100) (c .count-of .ensures .0)
 
 pub xm23-count-spec : {M : Type 1} → statement M
-xm23-count-spec = tie.close (tie.spec count-of-requires mul-result returns)
+xm23-count-spec = tie.close (tie.spec (λ c κs. search needs) (λ c. search needs) returns)

@@ -4,14 +4,8 @@ use borrow.Author.Needs.{needs}
 use Rattle.xm23.proofs.xm23_decode.Statement.{statement}
 use Rattle.xm23.proofs.xm23_decode.Tie as tie
 
-decode-requires : tie.Need-decode-requires
-decode-requires c κs = search needs
-
-number-requires : tie.Need-number-requires
-number-requires c κs = search needs
-
 returns : tie.Need-returns
 returns c = c .number .ensures ∙ ap numberOf (c .before .decode .ensures)
 
 pub xm23-decode-spec : {M : Type 1} → statement M
-xm23-decode-spec = tie.close (tie.spec decode-requires number-requires returns)
+xm23-decode-spec = tie.close (tie.spec (λ c κs. search needs) (λ c κs. search needs) returns)

@@ -7,32 +7,11 @@ use borrow.Author.Needs.{needs}
 use Rattle.xm23.proofs.xm23_encode.Statement.{statement}
 use Rattle.xm23.proofs.xm23_encode.Tie as tie
 
-from-number-requires : tie.Need-from-number-requires
-from-number-requires c κs = search needs
-
-number-requires : tie.Need-number-requires
-number-requires c κs = search needs
-
 returns : tie.Need-returns
 returns c =
     let p = c .before in
     sym (reply-other (p .before .before .args .instruction) (p .number .result)
     (p .number .ensures ∙ ap numberOf (p .before .from-number .ensures)) (c .if1 .taken))
-
-encode-requires : tie.Need-encode-requires
-encode-requires c κs = search needs
-
-enum-known-w : tie.Need-enum-known-w
-enum-known-w c = search needs
-
-cast-result : tie.Need-cast-result
-cast-result c = search needs
-
-mul-result : tie.Need-mul-result
-mul-result c = search needs
-
-enum-told : tie.Need-enum-told
-enum-told c = search needs
 
 returns-2 : tie.Need-returns-2
 returns-2 c =
@@ -55,14 +34,5 @@ returns-3 c =
 pub xm23-encode-spec : {M : Type 1} → statement M
 xm23-encode-spec =
     tie.close
-    (tie.spec
-    from-number-requires
-    number-requires
-    returns
-    encode-requires
-    enum-known-w
-    cast-result
-    mul-result
-    enum-told
-    returns-2
-    returns-3)
+    (tie.spec (λ c κs. search needs) (λ c κs. search needs) returns (λ c κs. search needs) (λ c. search needs) (λ c. search needs)
+    (λ c. search needs) (λ c. search needs) returns-2 returns-3)

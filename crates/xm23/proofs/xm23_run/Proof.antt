@@ -21,11 +21,4 @@ returns c =
     (e .0, (memory, (state, (e .1 .1 .1 .0, (figure, resumes)))))
 
 pub xm23-run-spec : {M : Type 1} → statement M
-xm23-run-spec =
-    tie.close
-    (tie.spec
-    (λ c κs. search needs)
-    (λ c. search needs)
-    (λ c. search needs)
-    (λ c. search needs)
-    returns)
+xm23-run-spec = tie.close (tie.spec (λ c κs. search needs) (λ c. search needs) (λ c. search needs) (λ c. search needs) returns)

@@ -8,12 +8,6 @@ use Rattle.srec_call.proofs.Trip.{restores}
 use Rattle.xm23.proofs.xm23_write_srec.Statement.{statement}
 use Rattle.xm23.proofs.xm23_write_srec.Tie as tie
 
-write-call-requires : tie.Need-write-call-requires
-write-call-requires c κs = search needs
-
-same-length : tie.Need-same-length
-same-length c = search needs
-
 returns : tie.Need-returns
 returns c =
     let called = c .before .before in
@@ -25,4 +19,4 @@ returns c =
     (e .0, (e .1, restores (now (a .memory)) (a .start) (a .size) (a .pc) (now (a .text)) _ _ bytes (omega arith) (e .0) (e .1)))
 
 pub xm23-write-srec-spec : {M : Type 1} → statement M
-xm23-write-srec-spec = tie.close (tie.spec write-call-requires same-length returns)
+xm23-write-srec-spec = tie.close (tie.spec (λ c κs. search needs) (λ c. search needs) returns)

@@ -15,24 +15,6 @@ returns-2 c =
     let at-if1 = c .before in
     simp (le-ltb _ _ (at-if1 .if1 .left), lt-ltb _ _ (c .if2 .taken))
 
-four-at-requires : tie.Need-four-at-requires
-four-at-requires c κs = search needs
-
-cast-n : tie.Need-cast-n
-cast-n c = search needs
-
-part-requires : tie.Need-part-requires
-part-requires c κs = search needs
-
-part-requires-2 : tie.Need-part-requires-2
-part-requires-2 c κs = search needs
-
-part-requires-3 : tie.Need-part-requires-3
-part-requires-3 c κs = search needs
-
-verdict-requires : tie.Need-verdict-requires
-verdict-requires c κs = search needs
-
 returns-3 : tie.Need-returns-3
 returns-3 c =
     let at-part3 = c .before in
@@ -47,13 +29,5 @@ returns-3 c =
 pub verdict-spec : {M : Type 1} → statement M
 verdict-spec =
     tie.close
-    (tie.spec
-    returns
-    returns-2
-    four-at-requires
-    cast-n
-    part-requires
-    part-requires-2
-    part-requires-3
-    verdict-requires
-    returns-3)
+    (tie.spec returns returns-2 (λ c κs. search needs) (λ c. search needs) (λ c κs. search needs) (λ c κs. search needs)
+    (λ c κs. search needs) (λ c κs. search needs) returns-3)

@@ -5,15 +5,6 @@ use Rattle.text.proofs.Laws.{kept-twice}
 use Rattle.sheet.proofs.fields.put_field.Statement.{statement}
 use Rattle.sheet.proofs.fields.put_field.Tie as tie
 
-put-requires : tie.Need-put-requires
-put-requires c κs = search needs
-
-put-hex-requires : tie.Need-put-hex-requires
-put-hex-requires c κs = search needs
-
-same-length : tie.Need-same-length
-same-length c = search needs
-
 returns : tie.Need-returns
 returns c =
     let at-put-hex = c .before .before in
@@ -25,4 +16,4 @@ returns c =
     (rw (at-put-hex .put-hex .ensures .0, at-put .put .ensures .0, append-assoc), omega arith, kept)
 
 pub put-field-spec : {M : Type 1} → statement M
-put-field-spec = tie.close (tie.spec put-requires put-hex-requires same-length returns)
+put-field-spec = tie.close (tie.spec (λ c κs. search needs) (λ c κs. search needs) (λ c. search needs) returns)

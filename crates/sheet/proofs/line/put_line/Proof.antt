@@ -5,29 +5,8 @@ use Rattle.sheet.proofs.Texts.{line-text, reason-fits, kept-thrice}
 use Rattle.sheet.proofs.line.put_line.Statement.{statement}
 use Rattle.sheet.proofs.line.put_line.Tie as tie
 
-cast-put : tie.Need-cast-put
-cast-put c = search needs
-
 add-put : tie.Need-add-put
 add-put c = reason-fits (c .before .before .before .args .m .halted)
-
-put-requires : tie.Need-put-requires
-put-requires c κs = search needs
-
-put-number-requires : tie.Need-put-number-requires
-put-number-requires c κs = search needs
-
-put-machine-requires : tie.Need-put-machine-requires
-put-machine-requires c κs = search needs
-
-put-number-requires-2 : tie.Need-put-number-requires-2
-put-number-requires-2 c κs = search needs
-
-put-requires-2 : tie.Need-put-requires-2
-put-requires-2 c κs = search needs
-
-same-length : tie.Need-same-length
-same-length c = search needs
 
 returns : tie.Need-returns
 returns c =
@@ -62,13 +41,5 @@ returns c =
 pub put-line-spec : {M : Type 1} → statement M
 put-line-spec =
     tie.close
-    (tie.spec
-    cast-put
-    add-put
-    put-requires
-    put-number-requires
-    put-machine-requires
-    put-number-requires-2
-    put-requires-2
-    same-length
-    returns)
+    (tie.spec (λ c. search needs) add-put (λ c κs. search needs) (λ c κs. search needs) (λ c κs. search needs) (λ c κs. search needs)
+    (λ c κs. search needs) (λ c. search needs) returns)

@@ -6,54 +6,6 @@ use Rattle.sheet.proofs.Texts.{machine-text, kept-thrice}
 use Rattle.sheet.proofs.line.put_machine.Statement.{statement}
 use Rattle.sheet.proofs.line.put_machine.Tie as tie
 
-array-read-put-words : tie.Need-array-read-put-words
-array-read-put-words c = search needs
-
-array-read-put-words-2 : tie.Need-array-read-put-words-2
-array-read-put-words-2 c = search needs
-
-array-read-put-words-3 : tie.Need-array-read-put-words-3
-array-read-put-words-3 c = search needs
-
-array-read-put-words-4 : tie.Need-array-read-put-words-4
-array-read-put-words-4 c = search needs
-
-put-words-requires : tie.Need-put-words-requires
-put-words-requires c κs = search needs
-
-array-read-put-words-5 : tie.Need-array-read-put-words-5
-array-read-put-words-5 c = search needs
-
-array-read-put-words-6 : tie.Need-array-read-put-words-6
-array-read-put-words-6 c = search needs
-
-array-read-put-words-7 : tie.Need-array-read-put-words-7
-array-read-put-words-7 c = search needs
-
-array-read-put-words-8 : tie.Need-array-read-put-words-8
-array-read-put-words-8 c = search needs
-
-put-words-requires-2 : tie.Need-put-words-requires-2
-put-words-requires-2 c κs = search needs
-
-cast-put-field : tie.Need-cast-put-field
-cast-put-field c = search needs
-
-put-field-requires : tie.Need-put-field-requires
-put-field-requires c κs = search needs
-
-cast-put-field-2 : tie.Need-cast-put-field-2
-cast-put-field-2 c = search needs
-
-put-field-requires-2 : tie.Need-put-field-requires-2
-put-field-requires-2 c κs = search needs
-
-put-field-requires-3 : tie.Need-put-field-requires-3
-put-field-requires-3 c κs = search needs
-
-same-length : tie.Need-same-length
-same-length c = search needs
-
 returns : tie.Need-returns
 returns c =
     let at-put-field3 = c .before .before in
@@ -98,21 +50,6 @@ returns c =
 pub put-machine-spec : {M : Type 1} → statement M
 put-machine-spec =
     tie.close
-    (tie.spec
-    array-read-put-words
-    array-read-put-words-2
-    array-read-put-words-3
-    array-read-put-words-4
-    put-words-requires
-    array-read-put-words-5
-    array-read-put-words-6
-    array-read-put-words-7
-    array-read-put-words-8
-    put-words-requires-2
-    cast-put-field
-    put-field-requires
-    cast-put-field-2
-    put-field-requires-2
-    put-field-requires-3
-    same-length
-    returns)
+    (tie.spec (λ c. search needs) (λ c. search needs) (λ c. search needs) (λ c. search needs) (λ c κs. search needs) (λ c. search needs)
+    (λ c. search needs) (λ c. search needs) (λ c. search needs) (λ c κs. search needs) (λ c. search needs) (λ c κs. search needs)
+    (λ c. search needs) (λ c κs. search needs) (λ c κs. search needs) (λ c. search needs) returns)

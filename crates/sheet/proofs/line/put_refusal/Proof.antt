@@ -4,21 +4,6 @@ use Rattle.sheet.proofs.Texts.{refusal-text, kept-thrice}
 use Rattle.sheet.proofs.line.put_refusal.Statement.{statement}
 use Rattle.sheet.proofs.line.put_refusal.Tie as tie
 
-put-requires : tie.Need-put-requires
-put-requires c κs = search needs
-
-cast-put-decimal : tie.Need-cast-put-decimal
-cast-put-decimal c = search needs
-
-put-decimal-requires : tie.Need-put-decimal-requires
-put-decimal-requires c κs = search needs
-
-put-requires-2 : tie.Need-put-requires-2
-put-requires-2 c κs = search needs
-
-same-length : tie.Need-same-length
-same-length c = search needs
-
 returns : tie.Need-returns
 returns c =
     let at-put2 = c .before .before in
@@ -39,10 +24,4 @@ returns c =
 pub put-refusal-spec : {M : Type 1} → statement M
 put-refusal-spec =
     tie.close
-    (tie.spec
-    put-requires
-    cast-put-decimal
-    put-decimal-requires
-    put-requires-2
-    same-length
-    returns)
+    (tie.spec (λ c κs. search needs) (λ c. search needs) (λ c κs. search needs) (λ c κs. search needs) (λ c. search needs) returns)

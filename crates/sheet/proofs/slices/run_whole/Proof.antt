@@ -1,9 +1,8 @@
 -- The loop's invariant: the machine, the memory and the steps done are those of the run of as many steps, the index is not past
 -- the events to come, and the depth is the one carried over them. Assumes nothing.
-use Prim.Native.Nat.{_+_, _-_, _≤_}
+use Prim.Native.Nat.{_-_, _≤_}
 use mathlib.Core.Path.{_≡_, refl, sym, ap, _∙_}
 use native.Mathlib.Omega.{arith}
-use denote.Ref.{now}
 use lib.ListN.{length}
 use lib.Seq.{length-sets}
 use borrow.Author.Needs.{needs}
@@ -105,18 +104,5 @@ returns-2 c =
 pub run-whole-spec : {M : Type 1} → statement M
 run-whole-spec =
     tie.close
-    (tie.spec
-    Inv-loop
-    μ-loop
-    loop-holds
-    slice-aggregate-run
-    (λ c. omega arith)
-    run-requires
-    add-done
-    (λ c κs. search needs)
-    loop-less
-    loop-again
-    same-length
-    returns
-    same-length-2
-    returns-2)
+    (tie.spec Inv-loop μ-loop loop-holds slice-aggregate-run (λ c. omega arith) run-requires add-done (λ c κs. search needs) loop-less
+    loop-again same-length returns same-length-2 returns-2)

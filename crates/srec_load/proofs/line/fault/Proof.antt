@@ -9,9 +9,6 @@ use Rattle.srec_load.proofs.Laws.{fault-shape, fault-sum, fault-other, 
 use Rattle.srec_load.proofs.line.fault.Statement.{statement}
 use Rattle.srec_load.proofs.line.fault.Tie as tie
 
-shaped-requires : tie.Need-shaped-requires
-shaped-requires c κs = search needs
-
 returns : tie.Need-returns
 returns c = fault-shape _ _ (sym (c .before .shaped .ensures) ∙ not-true _ (c .if1 .taken))
 
@@ -63,9 +60,6 @@ sub-if4 c =
     let h = shaped-facts _ _ (sym (c7 .shaped .ensures) ∙ not-false _ (c6 .if1 .left)) in
     omega arith
 
-add-if4 : tie.Need-add-if4
-add-if4 c = search needs
-
 returns-4 : tie.Need-returns-4
 returns-4 c =
     let c2 = c .before .before in
@@ -97,16 +91,5 @@ returns-5 c =
 pub fault-spec : {M : Type 1} → statement M
 fault-spec =
     tie.close
-    (tie.spec
-    shaped-requires
-    returns
-    sum-requires
-    returns-2
-    kind-requires
-    returns-3
-    address-requires
-    count-requires
-    sub-if4
-    add-if4
-    returns-4
-    returns-5)
+    (tie.spec (λ c κs. search needs) returns sum-requires returns-2 kind-requires returns-3 address-requires count-requires sub-if4
+    (λ c. search needs) returns-4 returns-5)

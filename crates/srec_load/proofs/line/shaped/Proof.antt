@@ -14,9 +14,6 @@ returns : tie.Need-returns
 returns c = shape-short (c .before .before .args .last) (c .before .before .args .line .now)
     (lt-leb 4 (length (c .before .before .args .line .now)) (c .if1 .taken))
 
-shared-slice-read-if2 : tie.Need-shared-slice-read-if2
-shared-slice-read-if2 c = search needs
-
 returns-2 : tie.Need-returns-2
 returns-2 c =
     let c2 = c .before .before in
@@ -24,12 +21,6 @@ returns-2 c =
     shape-letter (c4 .args .last) (c4 .args .line .now)
     (le-leb 4 (length (c4 .args .line .now)) (c2 .if1 .left))
     (ne-eqb _ _ (c .if2 .taken))
-
-kind-requires : tie.Need-kind-requires
-kind-requires c κs = search needs
-
-is-known-requires : tie.Need-is-known-requires
-is-known-requires c κs = search needs
 
 returns-3 : tie.Need-returns-3
 returns-3 c =
@@ -41,9 +32,6 @@ returns-3 c =
     (le-leb 4 (length (c7 .args .line .now)) (c5 .if1 .left))
     (eq-eqb _ _ (c3 .if2 .left))
     (sym (ap known (c2 .kind .ensures)) ∙ sym (c .before .is-known .ensures) ∙ not-true _ (c .if3 .taken))
-
-all-digits-requires : tie.Need-all-digits-requires
-all-digits-requires c κs = search needs
 
 returns-4 : tie.Need-returns-4
 returns-4 c =
@@ -58,15 +46,6 @@ returns-4 c =
     (eq-eqb _ _ (c5 .if2 .left))
     (sym (ap known (c4 .kind .ensures)) ∙ sym (c3 .is-known .ensures) ∙ not-false _ (c2 .if3 .left))
     (sym (c .before .all-digits .ensures) ∙ not-true _ (c .if4 .taken))
-
-count-requires : tie.Need-count-requires
-count-requires c κs = search needs
-
-mul-if5 : tie.Need-mul-if5
-mul-if5 c = search needs
-
-add-if5 : tie.Need-add-if5
-add-if5 c = search needs
 
 returns-5 : tie.Need-returns-5
 returns-5 c =
@@ -184,20 +163,5 @@ returns-9 c =
 pub shaped-spec : {M : Type 1} → statement M
 shaped-spec =
     tie.close
-    (tie.spec
-    returns
-    shared-slice-read-if2
-    returns-2
-    kind-requires
-    is-known-requires
-    returns-3
-    all-digits-requires
-    returns-4
-    count-requires
-    mul-if5
-    add-if5
-    returns-5
-    returns-6
-    returns-7
-    returns-8
-    returns-9)
+    (tie.spec returns (λ c. search needs) returns-2 (λ c κs. search needs) (λ c κs. search needs) returns-3 (λ c κs. search needs) returns-4
+    (λ c κs. search needs) (λ c. search needs) (λ c. search needs) returns-5 returns-6 returns-7 returns-8 returns-9)

@@ -5,30 +5,15 @@ use Rattle.srec_load.proofs.Laws.{store-none, store-some}
 use Rattle.srec_load.proofs.line.store.Statement.{statement}
 use Rattle.srec_load.proofs.line.store.Tie as tie
 
-kind-requires : tie.Need-kind-requires
-kind-requires c κs = search needs
-
 returns : tie.Need-returns
 returns c =
     let c4 = c .before .before .before .before in
     store-none (c4 .args .line .now) (c4 .args .memory .now) _ (c .before .kind .ensures) (c .if1 .taken)
 
-address-requires : tie.Need-address-requires
-address-requires c κs = search needs
-
-count-requires : tie.Need-count-requires
-count-requires c κs = search needs
-
-sub-n : tie.Need-sub-n
-sub-n c = search needs
-
 store-data-requires : tie.Need-store-data-requires
 store-data-requires c κs = let h = c .before .before .before .before .before .before .before .pre .1 in
     let i = h .inside (sym (c .before .before .before .before .kind .ensures) ∙ c .before .before .before .if1 .left) in
     (omega arith, omega arith)
-
-same-length : tie.Need-same-length
-same-length c = search needs
 
 returns-2 : tie.Need-returns-2
 returns-2 c =
@@ -44,12 +29,5 @@ returns-2 c =
 pub store-spec : {M : Type 1} → statement M
 store-spec =
     tie.close
-    (tie.spec
-    kind-requires
-    returns
-    address-requires
-    count-requires
-    sub-n
-    store-data-requires
-    same-length
-    returns-2)
+    (tie.spec (λ c κs. search needs) returns (λ c κs. search needs) (λ c κs. search needs) (λ c. search needs) store-data-requires
+    (λ c. search needs) returns-2)

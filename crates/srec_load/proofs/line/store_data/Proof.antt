@@ -16,27 +16,6 @@ Inv-loop memory₀ line a n k₀ memory k = (k ≤ n) × (length memory ≡ leng
 abbrev μ-loop : tie.MeasureT-loop
 μ-loop memory₀ line a n k₀ memory k = n - k
 
-loop-holds : tie.Need-loop-holds Inv-loop μ-loop
-loop-holds c = (omega arith, refl, rw add-zero refl)
-
-add-byte : tie.Need-add-byte Inv-loop μ-loop
-add-byte c = search needs
-
-byte-requires : tie.Need-byte-requires Inv-loop μ-loop
-byte-requires c κs = omega arith
-
-add-memory : tie.Need-add-memory Inv-loop μ-loop
-add-memory c = search needs
-
-slice-write-memory : tie.Need-slice-write-memory Inv-loop μ-loop
-slice-write-memory c = omega arith
-
-add-k : tie.Need-add-k Inv-loop μ-loop
-add-k c = search needs
-
-loop-less : tie.Need-loop-less Inv-loop μ-loop
-loop-less c = omega arith
-
 loop-again : tie.Need-loop-again Inv-loop μ-loop
 loop-again c =
     let c2 = c .before .before in
@@ -49,9 +28,6 @@ loop-again c =
           (s .pre .1) (omega arith) (p .inv .2) _ (c .byte .ensures),
     )
 
-same-length : tie.Need-same-length Inv-loop μ-loop
-same-length c = search needs
-
 returns : tie.Need-returns Inv-loop μ-loop
 returns c =
     let c4 = c .before .before .before .before in
@@ -62,16 +38,5 @@ returns c =
 pub store-data-spec : {M : Type 1} → statement M
 store-data-spec =
     tie.close
-    (tie.spec
-    Inv-loop
-    μ-loop
-    loop-holds
-    add-byte
-    byte-requires
-    add-memory
-    slice-write-memory
-    add-k
-    loop-less
-    loop-again
-    same-length
-    returns)
+    (tie.spec Inv-loop μ-loop (λ c. (omega arith, refl, rw add-zero refl)) (λ c. search needs) (λ c κs. omega arith) (λ c. search needs)
+    (λ c. omega arith) (λ c. search needs) (λ c. omega arith) loop-again (λ c. search needs) returns)

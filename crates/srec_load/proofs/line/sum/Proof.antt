@@ -15,27 +15,6 @@ Inv-loop line n s₀ k₀ s k = (k ≤ n + 1) × (s ≤ 255 * k) × (s + sumOf (
 abbrev μ-loop : tie.MeasureT-loop
 μ-loop line n s₀ k₀ s k = n + 1 - k
 
-count-requires : tie.Need-count-requires Inv-loop μ-loop
-count-requires c κs = omega arith
-
-loop-holds : tie.Need-loop-holds Inv-loop μ-loop
-loop-holds c = (omega arith, omega arith, omega arith)
-
-byte-requires : tie.Need-byte-requires Inv-loop μ-loop
-byte-requires c κs = omega arith
-
-cast-s : tie.Need-cast-s Inv-loop μ-loop
-cast-s c = search needs
-
-add-s : tie.Need-add-s Inv-loop μ-loop
-add-s c = omega arith
-
-add-k : tie.Need-add-k Inv-loop μ-loop
-add-k c = search needs
-
-loop-less : tie.Need-loop-less Inv-loop μ-loop
-loop-less c = omega arith
-
 loop-again : tie.Need-loop-again Inv-loop μ-loop
 loop-again c = let l = c .before .before .before .before .before .args .line .now in
     let n = bytes-length l _ (c .before .before .before .before .before .pre) in
@@ -51,15 +30,5 @@ returns c = let l = c .before .before .before .before .args .line .now in
 pub sum-spec : {M : Type 1} → statement M
 sum-spec =
     tie.close
-    (tie.spec
-    Inv-loop
-    μ-loop
-    count-requires
-    loop-holds
-    byte-requires
-    cast-s
-    add-s
-    add-k
-    loop-less
-    loop-again
-    returns)
+    (tie.spec Inv-loop μ-loop (λ c κs. omega arith) (λ c. (omega arith, omega arith, omega arith)) (λ c κs. omega arith) (λ c. search needs)
+    (λ c. omega arith) (λ c. search needs) (λ c. omega arith) loop-again returns)

@@ -99,6 +99,20 @@ desk_checked() {
         -g -U_FORTIFY_SOURCE -fsanitize=address,undefined -fno-sanitize-recover=all
 }
 
+# desk_tests PROGRAM: every script of tests/desk but valgrind's, whose counts are added up.
+desk_tests() {
+    local script counts p=0 f=0
+    for script in tests/desk/*.sh; do
+        [ "$script" != tests/desk/valgrind.sh ] || continue
+        echo "-- $script"
+        counts=$("$script" "$1" 2>&1 | tee /dev/stderr | count_line /dev/stdin) ||
+            [ "${counts#* }" != 0 ] || counts="${counts% *} 1"
+        counts=${counts:-0 1}
+        p=$((p + ${counts% *})) f=$((f + ${counts#* }))
+    done
+    echo "$p passed, $f failed"
+}
+
 listing() {
     "$build/xm23" dis examples/copy_words.s19 | diff examples/copy_words.lst -
 }
@@ -154,29 +168,17 @@ part 'example listing' count_status listing
 part 'example host' count_status example_host
 part 'reference card' count_line card
 part 'the program' count_line tests/shell/program.sh
-part 'desk: use and misuse' count_line tests/desk/desk.sh
-part 'desk: papers, texts and pages' count_line tests/desk/texts.sh
-part 'desk: long sources' count_line tests/desk/sources.sh
-part 'desk: marking' count_line tests/desk/marking.sh
-part 'desk: handlers judged' count_line tests/desk/sound.sh
+part 'desk' count_line desk_tests "$build/xm23"
 part 'desk program with sanitizers of gcc' count_status desk_checked gcc
-part 'desk: use and misuse, sanitizers of gcc' count_line tests/desk/desk.sh "$build/xm23_gcc"
-part 'desk: papers, texts and pages, sanitizers of gcc' count_line tests/desk/texts.sh "$build/xm23_gcc"
-part 'desk: long sources, sanitizers of gcc' count_line tests/desk/sources.sh "$build/xm23_gcc"
-part 'desk: marking, sanitizers of gcc' count_line tests/desk/marking.sh "$build/xm23_gcc"
-part 'desk: handlers judged, sanitizers of gcc' count_line tests/desk/sound.sh "$build/xm23_gcc"
+part 'desk, sanitizers of gcc' count_line desk_tests "$build/xm23_gcc"
 part 'desk: random runs, sanitizers of gcc' count_line random_papers "$build/xm23_gcc" 160
 if clang -x c -fsanitize=address,undefined -o /dev/null - <<< 'int main(void) { return 0; }' 2> /dev/null; then
     part 'desk program with sanitizers of clang' count_status desk_checked clang
-    part 'desk: use and misuse, sanitizers of clang' count_line tests/desk/desk.sh "$build/xm23_clang"
-    part 'desk: papers, texts and pages, sanitizers of clang' count_line tests/desk/texts.sh "$build/xm23_clang"
-    part 'desk: long sources, sanitizers of clang' count_line tests/desk/sources.sh "$build/xm23_clang"
-    part 'desk: marking, sanitizers of clang' count_line tests/desk/marking.sh "$build/xm23_clang"
-    part 'desk: handlers judged, sanitizers of clang' count_line tests/desk/sound.sh "$build/xm23_clang"
+    part 'desk, sanitizers of clang' count_line desk_tests "$build/xm23_clang"
     part 'desk: random runs, sanitizers of clang' count_line random_papers "$build/xm23_clang" 160
 else
     echo '== left out: desk with sanitizers of clang, which are not here (Debian: clang and libclang-rt-14-dev)'
-    parts=$((parts - 7))
+    parts=$((parts - 3))
 fi
 if command -v valgrind > /dev/null; then
     part 'desk under valgrind' count_line tests/desk/valgrind.sh

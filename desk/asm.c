@@ -2,6 +2,7 @@
 #include <unistd.h>
 
 #include "desk.h"
+#include "source.h"
 
 /* The first address from one on whose byte is named, or is not. */
 static unsigned next_place(const struct assembled *a, unsigned at, unsigned named)
@@ -33,7 +34,7 @@ static int put_start(const struct program *p, const char *start, struct assemble
 {
     unsigned refusal = start ? source_value(p->bytes, p->length, start, &a->pc) : XM23_ACCEPTED;
     if (refusal)
-        say("-s %s: R%u: %s", start, refusal, xm23_refusal_text(refusal));
+        say_text("-s %s: R%u: %s", start, refusal, xm23_refusal_text(refusal));
     return !refusal;
 }
 
@@ -43,8 +44,8 @@ static void add_lines(struct text *t, const struct program *p, const struct asse
     struct text lines = {0};
     add_source_listing(&lines, p->bytes, p->length, a, 0);
     add_plain_lines(t, lines.at, lines.length);
-    add(t, "start %04X\n", a->pc);
-    drop(&lines);
+    addf(t, "start %04X\n", a->pc);
+    drop_text(&lines);
 }
 
 static int assemble_program(const struct program *p, const char *to, const char *start, int listing)
@@ -62,8 +63,8 @@ static int assemble_program(const struct program *p, const char *to, const char 
             add_spans(&t, &a);
         status = write_file(to, &t);
     }
-    drop(&t);
-    drop(&f.why);
+    drop_text(&t);
+    drop_text(&f.why);
     return status;
 }
 

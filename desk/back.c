@@ -1,9 +1,12 @@
 /* xm23 back: from the closing state backwards. */
+#include <stdio.h>
 #include <stdlib.h>
 #include <string.h>
 #include <unistd.h>
 
 #include "desk.h"
+#include "program.h"
+#include "walk.h"
 
 /* A run with its walk, and how far back it is asked for. */
 struct backwards {
@@ -21,13 +24,13 @@ static void add_step(struct text *t, const struct step *s)
         snprintf(word, sizeof word, "%04X", s->word);
     add_what(&what, s);
     add_left(&left, s);
-    add(t, "%-10lu  %04X  %-4s  %-24s  %s", (unsigned long)step_count(s), get_word(s->before, XM23_RECORD_REGISTER(7)),
+    addf(t, "%-10lu  %04X  %-4s  %-24s  %s", (unsigned long)step_count(s), get_word(s->before, XM23_RECORD_REGISTER(7)),
         word, what.at, left.at ? left.at : "");
     while (t->at[t->length - 1] == ' ')
         t->at[--t->length] = 0;
-    add(t, "\n");
-    drop(&what);
-    drop(&left);
+    addf(t, "\n");
+    drop_text(&what);
+    drop_text(&left);
 }
 
 /* The state before a step: the library goes back to it from the close. */
@@ -35,13 +38,13 @@ static void add_state(struct text *t, const struct backwards *b, const struct st
 {
     static const char *const names[] = {"R0", "R1", "R2", "R3", "R4", "LR", "SP", "PC", "PSW"};
     const uint8_t *record = b->m.record;
-    add(t, "before step %lu:", (unsigned long)step_count(s));
+    addf(t, "before step %lu:", (unsigned long)step_count(s));
     for (unsigned i = 0; i < 9; i++)
-        add(t, " %s %04X", names[i], get_word(record, 2 * i));
-    add(t, " CEX %02X lines ", record[XM23_RECORD_CEX]);
+        addf(t, " %s %04X", names[i], get_word(record, 2 * i));
+    addf(t, " CEX %02X lines ", record[XM23_RECORD_CEX]);
     for (int d = 7; d >= 0; d--)
-        add(t, "%X", XM23_RECORD_WAITING(record, d));
-    add(t, "\n");
+        addf(t, "%X", XM23_RECORD_WAITING(record, d));
+    addf(t, "\n");
 }
 
 /* The steps from the last on, as many as are asked for, or as far as the one that wrote the byte. */
@@ -72,12 +75,12 @@ static int tell_steps(struct backwards *b, const char *name)
         return REFUSED;
     }
     walk_back(w, &b->m, w->many, many);
-    add(&t, "%-10s  %-4s  %-4s  %-24s  %s\n", "step", "PC", "word", "instruction", "what it left");
+    addf(&t, "%-10s  %-4s  %-4s  %-24s  %s\n", "step", "PC", "word", "instruction", "what it left");
     for (uint32_t i = 0; i < many; i++)
         add_step(&t, &w->steps[w->many - 1 - i]);
     add_state(&t, b, &w->steps[w->many - many]);
     status = write_file("-", &t);
-    drop(&t);
+    drop_text(&t);
     return status;
 }
 
@@ -95,7 +98,7 @@ static int back_program(const struct paper *p, const struct program *program, st
     } else {
         say_fault(program->name, &f);
     }
-    drop(&f.why);
+    drop_text(&f.why);
     return status;
 }
 

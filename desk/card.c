@@ -12,6 +12,9 @@
 #include <unistd.h>
 
 #include "desk.h"
+#include "file.h"
+#include "machine.h"
+#include "word.h"
 
 #define START 0x1000 /* where the instruction stands */
 #define PLACE 0x2000 /* where memory is looked at */
@@ -112,7 +115,7 @@ static void step(void)
     struct outcome o = {0};
     run_machine(&machine, &none, 1, &o);
     if (o.refusal != XM23_ACCEPTED) {
-        say("card: %s", xm23_refusal_text(o.refusal));
+        say_text("card: %s", xm23_refusal_text(o.refusal));
         exit(REFUSED);
     }
 }
@@ -148,11 +151,11 @@ static void bits(unsigned operation)
         const char *name = vary >> bit & 1 ? field(operation, (unsigned)bit) : NULL;
         int end = bit - 1;
         if (!name) {
-            add(page, "<td class=fixed>%u</td>", first_word(operation) >> bit & 1u);
+            addf(page, "<td class=fixed>%u</td>", first_word(operation) >> bit & 1u);
         } else {
             while (end >= 0 && vary >> end & 1 && field(operation, (unsigned)end) == name)
                 end--;
-            add(page, "<td class=field colspan=%d>%s</td>", bit - end, name);
+            addf(page, "<td class=field colspan=%d>%s</td>", bit - end, name);
         }
         bit = end;
     }
@@ -186,11 +189,11 @@ static unsigned flags_changed(unsigned operation)
 static void flags(unsigned operation)
 {
     unsigned changed = flags_changed(operation);
-    add(page, "<td class=flags>");
+    addf(page, "<td class=flags>");
     for (int bit = 4; bit >= 0; bit--)
         if (bit != 3 || changed & XM23_FLAG_SLP)
-            add(page, "<i class=%s>%c</i>", changed >> bit & 1 ? "on" : "off", "CZNSV"[bit]);
-    add(page, "</td>");
+            addf(page, "<i class=%s>%c</i>", changed >> bit & 1 ? "on" : "off", "CZNSV"[bit]);
+    addf(page, "</td>");
 }
 
 /* ---- examples */
@@ -236,10 +239,10 @@ static struct shown look(const struct operation *o, const struct text *text)
 /* Prints a state; what is another than before is bold. */
 static void show(const struct shown *s, const struct shown *before)
 {
-    add(page, "<td class=state>");
+    addf(page, "<td class=state>");
     for (unsigned i = 0; i < s->many; i++)
-        add(page, strcmp(s->part[i], before->part[i]) ? "<b>%s</b> " : "<span>%s</span> ", s->part[i]);
-    add(page, "</td>");
+        addf(page, strcmp(s->part[i], before->part[i]) ? "<b>%s</b> " : "<span>%s</span> ", s->part[i]);
+    addf(page, "</td>");
 }
 
 static void example(unsigned operation)
@@ -253,17 +256,17 @@ static void example(unsigned operation)
     before = look(o, &text);
     step();
     after = look(o, &text);
-    add(page, "<td class=example>%s</td><td class=word>%04X</td>", text.at, word);
+    addf(page, "<td class=example>%s</td><td class=word>%04X</td>", text.at, word);
     show(&before, &before);
     show(&after, &before);
-    drop(&text);
+    drop_text(&text);
 }
 
 /* ---- the page */
 
 static void head(void)
 {
-    add(page, "<!DOCTYPE html>\n<html lang=en>\n<head>\n<meta charset=utf-8>\n<title>XM-23 reference card</title>\n"
+    addf(page, "<!DOCTYPE html>\n<html lang=en>\n<head>\n<meta charset=utf-8>\n<title>XM-23 reference card</title>\n"
            "<style>\n"
            "@page { size: A4; margin: 8mm; }\n"
            "body { font: 9px/1.2 'DejaVu Sans', Verdana, sans-serif; color: #111; background: #fff; }\n"
@@ -297,37 +300,37 @@ static void head(void)
 static void columns(void)
 {
     static const int rest[] = {115, 130, 235, 90, 275, 275};
-    add(page, "<colgroup><col style=\"width: 26.0mm\">");
+    addf(page, "<colgroup><col style=\"width: 26.0mm\">");
     for (int bit = 15; bit >= 0; bit--)
-        add(page, "<col style=\"width: 3.5mm\">");
+        addf(page, "<col style=\"width: 3.5mm\">");
     for (unsigned i = 0; i < sizeof rest / sizeof *rest; i++)
-        add(page, "<col style=\"width: %d.%dmm\">", rest[i] / 10, rest[i] % 10);
-    add(page, "</colgroup>\n");
+        addf(page, "<col style=\"width: %d.%dmm\">", rest[i] / 10, rest[i] % 10);
+    addf(page, "</colgroup>\n");
 }
 
 static void rows(void)
 {
-    add(page, "<table>\n");
+    addf(page, "<table>\n");
     columns();
-    add(page, "<thead><tr><th>Operation</th>");
+    addf(page, "<thead><tr><th>Operation</th>");
     for (int bit = 15; bit >= 0; bit--)
-        add(page, "<th class=bit>%d</th>", bit);
-    add(page, "<th class=count>Words</th><th>Flags</th><th class=example>Example</th><th>Word</th><th>before</th>"
+        addf(page, "<th class=bit>%d</th>", bit);
+    addf(page, "<th class=count>Words</th><th>Flags</th><th class=example>Example</th><th>Word</th><th>before</th>"
            "<th>after</th></tr></thead>\n<tbody>\n");
     for (unsigned o = XM23_OPERATION_BL; o <= XM23_OPERATION_STR; o++) {
-        add(page, "<tr><td class=name><b>%s</b> <span>%s</span></td>", operations[o].name, operations[o].operands);
+        addf(page, "<tr><td class=name><b>%s</b> <span>%s</span></td>", operations[o].name, operations[o].operands);
         bits(o);
-        add(page, "<td class=count>%u</td>", XM23_COUNT(xm23_count(o)));
+        addf(page, "<td class=count>%u</td>", XM23_COUNT(xm23_count(o)));
         flags(o);
         example(o);
-        add(page, "</tr>\n");
+        addf(page, "</tr>\n");
     }
-    add(page, "</tbody>\n</table>\n");
+    addf(page, "</tbody>\n</table>\n");
 }
 
 static void legend(void)
 {
-    add(page, "<p><b>w</b> 0 word, 1 byte: the name ends in .B. <b>r</b> 0 register, 1 constant: src 0 to 7 is "
+    addf(page, "<p><b>w</b> 0 word, 1 byte: the name ends in .B. <b>r</b> 0 register, 1 constant: src 0 to 7 is "
            "#0 #1 #2 #4 #8 #16 #32 #-1. <b>&middot;</b> is ignored.\n"
            "Registers 0 to 7: R0 R1 R2 R3 R4 LR SP PC. <b>p d i</b> of LD and ST: 001 R+, 010 R-, 101 +R, 110 -R.\n"
            "Conditions of CEX, 0 to 15: EQ NE CS CC MI PL VS VC HI LS GE LT GT LE TR FL. "
@@ -341,14 +344,15 @@ static void illegal(void)
 {
     uint32_t word = 0;
     unsigned many = 0, version = xm23_version();
-    add(page, "<p class=illegal><b>Illegal</b>, %u words:", XM23_COUNT(xm23_count(XM23_OPERATION_ILLEGAL)));
+    addf(page, "<p class=illegal><b>Illegal</b>, %u words:", XM23_COUNT(xm23_count(XM23_OPERATION_ILLEGAL)));
     while (word < 65536) {
         uint64_t reply = xm23_range((uint16_t)word);
         if (XM23_RANGE_OPERATION(reply) == XM23_OPERATION_ILLEGAL)
-            add(page, "%s<span>%04X-%04X</span>", many++ ? ", " : " ", XM23_RANGE_FIRST(reply), XM23_RANGE_LAST(reply));
+            addf(page, "%s<span>%04X-%04X</span>", many++ ? ", " : " ", XM23_RANGE_FIRST(reply),
+                XM23_RANGE_LAST(reply));
         word = XM23_RANGE_LAST(reply) + 1u;
     }
-    add(page, ". Words, bits, flags and examples are what the proved machine, version %u.%u.%u, answers.</p>\n",
+    addf(page, ". Words, bits, flags and examples are what the proved machine, version %u.%u.%u, answers.</p>\n",
            version >> 16, version >> 8 & 0xFF, version & 0xFF);
 }
 
@@ -358,7 +362,7 @@ static int add_card(struct text *to)
     for (unsigned o = XM23_OPERATION_ILLEGAL; o <= XM23_OPERATION_STR; o++)
         sum += XM23_COUNT(xm23_count(o));
     if (sum != 65536) {
-        say("card: the counts add up to %lu", (unsigned long)sum);
+        say_text("card: the counts add up to %lu", (unsigned long)sum);
         return 0;
     }
     page = to;
@@ -366,7 +370,7 @@ static int add_card(struct text *to)
     rows();
     legend();
     illegal();
-    add(page, "</body>\n</html>\n");
+    addf(page, "</body>\n</html>\n");
     return 1;
 }
 
@@ -383,6 +387,6 @@ int xm23_desk_card(int argc, char **argv)
     if (argc != optind)
         return misused("card");
     status = add_card(&t) ? write_file(to, &t) : REFUSED;
-    drop(&t);
+    drop_text(&t);
     return status;
 }

@@ -82,7 +82,7 @@ static void read_sums(int folder, struct sums *s)
     s->text = read_file_at(folder, "SHA256SUMS", REGULAR_FILE, MOST_SUMS, &length, &why);
     if (s->text && !take_sums(s, length))
         s->many = 0;
-    drop(&why);
+    drop_text(&why);
 }
 
 /* The digest that is listed for a name, or NULL. */
@@ -134,7 +134,7 @@ static void look_at(int folder, const struct sums *s, const char *name, struct f
     if (wrong) {
         f->name.length = 0;
         f->wrong = wrong;
-        add(&f->name, "%s", name);
+        addf(&f->name, "%s", name);
     }
 }
 
@@ -163,12 +163,12 @@ static int look_through(int folder, const char *part, const struct sums *s, stru
         if (strcmp(entry->d_name, ".") == 0 || strcmp(entry->d_name, "..") == 0)
             continue;
         name.length = 0;
-        add(&name, "%s%s", part, entry->d_name);
+        addf(&name, "%s%s", part, entry->d_name);
         f->many++;
         if (*part || !is_known(folder, s, name.at))
             look_at(folder, s, name.at, f);
     }
-    drop(&name);
+    drop_text(&name);
     closedir(all);
     return 1;
 }
@@ -182,12 +182,12 @@ static enum standing judge_folder(int folder, struct sums *s, struct text *why)
     if (!look_through(folder, "", s, &found) ||
         (fstatat(folder, "pages", &is, AT_SYMLINK_NOFOLLOW) == 0 && S_ISDIR(is.st_mode) &&
          !look_through(folder, "pages/", s, &found)))
-        add(why, "cannot be read: %s", strerror(errno));
+        addf(why, "cannot be read: %s", strerror(errno));
     else if (found.wrong)
-        add(why, "is there and is no marking: '%s' %s", found.name.at, found.wrong);
+        addf(why, "is there and is no marking: '%s' %s", found.name.at, found.wrong);
     else
         what = found.many ? MARKING : EMPTY;
-    drop(&found.name);
+    drop_text(&found.name);
     return what;
 }
 
@@ -206,9 +206,9 @@ static enum standing judge_once(const struct folder *f, const char *name, struct
     } else if (errno == ENOENT) {
         what = NOTHING;
     } else if (errno == ENOTDIR || errno == ELOOP) {
-        add(why, "is there and is no folder");
+        addf(why, "is there and is no folder");
     } else {
-        add(why, "cannot be read: %s", strerror(errno));
+        addf(why, "cannot be read: %s", strerror(errno));
     }
     if (folder >= 0)
         close(folder);
@@ -228,7 +228,7 @@ enum standing judge_standing(const struct folder *f, const char *name, struct su
     enum standing what = judge_once(f, name, s, mode, why);
     for (unsigned i = 0; i < MOST_TRIES && what == FOREIGN && has_moved(f, name, s); i++) {
         drop_sums(s);
-        drop(why);
+        drop_text(why);
         what = judge_once(f, name, s, mode, why);
     }
     return what;

@@ -2,7 +2,9 @@
 #include <string.h>
 #include <unistd.h>
 
+#include "events.h"
 #include "desk.h"
+#include "program.h"
 
 /* ---- from the trace */
 
@@ -121,31 +123,31 @@ void add_totals(struct text *t, const struct fates *f, const struct paper *p)
     }
     for (unsigned d = 0; d < 8; d++)
         before += f->before[d];
-    add(t, "events %lu: taken %lu, ENA clear %lu, before the start %lu, after the end %lu\n",
+    addf(t, "events %lu: taken %lu, ENA clear %lu, before the start %lu, after the end %lu\n",
         (unsigned long)p->many_events, many[TAKEN], many[ENA_CLEAR], many[BEFORE_START], many[AFTER_END]);
-    add(t, "taken %lu: accepted %lu, chained %lu, waits %lu, count full %lu, IE clear %lu; overruns %lu\n", many[TAKEN],
-        many[ACCEPTED], many[CHAINED], many[WAITS], many[COUNT_FULL], many[IE_CLEAR], overruns);
+    addf(t, "taken %lu: accepted %lu, chained %lu, waits %lu, count full %lu, IE clear %lu; overruns %lu\n",
+        many[TAKEN], many[ACCEPTED], many[CHAINED], many[WAITS], many[COUNT_FULL], many[IE_CLEAR], overruns);
     if (before)
-        add(t, "waiting before the first step %lu: entered %lu\n", before, f->entered);
+        addf(t, "waiting before the first step %lu: entered %lu\n", before, f->entered);
 }
 
 static void add_event(struct text *t, const struct fates *f, const struct paper *p, size_t i)
 {
     const struct fate *e = &f->each[i];
-    add(t, "%-8lu%-12lu%-8u%02X    %-18s%-9s%s", (unsigned long)p->events[i].line, (unsigned long)p->events[i].step,
+    addf(t, "%-8lu%-12lu%-8u%02X    %-18s%-9s%s", (unsigned long)p->events[i].line, (unsigned long)p->events[i].step,
         p->events[i].device, p->events[i].byte, event_word(f, p, i), overrun_word(e), interrupt_word(e));
     if (e->entry)
-        add(t, " at step %lu", (unsigned long)e->at);
+        addf(t, " at step %lu", (unsigned long)e->at);
     while (t->at[t->length - 1] == ' ')
         t->at[--t->length] = 0;
-    add(t, "\n");
+    addf(t, "\n");
 }
 
 /* ---- the command */
 
 static void add_table(struct text *t, const struct fates *f, const struct paper *p)
 {
-    add(t, "%-8s%-12s%-8s%-6s%-18s%-9s%s\n", "line", "step", "device", "byte", "event", "overrun", "interrupt");
+    addf(t, "%-8s%-12s%-8s%-6s%-18s%-9s%s\n", "line", "step", "device", "byte", "event", "overrun", "interrupt");
     for (size_t i = 0; i < p->many_events; i++)
         add_event(t, f, p, i);
     add_totals(t, f, p);
@@ -153,14 +155,14 @@ static void add_table(struct text *t, const struct fates *f, const struct paper 
 
 static void add_rows(struct text *t, const struct fates *f, const struct paper *p)
 {
-    add(t, "line,step,device,byte,event,overrun,interrupt,at\n");
+    addf(t, "line,step,device,byte,event,overrun,interrupt,at\n");
     for (size_t i = 0; i < p->many_events; i++) {
         const struct fate *e = &f->each[i];
-        add(t, "%lu,%lu,%u,%u,%s,%s,%s,", (unsigned long)p->events[i].line, (unsigned long)p->events[i].step,
+        addf(t, "%lu,%lu,%u,%u,%s,%s,%s,", (unsigned long)p->events[i].line, (unsigned long)p->events[i].step,
             p->events[i].device, p->events[i].byte, event_word(f, p, i), overrun_word(e), interrupt_word(e));
         if (e->entry)
-            add(t, "%lu", (unsigned long)e->at);
-        add(t, "\n");
+            addf(t, "%lu", (unsigned long)e->at);
+        addf(t, "\n");
     }
 }
 
@@ -182,8 +184,8 @@ static int tell_events(const struct paper *p, const struct program *program, int
     } else {
         status = say_fault(program->name, &f);
     }
-    drop(&f.why);
-    drop(&t);
+    drop_text(&f.why);
+    drop_text(&t);
     return status;
 }
 

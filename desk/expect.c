@@ -1,7 +1,8 @@
 /* The line that a paper expects: what its fields may be, and whether a line is the expected one. */
+#include <stdio.h>
 #include <string.h>
 
-#include "desk.h"
+#include "paper.h"
 
 /* The fields of the sheet: so many digits of base sixteen, or, where there are none, a number of base ten. */
 static const struct {
@@ -85,7 +86,7 @@ static int take_refusal(struct word w, const char **at, const char *end, struct 
         w.at++, w.length--;
     for (size_t i = 0; is_number(w.at, w.length, 255) && i < w.length; i++)
         number = 10 * number + (unsigned)(w.at[i] - '0');
-    add(t, "R%u", number);
+    addf(t, "R%u", number);
     return number && strcmp(xm23_refusal_text(number), xm23_refusal_text(256)) != 0;
 }
 
@@ -131,7 +132,7 @@ int take_expected(struct paper *p, uint32_t line, const char *at, const char *en
     if (good)
         p->expected = t.at;
     else
-        drop(&t);
+        drop_text(&t);
     return good;
 }
 

@@ -1,11 +1,13 @@
 /* Files: read whole, and written beside their place and then put there. */
 #include <errno.h>
 #include <fcntl.h>
+#include <stdio.h>
 #include <stdlib.h>
 #include <string.h>
 #include <sys/stat.h>
 #include <unistd.h>
 
+#include "file.h"
 #include "desk.h"
 
 /* ---- reading */
@@ -38,7 +40,7 @@ static int open_file(int folder, const char *name, enum reading kind, struct tex
     }
     if (good && !wrong)
         return file;
-    add(why, "%s", wrong ? wrong : strerror(errno));
+    addf(why, "%s", wrong ? wrong : strerror(errno));
     if (file >= 0)
         close(file);
     return -1;
@@ -65,12 +67,12 @@ char *read_file_at(int folder, const char *name, enum reading kind, size_t most,
         return NULL;
     add_bytes(&t, "", 0);
     if (!read_all(file, most, &t))
-        add(why, "%s", strerror(errno));
+        addf(why, "%s", strerror(errno));
     else if (t.length > most)
-        add(why, "is longer than %lu bytes", (unsigned long)most);
+        addf(why, "is longer than %lu bytes", (unsigned long)most);
     close(file);
     if (why->length) {
-        drop(&t);
+        drop_text(&t);
         return NULL;
     }
     *length = t.length;
@@ -110,7 +112,7 @@ static int make_part(const char *name, struct text *part)
     errno = EEXIST;
     for (unsigned i = 0; i < 1000 && file < 0 && errno == EEXIST; i++) {
         part->length = 0;
-        add(part, "%s.part-%ld-%u", name, (long)getpid(), i);
+        addf(part, "%s.part-%ld-%u", name, (long)getpid(), i);
         file = open(part->at, O_WRONLY | O_CREAT | O_EXCL | O_NOFOLLOW | O_CLOEXEC, 0666);
     }
     return file;
@@ -123,7 +125,7 @@ static int write_beside(const char *name, const struct text *t)
     int file = make_part(name, &part), problem = 0;
     if (file < 0) {
         problem = errno;
-        drop(&part);
+        drop_text(&part);
         return problem;
     }
     if (!write_all(file, t) || (fsync(file) != 0 && errno != EINVAL))
@@ -134,7 +136,7 @@ static int write_beside(const char *name, const struct text *t)
         problem = errno;
     if (problem)
         unlink(part.at);
-    drop(&part);
+    drop_text(&part);
     return problem;
 }
 

@@ -3,10 +3,12 @@
 #define _GNU_SOURCE /* renameat2, syncfs */
 #endif
 #include "folder.h"
+#include "desk.h"
 
 #include <dirent.h>
 #include <errno.h>
 #include <fcntl.h>
+#include <stdio.h>
 #include <string.h>
 #include <sys/stat.h>
 #include <unistd.h>
@@ -38,7 +40,7 @@ static int find_place(struct folder *f)
     }
     add_bytes(&parent, start ? f->name : ".", start ? start : 1);
     f->parent = open(parent.at, O_RDONLY | O_DIRECTORY | O_CLOEXEC);
-    drop(&parent);
+    drop_text(&parent);
     return f->parent < 0 ? cannot(f, "made") : DONE;
 }
 
@@ -49,7 +51,7 @@ static int make_beside(struct folder *f)
     errno = EEXIST;
     for (unsigned i = 0; i < MOST_TRIES && made != 0 && errno == EEXIST; i++) {
         f->beside.length = 0;
-        add(&f->beside, "%.*s.new-%ld-%u", MOST_BASE, f->base.at, (long)getpid(), i);
+        addf(&f->beside, "%.*s.new-%ld-%u", MOST_BASE, f->base.at, (long)getpid(), i);
         made = mkdirat(f->parent, f->beside.at, 0700);
     }
     if (made != 0) {
@@ -77,7 +79,7 @@ static enum standing judge_place(const struct folder *f, struct sums *s, mode_t 
     enum standing what = judge_standing(f, f->base.at, s, mode, &why);
     if (what == FOREIGN)
         say_at(f->name, 0, "%s; it is left as it is", why.at);
-    drop(&why);
+    drop_text(&why);
     return what;
 }
 
@@ -171,8 +173,8 @@ void leave_folder(struct folder *f)
         say_at(f->name, 0, "what was begun beside it, '%s', cannot be removed: %s", f->beside.at, strerror(errno));
     if (f->parent >= 0)
         close(f->parent);
-    drop(&f->base);
-    drop(&f->beside);
+    drop_text(&f->base);
+    drop_text(&f->beside);
     f->parent = f->at = -1;
 }
 
@@ -214,7 +216,7 @@ static int remove_earlier(const struct folder *f, struct sums *s)
     if (!gone)
         say_at(f->name, 0, "is the new marking; what was there is '%s' beside it, and cannot be removed: %s",
                f->beside.at, why.length ? why.at : strerror(errno));
-    drop(&why);
+    drop_text(&why);
     return gone ? DONE : UNREADABLE;
 }
 
@@ -226,7 +228,7 @@ static int exchange_by_turns(struct folder *f)
 {
     struct text aside = {0};
     int good;
-    add(&aside, "%s-earlier", f->beside.at);
+    addf(&aside, "%s-earlier", f->beside.at);
     good = renameat(f->parent, f->base.at, f->parent, aside.at) == 0;
     if (good && renameat(f->parent, f->beside.at, f->parent, f->base.at) != 0) {
         int problem = errno;
@@ -239,7 +241,7 @@ static int exchange_by_turns(struct folder *f)
         f->beside.length = 0;
         add_bytes(&f->beside, aside.at, aside.length);
     }
-    drop(&aside);
+    drop_text(&aside);
     return good;
 }
 

@@ -9,7 +9,7 @@
 
 #include <sys/types.h>
 
-#include "desk.h"
+#include "file.h"
 
 struct folder {
     const char *name;         /* its place, as it was given */

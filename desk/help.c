@@ -1,7 +1,9 @@
 /* The subcommands, and what --help says of each. */
+#include <stdio.h>
 #include <string.h>
 
 #include "desk.h"
+#include "sound.h"
 
 const struct subcommand subcommands[] = {
     {"run", "xm23 run [-l] PAPER PROGRAM", "run a program under a paper and print the line of the sheet",

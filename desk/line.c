@@ -1,8 +1,9 @@
 /* The line of the sheet, which the library prints, and what each of its fields says. */
+#include <stdio.h>
 #include <stdlib.h>
 #include <string.h>
 
-#include "desk.h"
+#include "line.h"
 
 /* What the sheet is asked with: n, the state record, memory, events. Room for it is kept from one to the next. */
 static const uint8_t *input_of(const struct machine *m, const struct paper *p, size_t *length)
@@ -122,9 +123,9 @@ void add_legend(struct text *t, const char *line)
     struct field rows[FIELDS];
     int many = line_fields(line, rows);
     for (int i = 0; i < many; i++) {
-        add(t, "  %-8s%-10s%s", rows[i].name, rows[i].value, rows[i].says);
+        addf(t, "  %-8s%-10s%s", rows[i].name, rows[i].value, rows[i].says);
         while (t->length && t->at[t->length - 1] == ' ')
             t->at[--t->length] = 0;
-        add(t, "\n");
+        addf(t, "\n");
     }
 }

@@ -2,11 +2,13 @@
 #include <unistd.h>
 
 #include "desk.h"
+#include "program.h"
+#include "word.h"
 
 /* Blanks up to the comments of a line that began at a place of the text. */
 static void add_gap(struct text *t, size_t from)
 {
-    add(t, "%*s; ", (int)(24 - (t->length - from)), "");
+    addf(t, "%*s; ", (int)(24 - (t->length - from)), "");
 }
 
 /* A word where both its bytes are named, else a byte: how many. */
@@ -14,16 +16,16 @@ static unsigned add_listed(struct text *t, unsigned at, const uint8_t *memory, i
 {
     size_t from = t->length;
     uint16_t word = (uint16_t)get_word(memory, at & 0xFFFE);
-    add(t, "    ");
+    addf(t, "    ");
     if (both)
         add_statement(t, at, word);
     else
-        add(t, "BYTE $%02X", memory[at]);
+        addf(t, "BYTE $%02X", memory[at]);
     add_gap(t, from);
-    add(t, both ? "%04X %04X" : "%04X %02X", at, both ? word : memory[at]);
+    addf(t, both ? "%04X %04X" : "%04X %02X", at, both ? word : memory[at]);
     if (both)
         add_remark(t, ", ", at, word);
-    add(t, "\n");
+    addf(t, "\n");
     return both ? 2 : 1;
 }
 
@@ -36,7 +38,7 @@ static void add_listing(struct text *t, const uint8_t *memory, const uint8_t *se
         if (!set[pair] && !set[pair + 1])
             continue;
         if (at != next)
-            add(t, "%s    ORG $%04X\n", t->length ? "\n" : "", at);
+            addf(t, "%s    ORG $%04X\n", t->length ? "\n" : "", at);
         next = at + add_listed(t, at, memory, set[pair] && set[pair + 1]);
     }
 }
@@ -44,9 +46,9 @@ static void add_listing(struct text *t, const uint8_t *memory, const uint8_t *se
 static void add_end(struct text *t, unsigned start)
 {
     size_t from = t->length;
-    add(t, "    END");
+    addf(t, "    END");
     add_gap(t, from);
-    add(t, "start %04X\n", start);
+    addf(t, "start %04X\n", start);
 }
 
 static int list(const struct program *p, const char *to)
@@ -62,8 +64,8 @@ static int list(const struct program *p, const char *to)
         add_end(&t, a.pc);
         status = write_file(to, &t);
     }
-    drop(&t);
-    drop(&f.why);
+    drop_text(&t);
+    drop_text(&f.why);
     return status;
 }
 

@@ -1,5 +1,5 @@
 /* The one place that runs a machine, with a log as long as the run can need. */
-#include "desk.h"
+#include "machine.h"
 
 unsigned get_word(const uint8_t *bytes, unsigned at)
 {

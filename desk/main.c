@@ -2,31 +2,34 @@
  * read or write. */
 #include <fcntl.h>
 #include <signal.h>
+#include <stdio.h>
 #include <string.h>
 
 #include "desk.h"
+#include "file.h"
+#include "xm23.h"
 
 static int print_text(struct text *t)
 {
     int status = write_file("-", t);
-    drop(t);
+    drop_text(t);
     return status;
 }
 
 static int help_of(const struct subcommand *s)
 {
     struct text t = {0};
-    add(&t, "usage: %s\n\n%s", s->usage, s->help);
+    addf(&t, "usage: %s\n\n%s", s->usage, s->help);
     return print_text(&t);
 }
 
 static int help(void)
 {
     struct text t = {0};
-    add(&t, "usage: xm23 SUBCOMMAND .., over the proved machine; 'xm23 SUBCOMMAND --help' says more\n\n");
+    addf(&t, "usage: xm23 SUBCOMMAND .., over the proved machine; 'xm23 SUBCOMMAND --help' says more\n\n");
     for (const struct subcommand *s = subcommands; s->name; s++)
-        add(&t, "  %-8s%s\n", s->name, s->says);
-    add(&t, "\nStatus: 0 done, 1 a refusal or a difference, 2 bad usage, 3 a file cannot be read or written.\n");
+        addf(&t, "  %-8s%s\n", s->name, s->says);
+    addf(&t, "\nStatus: 0 done, 1 a refusal or a difference, 2 bad usage, 3 a file cannot be read or written.\n");
     return print_text(&t);
 }
 
@@ -34,7 +37,7 @@ static int version(void)
 {
     struct text t = {0};
     unsigned v = xm23_version();
-    add(&t, "xm23 %u.%u.%u\n", v >> 16, v >> 8 & 0xFF, v & 0xFF);
+    addf(&t, "xm23 %u.%u.%u\n", v >> 16, v >> 8 & 0xFF, v & 0xFF);
     return print_text(&t);
 }
 
@@ -66,7 +69,7 @@ int main(int argc, char **argv)
         if (strcmp(s->name, argv[1]) == 0)
             return asks_help(argc - 1, argv + 1) ? help_of(s) : s->run(argc - 1, argv + 1);
     if (argc > 1)
-        say("'%s' is no subcommand; 'xm23 --help' lists them", argv[1]);
+        say_text("'%s' is no subcommand; 'xm23 --help' lists them", argv[1]);
     else
         fputs("usage: xm23 SUBCOMMAND ..; 'xm23 --help' lists them\n", stderr);
     return USAGE;

@@ -1,9 +1,11 @@
 /* xm23 mark: every program of a sitting under one paper. */
 #include <signal.h>
+#include <stdio.h>
 #include <stdlib.h>
 #include <string.h>
 #include <unistd.h>
 
+#include "desk.h"
 #include "workers.h"
 
 /* ---- the marking */
@@ -85,9 +87,9 @@ static int names_from_input(struct sitting *s)
     }
     free(name);
     if (ferror(stdin))
-        say("standard input cannot be read");
+        say_text("standard input cannot be read");
     else if (!s->many)
-        say("standard input names no program");
+        say_text("standard input names no program");
     return ferror(stdin) ? UNREADABLE : s->many ? DONE : USAGE;
 }
 

@@ -1,6 +1,7 @@
 /* One program of a sitting: read, run, and told in its row. */
 #include <string.h>
 
+#include "line.h"
 #include "sound.h"
 
 /* Of a long screen text the row has the first bytes, and how many there were. */
@@ -8,7 +9,7 @@ static void put_screen(struct row *r, const struct text *screen)
 {
     add_bytes(&r->screen, screen->at, screen->length < MOST_SCREEN ? screen->length : MOST_SCREEN);
     if (screen->length > MOST_SCREEN)
-        add(&r->screen, " .. (%lu bytes)", (unsigned long)screen->length);
+        addf(&r->screen, " .. (%lu bytes)", (unsigned long)screen->length);
 }
 
 /* Of a paper with no events there is no handler of a device to judge, and a long run would cost more than all else. */
@@ -25,8 +26,8 @@ static void put_verdict(const struct sitting *s, struct marked *m)
         add_handlers(&r->handlers, m->verdict);
         add_application(&r->application, m->verdict);
     } else {
-        add(&r->handlers, "not judged");
-        add(&r->application, "not judged");
+        addf(&r->handlers, "not judged");
+        addf(&r->application, "not judged");
     }
 }
 
@@ -47,10 +48,10 @@ static void run_marked(const struct sitting *s, struct marked *m)
         walk_run(&m->walk, s->paper, &m->scratch, m->o.steps);
         put_verdict(s, m);
     } else {
-        add(&r->line, "R%u", f.refusal);
-        add(&r->says, "line %lu: %s", (unsigned long)f.line, f.why.at);
+        addf(&r->line, "R%u", f.refusal);
+        addf(&r->says, "line %lu: %s", (unsigned long)f.line, f.why.at);
     }
-    drop(&f.why);
+    drop_text(&f.why);
 }
 
 /* Nothing of an earlier program stays. */
@@ -83,7 +84,7 @@ int mark_program(const struct sitting *s, const char *name, enum reading kind, s
 void leave_unmarked(const struct sitting *s, const char *name, const char *why, struct marked *m)
 {
     struct row *r = new_row(name, m);
-    add(&r->says, "could not be marked: %s", why);
+    addf(&r->says, "could not be marked: %s", why);
     r->agrees = s->paper->expected ? 0 : -1;
     r->problem = UNMARKED;
 }
@@ -91,7 +92,7 @@ void leave_unmarked(const struct sitting *s, const char *name, const char *why, 
 void drop_marked(struct marked *m)
 {
     drop_row(&m->row);
-    drop(&m->screen);
+    drop_text(&m->screen);
     drop_verdict(m->verdict);
     drop_program(&m->program);
 }

@@ -1,7 +1,11 @@
 /* The page of one program: its line, the fields of it, the screen, what memory became, the program. */
 #include <string.h>
 
+#include "page.h"
+#include "line.h"
 #include "sound.h"
+#include "source.h"
+#include "word.h"
 
 #define MOST_PAGE 400000  /* bytes */
 #define MOST_ROWS 512     /* of memory, of the listing and of the source */
@@ -13,68 +17,68 @@
 void add_page_path(struct text *t, const struct sitting *s, size_t i)
 {
     const char *slash = strrchr(s->names[i], '/'), *name = slash ? slash + 1 : s->names[i];
-    add(t, "pages/%06lu-", (unsigned long)i + 1);
+    addf(t, "pages/%06lu-", (unsigned long)i + 1);
     for (unsigned at = 0; at < 40 && name[at]; at++) {
         char c = name[at];
         int plain = (c >= '0' && c <= '9') || (c >= 'A' && c <= 'Z') || (c >= 'a' && c <= 'z') || c == '.' || c == '-';
-        add(t, "%c", plain ? c : '_');
+        addf(t, "%c", plain ? c : '_');
     }
-    add(t, ".html");
+    addf(t, ".html");
 }
 
 void add_page_head(struct text *t, const char *title)
 {
-    add(t, "<html lang=\"en\">\n<head>\n<meta charset=\"utf-8\">\n"
+    addf(t, "<html lang=\"en\">\n<head>\n<meta charset=\"utf-8\">\n"
            "<meta name=\"viewport\" content=\"width=device-width\">\n<title>");
     add_name(t, title);
-    add(t, "</title>\n<style>\n%s</style>\n</head>\n<body>\n", page_css);
+    addf(t, "</title>\n<style>\n%s</style>\n</head>\n<body>\n", page_css);
 }
 
 void open_table(struct text *t, const char *heads)
 {
-    add(t, "<div class=\"wide\">\n<table>\n<thead><tr>");
+    addf(t, "<div class=\"wide\">\n<table>\n<thead><tr>");
     for (const char *end; *heads; heads = end + (*end == '|')) {
         end = heads + strcspn(heads, "|");
-        add(t, "<th>%.*s</th>", (int)(end - heads), heads);
+        addf(t, "<th>%.*s</th>", (int)(end - heads), heads);
     }
-    add(t, "</tr></thead>\n<tbody>\n");
+    addf(t, "</tr></thead>\n<tbody>\n");
 }
 
 void close_table(struct text *t)
 {
-    add(t, "</tbody>\n</table>\n</div>\n");
+    addf(t, "</tbody>\n</table>\n</div>\n");
 }
 
 static void add_verdict(struct text *t, const struct row *r)
 {
-    add(t, "<p id=\"verdict\">");
+    addf(t, "<p id=\"verdict\">");
     if (!r->line.length)
-        add(t, "Not run");
+        addf(t, "Not run");
     else if (r->line.at[0] == 'R')
-        add(t, "Refused");
+        addf(t, "Refused");
     else
-        add(t, "%s", r->line.at[0] == '1' ? "Halted" : "All steps are done");
-    add(t, "%s</p>\n", r->agrees < 0 ? "" : r->agrees ? ": the expected line" : ": not the expected line");
+        addf(t, "%s", r->line.at[0] == '1' ? "Halted" : "All steps are done");
+    addf(t, "%s</p>\n", r->agrees < 0 ? "" : r->agrees ? ": the expected line" : ": not the expected line");
     if (r->says.length) {
-        add(t, "<p>");
+        addf(t, "<p>");
         add_html(t, r->says.at, r->says.length);
-        add(t, "</p>\n");
+        addf(t, "</p>\n");
     }
 }
 
 static void add_pre(struct text *t, const char *class, const char *bytes, size_t length)
 {
-    add(t, "<pre%s>", class);
+    addf(t, "<pre%s>", class);
     add_html_lines(t, bytes, length);
-    add(t, "</pre>\n");
+    addf(t, "</pre>\n");
 }
 
 /* Rows that are not broken on a screen, which moves them sideways instead. */
 static void add_wide(struct text *t, const struct text *rows)
 {
-    add(t, "<div class=\"wide\">");
+    addf(t, "<div class=\"wide\">");
     add_pre(t, "", rows->at, rows->length);
-    add(t, "</div>\n");
+    addf(t, "</div>\n");
 }
 
 /* The fields of the closing state; those that are not the expected ones are marked, in words too. */
@@ -83,16 +87,16 @@ static void add_fields(struct text *t, const struct paper *p, const char *line)
     struct field rows[FIELDS];
     char expected[16];
     int many = line_fields(line, rows), beside = p->expected && p->expected[0] != 'R', other = 0;
-    add(t, "<h2>Closing state</h2>\n");
+    addf(t, "<h2>Closing state</h2>\n");
     open_table(t, beside ? "Field|Value|Expected|Says" : "Field|Value|Says");
     for (int i = 0; i < many; i++) {
         if (beside)
             other = !expects_field(p, i, rows[i].value, expected, sizeof expected);
-        add(t, "<tr%s><th>%s</th>", other ? " class=\"other\"" : "", rows[i].name);
-        add(t, "<td class=\"n\">%s</td>", rows[i].value);
+        addf(t, "<tr%s><th>%s</th>", other ? " class=\"other\"" : "", rows[i].name);
+        addf(t, "<td class=\"n\">%s</td>", rows[i].value);
         if (beside)
-            add(t, "<td class=\"n\">%s%s</td>", other ? "not " : "", expected[0] == '*' ? "any" : expected);
-        add(t, "<td>%s</td></tr>\n", rows[i].says);
+            addf(t, "<td class=\"n\">%s%s</td>", other ? "not " : "", expected[0] == '*' ? "any" : expected);
+        addf(t, "<td>%s</td></tr>\n", rows[i].says);
     }
     close_table(t);
 }
@@ -111,35 +115,35 @@ static void add_memory(struct text *t, const struct machine *before, const struc
     for (unsigned at = 0; at < XM23_MEMORY_SIZE; at += 16) {
         if (memcmp(before->memory + at, after->memory + at, 16) == 0 || many++ >= most)
             continue;
-        add(&rows, "%04X  before  ", at);
+        addf(&rows, "%04X  before  ", at);
         add_sixteen(&rows, before->memory + at);
-        add(&rows, "\n      after   ");
+        addf(&rows, "\n      after   ");
         add_sixteen(&rows, after->memory + at);
-        add(&rows, "\n");
+        addf(&rows, "\n");
     }
     if (many > most)
-        add(&rows, ".. and %u rows more\n", many - most);
-    add(t, "<h2>Memory that the run changed</h2>\n");
+        addf(&rows, ".. and %u rows more\n", many - most);
+    addf(t, "<h2>Memory that the run changed</h2>\n");
     if (many)
         add_wide(t, &rows);
     else
-        add(t, "<p>None.</p>\n");
-    drop(&rows);
+        addf(t, "<p>None.</p>\n");
+    drop_text(&rows);
 }
 
 /* A word of memory before the run: what stands there by its address or by the paper, else the instruction. */
 static void add_word(struct text *t, const struct paper *p, unsigned at, unsigned word)
 {
-    add(t, "%04X  %04X  ", at, word);
+    addf(t, "%04X  %04X  ", at, word);
     if (at < 16)
-        add(t, "device %u", at / 2);
+        addf(t, "device %u", at / 2);
     else if (at >= XM23_VECTORS)
-        add(t, "vector %u, %s", (at - XM23_VECTORS) / 4, at & 2 ? "PC" : "PSW");
+        addf(t, "vector %u, %s", (at - XM23_VECTORS) / 4, at & 2 ? "PC" : "PSW");
     else if (p->set[at] == DATA || p->set[at + 1] == DATA)
-        add(t, "WORD $%04X", word);
+        addf(t, "WORD $%04X", word);
     else
         add_instruction(t, at, (uint16_t)word);
-    add(t, "\n");
+    addf(t, "\n");
 }
 
 /* What was in memory before the first step: the program with the paper over it. */
@@ -152,18 +156,18 @@ static void add_program(struct text *t, const struct paper *p, const struct mach
         if (!word || many++ >= most)
             continue;
         if (last + 2 < at)
-            add(&listing, "\n");
+            addf(&listing, "\n");
         add_word(&listing, p, at, word);
         last = at;
     }
     if (many > most)
-        add(&listing, ".. and %u words more\n", many - most);
-    add(t, "<h2>Memory before the run, words of 0 left out</h2>\n");
+        addf(&listing, ".. and %u words more\n", many - most);
+    addf(t, "<h2>Memory before the run, words of 0 left out</h2>\n");
     if (many)
         add_wide(t, &listing);
     else
-        add(t, "<p>All is zero.</p>\n");
-    drop(&listing);
+        addf(t, "<p>All is zero.</p>\n");
+    drop_text(&listing);
 }
 
 /* A source as it was handed in, with places and words. */
@@ -173,20 +177,20 @@ static void add_source(struct text *t, const struct program *p, unsigned most)
     struct text listing = {0};
     struct fault f = {0};
     if (!is_source(p->name) || p->length > MOST_SOURCE || !assemble_source(p->bytes, p->length, &a, &f)) {
-        drop(&f.why);
+        drop_text(&f.why);
         return;
     }
     add_source_listing(&listing, p->bytes, p->length, &a, most);
-    add(t, "<h2>Source</h2>\n<div id=\"source\">\n");
+    addf(t, "<h2>Source</h2>\n<div id=\"source\">\n");
     add_wide(t, &listing);
-    add(t, "</div>\n");
-    drop(&listing);
+    addf(t, "</div>\n");
+    drop_text(&listing);
 }
 
 static void add_foot(struct text *t, const struct sitting *s, const struct row *r)
 {
     unsigned v = xm23_version();
-    add(t, "<footer>Program SHA-256 %s, paper SHA-256 %s, machine %u.%u.%u.</footer>\n",
+    addf(t, "<footer>Program SHA-256 %s, paper SHA-256 %s, machine %u.%u.%u.</footer>\n",
         r->digest[0] ? r->digest : "unknown", s->paper_digest, v >> 16, v >> 8 & 0xFF, v & 0xFF);
 }
 
@@ -194,9 +198,9 @@ static void add_foot(struct text *t, const struct sitting *s, const struct row *
 static void add_screen(struct text *t, const struct text *screen)
 {
     size_t length = screen->length < MOST_SHOWN ? screen->length : MOST_SHOWN;
-    add(t, "<h2>Screen</h2>\n");
+    addf(t, "<h2>Screen</h2>\n");
     if (length < screen->length)
-        add(t, "<p>The first %lu bytes of %lu.</p>\n", (unsigned long)length, (unsigned long)screen->length);
+        addf(t, "<p>The first %lu bytes of %lu.</p>\n", (unsigned long)length, (unsigned long)screen->length);
     add_pre(t, " class=\"screen\"", screen->at, length);
 }
 
@@ -204,28 +208,28 @@ static void add_heading(struct text *t, const struct sitting *s, const struct ro
 {
     const struct paper *p = s->paper;
     add_page_head(t, r->name);
-    add(t, "<h1>");
+    addf(t, "<h1>");
     add_name(t, r->name);
-    add(t, "</h1>\n<p>");
+    addf(t, "</h1>\n<p>");
     add_name(t, p->title ? p->title : p->name);
-    add(t, "</p>\n");
+    addf(t, "</p>\n");
     add_verdict(t, r);
     if (r->line.length)
         add_pre(t, " class=\"line\"", r->line.at, r->line.length);
     if (p->expected) {
-        add(t, "<p>Expected:</p>\n<pre>");
+        addf(t, "<p>Expected:</p>\n<pre>");
         add_name(t, p->expected);
-        add(t, "</pre>\n");
+        addf(t, "</pre>\n");
     }
     if (r->handlers.length)
-        add(t, "<p><a href=\"#sound\">Handlers</a>: %s. Application: %s.</p>\n", r->handlers.at, r->application.at);
+        addf(t, "<p><a href=\"#sound\">Handlers</a>: %s. Application: %s.</p>\n", r->handlers.at, r->application.at);
 }
 
 static void add_state(struct text *t, const struct sitting *s, const struct marked *m, unsigned most)
 {
     add_fields(t, s->paper, m->row.line.at);
     if (m->walk.many)
-        add(t, "%s<noscript><p>Without scripts the walk is not shown; its last steps are below.</p></noscript>\n",
+        addf(t, "%s<noscript><p>Without scripts the walk is not shown; its last steps are below.</p></noscript>\n",
             walk_html);
     add_sound_section(t, m);
     add_walk_tables(t, &m->walk, &m->after);
@@ -239,7 +243,7 @@ static void add_state(struct text *t, const struct sitting *s, const struct mark
 static void add_rows(struct text *t, const struct sitting *s, const struct marked *m, unsigned most)
 {
     const struct row *r = &m->row;
-    add(t, "<!DOCTYPE html>\n");
+    addf(t, "<!DOCTYPE html>\n");
     add_heading(t, s, r);
     if (m->screen.length)
         add_screen(t, &m->screen);
@@ -248,7 +252,7 @@ static void add_rows(struct text *t, const struct sitting *s, const struct marke
     add_foot(t, s, r);
     if (m->ran && m->walk.many)
         add_walk_data(t, &m->walk, &m->after, &m->screen);
-    add(t, "</body>\n</html>\n");
+    addf(t, "</body>\n</html>\n");
 }
 
 /* A page that would be too long has fewer rows. */

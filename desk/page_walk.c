@@ -5,7 +5,7 @@
 #include <stdlib.h>
 #include <string.h>
 
-#include "desk.h"
+#include "page.h"
 
 #define LAST_STEPS 32 /* rows of the table of last steps */
 #define MOST_TURNS 64 /* of that of entries, returns and faults */
@@ -18,23 +18,23 @@ static void add_step_row(struct text *t, const struct step *s)
 {
     struct text what = {0};
     add_what(&what, s);
-    add(t, "<tr><td class=\"n\">%lu</td><td class=\"n\">%04X</td><td class=\"n\">", (unsigned long)step_count(s),
+    addf(t, "<tr><td class=\"n\">%lu</td><td class=\"n\">%04X</td><td class=\"n\">", (unsigned long)step_count(s),
         get_word(s->before, XM23_RECORD_REGISTER(7)));
     if (s->fetched)
-        add(t, "%04X", s->word);
-    add(t, "</td><td class=\"n pre\">");
+        addf(t, "%04X", s->word);
+    addf(t, "</td><td class=\"n pre\">");
     add_html(t, what.at, what.length);
-    add(t, "</td><td class=\"n\">");
+    addf(t, "</td><td class=\"n\">");
     add_left(t, s);
-    add(t, "</td></tr>\n");
-    drop(&what);
+    addf(t, "</td></tr>\n");
+    drop_text(&what);
 }
 
 static void add_last_steps(struct text *t, const struct walk *w)
 {
     uint32_t many = w->many < LAST_STEPS ? w->many : LAST_STEPS;
-    add(t, "<h2>The last %lu step%s</h2>\n", (unsigned long)many, many == 1 ? "" : "s");
-    add(t, "<p>A step is named by the step count before it.</p>\n");
+    addf(t, "<h2>The last %lu step%s</h2>\n", (unsigned long)many, many == 1 ? "" : "s");
+    addf(t, "<p>A step is named by the step count before it.</p>\n");
     open_table(t, "Step|PC|Word|Instruction, or what else it was|What it left, PC aside");
     for (uint32_t i = w->many - many; i < w->many; i++)
         add_step_row(t, &w->steps[i]);
@@ -52,21 +52,21 @@ static void add_turns(struct text *t, const struct walk *w)
     unsigned many = 0, passed = 0;
     for (uint32_t i = 0; i < w->many; i++)
         many += (unsigned)is_turn(&w->steps[i]);
-    add(t, "<h2>Entries, returns and faults of the last %lu steps</h2>\n", (unsigned long)w->many);
+    addf(t, "<h2>Entries, returns and faults of the last %lu steps</h2>\n", (unsigned long)w->many);
     if (!many) {
-        add(t, "<p>None.</p>\n");
+        addf(t, "<p>None.</p>\n");
         return;
     }
     if (many > MOST_TURNS)
-        add(t, "<p>The last %u of %u.</p>\n", (unsigned)MOST_TURNS, many);
+        addf(t, "<p>The last %u of %u.</p>\n", (unsigned)MOST_TURNS, many);
     open_table(t, "Step|What|PC before|PC after|SP after|Priority after");
     for (uint32_t i = 0; i < w->many; i++) {
         const struct step *s = &w->steps[i];
         if (!is_turn(s) || passed++ + MOST_TURNS < many)
             continue;
-        add(t, "<tr><td class=\"n\">%lu</td><td>", (unsigned long)step_count(s));
+        addf(t, "<tr><td class=\"n\">%lu</td><td>", (unsigned long)step_count(s));
         add_act(t, s->kind, s->number);
-        add(t, "</td><td class=\"n\">%04X</td><td class=\"n\">%04X</td><td class=\"n\">%04X</td><td>%u</td></tr>\n",
+        addf(t, "</td><td class=\"n\">%04X</td><td class=\"n\">%04X</td><td class=\"n\">%04X</td><td>%u</td></tr>\n",
             get_word(s->before, XM23_RECORD_REGISTER(7)), get_word(s->after, XM23_RECORD_REGISTER(7)),
             get_word(s->after, XM23_RECORD_REGISTER(6)), XM23_PSW_CURRENT(get_word(s->after, XM23_RECORD_PSW)));
     }
@@ -83,9 +83,9 @@ static void add_place(struct text *t, const struct walk *w, unsigned at)
     for (unsigned f = open; f; f = w->frames[f].older, number--)
         for (unsigned i = 0; i < 4; i++)
             if (((w->frames[f].sp + 2 * i) & 0xFFFE) == at) {
-                add(t, "%s of frame %u: ", words[i], number);
+                addf(t, "%s of frame %u: ", words[i], number);
                 add_act(t, w->frames[f].kind, w->frames[f].number);
-                add(t, " at step %lu", (unsigned long)step_count(&w->steps[w->frames[f].step]));
+                addf(t, " at step %lu", (unsigned long)step_count(&w->steps[w->frames[f].step]));
                 return;
             }
 }
@@ -98,18 +98,18 @@ static void add_stack(struct text *t, const struct walk *w, const struct machine
         unsigned up = ((w->frames[f].sp - sp) & 0xFFFF) / 2 + 6;
         many = up > many && up <= MOST_WORDS ? up : many;
     }
-    add(t, "<h2>Stack at the close</h2>\n");
+    addf(t, "<h2>Stack at the close</h2>\n");
     open_table(t, "Address|Word|What it is");
     for (unsigned i = 0; i < many; i++) {
         unsigned at = (sp + 2 * i) & 0xFFFE;
-        add(t, "<tr><td class=\"n\">%04X</td><td class=\"n\">%04X</td><td>%s", at, word_at(after->memory, at),
+        addf(t, "<tr><td class=\"n\">%04X</td><td class=\"n\">%04X</td><td>%s", at, word_at(after->memory, at),
             i ? "" : "SP. ");
         add_place(t, w, at);
-        add(t, "</td></tr>\n");
+        addf(t, "</td></tr>\n");
     }
     close_table(t);
     if (w->strays)
-        add(t, "<p>Returns that pulled a frame from before these steps, or none: %u.</p>\n", w->strays);
+        addf(t, "<p>Returns that pulled a frame from before these steps, or none: %u.</p>\n", w->strays);
 }
 
 /* The devices that are not all zeros, or have events waiting. */
@@ -120,33 +120,33 @@ static void add_devices(struct text *t, const struct machine *m)
         const char *name;
     } bits[] = {{0x10, "ENA"}, {0x08, "OF"}, {0x04, "DBA"}, {0x02, "input"}, {0x01, "IE"}};
     unsigned many = 0;
-    add(t, "<h2>Devices at the close</h2>\n");
+    addf(t, "<h2>Devices at the close</h2>\n");
     for (unsigned d = 0; d < 8; d++) {
         unsigned status = m->memory[2 * d], data = m->memory[2 * d + 1], waiting = XM23_RECORD_WAITING(m->record, d);
         if (!status && !data && !waiting)
             continue;
         if (!many++)
             open_table(t, "Device|Status||Data|Events waiting");
-        add(t, "<tr><td>%u</td><td class=\"n\">%02X</td><td>", d, status);
+        addf(t, "<tr><td>%u</td><td class=\"n\">%02X</td><td>", d, status);
         for (unsigned i = 0; i < 5; i++)
-            add(t, "%s%s", status & bits[i].bit ? bits[i].name : "", status & bits[i].bit ? " " : "");
-        add(t, "</td><td class=\"n\">%02X</td><td>%u</td></tr>\n", data, waiting);
+            addf(t, "%s%s", status & bits[i].bit ? bits[i].name : "", status & bits[i].bit ? " " : "");
+        addf(t, "</td><td class=\"n\">%02X</td><td>%u</td></tr>\n", data, waiting);
     }
     if (many)
         close_table(t);
     else
-        add(t, "<p>All are zero.</p>\n");
+        addf(t, "<p>All are zero.</p>\n");
 }
 
 static void add_event_row(struct text *t, const struct fates *f, const struct paper *p, size_t i)
 {
     const struct fate *e = &f->each[i];
-    add(t, "<tr><td class=\"n\">%lu</td><td class=\"n\">%lu</td><td>%u</td><td class=\"n\">%02X</td>",
+    addf(t, "<tr><td class=\"n\">%lu</td><td class=\"n\">%lu</td><td>%u</td><td class=\"n\">%02X</td>",
         (unsigned long)p->events[i].line, (unsigned long)p->events[i].step, p->events[i].device, p->events[i].byte);
-    add(t, "<td>%s</td><td>%s</td><td>%s", event_word(f, p, i), overrun_word(e), interrupt_word(e));
+    addf(t, "<td>%s</td><td>%s</td><td>%s", event_word(f, p, i), overrun_word(e), interrupt_word(e));
     if (e->entry)
-        add(t, " at step %lu", (unsigned long)e->at);
-    add(t, "</td></tr>\n");
+        addf(t, " at step %lu", (unsigned long)e->at);
+    addf(t, "</td></tr>\n");
 }
 
 /* The events of a paper that has some, in the whole run. */
@@ -155,17 +155,17 @@ void add_events_table(struct text *t, const struct walk *w, const struct paper *
     size_t many = p->many_events < most ? p->many_events : most;
     if (!many)
         return;
-    add(t, "<h2>Events</h2>\n<p>Of the whole run, by the line of the paper.</p>\n");
+    addf(t, "<h2>Events</h2>\n<p>Of the whole run, by the line of the paper.</p>\n");
     if (many < p->many_events)
-        add(t, "<p>The first %lu of %lu; xm23 events has all.</p>\n", (unsigned long)many,
+        addf(t, "<p>The first %lu of %lu; xm23 events has all.</p>\n", (unsigned long)many,
             (unsigned long)p->many_events);
     open_table(t, "Line|Step|Device|Byte|Event|Overrun|Interrupt");
     for (size_t i = 0; i < many; i++)
         add_event_row(t, &w->fates, p, i);
     close_table(t);
-    add(t, "<pre>");
+    addf(t, "<pre>");
     add_totals(t, &w->fates, p);
-    add(t, "</pre>\n");
+    addf(t, "</pre>\n");
 }
 
 void add_walk_tables(struct text *t, const struct walk *w, const struct machine *after)
@@ -194,20 +194,20 @@ static void add_base64(struct text *t, const uint8_t *bytes, size_t length)
 static void add_memory_data(struct text *t, const uint8_t *memory)
 {
     unsigned at = 0, end, many = 0;
-    add(t, "\"memory\":[");
+    addf(t, "\"memory\":[");
     while (at < XM23_MEMORY_SIZE) {
         unsigned zeros = 0;
         for (end = at; end < XM23_MEMORY_SIZE && zeros < 24; end++)
             zeros = memory[end] ? 0 : zeros + 1;
         if (end - zeros > at) {
-            add(t, "%s[%u,\"", many++ ? "," : "", at);
+            addf(t, "%s[%u,\"", many++ ? "," : "", at);
             add_base64(t, memory + at, end - zeros - at);
-            add(t, "\"]");
+            addf(t, "\"]");
         }
         for (at = end; at < XM23_MEMORY_SIZE && !memory[at];)
             at++;
     }
-    add(t, "],\n");
+    addf(t, "],\n");
 }
 
 /* Texts, each once: where a text stands in the list. */
@@ -229,7 +229,7 @@ static unsigned place_of(struct texts *all, const char *text)
         all->known[slot] = (char *)room_for(NULL, strlen(text) + 1);
         memcpy(all->known[slot], text, strlen(text) + 1);
         all->place[slot] = all->many++;
-        add(&all->list, "%s\"%s\"", all->many > 1 ? "," : "", text);
+        addf(&all->list, "%s\"%s\"", all->many > 1 ? "," : "", text);
     }
     return all->place[slot];
 }
@@ -238,62 +238,62 @@ static void add_steps_data(struct text *t, const struct walk *w)
 {
     static struct texts all;
     memset(&all, 0, sizeof all);
-    add(t, "\"steps\":[");
+    addf(t, "\"steps\":[");
     for (uint32_t i = 0; i < w->many; i++) {
         const struct step *s = &w->steps[i];
         struct text what = {0};
         if (s->fetched)
-            add(&what, "%04X ", s->word);
+            addf(&what, "%04X ", s->word);
         add_what(&what, s);
-        add(t, "%s[%u,%u,%u", i ? "," : "", place_of(&all, what.at), s->stored, s->frame);
+        addf(t, "%s[%u,%u,%u", i ? "," : "", place_of(&all, what.at), s->stored, s->frame);
         if (stores_device(s))
-            add(t, ",%u", s->at);
-        add(t, "]");
-        drop(&what);
+            addf(t, ",%u", s->at);
+        addf(t, "]");
+        drop_text(&what);
     }
-    add(t, "],\n\"what\":[%s],\n", all.list.at ? all.list.at : "");
+    addf(t, "],\n\"what\":[%s],\n", all.list.at ? all.list.at : "");
     for (unsigned i = 0; i < 2 * MOST_WALK; i++)
         free(all.known[i]);
-    drop(&all.list);
+    drop_text(&all.list);
 }
 
 static void add_frames_data(struct text *t, const struct walk *w)
 {
-    add(t, "\"frames\":[null");
+    addf(t, "\"frames\":[null");
     for (unsigned f = 1; f <= w->many_frames; f++) {
-        add(t, ",[%u,%u,%u,\"", w->frames[f].older, w->frames[f].sp, w->frames[f].step);
+        addf(t, ",[%u,%u,%u,\"", w->frames[f].older, w->frames[f].sp, w->frames[f].step);
         add_act(t, w->frames[f].kind, w->frames[f].number);
-        add(t, "\"]");
+        addf(t, "\"]");
     }
-    add(t, "],\n");
+    addf(t, "],\n");
 }
 
 /* The screen: its last bytes from before the walk, how many there were before these, and those of the walk by step. */
 static void add_screen_data(struct text *t, const struct walk *w, const struct text *screen)
 {
     size_t before = screen->length - w->shown, kept = before < SCREEN_BEFORE ? before : SCREEN_BEFORE;
-    add(t, "\"shown\":%lu,\"screen\":\"", (unsigned long)(before - kept));
+    addf(t, "\"shown\":%lu,\"screen\":\"", (unsigned long)(before - kept));
     if (kept)
         add_base64(t, (const uint8_t *)screen->at + before - kept, kept);
-    add(t, "\",\"log\":[");
+    addf(t, "\",\"log\":[");
     for (uint32_t i = 0; i < w->shown; i++) {
         const uint8_t *record = w->log + XM23_LOG_SIZE * i;
         unsigned long step = get_long(record, XM23_LOG_STEP) - step_count(&w->steps[0]);
-        add(t, "%s[%lu,%u,%u]", i ? "," : "", step, record[XM23_LOG_DEVICE], record[XM23_LOG_BYTE]);
+        addf(t, "%s[%lu,%u,%u]", i ? "," : "", step, record[XM23_LOG_DEVICE], record[XM23_LOG_BYTE]);
     }
-    add(t, "]");
+    addf(t, "]");
 }
 
 void add_walk_data(struct text *t, const struct walk *w, const struct machine *after, const struct text *screen)
 {
-    add(t, "<script type=\"application/json\" id=\"data\">{\n\"journal\":\"");
+    addf(t, "<script type=\"application/json\" id=\"data\">{\n\"journal\":\"");
     add_base64(t, w->journal, XM23_JOURNAL_SIZE * (size_t)w->many);
-    add(t, "\",\n\"close\":\"");
+    addf(t, "\",\n\"close\":\"");
     add_base64(t, w->close, sizeof w->close);
-    add(t, "\",\n");
+    addf(t, "\",\n");
     add_memory_data(t, after->memory);
     add_steps_data(t, w);
     add_frames_data(t, w);
     add_screen_data(t, w, screen);
-    add(t, "}\n</script>\n<script>\n%s</script>\n", walk_js);
+    addf(t, "}\n</script>\n<script>\n%s</script>\n", walk_js);
 }

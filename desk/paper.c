@@ -3,6 +3,7 @@
 #include <string.h>
 
 #include "desk.h"
+#include "program.h"
 
 /* Line by line; a CR before the LF is none of the line. */
 static int take_lines(struct paper *p)
@@ -31,7 +32,7 @@ static int lay_srec(struct paper *p)
         last--;
     ended = last[1] == '9';
     if (!ended)
-        add(&p->srec, "S9030000FC\n");
+        addf(&p->srec, "S9030000FC\n");
     good = load_srec(p->srec.at, p->srec.length, a, &f);
     if (!good)
         say_at(p->name, p->srec_lines[f.line - 1], "R%u: %s", f.refusal, xm23_refusal_text(f.refusal));
@@ -43,7 +44,7 @@ static int lay_srec(struct paper *p)
         p->start_line[7] = p->srec_lines[p->many_srec - 1];
     }
     free(a);
-    drop(&f.why);
+    drop_text(&f.why);
     return good;
 }
 
@@ -148,7 +149,7 @@ int read_paper(const char *name, struct paper *p)
     if (bytes)
         return take_paper(name, bytes, length, p);
     say_at(name, 0, "%s", why.at);
-    drop(&why);
+    drop_text(&why);
     return UNREADABLE;
 }
 
@@ -160,6 +161,6 @@ void drop_paper(struct paper *p)
     free(p->events);
     free(p->event_bytes);
     free(p->srec_lines);
-    drop(&p->srec);
+    drop_text(&p->srec);
     memset(p, 0, sizeof *p);
 }

@@ -1,8 +1,9 @@
 /* One line of a paper: a word that says what it is, an S-record, or an event. */
+#include <stdio.h>
 #include <stdlib.h>
 #include <string.h>
 
-#include "desk.h"
+#include "machine.h"
 
 /* What is left of a line. */
 struct rest {
@@ -317,7 +318,7 @@ static int use(struct rest *r)
 static int srec(struct paper *p, uint32_t line, const char *at, const char *end)
 {
     add_bytes(&p->srec, at, (size_t)(end - at));
-    add(&p->srec, "\n");
+    addf(&p->srec, "\n");
     if ((p->many_srec & (p->many_srec - 1)) == 0)
         p->srec_lines = (uint32_t *)room_for(p->srec_lines, (2 * p->many_srec + 1) * sizeof *p->srec_lines);
     p->srec_lines[p->many_srec++] = line;

@@ -3,6 +3,7 @@
 #include <string.h>
 
 #include "desk.h"
+#include "source.h"
 
 int read_program(const char *name, enum reading kind, struct program *p, struct text *why)
 {
@@ -17,7 +18,7 @@ int take_program(const char *name, struct program *p)
     int status = read_program(name, ANY_FILE, p, &why) ? DONE : UNREADABLE;
     if (status != DONE)
         say_at(name, 0, "%s", why.at);
-    drop(&why);
+    drop_text(&why);
     return status;
 }
 
@@ -32,7 +33,7 @@ static int refused(uint64_t reply, struct fault *f)
 {
     f->refusal = XM23_REFUSAL(reply);
     f->line = XM23_LOAD_LINE(reply);
-    add(&f->why, "%s%s", xm23_refusal_text(f->refusal),
+    addf(&f->why, "%s%s", xm23_refusal_text(f->refusal),
         f->refusal == XM23_REFUSED_SREC_FORM && f->line == 1 ? " (a source's name ends in .asm)" : "");
     return 0;
 }

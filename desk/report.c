@@ -2,6 +2,7 @@
 #include <unistd.h>
 
 #include "desk.h"
+#include "page.h"
 
 /* What is not as it should be, of a page that is written. */
 static int tell_verdict(const struct paper *p, const struct marked *m)
@@ -29,7 +30,7 @@ static int report(struct sitting *s, const char *name, const char *to)
     if (status == DONE)
         status = tell_verdict(s->paper, &m);
     drop_marked(&m);
-    drop(&page);
+    drop_text(&page);
     return status;
 }
 

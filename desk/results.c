@@ -3,6 +3,8 @@
 #include <string.h>
 #include <unistd.h>
 
+#include "desk.h"
+#include "page.h"
 #include "workers.h"
 
 #define MOST_KEPT 65536 /* bytes that are kept before they are written */
@@ -16,24 +18,24 @@ static void add_csv_row(struct text *t, const struct sitting *s, size_t i, const
 {
     (void)i;
     add_csv(t, r->name, strlen(r->name));
-    add(t, ",");
+    addf(t, ",");
     add_csv(t, r->line.at, r->line.length);
-    add(t, ",");
+    addf(t, ",");
     add_csv(t, r->says.at, r->says.length);
-    add(t, ",%lu,%lu,", (unsigned long)r->steps, (unsigned long)r->deepest);
+    addf(t, ",%lu,%lu,", (unsigned long)r->steps, (unsigned long)r->deepest);
     add_csv(t, r->screen.at, r->screen.length);
-    add(t, ",%s,%s,%s,", r->agrees < 0 ? "" : r->agrees ? "yes" : "no", r->digest, s->paper_digest);
+    addf(t, ",%s,%s,%s,", r->agrees < 0 ? "" : r->agrees ? "yes" : "no", r->digest, s->paper_digest);
     add_csv(t, r->handlers.at, r->handlers.length);
-    add(t, ",");
+    addf(t, ",");
     add_csv(t, r->application.at, r->application.length);
-    add(t, "\n");
+    addf(t, "\n");
 }
 
 static void add_sums_row(struct text *t, const struct sitting *s, size_t i, const struct row *r)
 {
-    add(t, "%s  ", r->page);
+    addf(t, "%s  ", r->page);
     add_page_path(t, s, i);
-    add(t, "\n");
+    addf(t, "\n");
 }
 
 /* What became of a program, in words. */
@@ -51,50 +53,50 @@ static void add_screen(struct text *t, const struct text *screen)
 {
     size_t length = screen->length < 60 ? screen->length : 60;
     add_html(t, screen->at, length);
-    add(t, "%s", length < screen->length ? " .." : "");
+    addf(t, "%s", length < screen->length ? " .." : "");
 }
 
 static void add_html_row(struct text *t, const struct sitting *s, size_t i, const struct row *r)
 {
-    add(t, "<tr data-agrees=\"%s\"><td>%lu</td>", r->agrees == 1 ? "yes" : "no", (unsigned long)i + 1);
-    add(t, "<td class=\"any name\"><a href=\"");
+    addf(t, "<tr data-agrees=\"%s\"><td>%lu</td>", r->agrees == 1 ? "yes" : "no", (unsigned long)i + 1);
+    addf(t, "<td class=\"any name\"><a href=\"");
     add_page_path(t, s, i);
-    add(t, "\">");
+    addf(t, "\">");
     add_name(t, r->name);
-    add(t, "</a></td><td class=\"nowrap\">%s</td><td class=\"n any sheet\">", verdict(r));
+    addf(t, "</a></td><td class=\"nowrap\">%s</td><td class=\"n any sheet\">", verdict(r));
     add_html(t, r->line.at, r->line.length);
-    add(t, "%s", r->line.length && r->says.length ? "<br>" : "");
+    addf(t, "%s", r->line.length && r->says.length ? "<br>" : "");
     add_html(t, r->says.at, r->says.length);
-    add(t, "</td><td class=\"n\">%lu</td><td class=\"n\">%lu</td><td>%s</td><td>%s</td><td class=\"n any\">",
+    addf(t, "</td><td class=\"n\">%lu</td><td class=\"n\">%lu</td><td>%s</td><td>%s</td><td class=\"n any\">",
         (unsigned long)r->steps, (unsigned long)r->deepest, r->handlers.at, r->application.at);
     add_screen(t, &r->screen);
-    add(t, "</td></tr>\n");
+    addf(t, "</td></tr>\n");
 }
 
 static void add_index_head(struct text *t, const struct sitting *s, const struct tally *all)
 {
     const struct paper *p = s->paper;
     const char *title = p->title ? p->title : p->name;
-    add(t, "<!DOCTYPE html>\n");
+    addf(t, "<!DOCTYPE html>\n");
     add_page_head(t, title);
-    add(t, "<h1>");
+    addf(t, "<h1>");
     add_name(t, title);
-    add(t, "</h1>\n<p id=\"verdict\">%lu program%s", (unsigned long)s->many, s->many == 1 ? "" : "s");
+    addf(t, "</h1>\n<p id=\"verdict\">%lu program%s", (unsigned long)s->many, s->many == 1 ? "" : "s");
     if (p->expected)
-        add(t, ": %lu as expected, %lu not", (unsigned long)all->agree, (unsigned long)all->differ);
-    add(t, "; %lu without a closing state", (unsigned long)all->without);
+        addf(t, ": %lu as expected, %lu not", (unsigned long)all->agree, (unsigned long)all->differ);
+    addf(t, "; %lu without a closing state", (unsigned long)all->without);
     if (all->unmarked)
-        add(t, "; %lu could not be marked", (unsigned long)all->unmarked);
-    add(t, "</p>\n");
+        addf(t, "; %lu could not be marked", (unsigned long)all->unmarked);
+    addf(t, "</p>\n");
     if (p->expected) {
-        add(t, "<p>Expected:</p>\n<pre class=\"line\">");
+        addf(t, "<p>Expected:</p>\n<pre class=\"line\">");
         add_name(t, p->expected);
-        add(t, "</pre>\n");
+        addf(t, "</pre>\n");
     }
-    add(t, "<div class=\"find\" id=\"find\" hidden><label>Find <input id=\"name\" type=\"search\"></label>");
+    addf(t, "<div class=\"find\" id=\"find\" hidden><label>Find <input id=\"name\" type=\"search\"></label>");
     if (p->expected)
-        add(t, "<label><input id=\"others\" type=\"checkbox\"> only those that are not as expected</label>");
-    add(t, "<span id=\"count\" role=\"status\"></span></div>\n");
+        addf(t, "<label><input id=\"others\" type=\"checkbox\"> only those that are not as expected</label>");
+    addf(t, "<span id=\"count\" role=\"status\"></span></div>\n");
     open_table(t, "|Program|Verdict|Line, or refusal|Steps|Depth|Handlers|Application|Screen");
 }
 
@@ -102,8 +104,9 @@ static void add_index_foot(struct text *t, const struct sitting *s)
 {
     unsigned v = xm23_version();
     close_table(t);
-    add(t, "<footer>Paper SHA-256 %s, machine %u.%u.%u.</footer>\n", s->paper_digest, v >> 16, v >> 8 & 0xFF, v & 0xFF);
-    add(t, "<script>\n%s</script>\n</body>\n</html>\n", index_js);
+    addf(t, "<footer>Paper SHA-256 %s, machine %u.%u.%u.</footer>\n", s->paper_digest, v >> 16, v >> 8 & 0xFF,
+        v & 0xFF);
+    addf(t, "<script>\n%s</script>\n</body>\n</html>\n", index_js);
 }
 
 /* ---- a file, part by part */
@@ -141,7 +144,7 @@ static int close_sheet(struct sheet *x)
         x->problem = errno;
     if (x->problem)
         say_at(x->f->name, 0, "cannot be written: %s: %s", x->path, strerror(x->problem));
-    drop(&x->t);
+    drop_text(&x->t);
     return x->problem ? UNREADABLE : DONE;
 }
 
@@ -166,7 +169,7 @@ static int write_csv(const struct sitting *s, const struct folder *f, const stru
 {
     struct sheet x;
     open_sheet(&x, f, "results.csv");
-    add(&x.t, "name,line,says,steps,depth,screen,agrees,program_sha256,paper_sha256,handlers,application\n");
+    addf(&x.t, "name,line,says,steps,depth,screen,agrees,program_sha256,paper_sha256,handlers,application\n");
     put_rows(s, rows, &x, add_csv_row);
     return close_sheet(&x);
 }
@@ -187,7 +190,7 @@ static void add_sum(struct sheet *x, const char *path)
     char digest[SHA256_TEXT] = "";
     if (!digest_file(x->f->at, path, digest) && !x->problem)
         x->problem = EIO;
-    add(&x->t, "%s  %s\n", digest, path);
+    addf(&x->t, "%s  %s\n", digest, path);
 }
 
 static int write_sums(const struct sitting *s, const struct folder *f, const struct rows *rows)

@@ -1,7 +1,7 @@
 /* A row as bytes: what a worker tells of its program, and what the marking keeps of it until all are there. */
 #include <string.h>
 
-#include "desk.h"
+#include "marking.h"
 
 enum { TEXTS = 5 };
 
@@ -15,11 +15,11 @@ struct head {
 
 void drop_row(struct row *r)
 {
-    drop(&r->line);
-    drop(&r->says);
-    drop(&r->screen);
-    drop(&r->handlers);
-    drop(&r->application);
+    drop_text(&r->line);
+    drop_text(&r->says);
+    drop_text(&r->screen);
+    drop_text(&r->handlers);
+    drop_text(&r->application);
 }
 
 void pack_row(struct text *t, size_t number, const struct row *r)

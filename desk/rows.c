@@ -27,7 +27,7 @@ int keep_row(struct rows *r, size_t i, const struct row *row)
     r->places[i].at = r->end;
     r->places[i].length = t.length;
     r->end += (off_t)t.length;
-    drop(&t);
+    drop_text(&t);
     return problem;
 }
 

@@ -2,24 +2,26 @@
 #include <unistd.h>
 
 #include "desk.h"
+#include "line.h"
+#include "program.h"
 
 /* The line, and behind it the legend and what the screen showed where they are asked for. */
 static int tell_line(const char *line, const struct text *screen, int legend)
 {
     struct text t = {0};
     int status;
-    add(&t, "%s\n", line);
+    addf(&t, "%s\n", line);
     if (legend) {
-        add(&t, "\n");
+        addf(&t, "\n");
         add_legend(&t, line);
     }
     if (legend && screen->length) {
-        add(&t, "\n  screen  ");
+        addf(&t, "\n  screen  ");
         add_plain(&t, screen->at, screen->length);
-        add(&t, "\n");
+        addf(&t, "\n");
     }
     status = write_file("-", &t);
-    drop(&t);
+    drop_text(&t);
     return status;
 }
 
@@ -46,14 +48,14 @@ static int run_program(const struct paper *p, const struct program *program, int
             run_machine(&m, p, p->steps, &o);
     } else {
         say_fault(program->name, &f);
-        add(&line, "R%u", f.refusal);
+        addf(&line, "R%u", f.refusal);
     }
     status = tell_line(line.at, &screen, legend);
     if (status == DONE && (!agrees(p, line.at) || line.at[0] == 'R'))
         status = REFUSED;
-    drop(&line);
-    drop(&screen);
-    drop(&f.why);
+    drop_text(&line);
+    drop_text(&screen);
+    drop_text(&f.why);
     return status;
 }
 

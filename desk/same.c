@@ -2,7 +2,7 @@
 #include <string.h>
 #include <sys/stat.h>
 
-#include "desk.h"
+#include "file.h"
 
 int overwrites(const char *to, const char *from)
 {

@@ -1,8 +1,9 @@
 /* SHA-256, by libcrypto. */
 #include <openssl/evp.h>
+#include <stdio.h>
 #include <unistd.h>
 
-#include "desk.h"
+#include "file.h"
 
 static void put_digits(const unsigned char *digest, char *digits)
 {
@@ -15,7 +16,7 @@ int sha256(const void *bytes, size_t length, char *digits)
     unsigned char digest[EVP_MAX_MD_SIZE];
     unsigned many = 0;
     if (!EVP_Digest(bytes, length, digest, &many, EVP_sha256(), NULL) || many != 32) {
-        say("SHA-256 fails");
+        say_text("SHA-256 fails");
         return 0;
     }
     put_digits(digest, digits);

@@ -2,6 +2,7 @@
 #include <unistd.h>
 
 #include "sound.h"
+#include "desk.h"
 
 static int tell_refusal(const struct paper *p, const struct verdict *v)
 {
@@ -15,15 +16,15 @@ static int tell_findings(const struct verdict *v)
     struct text t = {0};
     int status;
     for (unsigned i = 0; i < v->many; i++)
-        add(&t, "%s\n", v->words[v->kinds[i]].at);
+        addf(&t, "%s\n", v->words[v->kinds[i]].at);
     if (!v->many)
         add_sound(&t);
     if (v->reason == XM23_REASON_DEEP)
         add_deep(&t, v);
     if (!v->many || v->reason == XM23_REASON_DEEP)
-        add(&t, "\n");
+        addf(&t, "\n");
     status = write_file("-", &t);
-    drop(&t);
+    drop_text(&t);
     return status == DONE && v->many ? REFUSED : status;
 }
 
@@ -39,7 +40,7 @@ static int judge_program(const struct paper *p, const struct program *program)
     } else {
         status = say_fault(program->name, &f);
     }
-    drop(&f.why);
+    drop_text(&f.why);
     return status;
 }
 

@@ -7,7 +7,7 @@
 #ifndef SOUND_H
 #define SOUND_H
 
-#include "desk.h"
+#include "marking.h"
 
 enum { KINDS = XM23_FINDINGS_SIZE / XM23_FINDING_SIZE };
 

@@ -6,7 +6,7 @@
 #include <stdlib.h>
 #include <string.h>
 
-#include "desk.h"
+#include "source.h"
 
 enum { MOST_BELOW = 16 }; /* calls for bytes on which later lines stand */
 
@@ -106,7 +106,7 @@ int assemble_source(const char *source, size_t length, struct assembled *a, stru
     if (XM23_REFUSAL(reply)) {
         f->refusal = XM23_REFUSAL(reply);
         f->line = XM23_ASSEMBLE_LINE(reply);
-        add(&f->why, "%s", xm23_refusal_text(f->refusal));
+        addf(&f->why, "%s", xm23_refusal_text(f->refusal));
         return 0;
     }
     find_stated(source, length, a);
@@ -125,11 +125,11 @@ unsigned source_value(const char *source, size_t length, const char *value, uint
     p = read_places(source, length);
     end = start_of(source, length, p.many - 1);
     add_bytes(&t, source, end);
-    add(&t, "ORG #0\nWORD %s\nORG #%lu\n", value, (unsigned long)place_of(&p, p.many - 1));
+    addf(&t, "ORG #0\nWORD %s\nORG #%lu\n", value, (unsigned long)place_of(&p, p.many - 1));
     add_bytes(&t, source + end, length - end);
     reply = assembled(scratch, t.at, t.length);
     *word = (uint16_t)get_word(scratch, 0);
-    drop(&t);
+    drop_text(&t);
     free(p.records);
     return XM23_REFUSAL(reply);
 }
@@ -171,32 +171,32 @@ static void assemble_first(const char *source, size_t length, const struct place
         if (record_of(p, i)[XM23_PLACE_NAMED]) {
             const char *name = source + at + strspn(source + at, " \t");
             add_bytes(&t, name, strspn(name, "ABCDEFGHIJKLMNOPQRSTUVWXYZ0123456789"));
-            add(&t, " EQU #%ld\n", (long)XM23_PLACE_VALUE_OF(record_of(p, i)));
+            addf(&t, " EQU #%ld\n", (long)XM23_PLACE_VALUE_OF(record_of(p, i)));
         }
-    add(&t, "END\n");
+    addf(&t, "END\n");
     assembled(scratch, t.at, t.length);
-    drop(&t);
+    drop_text(&t);
 }
 
 /* A line with its place and bytes; without them where they are not known. */
 static void add_source_line(struct text *t, const struct places *p, size_t i, const struct shown *shown)
 {
     if (bytes_of(p, i) && !shown->known)
-        add(t, "%04X  ..  ", (unsigned)place_of(p, i));
+        addf(t, "%04X  ..  ", (unsigned)place_of(p, i));
     else if (bytes_of(p, i) == 2)
-        add(t, "%04X  %04X", (unsigned)place_of(p, i), get_word(shown->bytes, 0));
+        addf(t, "%04X  %04X", (unsigned)place_of(p, i), get_word(shown->bytes, 0));
     else if (bytes_of(p, i) == 1)
-        add(t, "%04X  %02X  ", (unsigned)place_of(p, i), shown->bytes[0]);
+        addf(t, "%04X  %02X  ", (unsigned)place_of(p, i), shown->bytes[0]);
     else
-        add(t, "          ");
-    add(t, " %5lu.  ", (unsigned long)i + 1);
+        addf(t, "          ");
+    addf(t, " %5lu.  ", (unsigned long)i + 1);
 }
 
 /* The bytes of a line, or so many of them and dots. */
 static void add_line_text(struct text *t, const char *line, size_t length, size_t width)
 {
     add_bytes(t, line, length < width ? length : width);
-    add(t, length < width ? "\n" : " ..\n");
+    addf(t, length < width ? "\n" : " ..\n");
 }
 
 void add_source_listing(struct text *t, const char *source, size_t length, const struct assembled *a, size_t most)
@@ -219,7 +219,7 @@ void add_source_listing(struct text *t, const char *source, size_t length, const
         at = next;
     }
     if (room < p.many)
-        add(t, "..\n");
+        addf(t, "..\n");
     free(shown);
     free(p.records);
 }

@@ -2,15 +2,16 @@
 #include <unistd.h>
 
 #include "desk.h"
+#include "program.h"
 
 /* A row for each device that the paper gives a use of, then the figure. */
 static void add_rows(struct text *t, const struct paper *p, const uint8_t *vectors, uint32_t bytes)
 {
-    add(t, "device  priority  use\n");
+    addf(t, "device  priority  use\n");
     for (unsigned d = 0; d < 8; d++)
         if (p->devices >> d & 1)
-            add(t, "%-8u%-10u%u\n", d, XM23_PSW_CURRENT(get_word(vectors, 4 * d)), get_word(p->uses, 2 * d));
-    add(t, "above priority %lu: %lu bytes\n", (unsigned long)p->priority, (unsigned long)bytes);
+            addf(t, "%-8u%-10u%u\n", d, XM23_PSW_CURRENT(get_word(vectors, 4 * d)), get_word(p->uses, 2 * d));
+    addf(t, "above priority %lu: %lu bytes\n", (unsigned long)p->priority, (unsigned long)bytes);
 }
 
 /* The line of the paper that a refused call is about. */
@@ -70,7 +71,7 @@ static int tell_bytes(const struct paper *p, const struct assembled *a, const ch
         return no_vector(p, without_vector(p, a), program);
     add_rows(&t, p, vectors, XM23_STACK_BYTES(reply));
     status = write_file("-", &t);
-    drop(&t);
+    drop_text(&t);
     return status;
 }
 
@@ -81,7 +82,7 @@ static int with_file(const struct paper *p, const char *name, struct assembled *
     int status = take_program(name, &program);
     if (status == DONE)
         status = load_program(&program, a, &f) ? tell_bytes(p, a, name) : say_fault(name, &f);
-    drop(&f.why);
+    drop_text(&f.why);
     drop_program(&program);
     return status;
 }

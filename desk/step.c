@@ -1,7 +1,8 @@
 /* A step of a walk in words: the instruction or what else it was, and what it left. */
 #include <string.h>
 
-#include "desk.h"
+#include "walk.h"
+#include "word.h"
 
 const char *fault_name(unsigned fault)
 {
@@ -11,15 +12,15 @@ const char *fault_name(unsigned fault)
 void add_act(struct text *t, unsigned kind, unsigned number)
 {
     switch (kind) {
-    case XM23_KIND_PULL: add(t, "return: CEX, PSW, LR, PC pulled"); break;
-    case XM23_KIND_CHAIN: add(t, "return, chained to the line of device %u", number); break;
-    case XM23_KIND_ACCEPT: add(t, "line of device %u accepted", number); break;
-    case XM23_KIND_SLEEP: add(t, "asleep"); break;
-    case XM23_KIND_FAULT: add(t, "fault %u, %s", number, fault_name(number)); break;
-    case XM23_KIND_HALT: add(t, "halt: fault %u, %s, with FLT set", number, fault_name(number)); break;
-    case XM23_KIND_SKIP: add(t, "skipped by CEX"); break;
-    case XM23_KIND_TRAP: add(t, "SVC by vector %u", number); break;
-    default: add(t, "executed");
+    case XM23_KIND_PULL: addf(t, "return: CEX, PSW, LR, PC pulled"); break;
+    case XM23_KIND_CHAIN: addf(t, "return, chained to the line of device %u", number); break;
+    case XM23_KIND_ACCEPT: addf(t, "line of device %u accepted", number); break;
+    case XM23_KIND_SLEEP: addf(t, "asleep"); break;
+    case XM23_KIND_FAULT: addf(t, "fault %u, %s", number, fault_name(number)); break;
+    case XM23_KIND_HALT: addf(t, "halt: fault %u, %s, with FLT set", number, fault_name(number)); break;
+    case XM23_KIND_SKIP: addf(t, "skipped by CEX"); break;
+    case XM23_KIND_TRAP: addf(t, "SVC by vector %u", number); break;
+    default: addf(t, "executed");
     }
 }
 
@@ -29,14 +30,14 @@ void add_what(struct text *t, const struct step *s)
         add_instruction(t, get_word(s->before, XM23_RECORD_REGISTER(7)), s->word);
     if (s->kind >= XM23_KIND_PLAIN)
         return;
-    add(t, "%s", s->fetched ? "; " : "");
+    addf(t, "%s", s->fetched ? "; " : "");
     add_act(t, s->kind, s->number);
 }
 
 static void separate(struct text *t, size_t from)
 {
     if (t->length > from)
-        add(t, ", ");
+        addf(t, ", ");
 }
 
 /* R0 to SP, PSW and CEX that are others than before. */
@@ -48,7 +49,7 @@ static void add_registers(struct text *t, size_t from, const struct step *s)
         if (i == 7 || value == get_word(s->before, 2 * i))
             continue;
         separate(t, from);
-        add(t, i == 9 ? "%s %02X" : "%s %04X", names[i], value);
+        addf(t, i == 9 ? "%s %02X" : "%s %04X", names[i], value);
     }
 }
 
@@ -58,9 +59,9 @@ static void add_stored(struct text *t, size_t from, const struct step *s)
     if (!s->stored || stores_device(s))
         return;
     separate(t, from);
-    add(t, "%04X:", s->at);
+    addf(t, "%04X:", s->at);
     for (unsigned i = 0; i < s->stored; i++)
-        add(t, " %02X", s->bytes[i]);
+        addf(t, " %02X", s->bytes[i]);
 }
 
 /* Device bytes that are others than before, by the step or by an event, and those that were stored. */
@@ -70,7 +71,7 @@ static void add_devices(struct text *t, size_t from, const struct step *s)
         if (!device_written(s, i))
             continue;
         separate(t, from);
-        add(t, "device %u %s %02X", i / 2, i % 2 ? "data" : "status", s->devices[i]);
+        addf(t, "device %u %s %02X", i / 2, i % 2 ? "data" : "status", s->devices[i]);
     }
 }
 

@@ -1,8 +1,10 @@
 /* A text that grows, the forms in which bytes of strangers are shown, and messages. */
 #include <stdarg.h>
+#include <stdio.h>
 #include <stdlib.h>
 #include <string.h>
 
+#include "text.h"
 #include "desk.h"
 
 #define MOST_NAME 1000 /* bytes of a name or a title on a page */
@@ -52,7 +54,7 @@ static void add_list(struct text *t, const char *format, va_list list)
     t->length += length > 0 ? (size_t)length : 0;
 }
 
-void add(struct text *t, const char *format, ...)
+void addf(struct text *t, const char *format, ...)
 {
     va_list list;
     va_start(list, format);
@@ -126,7 +128,7 @@ static void add_shown(struct text *t, const char *bytes, size_t length, const ch
         if (!size)
             add_byte(t, "\\x", (unsigned char)bytes[i]);
         else if (strchr(coded, bytes[i]))
-            add(t, "&#%u;", (unsigned char)bytes[i]);
+            addf(t, "&#%u;", (unsigned char)bytes[i]);
         else
             add_bytes(t, bytes + i, size);
     }
@@ -160,7 +162,7 @@ void add_name(struct text *t, const char *name)
     size_t length = strlen(name);
     add_html(t, name, length < MOST_NAME ? length : MOST_NAME);
     if (length > MOST_NAME)
-        add(t, " ..");
+        addf(t, " ..");
 }
 
 /* Whether a spreadsheet takes a cell for a formula by its first character, in either width; or it begins as one that
@@ -178,20 +180,20 @@ void add_csv(struct text *t, const char *bytes, size_t length)
 {
     struct text cell = {0};
     int quoted;
-    add(&cell, "%s", like_formula(bytes, length) ? "'" : "");
+    addf(&cell, "%s", like_formula(bytes, length) ? "'" : "");
     add_plain(&cell, bytes, length);
     quoted = strpbrk(cell.at, ",\"") != NULL;
-    add(t, "%s", quoted ? "\"" : "");
+    addf(t, "%s", quoted ? "\"" : "");
     for (size_t i = 0; i < cell.length; i++)
         if (cell.at[i] == ';')
             add_byte(t, "\\x", ';'); /* some spreadsheets split a row there too */
         else
             add_bytes(t, cell.at[i] == '"' ? "\"\"" : cell.at + i, cell.at[i] == '"' ? 2 : 1);
-    add(t, "%s", quoted ? "\"" : "");
-    drop(&cell);
+    addf(t, "%s", quoted ? "\"" : "");
+    drop_text(&cell);
 }
 
-void drop(struct text *t)
+void drop_text(struct text *t)
 {
     free(t->at);
     memset(t, 0, sizeof *t);
@@ -202,17 +204,17 @@ static void tell(struct text *t)
 {
     struct text line = {0};
     add_plain(&line, t->at, t->length);
-    add(&line, "\n");
+    addf(&line, "\n");
     fwrite(line.at, 1, line.length, stderr);
-    drop(&line);
-    drop(t);
+    drop_text(&line);
+    drop_text(t);
 }
 
-void say(const char *format, ...)
+void say_text(const char *format, ...)
 {
     struct text t = {0};
     va_list list;
-    add(&t, "xm23: ");
+    addf(&t, "xm23: ");
     va_start(list, format);
     add_list(&t, format, list);
     va_end(list);
@@ -221,10 +223,10 @@ void say(const char *format, ...)
 
 static void add_place(struct text *t, const char *name, uint32_t line)
 {
-    add(t, "%s:", name);
+    addf(t, "%s:", name);
     if (line)
-        add(t, "%lu:", (unsigned long)line);
-    add(t, " ");
+        addf(t, "%lu:", (unsigned long)line);
+    addf(t, " ");
 }
 
 void say_at(const char *name, uint32_t line, const char *format, ...)
@@ -242,8 +244,8 @@ void say_of(const char *name, uint32_t line, const char *word, size_t length, co
 {
     struct text t = {0};
     add_place(&t, name, line);
-    add(&t, "'");
+    addf(&t, "'");
     add_bytes(&t, word, length < MOST_WORD ? length : MOST_WORD);
-    add(&t, "%s' %s", length < MOST_WORD ? "" : "..", what);
+    addf(&t, "%s' %s", length < MOST_WORD ? "" : "..", what);
     tell(&t);
 }

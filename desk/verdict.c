@@ -72,10 +72,10 @@ static int is_chained(const struct scene *s)
 /* A handler that was chained onto a frame of the application, which are those of SVC. */
 static void add_chained(struct text *t, const struct scene *s)
 {
-    add(t, "device %u, chained", s->finding[XM23_FINDING_RUNNING]);
+    addf(t, "device %u, chained", s->finding[XM23_FINDING_RUNNING]);
     if (shared_frame(s))
-        add(t, " after that of device %u", s->finding[XM23_FINDING_VECTOR]);
-    add(t, " onto a frame of SVC");
+        addf(t, " after that of device %u", s->finding[XM23_FINDING_VECTOR]);
+    addf(t, " onto a frame of SVC");
 }
 
 /* One in a frame of its own, or chained onto another's. */
@@ -83,29 +83,29 @@ static void add_entered(struct text *t, const struct scene *s, const char *comma
 {
     const char *what = s->act == XM23_KIND_FAULT ? "fault" : s->act == XM23_KIND_TRAP ? "SVC" : "device";
     if (shared_frame(s))
-        add(t, "device %u, chained onto the frame of ", s->finding[XM23_FINDING_RUNNING]);
-    add(t, "%s %u%s entered", what, s->finding[XM23_FINDING_VECTOR], shared_frame(s) ? "" : comma);
+        addf(t, "device %u, chained onto the frame of ", s->finding[XM23_FINDING_RUNNING]);
+    addf(t, "%s %u%s entered", what, s->finding[XM23_FINDING_VECTOR], shared_frame(s) ? "" : comma);
 }
 
 /* `handler of device 1 entered at step 50`, with a comma where the sentence goes on behind one. */
 static void add_handler(struct text *t, const struct scene *s, const char *comma)
 {
-    add(t, "handler of ");
+    addf(t, "handler of ");
     if (s->act == XM23_KIND_CHAIN)
         add_chained(t, s);
     else
         add_entered(t, s, comma);
-    add(t, " at step %lu", (unsigned long)get_long(s->finding, XM23_FINDING_OPENED));
+    addf(t, " at step %lu", (unsigned long)get_long(s->finding, XM23_FINDING_OPENED));
 }
 
 static void add_where(struct text *t, const struct scene *s)
 {
-    add(t, " at step %lu, PC $%04X, in the ", (unsigned long)get_long(s->finding, XM23_FINDING_STEP),
+    addf(t, " at step %lu, PC $%04X, in the ", (unsigned long)get_long(s->finding, XM23_FINDING_STEP),
         get_word(s->finding, XM23_FINDING_ADDRESS));
     if (by_handler(s->finding))
         add_handler(t, s, "");
     else
-        add(t, "application");
+        addf(t, "application");
 }
 
 /* ---- a sentence for each kind */
@@ -114,29 +114,29 @@ static void add_start(struct text *t, const struct scene *s)
 {
     static const char *const words[] = {"asleep", "halted", "with a line waiting"};
     unsigned detail = s->finding[XM23_FINDING_DETAIL], many = 0;
-    add(t, "the run starts, at step %lu, ", (unsigned long)get_long(s->finding, XM23_FINDING_STEP));
+    addf(t, "the run starts, at step %lu, ", (unsigned long)get_long(s->finding, XM23_FINDING_STEP));
     for (unsigned i = 0; i < 3; i++)
         if (detail >> i & 1)
-            add(t, "%s%s", many++ ? " and " : "", words[i]);
+            addf(t, "%s%s", many++ ? " and " : "", words[i]);
 }
 
 static void add_fault(struct text *t, const struct scene *s)
 {
     unsigned vector = s->finding[XM23_FINDING_DETAIL];
     if (vector == XM23_NO_VECTOR)
-        add(t, "a fault that halts");
+        addf(t, "a fault that halts");
     else
-        add(t, "fault %u", vector);
+        addf(t, "fault %u", vector);
     add_where(t, s);
     if (vector != XM23_NO_VECTOR)
-        add(t, ": %s", fault_name(vector));
+        addf(t, ": %s", fault_name(vector));
 }
 
 static void add_open(struct text *t, const struct scene *s, const struct verdict *v)
 {
-    add(t, "the ");
+    addf(t, "the ");
     add_handler(t, s, "");
-    add(t, "%s never returned; the run ended after %lu steps", is_chained(s) ? "," : "", (unsigned long)v->steps);
+    addf(t, "%s never returned; the run ended after %lu steps", is_chained(s) ? "," : "", (unsigned long)v->steps);
 }
 
 /* R0 to R4 and SP that differ, as the finding says: what is held at the entry, and what is found at the return. */
@@ -149,7 +149,7 @@ static unsigned add_registers(struct text *t, const struct scene *s)
     unsigned detail = s->finding[XM23_FINDING_DETAIL], many = 0;
     for (unsigned i = 0; i < 6; i++)
         if (detail >> i & 1)
-            add(t, "%s%s was $%04X, is $%04X", many++ ? "; " : "", all[i].name, get_word(s->held.record, all[i].at),
+            addf(t, "%s%s was $%04X, is $%04X", many++ ? "; " : "", all[i].name, get_word(s->held.record, all[i].at),
                 get_word(s->found.record, all[i].at));
     return many;
 }
@@ -162,7 +162,7 @@ static unsigned add_frame_bytes(struct text *t, const struct scene *s, unsigned 
     for (unsigned i = 0; i < 8; i++) {
         unsigned at = (sp + i) & 0xFFFF, was = s->held.memory[at], is = s->found.memory[at];
         if (was != is)
-            add(t, "%sthe frame's byte $%04X (%s) was $%02X, is $%02X", many++ ? "; " : "", at, words[i / 2], was, is);
+            addf(t, "%sthe frame's byte $%04X (%s) was $%02X, is $%02X", many++ ? "; " : "", at, words[i / 2], was, is);
     }
     return many;
 }
@@ -172,14 +172,14 @@ static void add_changed(struct text *t, const struct scene *s)
 {
     unsigned many;
     add_handler(t, s, ",");
-    add(t, ", returned at step %lu: ", (unsigned long)get_long(s->finding, XM23_FINDING_STEP));
+    addf(t, ", returned at step %lu: ", (unsigned long)get_long(s->finding, XM23_FINDING_STEP));
     many = add_registers(t, s);
     if (s->finding[XM23_FINDING_DETAIL] & 0x40)
         many = add_frame_bytes(t, s, many);
     if (!many)
-        add(t, "a byte of its frame is another");
+        addf(t, "a byte of its frame is another");
     if (shared_frame(s))
-        add(t, " (by it, or by a handler before it in that frame)");
+        addf(t, " (by it, or by a handler before it in that frame)");
 }
 
 /* What the application did: the first byte of a register or of a handler's, or SLP. */
@@ -187,12 +187,12 @@ static void add_application_act(struct text *t, const struct scene *s, unsigned 
 {
     unsigned at = get_word(s->finding, XM23_FINDING_ADDRESS);
     if (kind == XM23_FOUND_SLEEP)
-        add(t, "the application set SLP");
+        addf(t, "the application set SLP");
     else if (kind == XM23_FOUND_DEVICE)
-        add(t, "the application read $%04X, a register of device %u", at, at / 2);
+        addf(t, "the application read $%04X, a register of device %u", at, at / 2);
     else
-        add(t, "the application read $%04X, which a handler or its entry wrote last", at);
-    add(t, ", at step %lu, PC $%04X", (unsigned long)get_long(s->finding, XM23_FINDING_STEP),
+        addf(t, "the application read $%04X, which a handler or its entry wrote last", at);
+    addf(t, ", at step %lu, PC $%04X", (unsigned long)get_long(s->finding, XM23_FINDING_STEP),
         get_word(s->found.record, XM23_RECORD_REGISTER(7)));
 }
 
@@ -202,11 +202,11 @@ static void add_words(struct text *t, const struct verdict *v, const struct scen
     case XM23_FOUND_START: add_start(t, s); break;
     case XM23_FOUND_FAULT: add_fault(t, s); break;
     case XM23_FOUND_RETURN:
-        add(t, "a return with no frame open");
+        addf(t, "a return with no frame open");
         add_where(t, s);
         break;
     case XM23_FOUND_SVC:
-        add(t, "SVC %u", s->finding[XM23_FINDING_DETAIL]);
+        addf(t, "SVC %u", s->finding[XM23_FINDING_DETAIL]);
         add_where(t, s);
         break;
     case XM23_FOUND_OPEN: add_open(t, s, v); break;
@@ -262,18 +262,18 @@ struct verdict *judge_run(const struct paper *p, const struct machine *before)
 void drop_verdict(struct verdict *v)
 {
     for (unsigned i = 0; v && i < KINDS; i++)
-        drop(&v->words[i]);
+        drop_text(&v->words[i]);
     free(v);
 }
 
 void add_sound(struct text *t)
 {
-    add(t, "sound: the program ended as it would have with no events");
+    addf(t, "sound: the program ended as it would have with no events");
 }
 
 void add_deep(struct text *t, const struct verdict *v)
 {
-    add(t, "%u frames of devices are open together: the run was judged no further than its first %lu steps",
+    addf(t, "%u frames of devices are open together: the run was judged no further than its first %lu steps",
         (unsigned)XM23_MAX_FRAMES, (unsigned long)v->steps);
 }
 
@@ -285,8 +285,8 @@ static void add_changes(struct text *t, unsigned detail)
     unsigned many = 0;
     for (unsigned i = 0; i < 7; i++)
         if (detail >> i & 1)
-            add(t, "%s%s", many++ ? " " : "", words[i]);
-    add(t, " changed");
+            addf(t, "%s%s", many++ ? " " : "", words[i]);
+    addf(t, " changed");
 }
 
 /* What a handler is for: one that was chained is a device's. */
@@ -306,14 +306,14 @@ static void add_short(struct text *t, const struct verdict *v, unsigned kind)
     if (kind == XM23_FOUND_CHANGED)
         add_changes(t, detail);
     else if (kind == XM23_FOUND_FAULT && detail != XM23_NO_VECTOR)
-        add(t, "fault %u", detail);
+        addf(t, "fault %u", detail);
     else
-        add(t, "%s", words[kind]);
+        addf(t, "%s", words[kind]);
     if (kind >= XM23_FOUND_DEVICE)
-        add(t, " $%04X", get_word(f, XM23_FINDING_ADDRESS));
+        addf(t, " $%04X", get_word(f, XM23_FINDING_ADDRESS));
     if (runs != XM23_NO_VECTOR)
-        add(t, ", %s %u", handler_word(v, kind), runs);
-    add(t, ", step %lu", (unsigned long)get_long(f, XM23_FINDING_STEP));
+        addf(t, ", %s %u", handler_word(v, kind), runs);
+    addf(t, ", step %lu", (unsigned long)get_long(f, XM23_FINDING_STEP));
 }
 
 /* The first that is found of the kinds from `first` to `last`. */
@@ -324,7 +324,7 @@ static void add_cell(struct text *t, const struct verdict *v, unsigned first, un
             add_short(t, v, v->kinds[i]);
             return;
         }
-    add(t, "%s", none);
+    addf(t, "%s", none);
 }
 
 void add_handlers(struct text *t, const struct verdict *v)

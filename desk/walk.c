@@ -4,7 +4,7 @@
  */
 #include <string.h>
 
-#include "desk.h"
+#include "walk.h"
 
 uint32_t step_count(const struct step *s)
 {

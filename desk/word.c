@@ -1,7 +1,8 @@
 /* A word as the assembler writes it, which the library says, and in a comment what a WORD is to the machine. */
 #include <string.h>
 
-#include "desk.h"
+#include "word.h"
+#include "xm23.h"
 
 void add_statement(struct text *t, unsigned place, uint16_t word)
 {
@@ -42,11 +43,11 @@ void add_remark(struct text *t, const char *before, unsigned place, uint16_t wor
     if (!is_plain(place, word))
         return;
     if (format == XM23_FORMAT_ILLEGAL)
-        add(t, "%sillegal", before);
+        addf(t, "%sillegal", before);
     else if (format == XM23_FORMAT_SETCC || format == XM23_FORMAT_CLRCC)
-        add(t, "%sno flag", before);
+        addf(t, "%sno flag", before);
     else if (twin != word) {
-        add(t, "%sas ", before);
+        addf(t, "%sas ", before);
         add_statement(t, place, twin);
     }
 }

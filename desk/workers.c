@@ -1,9 +1,12 @@
 /* Worker processes: one program at a time each, within limits, and what becomes of one that is ended. */
 #include "workers.h"
+#include "desk.h"
+#include "page.h"
 
 #include <errno.h>
 #include <poll.h>
 #include <signal.h>
+#include <stdio.h>
 #include <stdlib.h>
 #include <string.h>
 #include <sys/resource.h>
@@ -112,8 +115,8 @@ static void mark_one(const struct sitting *s, const struct folder *f, size_t i, 
     if (!sha256(page.at, page.length, m->row.page))
         _exit(UNREADABLE);
     m->row.problem = fill_file(f, path.at, &page);
-    drop(&path);
-    drop(&page);
+    drop_text(&path);
+    drop_text(&page);
 }
 
 /* Until no program is handed to it, or the marking is gone. */
@@ -130,7 +133,7 @@ static void work(const struct sitting *s, const struct folder *f, int line)
         pack_row(&answer, (size_t)i, &m.row);
         length = (uint32_t)answer.length;
         told = put_whole(line, &length, sizeof length) && put_whole(line, answer.at, answer.length);
-        drop(&answer);
+        drop_text(&answer);
         drop_marked(&m);
         if (!told)
             return;
@@ -188,7 +191,7 @@ static void take_row(struct crew *c, size_t i, const struct row *r)
         problem = keep_row(c->rows, i, r);
     if (problem)
         give_up(c, path.at, strerror(problem));
-    drop(&path);
+    drop_text(&path);
     c->done++;
     show_progress(c);
 }
@@ -207,8 +210,8 @@ static void take_unmarked(struct crew *c, size_t i, const char *why)
     if (problem)
         m.row.problem = problem;
     take_row(c, i, &m.row);
-    drop(&path);
-    drop(&page);
+    drop_text(&path);
+    drop_text(&page);
     drop_marked(&m);
 }
 
@@ -293,13 +296,13 @@ static int take_answer(struct crew *c, struct worker *w, struct row *r)
 static void add_why(struct text *t, int how)
 {
     if (WIFSIGNALED(how) && WTERMSIG(how) == SIGPROF)
-        add(t, "it takes more than %d seconds of processor time", MOST_SECONDS);
+        addf(t, "it takes more than %d seconds of processor time", MOST_SECONDS);
     else if (WIFEXITED(how) && WEXITSTATUS(how) == UNREADABLE)
-        add(t, "no memory is left for it, which may take %d MiB", MOST_MEMORY);
+        addf(t, "no memory is left for it, which may take %d MiB", MOST_MEMORY);
     else if (WIFSIGNALED(how))
-        add(t, "its worker was ended by signal %d", WTERMSIG(how));
+        addf(t, "its worker was ended by signal %d", WTERMSIG(how));
     else
-        add(t, "its worker ended with status %d", WEXITSTATUS(how));
+        addf(t, "its worker ended with status %d", WEXITSTATUS(how));
 }
 
 /* The next program is handed out before this one's page is looked at. */
@@ -318,7 +321,7 @@ static void hear(struct crew *c, struct worker *w)
         engage(c, w);
     }
     drop_row(&r);
-    drop(&why);
+    drop_text(&why);
 }
 
 /* Waits for an answer, or for a signal. */

@@ -9,6 +9,7 @@
 #define WORKERS_H
 
 #include "folder.h"
+#include "marking.h"
 
 /* What one program may take of a worker; MOST_PROGRAM bounds its file. */
 #define MOST_SECONDS 10 /* of processor time */

@@ -1,4 +1,5 @@
 /* What the targets of the desk share: messages are caught, and every text is held to what may be shown. */
+#include <stdio.h>
 #include <stdlib.h>
 #include <string.h>
 

@@ -3,6 +3,8 @@
 #define DESK_JUDGE_H
 
 #include "../../desk/desk.h"
+#include "../../desk/page.h"
+#include "../../desk/source.h"
 
 int LLVMFuzzerTestOneInput(const uint8_t *data, size_t size);
 

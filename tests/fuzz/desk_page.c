@@ -4,6 +4,7 @@
  * byte; its script and style are the desk's own, its data numbers and texts without a tag; the name as text and as a
  * cell gives its bytes back.
  */
+#include <stdio.h>
 #include <stdlib.h>
 #include <string.h>
 #include <unistd.h>
@@ -127,9 +128,9 @@ static void hold_name(const char *name, size_t length)
     quote = cell.at[0] == '"';
     must(!strchr("=+-@\t\r", cell.at[quote]) || !cell.at[quote], "a cell", cell.at, cell.length);
     must(quote || !strpbrk(cell.at, ",\""), "a cell without quotes", cell.at, cell.length);
-    drop(&plain);
-    drop(&cell);
-    drop(&back);
+    drop_text(&plain);
+    drop_text(&cell);
+    drop_text(&back);
 }
 
 /* ---- the string */
@@ -161,12 +162,12 @@ static void take(struct string *s, struct text *t, size_t most)
 
 static void add_paper(struct text *t, const struct text *title, unsigned kind)
 {
-    add(t, "steps %u\nstart SP=$0800\ndevice 0 $11\ndevice 2 $10\n", kind & 2 ? 1500u : 90u);
+    addf(t, "steps %u\nstart SP=$0800\ndevice 0 $11\ndevice 2 $10\n", kind & 2 ? 1500u : 90u);
     for (unsigned v = 0; v < 16; v++)
-        add(t, "vector %u $%X $%X\n", v, v % 4 << 5, v % 2 ? 0x2000u : 0x1004u);
-    add(t, "5 0 1\n9 0 2\n70 0 3\ntitle ");
+        addf(t, "vector %u $%X $%X\n", v, v % 4 << 5, v % 2 ? 0x2000u : 0x1004u);
+    addf(t, "5 0 1\n9 0 2\n70 0 3\ntitle ");
     add_bytes(t, title->at, title->length);
-    add(t, "\n%s", kind & 4 ? "expect 0 90 * * * * * * 0800 * * * * 1\n" : kind & 8 ? "expect R11\n" : "");
+    addf(t, "\n%s", kind & 4 ? "expect 0 90 * * * * * * 0800 * * * * 1\n" : kind & 8 ? "expect R11\n" : "");
 }
 
 /* A source as it is; else words from $1000 on, which show and store something by and by. */
@@ -205,7 +206,7 @@ int LLVMFuzzerTestOneInput(const uint8_t *data, size_t size)
     hold_name(name.at, name.length);
     must(take_paper("a\npaper", paper.at, paper.length, &p) == DONE, "the paper", title.at, title.length);
     sitting.paper = &p;
-    add(&path, "%s/page-%ld.%s", getenv("XM23_FOUND"), (long)getpid(), kind & 1 ? "asm" : "s19");
+    addf(&path, "%s/page-%ld.%s", getenv("XM23_FOUND"), (long)getpid(), kind & 1 ? "asm" : "s19");
     put_file(path.at, &program);
     must(mark_program(&sitting, path.at, ANY_FILE, &m), "a file", path.at, path.length);
     unlink(path.at);
@@ -214,10 +215,10 @@ int LLVMFuzzerTestOneInput(const uint8_t *data, size_t size)
     hold_page(&page);
     drop_marked(&m);
     drop_paper(&p);
-    drop(&name);
-    drop(&title);
-    drop(&program);
-    drop(&path);
-    drop(&page);
+    drop_text(&name);
+    drop_text(&title);
+    drop_text(&program);
+    drop_text(&path);
+    drop_text(&page);
     return 0;
 }

@@ -21,21 +21,21 @@ static void run_paper(const struct paper *p)
     memcpy(m.record, p->record, sizeof m.record);
     run_machine(&m, p, p->steps < MOST_RUN ? p->steps : MOST_RUN, &o);
     must(o.refusal == XM23_ACCEPTED, "a paper that is taken, run", p->bytes, p->length);
-    drop(&screen);
+    drop_text(&screen);
 }
 
 /* A line that the expected one takes: something in place of each *. */
 static void add_taken(struct text *t, const char *expected)
 {
     for (; *expected; expected++)
-        add(t, "%c", *expected == '*' ? '7' : *expected);
+        addf(t, "%c", *expected == '*' ? '7' : *expected);
 }
 
 static void read_again(const struct paper *p)
 {
     static struct paper again;
     struct text t = {0};
-    add(&t, "steps 0\nexpect %s\n", p->expected);
+    addf(&t, "steps 0\nexpect %s\n", p->expected);
     must(take_paper("again", t.at, t.length, &again) == DONE && strcmp(again.expected, p->expected) == 0,
          "the expected line, read again", p->expected, strlen(p->expected));
     drop_paper(&again);
@@ -47,12 +47,12 @@ static void hold_expected(const struct paper *p)
     size_t length = strlen(p->expected);
     add_taken(&t, p->expected);
     must(as_expected(p, t.at) == 1, "the expected line", p->expected, length);
-    add(&t, " 0");
+    addf(&t, " 0");
     must(as_expected(p, t.at) == 0, "a longer line", p->expected, length);
     *(strchr(t.at, ' ')) = 0;
     must(as_expected(p, t.at) == (p->expected[0] == 'R'), "one field", p->expected, length);
     must(as_expected(p, "") == 0, "an empty line", p->expected, length);
-    drop(&t);
+    drop_text(&t);
     read_again(p);
 }
 

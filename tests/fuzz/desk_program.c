@@ -34,9 +34,9 @@ static void hold_listing(const struct program *p, const struct assembled *a, siz
     must(may_be_shown(plain.at, plain.length, "\n\t"), "a listing", plain.at, plain.length);
     must(may_be_shown(html.at, html.length, "\n\t") && !strpbrk(html.at, "<>\""), "a page's", html.at, html.length);
     must(plain.at[plain.length - 1] == '\n', "its last line", plain.at, plain.length);
-    drop(&lines);
-    drop(&plain);
-    drop(&html);
+    drop_text(&lines);
+    drop_text(&plain);
+    drop_text(&html);
 }
 
 int LLVMFuzzerTestOneInput(const uint8_t *data, size_t size)
@@ -63,7 +63,7 @@ int LLVMFuzzerTestOneInput(const uint8_t *data, size_t size)
             hold_listing(&p, &a, 8);
         }
     }
-    drop(&f.why);
-    drop(&t);
+    drop_text(&f.why);
+    drop_text(&t);
     return 0;
 }

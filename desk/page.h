@@ -1,0 +1,24 @@
+/*
+ * page.h - the page of a program, and what every page has.
+ */
+#ifndef PAGE_H
+#define PAGE_H
+
+#include "marking.h"
+
+void add_page_path(struct text *t, const struct sitting *s, size_t i); /* below the folder */
+void add_page_head(struct text *t, const char *title);
+void open_table(struct text *t, const char *heads); /* names of columns, a bar between two */
+void close_table(struct text *t);
+void add_page(struct text *t, const struct sitting *s, const struct marked *m);
+
+/* The walk on a page: tables that are there without scripts, and the data with the script that walks through it. */
+void add_walk_tables(struct text *t, const struct walk *w, const struct machine *after);
+void add_events_table(struct text *t, const struct walk *w, const struct paper *p, unsigned most);
+void add_walk_data(struct text *t, const struct walk *w, const struct machine *after, const struct text *screen);
+
+/* ---- what pages carry: the files of these names, page.css and so on */
+
+extern const char page_css[], index_js[], walk_html[], walk_js[];
+
+#endif

@@ -141,6 +141,7 @@ part 'what the trace refuses' count_line python3 -B scripts/trace_test.py
 part 'trace to 01' count_line python3 -B scripts/trace.py
 part 'sentences of the refusals' count_line python3 -B scripts/refusals.py
 part 'legend of every line' count_line python3 -B scripts/legend_test.py
+part 'floors of the crates' count_line python3 -B scripts/floors.py --check
 part 'layout of proofs and code' count_status rt fmt --check
 part 'texts of the must-fail edits' count_line scripts/edits.py --texts
 part 'the gate itself' count_line tests/shell/gate.sh

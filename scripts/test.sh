@@ -78,11 +78,11 @@ part() {
 
 # Joined by && since bash forgets 'set -e' in a command whose status is looked at.
 host_c() {
-    gcc $warn -std=c99 -pedantic -o "$build/host_c" tests/c/host.c "$xm23" && "$build/host_c"
+    gcc $warn -std=c99 -pedantic -o "$build/host_c" tests/c/host/*.c "$xm23" && "$build/host_c"
 }
 
 host_cpp() {
-    g++ $warn -std=c++11 -o "$build/host_cpp" -x c++ tests/c/host.c -x none "$xm23" && "$build/host_cpp"
+    g++ $warn -std=c++11 -o "$build/host_cpp" -x c++ tests/c/host/*.c -x none "$xm23" && "$build/host_cpp"
 }
 
 hostile() {

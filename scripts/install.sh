@@ -1,6 +1,6 @@
 #!/usr/bin/env bash
-# install.sh install|uninstall PREFIX DESTDIR: the header, both libraries, xm23.pc, the manual pages, print_state, and
-# xm23 with its completion, below DESTDIR/PREFIX. What is installed reads nothing of this folder. Uninstalling removes
+# install.sh install|uninstall PREFIX DESTDIR: the header, both libraries, xm23.pc, the Python module, the manual pages,
+# print_state, and xm23 with its completion, below DESTDIR/PREFIX. What is installed reads nothing of this folder. Uninstalling removes
 # the same files, of any version, and no folder.
 set -eu -o pipefail
 if [ $# -ne 3 ] || [[ $1 != install && $1 != uninstall || $2 != /* ]]; then
@@ -27,7 +27,7 @@ pages() {
 
 files="bin/print_state bin/xm23 include/xm23.h
     lib/libxm23.a lib/libxm23.so.$version lib/libxm23.so.$major_minor lib/libxm23.so
-    lib/pkgconfig/xm23.pc share/man/man1/print_state.1 share/man/man1/xm23.1 share/man/man3/xm23.3 share/man/man5/xm23.5
+    lib/pkgconfig/xm23.pc lib/python3/dist-packages/xm23.py share/man/man1/print_state.1 share/man/man1/xm23.1 share/man/man3/xm23.3 share/man/man5/xm23.5
     share/bash-completion/completions/xm23 $(pages)"
 
 install_all() {
@@ -43,6 +43,7 @@ install_all() {
     pc=${pc//@PREFIX@/"$prefix"}
     printf '%s\n' "${pc//@VERSION@/"$version"}" > build/xm23.pc
     put 644 build/xm23.pc lib/pkgconfig/xm23.pc
+    put 644 python/xm23.py lib/python3/dist-packages/xm23.py
     put 644 man/print_state.1 share/man/man1/print_state.1
     put 644 man/xm23.1 share/man/man1/xm23.1
     put 644 man/xm23.3 share/man/man3/xm23.3

@@ -133,6 +133,12 @@ example_host() {
         diff <(sed 's/ [0-9]*$//' "$build/interrupts.lines") -
 }
 
+# The module over a shared library of the archive.
+python_module() {
+    scripts/shared.sh "$xm23" "$build/python/libxm23.so.$(scripts/version.sh)" &&
+        XM23_LIBRARY=$build/python/libxm23.so.$(scripts/version.sh) python3 -B tests/python/test_xm23.py
+}
+
 card() {
     "$build/xm23" card > "$build/card.html" && python3 -B scripts/card_test.py "$build/card.html"
 }
@@ -194,6 +200,7 @@ else
     echo '== left out: desk in a browser, of which none is here (Debian: chromium)'
     parts=$((parts - 1))
 fi
+part 'Python' count_line python_module
 part 'installing' count_line tests/shell/install.sh
 part 'the report' count_line tests/shell/report.sh
 part 'going back' count_line tests/shell/back.sh

@@ -9,7 +9,7 @@ version=$(scripts/version.sh)
 prefix=$room/usr
 files="bin/print_state bin/xm23 include/xm23.h
     lib/libxm23.a lib/libxm23.so lib/libxm23.so.${version%.*} lib/libxm23.so.$version
-    lib/pkgconfig/xm23.pc share/man/man1/print_state.1 share/man/man1/xm23.1
+    lib/pkgconfig/xm23.pc lib/python3/dist-packages/xm23.py share/man/man1/print_state.1 share/man/man1/xm23.1
     share/man/man3/xm23.3 share/man/man3/xm23_decode.3 share/man/man5/xm23.5 share/bash-completion/completions/xm23"
 
 # there FOLDER: what lies below it that is no folder.
@@ -62,9 +62,13 @@ expect "README's example in C++" 0 "$said" '' built g++ -std=c++11 -x c++ "$room
 expect "the manual's example in C" 0 'accepted, reason 0, 1000 steps' '' built gcc -std=c99 -pedantic "$room/manual.c"
 expect "the manual's example in C++" 0 'accepted, reason 0, 1000 steps' '' \
     built g++ -std=c++11 -x c++ "$room/manual.c" -x none
-expect "README's example in Python" 0 'refusal 0 steps 1 depth 0 R0 1' '' \
-    python3 -B examples/run.py "$prefix/lib/libxm23.so"
-expect 'by its name' 0 'refusal 0 steps 1 depth 0 R0 1' '' env LD_LIBRARY_PATH="$prefix/lib" python3 -B examples/run.py
+said='accepted, steps 1 depth 0 R0 1'
+python() { # FILE..: with the module and the library that were installed
+    PYTHONPATH=$prefix/lib/python3/dist-packages LD_LIBRARY_PATH=$prefix/lib python3 -B "$@"
+}
+expect "README's example in Python" 0 "$said" '' python examples/run.py
+expect 'by a path' 0 "$said" '' env XM23_LIBRARY="$prefix/lib/libxm23.so" PYTHONPATH=python python3 -B examples/run.py
+expect 'a folder marked from Python' 0 '.*sound.s19: sum 31, ticks 2, sound.*' '' python examples/ticks.py
 same 'is that of README' "$(cat "$room/readme.py")" "$(cat examples/run.py)"
 same 'xm23' "$("$prefix/bin/xm23" dis examples/copy_words.s19)" "$(cat examples/copy_words.lst)"
 same 'print_state' "$("$prefix/bin/print_state" < /dev/null)" R3

@@ -4,31 +4,6 @@
 #include "desk.h"
 #include "source.h"
 
-/* The first address from one on whose byte is named, or is not. */
-static unsigned next_place(const struct assembled *a, unsigned at, unsigned named)
-{
-    while (at < XM23_MEMORY_SIZE && a->set[at] != named)
-        at++;
-    return at;
-}
-
-/* A text of one span at a time; of each but the last the S9 line, the last of a text, is taken off. */
-static void add_spans(struct text *t, const struct assembled *a)
-{
-    static uint8_t lines[XM23_SREC_LENGTH(XM23_MEMORY_SIZE)];
-    unsigned at = next_place(a, 0, 1), end;
-    size_t length = 0, s9 = XM23_SREC_LENGTH(0);
-    while (at < XM23_MEMORY_SIZE) {
-        end = next_place(a, at, 0);
-        length = XM23_WRITTEN(
-            xm23_write_srec(a->memory, sizeof a->memory, (uint16_t)at, end - at, a->pc, lines, sizeof lines));
-        add_bytes(t, lines, length - s9);
-        at = next_place(a, end, 1);
-    }
-    length = XM23_WRITTEN(xm23_write_srec(a->memory, sizeof a->memory, 0, 0, a->pc, lines, sizeof lines));
-    add_bytes(t, lines, length);
-}
-
 /* The PC that is asked for; told where it is none. */
 static int put_start(const struct program *p, const char *start, struct assembled *a)
 {
@@ -60,7 +35,7 @@ static int assemble_program(const struct program *p, const char *to, const char 
         if (listing)
             add_lines(&t, p, &a);
         else
-            add_spans(&t, &a);
+            add_srec(&t, &a);
         status = write_file(to, &t);
     }
     drop_text(&t);

@@ -108,6 +108,15 @@ const struct subcommand subcommands[] = {
      "\n"
      "  -o FILE  write there instead\n",
      xm23_desk_dis},
+    {"paper", "xm23 paper [-o FILE] PAPER", "print a paper as it was understood, every event and byte written out",
+     "Reads PAPER and prints it as it was understood: the lines 'every', 'type' and 'source' as the events and bytes\n"
+     "that they come to, names as their numbers, without comments. What is printed is a paper that stands alone, and\n"
+     "read again it is the same. (On a terminal bytes of a title that are not printable are shown as \\xHH.)\n"
+     "\n"
+     "  -o FILE  write there instead of to standard output\n"
+     "\n"
+     "Status 1: PAPER has a mistake, or a source that it brings.\n",
+     xm23_desk_paper},
     {"stack", "xm23 stack PAPER [PROGRAM]", "tell the stack bytes that a paper's handlers can need",
      "Prints the stack bytes that the handlers of the devices with a line 'use DEVICE BYTES' can need together,\n"
      "above the priority of the line 'priority P' (0). The vectors are PAPER's, and those of PROGRAM where PAPER has\n"

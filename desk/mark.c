@@ -66,7 +66,7 @@ static int mark_paper(struct sitting *s, const char *name, const char *folder)
     if (status != DONE)
         return status;
     s->paper = &p;
-    status = sha256(p.bytes, p.length, s->paper_digest) ? mark_into(s, folder) : UNREADABLE;
+    status = digest_paper(&p, s->paper_digest) ? mark_into(s, folder) : UNREADABLE;
     drop_paper(&p);
     return status;
 }

@@ -25,7 +25,7 @@ enum { UNMARKED = -1 }; /* what could not be marked has a row and a page that sa
 
 struct sitting {
     struct paper *paper;
-    char paper_digest[SHA256_TEXT];
+    char paper_digest[PAPER_DIGESTS]; /* of digest_paper */
     char **names;
     size_t many;
     unsigned workers;

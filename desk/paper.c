@@ -5,20 +5,33 @@
 #include "desk.h"
 #include "program.h"
 
+typedef int taker(struct paper *p, uint32_t line, const char *at, const char *end);
+
 /* Line by line; a CR before the LF is none of the line. */
-static int take_lines(struct paper *p)
+static int each_line(struct paper *p, taker *take)
 {
     const char *at = p->bytes, *end = p->bytes + p->length;
-    for (uint32_t line = 1; at < end; line++) {
+    int status = DONE;
+    for (uint32_t line = 1; at < end && status == DONE; line++) {
         const char *lf = (const char *)memchr(at, '\n', (size_t)(end - at)), *stop = lf ? lf : end;
         const char *last = lf && stop > at && stop[-1] == '\r' ? stop - 1 : stop;
-        if (!paper_line(p, line, at, last))
-            return 0;
+        status = take(p, line, at, last);
         at = lf ? lf + 1 : end;
     }
-    if (!p->steps_line)
+    return status;
+}
+
+/* The sources first, so that their names may stand on any line. */
+static int take_lines(struct paper *p)
+{
+    int status = each_line(p, source_line);
+    if (status == DONE)
+        status = each_line(p, paper_line);
+    if (status == DONE && !p->steps_line) {
         say_at(p->name, 0, "has no line 'steps N'");
-    return p->steps_line != 0;
+        status = REFUSED;
+    }
+    return status;
 }
 
 /* The paper's S-records, under what its other lines lay. Without an S9 they get one that says nothing. */
@@ -48,17 +61,46 @@ static int lay_srec(struct paper *p)
     return good;
 }
 
-static void pack_events(struct paper *p)
+/* How many bytes of the S-records their first lines have. */
+static size_t length_of(const struct paper *p, size_t lines)
 {
-    p->event_bytes = (uint8_t *)room_for(NULL, XM23_EVENT_SIZE * p->many_events);
-    memset(p->event_bytes, 0, XM23_EVENT_SIZE * p->many_events);
-    for (size_t i = 0; i < p->many_events; i++) {
-        uint8_t *at = p->event_bytes + XM23_EVENT_SIZE * i;
-        put_word(at, XM23_EVENT_STEP, p->events[i].step & 0xFFFF);
-        put_word(at, XM23_EVENT_STEP + 2, p->events[i].step >> 16);
-        at[XM23_EVENT_DEVICE] = (uint8_t)p->events[i].device;
-        at[XM23_EVENT_DATA] = (uint8_t)p->events[i].byte;
+    size_t length = 0;
+    while (lines-- > 0)
+        length += strcspn(p->srec.at + length, "\n") + 1;
+    return length;
+}
+
+/* Whether the first so many lines of the S-records, of which the last may be S9, lay a byte. */
+static int first_lay(const struct paper *p, size_t lines, unsigned at, struct assembled *a)
+{
+    struct text t = {0};
+    struct fault f = {0};
+    int good;
+    add_bytes(&t, p->srec.at, length_of(p, lines));
+    addf(&t, "S9030000FC\n");
+    good = load_srec(t.at, t.length, a, &f) && a->set[at];
+    drop_text(&t);
+    drop_text(&f.why);
+    return good;
+}
+
+/* Of S-records the first of their lines with which the byte is laid. */
+uint32_t laying_line(const struct paper *p, unsigned at)
+{
+    struct assembled *a;
+    size_t below = 0, above = p->many_srec;
+    if (!p->set[at] || p->laid[at])
+        return p->laid[at];
+    a = (struct assembled *)room_for(NULL, sizeof *a);
+    while (below + 1 < above) {
+        size_t middle = below + (above - below) / 2;
+        if (first_lay(p, middle, at, a))
+            above = middle;
+        else
+            below = middle;
     }
+    free(a);
+    return p->srec_lines[above - 1];
 }
 
 /* The line of the first event that shares step and device with an earlier one, whose line goes to `first`. */
@@ -84,7 +126,7 @@ static uint32_t line_at_fault(const struct paper *p, unsigned refusal, uint32_t 
                    ? p->start_line[START_CEX]
                    : p->start_line[START_HALTED];
     if (refusal == XM23_REFUSED_EVENTS)
-        return p->many_events > XM23_MAX_EVENTS ? p->events[XM23_MAX_EVENTS].line : 0;
+        return p->full_line;
     for (size_t i = 0; refusal == XM23_REFUSED_EVENT_FIELDS && i < p->many_events; i++)
         if (p->events[i].device > 7)
             return p->events[i].line;
@@ -126,19 +168,31 @@ static int judge(const struct paper *p)
     return refusal == XM23_ACCEPTED;
 }
 
+/* Those of event lines by themselves, which stand in order, and then with those that other lines make. */
+static int judge_events(struct paper *p)
+{
+    pack_events(p);
+    if (!judge(p))
+        return 0;
+    if (!p->many_made)
+        return 1;
+    merge_events(p);
+    pack_events(p);
+    return judge(p);
+}
+
 int take_paper(const char *name, char *bytes, size_t length, struct paper *p)
 {
+    int status;
     memset(p, 0, sizeof *p);
     p->name = name;
     p->bytes = bytes;
     p->length = length;
-    if (take_lines(p) && (!p->many_srec || lay_srec(p))) {
-        pack_events(p);
-        if (judge(p))
-            return DONE;
-    }
+    status = take_lines(p);
+    if (status == DONE && (!p->many_srec || lay_srec(p)) && lay_sources(p) && judge_events(p))
+        return DONE;
     drop_paper(p);
-    return REFUSED;
+    return status == DONE ? REFUSED : status;
 }
 
 int read_paper(const char *name, struct paper *p)
@@ -159,8 +213,29 @@ void drop_paper(struct paper *p)
     free(p->title);
     free(p->expected);
     free(p->events);
+    free(p->made);
     free(p->event_bytes);
     free(p->srec_lines);
     drop_text(&p->srec);
+    drop_sources(p);
     memset(p, 0, sizeof *p);
+}
+
+int digest_paper(const struct paper *p, char *digits)
+{
+    int good = sha256(p->bytes, p->length, digits);
+    for (size_t i = 0; good && i < p->many_sources; i++) {
+        digits += SHA256_TEXT - 1;
+        *digits++ = ' ';
+        good = sha256(p->sources[i].bytes, p->sources[i].length, digits);
+    }
+    return good;
+}
+
+int overwrites_paper(const char *to, const struct paper *p)
+{
+    for (size_t i = 0; i < p->many_sources; i++)
+        if (overwrites(to, p->sources[i].name))
+            return 1;
+    return overwrites(to, p->name);
 }

@@ -38,6 +38,10 @@ struct assembled {
 int load_srec(const char *text, size_t length, struct assembled *a, struct fault *f);
 int load_program(const struct program *p, struct assembled *a, struct fault *f);
 
+/* ---- spans.c: S1 lines of the bytes that are of a kind in `set`; all that a program names, and S9 */
+void add_spans(struct text *t, const uint8_t *memory, const uint8_t *set, unsigned kind);
+void add_srec(struct text *t, const struct assembled *a);
+
 /* Tells a refusal of a program. REFUSED. */
 int say_fault(const char *name, const struct fault *f);
 

@@ -56,7 +56,9 @@ int xm23_desk_report(int argc, char **argv)
     if (status != DONE)
         return status;
     s.paper = &p;
-    status = sha256(p.bytes, p.length, s.paper_digest) ? report(&s, argv[optind + 1], to) : UNREADABLE;
+    status = UNREADABLE;
+    if (!overwrites_paper(to, &p) && digest_paper(&p, s.paper_digest))
+        status = report(&s, argv[optind + 1], to);
     drop_paper(&p);
     return status;
 }

@@ -81,6 +81,30 @@ static unsigned bytes_of(const struct places *p, size_t line)
     return record_of(p, line)[XM23_PLACE_BYTES];
 }
 
+/* The first word of the line that starts at a place: its name, where the library says that it has one. */
+static const char *first_word(const char *source, size_t at, size_t *length)
+{
+    const char *word = source + at + strspn(source + at, " \t");
+    *length = strspn(word, "ABCDEFGHIJKLMNOPQRSTUVWXYZ0123456789");
+    return word;
+}
+
+size_t source_names(const char *source, size_t length, struct name **names)
+{
+    struct places p = read_places(source, length);
+    size_t many = 0, at = 0;
+    *names = (struct name *)room_for(NULL, p.many * sizeof **names);
+    for (size_t i = 0; i < p.many; at = after_line(source, length, at), i++)
+        if (record_of(&p, i)[XM23_PLACE_NAMED]) {
+            struct name *n = &(*names)[many++];
+            n->at = first_word(source, at, &n->length);
+            n->value = XM23_PLACE_VALUE_OF(record_of(&p, i));
+            n->line = (uint32_t)i + 1;
+        }
+    free(p.records);
+    return many;
+}
+
 /* ---- a source assembled */
 
 /* The bytes that a source states, and the place of its first instruction, 0 where there is none. */
@@ -96,6 +120,16 @@ static void find_stated(const char *source, size_t length, struct assembled *a)
             a->pc = (uint16_t)place_of(&p, i);
     }
     free(p.records);
+}
+
+uint32_t line_stating(const char *source, size_t length, unsigned at)
+{
+    struct places p = read_places(source, length);
+    size_t line = p.many;
+    while (line > 0 && at - place_of(&p, line - 1) >= bytes_of(&p, line - 1))
+        line--;
+    free(p.records);
+    return (uint32_t)line;
 }
 
 int assemble_source(const char *source, size_t length, struct assembled *a, struct fault *f)
@@ -169,8 +203,9 @@ static void assemble_first(const char *source, size_t length, const struct place
     add_bytes(&t, source, at);
     for (size_t i = many; i < p->many; at = after_line(source, length, at), i++)
         if (record_of(p, i)[XM23_PLACE_NAMED]) {
-            const char *name = source + at + strspn(source + at, " \t");
-            add_bytes(&t, name, strspn(name, "ABCDEFGHIJKLMNOPQRSTUVWXYZ0123456789"));
+            size_t letters;
+            const char *name = first_word(source, at, &letters);
+            add_bytes(&t, name, letters);
             addf(&t, " EQU #%ld\n", (long)XM23_PLACE_VALUE_OF(record_of(p, i)));
         }
     addf(&t, "END\n");

@@ -126,6 +126,8 @@ desk_search() {
 desk_paper_seeds() {
     cp examples/sitting/sum.paper "$1"
     printf 'steps 9\npriority 2\nbytes 7 $1 #-2 %s\nstart CEX=1 LINES=$12\nexpect R11 ; x\n' "'a'" > "$1/more.paper"
+    printf 'steps 9\nsource examples/sitting/sources/clock.asm\nvector 1 $60 TICK\nwords TICKS 0\n' > "$1/source.paper"
+    printf 'steps 9\n5 2 7\nevery 3 from 1 to 9 1 0\ntype 4 every 2 0 "a\\n\\x41\\""\ntitle x\n' > "$1/events.paper"
 }
 
 # The first byte says what the rest is.

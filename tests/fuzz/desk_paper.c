@@ -1,7 +1,7 @@
 /*
  * A target of libFuzzer: a paper, whose text the string is. Held: it is taken without a word, or refused with one line
- * that may be shown; what is taken is a run that the library takes; its expected line agrees with itself, is read again
- * to the same, and agrees with no shorter, longer or empty one.
+ * that may be shown; what is taken is a run that the library takes; printed and read again it is the same paper; its
+ * expected line agrees with itself, is read again to the same, and agrees with no shorter, longer or empty one.
  */
 #include <string.h>
 
@@ -56,6 +56,61 @@ static void hold_expected(const struct paper *p)
     read_again(p);
 }
 
+/* ---- printed and read again */
+
+static int same_text(const char *a, const char *b)
+{
+    return a && b ? strcmp(a, b) == 0 : a == b;
+}
+
+/* Whether the same parts have a line. */
+static int same_lines(const uint32_t *a, const uint32_t *b, size_t many)
+{
+    size_t i = 0;
+    while (i < many && !a[i] == !b[i])
+        i++;
+    return i == many;
+}
+
+static int same_events(const struct paper *a, const struct paper *b)
+{
+    size_t i = 0;
+    while (i < a->many_events && i < b->many_events && a->events[i].step == b->events[i].step &&
+           a->events[i].device == b->events[i].device && a->events[i].byte == b->events[i].byte)
+        i++;
+    return a->many_events == b->many_events && i == a->many_events &&
+           memcmp(a->event_bytes, b->event_bytes, XM23_EVENT_SIZE * i) == 0;
+}
+
+/* Everything but names, sources and the numbers of lines. */
+static int same_paper(const struct paper *a, const struct paper *b)
+{
+    return same_text(a->title, b->title) && same_text(a->expected, b->expected) &&
+           memcmp(a->record, b->record, sizeof a->record) == 0 && memcmp(a->memory, b->memory, sizeof a->memory) == 0 &&
+           memcmp(a->set, b->set, sizeof a->set) == 0 && memcmp(a->uses, b->uses, sizeof a->uses) == 0 &&
+           a->devices == b->devices && a->steps == b->steps && a->priority == b->priority && same_events(a, b) &&
+           same_lines(a->start_line, b->start_line, STARTS) && same_lines(a->device_line, b->device_line, 8) &&
+           same_lines(a->vector_line, b->vector_line, 16) && same_lines(a->use_line, b->use_line, 8) &&
+           same_lines(&a->priority_line, &b->priority_line, 1);
+}
+
+static void print_and_read(const struct paper *p)
+{
+    static struct paper again;
+    struct text t = {0}, twice = {0};
+    char *bytes;
+    add_paper(&t, p);
+    bytes = (char *)room_for(NULL, t.length + 1);
+    memcpy(bytes, t.at, t.length + 1);
+    must(take_paper("again", bytes, t.length, &again) == DONE && same_paper(p, &again),
+         "a paper, printed and read again", t.at, t.length);
+    add_paper(&twice, &again);
+    must(t.length == twice.length && memcmp(t.at, twice.at, t.length) == 0, "a paper, printed twice", t.at, t.length);
+    drop_paper(&again);
+    drop_text(&t);
+    drop_text(&twice);
+}
+
 int LLVMFuzzerTestOneInput(const uint8_t *data, size_t size)
 {
     static struct paper p;
@@ -68,6 +123,7 @@ int LLVMFuzzerTestOneInput(const uint8_t *data, size_t size)
     if (status != DONE)
         return 0;
     run_paper(&p);
+    print_and_read(&p);
     if (p.expected)
         hold_expected(&p);
     drop_paper(&p);

@@ -58,15 +58,19 @@ void follow_trace(struct fates *f, const struct paper *p, const uint8_t *trace, 
     }
 }
 
-void trace_events(struct fates *f, const struct paper *p, struct machine *m, uint64_t n)
+void trace_events(struct fates *f, struct picture *d, const struct paper *p, struct machine *m, uint64_t n)
 {
     static uint8_t trace[XM23_TRACE_SIZE * MOST_TRACE];
     uint32_t kinds = XM23_KIND(XM23_KIND_EVENT) | XM23_KIND(XM23_KIND_CHAIN) | XM23_KIND(XM23_KIND_ACCEPT);
     uint64_t reply;
+    if (d)
+        kinds |= DRAWN_KINDS;
     do {
         reply = xm23_trace(m->memory, sizeof m->memory, m->record, sizeof m->record, p->event_bytes,
                            XM23_EVENT_SIZE * p->many_events, trace, sizeof trace, kinds, n);
         follow_trace(f, p, trace, XM23_TRACE_ADDED(reply));
+        if (d)
+            draw_trace(d, trace, XM23_TRACE_ADDED(reply));
         n -= XM23_RUN_STEPS(reply);
     } while (XM23_RUN_REASON(reply) == XM23_REASON_TRACE);
 }
@@ -175,7 +179,7 @@ static int tell_events(const struct paper *p, const struct program *program, int
     int status;
     if (open_program(p, program, &m, &f)) {
         begin_fates(&fates, p, &m);
-        trace_events(&fates, p, &m, p->steps);
+        trace_events(&fates, NULL, p, &m, p->steps);
         if (rows)
             add_rows(&t, &fates, p);
         else

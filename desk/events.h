@@ -5,6 +5,7 @@
 #define EVENTS_H
 
 #include "machine.h"
+#include "picture.h"
 
 #define MOST_WALK (XM23_MAX_JOURNAL / XM23_JOURNAL_SIZE) /* steps: 1,024 */
 #define MOST_TRACE (9 * MOST_WALK)                       /* records: a step has eight events at most, and its act */
@@ -25,7 +26,9 @@ struct fates {
 
 void begin_fates(struct fates *f, const struct paper *p, const struct machine *m);
 void follow_trace(struct fates *f, const struct paper *p, const uint8_t *trace, uint32_t records);
-void trace_events(struct fates *f, const struct paper *p, struct machine *m, uint64_t n); /* runs on by n steps */
+
+/* Runs on by n steps, and follows their trace; the picture too, where it is not NULL. */
+void trace_events(struct fates *f, struct picture *d, const struct paper *p, struct machine *m, uint64_t n);
 
 /* A word for each: whether it was taken, else why not; an overrun; its interrupt. Empty where it was not taken. */
 const char *event_word(const struct fates *f, const struct paper *p, size_t i);

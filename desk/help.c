@@ -52,9 +52,10 @@ const struct subcommand subcommands[] = {
     {"report", "xm23 report [-s] [-o PAGE] PAPER PROGRAM",
      "write the page of one run, with its last steps to walk through",
      "Runs PROGRAM under PAPER and writes a page of HTML: the line, the closing state beside the expected one, the\n"
-     "screen, whether the handlers were sound, and the last 1,024 steps to walk forwards and backwards: registers,\n"
-     "instruction, what it wrote, stack with its frames, screen so far, who wrote a byte. Without scripts, and in\n"
-     "print, it has the closing state and the last 32 steps. It is whole by itself.\n"
+     "screen, a picture of the whole run, whether the handlers were sound, and the last 1,024 steps to walk forwards\n"
+     "and backwards: registers, instruction, what it wrote, stack with its frames, screen so far, who wrote a byte.\n"
+     "Without scripts, and in print, it has the picture, the closing state and the last 32 steps. It is whole by\n"
+     "itself.\n"
      "\n"
      "  -s        judge the handlers, whatever PAPER has, as mark -s does\n"
      "  -o PAGE   write there instead of to standard output\n"

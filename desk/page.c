@@ -227,7 +227,11 @@ static void add_heading(struct text *t, const struct sitting *s, const struct ro
 
 static void add_state(struct text *t, const struct sitting *s, const struct marked *m, unsigned most)
 {
+    addf(t, "<div class=\"beside\">\n<div>\n");
     add_fields(t, s->paper, m->row.line.at);
+    addf(t, "</div>\n<div class=\"grow\">\n");
+    add_picture(t, &m->walk.picture, m->walk.many ? step_count(&m->walk.steps[0]) : 0);
+    addf(t, "</div>\n</div>\n");
     if (m->walk.many)
         addf(t, "%s<noscript><p>Without scripts the walk is not shown; its last steps are below.</p></noscript>\n",
             walk_html);

@@ -167,6 +167,7 @@ static void run_last(struct walk *w, const struct paper *p, struct machine *m, u
     reply = xm23_trace(traced.memory, sizeof traced.memory, traced.record, sizeof traced.record, p->event_bytes, events,
                        w->trace, sizeof w->trace, XM23_KINDS, last);
     follow_trace(&w->fates, p, w->trace, XM23_TRACE_ADDED(reply));
+    draw_trace(&w->picture, w->trace, XM23_TRACE_ADDED(reply));
     take_trace(w, XM23_TRACE_ADDED(reply));
     reply = xm23_run_journal(m->memory, sizeof m->memory, m->record, sizeof m->record, p->event_bytes, events, w->log,
                              sizeof w->log, &deepest, w->journal, sizeof w->journal, &kept, &place, last);
@@ -181,8 +182,10 @@ void walk_run(struct walk *w, const struct paper *p, struct machine *m, uint32_t
     uint32_t last = steps < MOST_WALK ? steps : MOST_WALK;
     memset(w, 0, sizeof *w);
     begin_fates(&w->fates, p, m);
-    trace_events(&w->fates, p, m, steps - last);
+    begin_picture(&w->picture, m->record, steps);
+    trace_events(&w->fates, &w->picture, p, m, steps - last);
     run_last(w, p, m, last);
+    end_picture(&w->picture);
     go_back(w, p, m);
     find_frames(w);
 }

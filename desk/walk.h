@@ -29,6 +29,7 @@ struct walk {
     struct step steps[MOST_WALK];
     struct frame frames[MOST_WALK + 1];
     struct fates fates;
+    struct picture picture;
     uint32_t many, shown;         /* steps; log records of them */
     unsigned many_frames, strays; /* strays: returns that pulled with none of these frames open */
 };

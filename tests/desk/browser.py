@@ -138,6 +138,24 @@ def try_steps(browser, program):
          [re.sub(" +", " ", line).strip() for line in lines])
 
 
+def try_picture(browser, marks):
+    """The picture of the run is as wide as the page at every width, and its words are as large."""
+    for scripts in (True, False):
+        browser.open(os.path.join(marks, "pages/000005-unsound.s19.html"), scripts=scripts)
+        browser.call("Emulation.setScriptExecutionDisabled", value=False)
+        for width in (360, 1280, 1920):
+            browser.size(width, 900)
+            bars, words, page = browser.value(
+                "['#run .high', '#run text', 'body'].map((s) => document.querySelector(s).getBoundingClientRect())"
+                ".map((r) => [r.left, r.right, r.height])")
+            same(f"picture: {width} pixels", (page[0] < bars[0] < bars[1] < page[1], 9 < words[2] < 20), (True, True))
+    browser.size(1280, 900)
+    browser.call("Emulation.setEmulatedMedia", media="print")
+    shown = browser.value("getComputedStyle(document.getElementById('run')).display")
+    browser.call("Emulation.setEmulatedMedia", media="")
+    same("picture: in print", shown, "block")
+
+
 def try_writer(browser):
     browser.press("End")
     browser.press("w")
@@ -227,6 +245,7 @@ with tempfile.TemporaryDirectory() as room:
         browser.open(os.path.join(marks, "pages/000001-halting.s19.html"))
         try_steps(browser, "programs/halting.s19")
         try_finding(browser, marks)
+        try_picture(browser, marks)
         try_without_scripts(browser, marks)
         try_long(browser, room)
     finally:

@@ -29,9 +29,9 @@ complete_words() { # WORD..
     bash -c '. desk/completion.bash; COMP_WORDS=("$@"); COMP_CWORD=$(($# - 1)); _xm23; echo "${COMPREPLY[*]}"' - "$@" \
         2> /dev/null
 }
-same 'subcommands' "$(complete_words xm23 '')" 'run mark report back events sound asm dis stack card --help --version'
-same 'every subcommand is completed' "$("$xm23" --help | sed -n 's/^  \([a-z]*\) .*/\1/p' | tr '\n' ' ')" \
-    'run mark report back events sound asm dis stack card '
+subcommands=$("$xm23" --help | sed -n 's/^  \([a-z]*\) .*/\1/p' | tr '\n' ' ')
+like 'subcommands' "$subcommands" 'run mark report back events .*card '
+same 'every subcommand is completed' "$(complete_words xm23 '')" "$subcommands--help --version"
 same 'options' "$(complete_words xm23 mark -)" '-j -o -0 -L -s --help'
 same 'files' "$(complete_words xm23 run examples/sitting/sum)" 'examples/sitting/sum.paper'
 same 'folders' "$(complete_words xm23 mark -o examples/sit)" 'examples/sitting'

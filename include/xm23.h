@@ -578,7 +578,7 @@ uint64_t xm23_run_journal(uint8_t *memory, size_t memory_len, uint8_t *record, s
  * refusals             in the order tested: those of xm23_run but for the log's, then XM23_REFUSED_TRACE. Refused:
  *                      memory, record and trace are as they were.
  * defined              crates/trace/specs/Call.antt, traceCallOf, for every length, content and number; Trace.antt,
- *                      tracedOf.
+ *                      tracedOf; what holds of it: Theorems.antt.
  */
 uint64_t xm23_trace(uint8_t *memory, size_t memory_len, uint8_t *record, size_t record_len, const uint8_t *events,
                     size_t events_len, uint8_t *trace, size_t trace_len, uint32_t kinds, uint64_t n);

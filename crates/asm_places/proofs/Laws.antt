@@ -1,4 +1,5 @@
--- Laws of the listing: the bytes of a line, lines one after the other, the number of lines, and the call. Assumes nothing.
+-- Laws of the listing: a line's eight bytes stored one by one are its record, records of lines follow one another as the lines do, the
+-- third sweep counts as many lines as are listed, and the call is refused, too short or whole by its tests. Assumes nothing.
 use mathlib.Core.Path.{_≡_, refl, sym, ap, _∙_}
 use mathlib.Core.Bool.{Bool, true, false, cond}
 use mathlib.Core.List.{List, [], _∷_, _++_, append-nil, append-assoc}

@@ -1,4 +1,5 @@
--- A source computed: its verdict, its records, and the call's answers. Assumes nothing.
+-- A source computed: the definitions reduce to its verdict and its records, and the call's answers follow from them for a buffer of
+-- any content that is long enough, or too short. Assumes nothing.
 use mathlib.Core.Path.{_≡_, refl, sym, ap, _∙_}
 use mathlib.Core.List.{List, _++_}
 use Prim.Native.Nat.{ℕ, _≤_}

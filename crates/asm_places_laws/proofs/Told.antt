@@ -1,4 +1,5 @@
--- The listing tells what the assembler does. Assumes nothing.
+-- The listing tells what the assembler does: both go line by line through the same lines with the same names, so their statements,
+-- places and sizes agree line by line; a statement without bytes leaves the image as it is. Assumes nothing.
 use mathlib.Core.Path.{_≡_, refl, sym, ap, _∙_, subst}
 use mathlib.Core.Bool.{Bool, true, false, cond}
 use mathlib.Core.List.{List, [], _∷_, _++_}
@@ -118,7 +119,7 @@ record-each s e =
 
 -- ---- records with bytes
 
-size-told : (x : Listed) → sizeIn (recordOf x) ≡ sizeOf (layoutOf (x .statement))
+pub size-told : (x : Listed) → sizeIn (recordOf x) ≡ sizeOf (layoutOf (x .statement))
 unfolding eightOf
 size-told x = refl
 
@@ -180,7 +181,7 @@ image-written (x ∷ xs) g m =
     (ap (λ (n : ℕ). eqb n 0) (size-told x) ∙ q)
     ∙ ap (λ (n : ℕ). imageOf rest (sets m n (bytesOf n y))) (place-told x (g .0) (eqb-false s 0 q))))
 
-good-listed : (m s : List ℕ) → Accepted m s → AllGood (placedAll (listedOf s))
+pub good-listed : (m s : List ℕ) → Accepted m s → AllGood (placedAll (listedOf s))
 good-listed m s h = subst AllGood (sym (same-statements (namesOf s) s)) (accepted-whole m s h .1)
 
 pub writes-told : WritesTold

@@ -7,18 +7,20 @@ use mathlib.Core.Bool.{cond}
 use mathlib.Core.List.{List, [], _∷_, _++_}
 use lib.Dec.{eqb}
 use lib.ListN.{length, drop, getD}
+use lib.Seq.{sets}
+use mir.Val.{boolByte}
 use Rattle.lines.specs.Lines.{linesOf}
 use Rattle.asm_value.specs.declared.Value.{Value}
 use Rattle.asm_line.specs.Line.{lineOf}
 use Rattle.asm_write.specs.Written.{layoutOf, bytesOf}
 use Rattle.asm_sweeps.specs.Form.{noNames, end?}
-use Rattle.asm_sweeps.specs.Uses.{namesOf, verdictOf}
+use Rattle.asm_sweeps.specs.Uses.{namesOf, verdict, verdictOf}
 use Rattle.asm_image.specs.Image.{Placed, placing, placedOf, imageOf}
-use Rattle.asm_call.specs.Call.{assembleCallOf}
+use Rattle.asm_call.specs.Call.{assembleReply, assembleCallOf}
 use Rattle.asm_theorems.specs.Theorems.{Accepted}
 use Rattle.asm_labels.specs.Labels.{Given, givenOf}
 use Rattle.asm_places.specs.Listing.{Listed, listedWith, listedOf, valueBits, numberAt, recordOf, recordsOf}
-use Rattle.asm_places.specs.Call.{placesCallOf}
+use Rattle.asm_places.specs.Call.{recorded, placesVerdict, placesCallOf}
 
 -- ---- the same statements at the same places
 
@@ -88,6 +90,33 @@ abbrev pub RecordsThenKept : Type 0
 RecordsThenKept =
     (s b : List ℕ) → verdictOf s .refusal ≡ 0 → length (recordsOf (listedOf s)) ≤ length b
     → placesCallOf s b .places ≡ recordsOf (listedOf s) ++ drop (length (recordsOf (listedOf s))) b
+
+-- ---- room that is always enough
+
+-- the line feeds of a source
+unfoldable pub feeds : List ℕ → ℕ
+feeds [] = 0
+feeds (b ∷ s) = boolByte (eqb b 10) + feeds s
+
+-- "8 bytes for each LF of the source and 8 more always suffice": the records fit, so 22 is not given, and the call
+-- accepts and tells whole whatever the assembler accepts. [call places]
+pub record Enough (s b : List ℕ) : Type 0 where
+  pub fits : length (recordsOf (listedOf s)) ≤ length b
+  pub refusal : placesVerdict s b .refusal ≡ verdictOf s .refusal
+  pub accepted : verdictOf s .refusal ≡ 0
+      → placesCallOf s b
+      ≡ recorded (assembleReply (verdict 0 (length (listedOf s)))) (sets b 0 (recordsOf (listedOf s)))
+
+abbrev pub EnoughRoom : Type 0
+EnoughRoom = (s b : List ℕ) → 8 * feeds s + 8 ≤ length b → Enough s b
+
+-- "A place beyond memory occurs where no byte follows it": what a line puts into memory is in memory. [call places]
+abbrev pub AllInside : List Listed → Type 0
+AllInside [] = Unit
+AllInside (x ∷ xs) = ((sizeIn (recordOf x) ≡ 0 → ⊥) → x .place + sizeIn (recordOf x) ≤ 65536) × AllInside xs
+
+abbrev pub BytesInside : Type 0
+BytesInside = (m s : List ℕ) → Accepted m s → AllInside (listedOf s)
 
 -- ---- names
 

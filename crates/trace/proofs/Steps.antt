@@ -1,5 +1,5 @@
--- What one step adds to a trace: which kinds, its one act, filters, and none where nothing that is asked for happens.
--- Assumes nothing.
+-- What one step adds to a trace: a machine that is not halted has a plan with an act of a kind from 1 to 11, by cases of the plan; so
+-- with all kinds there is one act; a filter goes record by record; and nothing is added where nothing asked for happens. Assumes nothing.
 use Prim.Native.Nat.{ℕ, _<_}
 use native.Mathlib.Omega.{arith}
 use mathlib.Core.Bool.{true, false, cond, true≢false}

@@ -1,11 +1,12 @@
--- The trace call from its parts: refused, or run. Assumes nothing.
+-- The trace call from its parts: refused, or run. Its tests are made in the definition's order, and few steps and few events mean few
+-- records, so that each part of the reply has its bits. Assumes nothing.
 use Prim.Native.Nat.{ℕ, zero, suc, _%_, _<_, _≤_}
-use mathlib.Core.Bool.{true, false, cond, not, _||_, true≢false}
+use mathlib.Core.Bool.{true, false, cond, not, _||_}
 use mathlib.Core.List.{List}
 use mathlib.Core.Logic.{_≢_}
 use mathlib.Core.Path.{_≡_, refl, sym, ap, _∙_}
 use native.Mathlib.Omega.{arith}
-use lib.Dec.{eqb, ltb}
+use lib.Dec.{ltb}
 use lib.ListN.{length}
 use Rattle.machine.specs.declared.Machine.{Machine}
 use Rattle.machine.specs.declared.Reason.{Reason}
@@ -16,15 +17,14 @@ use Rattle.machine.specs.Refusal.{verdictOf, refusalNumber}
 use Rattle.machine.specs.Run.{reasonNumber}
 use Rattle.machine.specs.Call.{replyNumber}
 use Rattle.machine_laws.specs.Passed.{Passed}
-use Rattle.machine_laws.proofs.Cases.{bool-cases, eq-of, is-eq, is-lt, not-eq, not-lt}
-use Rattle.machine_laws.proofs.Records.{passed, is-accepted}
+use Rattle.machine_laws.proofs.Cases.{is-eq, is-lt, not-eq, not-lt}
 use Rattle.trace.specs.Traced.{Traced, runTraced, reasonTraced}
 use Rattle.trace.specs.Before.{Apart}
 use Rattle.trace.specs.Call.{Closing, misfits, refusalOf, roomOf, traceAfter, closing, runOn, traceCallOf}
 use Rattle.trace.proofs.Room.{traced-le}
 use Rattle.trace.proofs.Before.{events-apart}
 use Rattle.trace.proofs.Enough.{records-few}
-use Rattle.trace.proofs.Calls.{refused-call, accepted-call, refusal-first, refusal-then}
+use Rattle.trace.proofs.Calls.{refused-call, accepted-call, refusal-first, refusal-then, accepted-passed}
 
 abbrev closed : ℕ → (memory r trace : List ℕ) → Closing
 closed k memory r trace = record { reply = k; memory = memory; state = r; trace = trace }
@@ -64,18 +64,8 @@ module _ (memory r events trace : List ℕ) (ks n v : ℕ) (e : v ≡ refusalNum
 -- ---- refused, or run
 
 module _ (memory r events trace : List ℕ) (ks n f : ℕ) (e : f ≡ refusalOf memory r events trace ks n) where
-  -- an accepted call has an accepted start
-  accepted : f ≡ 0 → refusalNumber (verdictOf memory r events n) ≡ 0
-  accepted h =
-      bool-cases (eqb (refusalNumber (verdictOf memory r events n)) 0)
-      eq-of
-      (λ q.
-      let v = refusalNumber (verdictOf memory r events n) in
-      let other : v ≢ 0 = λ z. true≢false (sym (is-eq {m = v} {n = 0} z) ∙ q) in
-      absurd (other (sym (refusal-first memory r events trace ks n other) ∙ sym e ∙ h)))
-
   pub call-passed : f ≡ 0 → Passed memory r events n
-  call-passed h = passed memory r events n (is-accepted (verdictOf memory r events n) (accepted h))
+  call-passed h = accepted-passed memory r events trace ks n (sym e ∙ h)
 
   pub call-apart : f ≡ 0 → Apart (eventsOf events)
   call-apart h = events-apart events (call-passed h .no-twins)

@@ -1,4 +1,5 @@
--- The events of a step from an index on, as their records: due, earlier, later. Assumes nothing.
+-- The events of a step from an index on, as their records: one that is due adds one, one that is earlier is passed over, and from a
+-- later one on none is due, since the list is in order. Assumes nothing.
 use Prim.Native.Nat.{ℕ, zero, suc, _+_, _-_, _*_, _<_, _≤_}
 use Rattle.word.proofs.Laws.{order}
 use native.Mathlib.Omega.{arith}

@@ -1,4 +1,5 @@
--- Records as the code writes them: their bytes, the bits of an event, the record of an act. Assumes nothing.
+-- Records as the code writes them: eight bytes and eight more are the sixteen of a record, the sum of an event's flags is its bits, and
+-- number, address and value of an act are those of the definition, constructor by constructor. Assumes nothing.
 use Prim.Native.Nat.{ℕ, _+_, _*_, _/_, _%_, _≤_}
 use native.Mathlib.Nat.{div-div-eq-div-mul}
 use native.Mathlib.Numerals.{unary-clauses}

@@ -1,4 +1,5 @@
--- What the code writes for a step is what the step adds. Assumes nothing.
+-- What the code writes for a step is what the step adds: the code looks at the devices as they were before the step's events, which is
+-- the same in a list without twins, and at the act before it is performed. Assumes nothing.
 use Prim.Native.Nat.{ℕ, _+_, _*_, _<_, _≤_}
 use native.Mathlib.Omega.{arith}
 use mathlib.Core.Bool.{Bool, true, false, cond, _&&_}

@@ -1,3 +1,5 @@
+-- The verdict is the assembler's, from the same sweeps. The third sweep stops at END, so where nothing is at fault its line is the
+-- number of records: fewer places than that is 22, else the records are listed with the names of the table. Assumes nothing.
 use native.Mathlib.Omega.{arith}
 use mathlib.Core.Path.{sym, ap}
 use lib.Seq.{length-take-le}

@@ -1,4 +1,5 @@
--- Refused, nothing is changed; else what the callees need is what the verdict has settled. Assumes nothing.
+-- Refused, nothing is changed and the reply is the number alone. Else what the callees need is what the verdict has settled of the
+-- buffers, and what the run leaves is `closing`'s, part by part. Assumes nothing.
 use Prim.Native.Nat.{_≤_}
 use mathlib.Core.Path.{ap, sym, subst}
 use native.Mathlib.Omega.{arith}

@@ -5,15 +5,6 @@ use borrow.Author.Needs.{needs}
 use Rattle.trace_record.proofs.add_act.Statement.{statement}
 use Rattle.trace_record.proofs.add_act.Tie as tie
 
--- src/lib.rt:218:9
-kind-of-requires : tie.Need-kind-of-requires
-kind-of-requires c κs = search needs
-
--- src/lib.rt:219:9
-asks-requires : tie.Need-asks-requires
-asks-requires c κs = search needs
-
--- src/lib.rt:220:9
 returns : tie.Need-returns
 returns c =
     let a = c .before .before .before .before .args in
@@ -21,11 +12,6 @@ returns c =
     (c .before .asks .ensures) (is-not _ (c .if1 .taken)) in
     (sym (add-zero (a .k)) ∙ added-is (a .k) 0 _ _ e refl, stored-none _ _ _ e)
 
--- src/lib.rt:222:9
-tell-requires : tie.Need-tell-requires
-tell-requires c κs = search needs
-
--- src/lib.rt:223:5
 put-record-requires : tie.Need-put-record-requires
 put-record-requires c κs =
     let a = c .before .before .before .before .before .before .args in
@@ -33,15 +19,6 @@ put-record-requires c κs =
     (c .before .before .before .asks .ensures) (is-so _ (c .before .before .if1 .left)) (a .k) _
     (c .before .before .before .before .before .before .pre)
 
--- src/lib.rt:224:5
-add-result : tie.Need-add-result
-add-result c = search needs
-
--- src/lib.rt:203:1
-same-length : tie.Need-same-length
-same-length c = search needs
-
--- src/lib.rt:203:1
 returns-2 : tie.Need-returns-2
 returns-2 c =
     let p = c .before .before .before .before in
@@ -54,4 +31,6 @@ returns-2 c =
 
 pub add-act-spec : {M : Type 1} → statement M
 add-act-spec =
-    tie.close (tie.spec kind-of-requires asks-requires returns tell-requires put-record-requires add-result same-length returns-2)
+    tie.close
+    (tie.spec (λ c κs. search needs) (λ c κs. search needs) returns (λ c κs. search needs) put-record-requires (λ c. search needs)
+    (λ c. search needs) returns-2)

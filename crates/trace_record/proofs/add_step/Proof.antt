@@ -1,3 +1,5 @@
+-- What a step adds is its events' records and then its act's (Step, step-with), or the act's alone where no event's is wanted or asked
+-- for (step-without): so room for all is room for the first part, and the two parts stand one behind the other. Assumes nothing.
 use Rattle.trace_record.specs.Written.{asSeen, actWritten}
 use Rattle.trace.specs.Before.{eventsBefore}
 use Rattle.trace_record.proofs.Step.{step-with, step-without, first-fits, joined-fits, joined-count, joined-bytes}
@@ -13,11 +15,6 @@ use borrow.Author.Needs.{needs}
 use Rattle.trace_record.proofs.add_step.Statement.{statement}
 use Rattle.trace_record.proofs.add_step.Tie as tie
 
--- src/lib.rt:375:17
-asks-requires : tie.Need-asks-requires
-asks-requires c κs = search needs
-
--- src/lib.rt:376:13
 add-events-requires : tie.Need-add-events-requires
 add-events-requires c κs =
     let s = c .before .before .before .before .before .before in
@@ -29,7 +26,6 @@ add-events-requires c κs =
     let ys = actWritten (a .b) (a .kinds) (a .a) (a .seen) (a .pc) (a .psw) in
     (s .pre .0, s .pre .1, s .pre .2, s .pre .3, first-fits (a .k) _ xs ys _ e (s .pre .4))
 
--- src/lib.rt:377:9
 add-act-requires : tie.Need-add-act-requires
 add-act-requires c κs =
     let s = c .before .before .before .before .before .before .before .before .before .before in
@@ -42,11 +38,6 @@ add-act-requires c κs =
     let f = c .before .before .before .add-events in
     joined-fits (a .k) (f .result) _ xs ys _ e (f .ensures .0) (omega (arith, s .pre .4, f .kept .0))
 
--- src/lib.rt:377:9
-same-length : tie.Need-same-length
-same-length c = search needs
-
--- src/lib.rt:377:9
 returns : tie.Need-returns
 returns c =
     let s = c .before .before .before .before .before .before .before .before .before .before .before .before .before in
@@ -63,7 +54,6 @@ returns c =
       joined-bytes (now (a .trace)) _ _ (a .k) (f .result) xs ys _ e (f .ensures .0) (f .ensures .1) (g .ensures .1),
     )
 
--- src/lib.rt:379:5
 add-act-requires-2 : tie.Need-add-act-requires-2
 add-act-requires-2 c κs =
     let s = c .before .before .before .before .before .before in
@@ -75,11 +65,6 @@ add-act-requires-2 c κs =
     let ys = actWritten (a .b) (a .kinds) (a .a) (a .seen) (a .pc) (a .psw) in
     omega (arith, ap length e, s .pre .4)
 
--- src/lib.rt:349:1
-same-length-2 : tie.Need-same-length-2
-same-length-2 c = search needs
-
--- src/lib.rt:349:1
 returns-2 : tie.Need-returns-2
 returns-2 c =
     let s = c .before .before .before .before .before .before .before .before .before in
@@ -94,4 +79,6 @@ returns-2 c =
 
 pub add-step-spec : {M : Type 1} → statement M
 add-step-spec =
-    tie.close (tie.spec asks-requires add-events-requires add-act-requires same-length returns add-act-requires-2 same-length-2 returns-2)
+    tie.close
+    (tie.spec (λ c κs. search needs) add-events-requires add-act-requires (λ c. search needs) returns add-act-requires-2 (λ c. search needs)
+    returns-2)

@@ -1,4 +1,5 @@
--- The loop's invariant: what is counted and what is still to be counted from `at` on are all. Assumes nothing.
+-- The loop's invariant: what is counted and what is still to be counted from `at` on are all that are due. A record counts where its
+-- step is the count, an earlier one is passed over, and from a later one on none is due. Assumes nothing.
 use Prim.Native.Nat.{ℕ, _+_, _-_, _≤_, _<_}
 use native.Mathlib.Omega.{arith}
 use mathlib.Core.Logic.{⊎-elim}

@@ -2,11 +2,9 @@ use native.Mathlib.Omega.{arith}
 use Rattle.trace_record.proofs.flag.Statement.{statement}
 use Rattle.trace_record.proofs.flag.Tie as tie
 
--- src/lib.rt:240:9
 returns : tie.Need-returns
 returns c = (rw (c .if1 .taken) (omega arith), omega arith)
 
--- src/lib.rt:236:1
 returns-2 : tie.Need-returns-2
 returns-2 c = (rw (c .if1 .left) (omega arith), omega arith)
 

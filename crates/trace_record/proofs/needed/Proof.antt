@@ -10,27 +10,6 @@ use borrow.Author.Needs.{needs}
 use Rattle.trace_record.proofs.needed.Statement.{statement}
 use Rattle.trace_record.proofs.needed.Tie as tie
 
--- src/lib.rt:395:27
-kind-of-requires : tie.Need-kind-of-requires
-kind-of-requires c κs = search needs
-
--- src/lib.rt:395:15
-asks-requires : tie.Need-asks-requires
-asks-requires c κs = search needs
-
--- src/lib.rt:395:15
-cast-act : tie.Need-cast-act
-cast-act c = search needs
-
--- src/lib.rt:396:17
-asks-requires-2 : tie.Need-asks-requires-2
-asks-requires-2 c κs = search needs
-
--- src/lib.rt:397:13
-count-due-requires : tie.Need-count-due-requires
-count-due-requires c κs = search needs
-
--- src/lib.rt:398:16
 add-result : tie.Need-add-result
 add-result c = omega (
   arith,
@@ -40,7 +19,6 @@ add-result c = omega (
   c .before .before .before .before .before .before .good,
 )
 
--- src/lib.rt:398:9
 returns : tie.Need-returns
 returns c =
     let a = c .before .before .before .before .before .before .args in
@@ -52,7 +30,6 @@ returns c =
     (c .before .before .before .asks .ensures))
     (step-with b (a .kinds) (a .wanted) _ (c .before .before .asks2 .ensures) m l ev (a .a) x p w (c .before .if1 .taken))
 
--- src/lib.rt:383:1
 returns-2 : tie.Need-returns-2
 returns-2 c =
     let a = c .before .before .before .before .before .args in
@@ -62,4 +39,7 @@ returns-2 c =
     (c .if1 .left))
 
 pub needed-spec : {M : Type 1} → statement M
-needed-spec = tie.close (tie.spec kind-of-requires asks-requires cast-act asks-requires-2 count-due-requires add-result returns returns-2)
+needed-spec =
+    tie.close
+    (tie.spec (λ c κs. search needs) (λ c κs. search needs) (λ c. search needs) (λ c κs. search needs) (λ c κs. search needs) add-result
+    returns returns-2)

@@ -3,13 +3,8 @@ use borrow.Author.Needs.{needs}
 use Rattle.trace_run.proofs.lacks.Statement.{statement}
 use Rattle.trace_run.proofs.lacks.Tie as tie
 
--- src/lib.rt:44:5
-sub-result : tie.Need-sub-result
-sub-result c = search needs
-
--- src/lib.rt:40:1
 returns : tie.Need-returns
 returns c = lacks-is _ _ _ (c .pre)
 
 pub lacks-spec : {M : Type 1} → statement M
-lacks-spec = tie.close (tie.spec sub-result returns)
+lacks-spec = tie.close (tie.spec (λ c. search needs) returns)

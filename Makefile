@@ -1,6 +1,6 @@
 # XM-23 examination machine. 'make help' lists what there is.
 
-.PHONY: help run line lib desk install uninstall input list card report prove edits test fuzz fuzz_words replay bench
+.PHONY: help run line lib desk install install-lib deb uninstall input list card report prove edits test fuzz fuzz_words replay bench
 .PHONY: clean headers
 
 CFLAGS = -std=c99 -pedantic -O2 -Wall -Wextra -Werror -Iinclude
@@ -48,6 +48,13 @@ desk: build/xm23
 
 install: target/bin/print_state $(ARCHIVE) $(SHARED) build/xm23
 	@scripts/install.sh install $(call quoted,$(PREFIX)) $(call quoted,$(DESTDIR))
+
+# The library alone, which needs no program.
+install-lib: $(ARCHIVE) $(SHARED)
+	@scripts/install.sh install-lib $(call quoted,$(PREFIX)) $(call quoted,$(DESTDIR))
+
+deb: target/bin/print_state $(ARCHIVE) $(SHARED) build/xm23
+	@scripts/deb.sh build/deb
 
 uninstall:
 	@scripts/install.sh uninstall $(call quoted,$(PREFIX)) $(call quoted,$(DESTDIR))

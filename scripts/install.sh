@@ -1,9 +1,10 @@
 #!/usr/bin/env bash
-# install.sh install|uninstall PREFIX DESTDIR: the header, both libraries, xm23.pc, the Python module, the manual pages,
-# print_state, and xm23 with its completion, below DESTDIR/PREFIX. What is installed reads nothing of this folder. Uninstalling removes
-# the same files, of any version, and no folder.
+# install.sh install|install-lib|uninstall PREFIX DESTDIR: the header, both libraries, xm23.pc, the Python module and the
+# manual of the calls, below DESTDIR/PREFIX; 'install' puts the programs there too: print_state, and xm23 with its
+# completion, and their pages. What is installed reads nothing of this folder. Uninstalling removes the same files, of
+# any version, and no folder.
 set -eu -o pipefail
-if [ $# -ne 3 ] || [[ $1 != install && $1 != uninstall || $2 != /* ]]; then
+if [ $# -ne 3 ] || [[ $1 != install && $1 != install-lib && $1 != uninstall || $2 != /* ]]; then
     echo "install.sh: PREFIX '${2:-}' is not an absolute path" >&2
     exit 2
 fi
@@ -25,15 +26,13 @@ pages() {
     done
 }
 
-files="bin/print_state bin/xm23 include/xm23.h
-    lib/libxm23.a lib/libxm23.so.$version lib/libxm23.so.$major_minor lib/libxm23.so
-    lib/pkgconfig/xm23.pc lib/python3/dist-packages/xm23.py share/man/man1/print_state.1 share/man/man1/xm23.1 share/man/man3/xm23.3 share/man/man5/xm23.5
-    share/bash-completion/completions/xm23 $(pages)"
+library="include/xm23.h lib/libxm23.a lib/libxm23.so.$version lib/libxm23.so.$major_minor lib/libxm23.so
+    lib/pkgconfig/xm23.pc lib/python3/dist-packages/xm23.py share/man/man3/xm23.3 $(pages)"
+programs="bin/print_state bin/xm23 share/man/man1/print_state.1 share/man/man1/xm23.1 share/man/man5/xm23.5
+    share/bash-completion/completions/xm23"
 
-install_all() {
+install_library() {
     local page pc
-    put 755 target/bin/print_state bin/print_state
-    put 755 build/xm23 bin/xm23
     put 644 include/xm23.h include/xm23.h
     put 644 target/staticlib/libxm23.a lib/libxm23.a
     put 755 "build/libxm23.so.$version" "lib/libxm23.so.$version"
@@ -44,25 +43,43 @@ install_all() {
     printf '%s\n' "${pc//@VERSION@/"$version"}" > build/xm23.pc
     put 644 build/xm23.pc lib/pkgconfig/xm23.pc
     put 644 python/xm23.py lib/python3/dist-packages/xm23.py
-    put 644 man/print_state.1 share/man/man1/print_state.1
-    put 644 man/xm23.1 share/man/man1/xm23.1
     put 644 man/xm23.3 share/man/man3/xm23.3
-    put 644 man/xm23.5 share/man/man5/xm23.5
-    put 644 desk/completion.bash share/bash-completion/completions/xm23
     echo '.so man3/xm23.3' > build/xm23_call.3
     for page in $(pages); do
         put 644 build/xm23_call.3 "$page"
     done
 }
 
-if [ "$verb" = install ]; then
-    install_all
-    for file in $files; do
+install_programs() {
+    put 755 target/bin/print_state bin/print_state
+    put 755 build/xm23 bin/xm23
+    put 644 man/print_state.1 share/man/man1/print_state.1
+    put 644 man/xm23.1 share/man/man1/xm23.1
+    put 644 man/xm23.5 share/man/man5/xm23.5
+    put 644 desk/completion.bash share/bash-completion/completions/xm23
+}
+
+tell() { # FILE..
+    local file
+    for file in "$@"; do
         echo "$to/$file"
     done
-else
-    for file in $files; do
-        rm -f "$to/$file"
-    done
-    rm -f "$to"/lib/libxm23.so.[0-9]*
-fi
+}
+
+case $verb in
+    install-lib)
+        install_library
+        tell $library
+        ;;
+    install)
+        install_library
+        install_programs
+        tell $programs $library
+        ;;
+    uninstall)
+        for file in $library $programs; do
+            rm -f "$to/$file"
+        done
+        rm -f "$to"/lib/libxm23.so.[0-9]*
+        ;;
+esac

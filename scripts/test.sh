@@ -202,6 +202,7 @@ else
 fi
 part 'Python' count_line python_module
 part 'installing' count_line tests/shell/install.sh
+part 'packages' count_line tests/shell/deb.sh
 part 'the report' count_line tests/shell/report.sh
 part 'going back' count_line tests/shell/back.sh
 part 'the open machine' count_line tests/shell/advance.sh

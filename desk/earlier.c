@@ -2,6 +2,9 @@
  * What stands in a marking's place already. It is an earlier marking where every file in it has a name that a marking
  * gives, and is what its SHA256SUMS says: so nothing that somebody else wrote, or changed, is ever removed.
  */
+#ifndef _GNU_SOURCE
+#define _GNU_SOURCE /* statx */
+#endif
 #include <dirent.h>
 #include <errno.h>
 #include <fcntl.h>
@@ -173,6 +176,19 @@ static int look_through(int folder, const char *part, const struct sums *s, stru
     return 1;
 }
 
+/* A marking of which a file is gone is one that somebody changed. */
+static void look_for(int folder, const struct sums *s, struct finding *f)
+{
+    struct stat is;
+    for (size_t i = 0; i < s->many && !f->wrong; i++) {
+        const char *name = s->lines[i] + SHA256_TEXT;
+        if (fstatat(folder, name, &is, AT_SYMLINK_NOFOLLOW) != 0) {
+            f->wrong = "is in its SHA256SUMS and is gone";
+            addf(&f->name, "%s", name);
+        }
+    }
+}
+
 static enum standing judge_folder(int folder, struct sums *s, struct text *why)
 {
     struct finding found = {{0}, NULL, 0};
@@ -183,12 +199,28 @@ static enum standing judge_folder(int folder, struct sums *s, struct text *why)
         (fstatat(folder, "pages", &is, AT_SYMLINK_NOFOLLOW) == 0 && S_ISDIR(is.st_mode) &&
          !look_through(folder, "pages/", s, &found)))
         addf(why, "cannot be read: %s", strerror(errno));
-    else if (found.wrong)
-        addf(why, "is there and is no marking: '%s' %s", found.name.at, found.wrong);
     else
+        look_for(folder, s, &found);
+    if (!why->length && found.wrong)
+        addf(why, "is there and is no marking: '%s' %s", found.name.at, found.wrong);
+    else if (!why->length)
         what = found.many ? MARKING : EMPTY;
     drop_text(&found.name);
     return what;
+}
+
+/* Whether a folder is a mount point, which no rename moves and no other folder replaces. Where the system does not say
+ * so, it is one whose device is another than its parent's. */
+static int is_mount(const struct folder *f, const char *name, const struct stat *is)
+{
+    struct stat parent;
+#ifdef STATX_ATTR_MOUNT_ROOT
+    struct statx all;
+    if (statx(f->parent, name, AT_SYMLINK_NOFOLLOW, STATX_BASIC_STATS, &all) == 0 &&
+        all.stx_attributes_mask & STATX_ATTR_MOUNT_ROOT)
+        return (all.stx_attributes & STATX_ATTR_MOUNT_ROOT) != 0;
+#endif
+    return fstat(f->parent, &parent) == 0 && parent.st_dev != is->st_dev;
 }
 
 static enum standing judge_once(const struct folder *f, const char *name, struct sums *s, mode_t *mode,
@@ -202,7 +234,10 @@ static enum standing judge_once(const struct folder *f, const char *name, struct
             *mode = is.st_mode & 0777;
         s->device = is.st_dev;
         s->inode = is.st_ino;
-        what = judge_folder(folder, s, why);
+        if (is_mount(f, name, &is))
+            addf(why, "is a mount point, whose place no folder can take: name a folder in it");
+        else
+            what = judge_folder(folder, s, why);
     } else if (errno == ENOENT) {
         what = NOTHING;
     } else if (errno == ENOTDIR || errno == ELOOP) {

@@ -26,7 +26,7 @@ static const char *wrong_kind(const struct stat *is, enum reading kind)
  * for the other end of a pipe. */
 static int open_file(int folder, const char *name, enum reading kind, struct text *why)
 {
-    int follow = kind == REGULAR_FILE ? AT_SYMLINK_NOFOLLOW : 0, file = -1, good;
+    int follow = kind == REGULAR_FILE ? AT_SYMLINK_NOFOLLOW : 0, file = -1, good, problem;
     int how = O_RDONLY | O_CLOEXEC | (kind == ANY_FILE ? 0 : O_NONBLOCK) | (follow ? O_NOFOLLOW : 0);
     const char *wrong = NULL;
     struct stat is;
@@ -40,9 +40,11 @@ static int open_file(int folder, const char *name, enum reading kind, struct tex
     }
     if (good && !wrong)
         return file;
-    addf(why, "%s", wrong ? wrong : strerror(errno));
+    problem = wrong ? 0 : errno;
+    addf(why, "%s", wrong ? wrong : strerror(problem));
     if (file >= 0)
         close(file);
+    errno = problem;
     return -1;
 }
 
@@ -62,17 +64,18 @@ static int read_all(int file, size_t most, struct text *t)
 char *read_file_at(int folder, const char *name, enum reading kind, size_t most, size_t *length, struct text *why)
 {
     struct text t = {0};
-    int file = open_file(folder, name, kind, why);
+    int file = open_file(folder, name, kind, why), problem = 0;
     if (file < 0)
         return NULL;
     add_bytes(&t, "", 0);
     if (!read_all(file, most, &t))
-        addf(why, "%s", strerror(errno));
+        addf(why, "%s", strerror(problem = errno));
     else if (t.length > most)
         addf(why, "is longer than %lu bytes", (unsigned long)most);
     close(file);
     if (why->length) {
         drop_text(&t);
+        errno = problem;
         return NULL;
     }
     *length = t.length;
@@ -82,6 +85,15 @@ char *read_file_at(int folder, const char *name, enum reading kind, size_t most,
 char *read_file(const char *name, enum reading kind, size_t most, size_t *length, struct text *why)
 {
     return read_file_at(AT_FDCWD, name, kind, most, length, why);
+}
+
+int is_trouble(int problem)
+{
+    static const int theirs[] = {0, ENOENT, ENOTDIR, EISDIR, ELOOP, EACCES, ENAMETOOLONG};
+    for (unsigned i = 0; i < sizeof theirs / sizeof *theirs; i++)
+        if (problem == theirs[i])
+            return 0;
+    return 1;
 }
 
 /* ---- writing */
@@ -105,30 +117,54 @@ static int no_regular(const char *name)
     return stat(name, &is) == 0 && !S_ISREG(is.st_mode) && !S_ISDIR(is.st_mode);
 }
 
+size_t short_length(const char *name)
+{
+    const char *slash = strrchr(name, '/');
+    size_t start = slash ? (size_t)(slash + 1 - name) : 0, length = strlen(name);
+    if (length - start <= MOST_BASE)
+        return length;
+    for (length = start + MOST_BASE; length > start && (name[length] & 0xC0) == 0x80;)
+        length--;
+    return length;
+}
+
 /* A new file beside the place of `name`: one that is there, or a link, is passed over. */
-static int make_part(const char *name, struct text *part)
+static int make_part(const char *name, mode_t mode, struct text *part)
 {
     int file = -1;
     errno = EEXIST;
     for (unsigned i = 0; i < 1000 && file < 0 && errno == EEXIST; i++) {
         part->length = 0;
-        addf(part, "%s.part-%ld-%u", name, (long)getpid(), i);
-        file = open(part->at, O_WRONLY | O_CREAT | O_EXCL | O_NOFOLLOW | O_CLOEXEC, 0666);
+        addf(part, "%.*s.part-%ld-%u", (int)short_length(name), name, (long)getpid(), i);
+        file = open(part->at, O_WRONLY | O_CREAT | O_EXCL | O_NOFOLLOW | O_CLOEXEC, mode);
     }
     return file;
+}
+
+/* Who may read and write what takes the place of a file: whoever could before; where that was somebody else's file,
+ * only who also may by the usual mode. */
+static int keep_mode(int file, const struct stat *was)
+{
+    struct stat is;
+    mode_t mode;
+    if (fstat(file, &is) != 0)
+        return 0;
+    mode = was->st_mode & 0777 & (was->st_uid == geteuid() ? 0777 : is.st_mode);
+    return mode == (is.st_mode & 0777) || fchmod(file, mode) == 0;
 }
 
 /* Nothing is put in place of what was there unless all of it could be written, and is on the disk. */
 static int write_beside(const char *name, const struct text *t)
 {
     struct text part = {0};
-    int file = make_part(name, &part), problem = 0;
+    struct stat was;
+    int there = stat(name, &was) == 0, file = make_part(name, there ? was.st_mode & 0666 : 0666, &part), problem = 0;
     if (file < 0) {
         problem = errno;
         drop_text(&part);
         return problem;
     }
-    if (!write_all(file, t) || (fsync(file) != 0 && errno != EINVAL))
+    if ((there && !keep_mode(file, &was)) || !write_all(file, t) || (fsync(file) != 0 && errno != EINVAL))
         problem = errno;
     if (close(file) != 0 && !problem)
         problem = errno;

@@ -13,7 +13,6 @@
 #include <sys/stat.h>
 #include <unistd.h>
 
-#define MOST_BASE 200 /* bytes of the place's name in that of the new folder */
 #define MOST_TRIES 1000 /* of names, or of ways in which others end markings in the same place */
 
 static int cannot(const struct folder *f, const char *what)
@@ -51,7 +50,7 @@ static int make_beside(struct folder *f)
     errno = EEXIST;
     for (unsigned i = 0; i < MOST_TRIES && made != 0 && errno == EEXIST; i++) {
         f->beside.length = 0;
-        addf(&f->beside, "%.*s.new-%ld-%u", MOST_BASE, f->base.at, (long)getpid(), i);
+        addf(&f->beside, "%.*s.new-%ld-%u", (int)short_length(f->base.at), f->base.at, (long)getpid(), i);
         made = mkdirat(f->parent, f->beside.at, 0700);
     }
     if (made != 0) {
@@ -286,6 +285,22 @@ static int take_place(struct folder *f, struct sums *s, enum standing *what)
     return 1;
 }
 
+/* The new one has its place. Until that is on the disk the earlier one stays whole: after a loss of power either may
+ * have either name. A system that brings no folder to the disk says EINVAL. */
+static int settle(const struct folder *f, enum standing what, struct sums *s)
+{
+    struct text stays = {0};
+    if (fsync(f->parent) == 0 || errno == EINVAL)
+        return what == MARKING ? remove_earlier(f, s) : DONE;
+    addf(&stays, "%s", strerror(errno));
+    if (what == MARKING)
+        addf(&stays, "; what was there is '%s' beside it", f->beside.at);
+    say_at(f->name, 0, "is the new marking, but may be lost with the power: its folder cannot be written: %s",
+           stays.at);
+    drop_text(&stays);
+    return UNREADABLE;
+}
+
 int place_folder(struct folder *f)
 {
     struct sums earlier = {0};
@@ -301,10 +316,9 @@ int place_folder(struct folder *f)
             cannot(f, "written");
     }
     if (what != FOREIGN) {
-        fsync(f->parent);
         close(f->at);
         f->at = -1;
-        status = what == MARKING ? remove_earlier(f, &earlier) : DONE;
+        status = settle(f, what, &earlier);
         f->beside.length = 0;
     }
     drop_sums(&earlier);

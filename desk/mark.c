@@ -6,6 +6,7 @@
 #include <unistd.h>
 
 #include "desk.h"
+#include "way.h"
 #include "workers.h"
 
 /* ---- the marking */
@@ -66,6 +67,7 @@ static int mark_paper(struct sitting *s, const char *name, const char *folder)
     if (status != DONE)
         return status;
     s->paper = &p;
+    s->shared = shared_folders(s->names, s->many);
     status = digest_paper(&p, s->paper_digest) ? mark_into(s, folder) : UNREADABLE;
     drop_paper(&p);
     return status;
@@ -118,7 +120,7 @@ static unsigned workers_of(const char *word)
 
 int xm23_desk_mark(int argc, char **argv)
 {
-    struct sitting s = {NULL, "", NULL, 0, processors(), 0, 0};
+    struct sitting s = {NULL, "", NULL, 0, processors(), REGULAR_FILE, 0, 0};
     const char *folder = "marks";
     int option, listed = 0, status = DONE;
     while ((option = getopt(argc, argv, "+:j:o:0Ls")) != -1) {
@@ -127,7 +129,7 @@ int xm23_desk_mark(int argc, char **argv)
         else if (option == 'o')
             folder = optarg;
         else if (option == 'L')
-            s.links = 1;
+            s.kind = LINKED_FILE;
         else if (option == 's')
             s.sound = 1;
         listed |= option == '0';

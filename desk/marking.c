@@ -1,4 +1,5 @@
 /* One program of a sitting: read, run, and told in its row. */
+#include <errno.h>
 #include <string.h>
 
 #include "line.h"
@@ -68,15 +69,28 @@ static struct row *new_row(const char *name, struct marked *m)
     return r;
 }
 
-int mark_program(const struct sitting *s, const char *name, enum reading kind, struct marked *m)
+static void put_unmarked(struct row *r, const char *why)
+{
+    addf(&r->says, "could not be marked: %s", why);
+    r->problem = UNMARKED;
+}
+
+/* What could not be read by the machine's fault is no row of the candidate's. */
+int mark_program(const struct sitting *s, const char *name, struct marked *m)
 {
     struct row *r = new_row(name, m);
+    struct text why = {0};
     int good = 1;
-    if (read_program(name, kind, &m->program, &r->says)) {
+    if (read_program(name, s->kind, s->shared, &m->program, &why)) {
         good = sha256(m->program.bytes, m->program.length, r->digest);
         if (good)
             run_marked(s, m);
+    } else if (is_trouble(errno)) {
+        put_unmarked(r, why.at);
+    } else {
+        add_bytes(&r->says, why.at, why.length);
     }
+    drop_text(&why);
     r->agrees = as_expected(s->paper, r->line.at);
     return good;
 }
@@ -84,9 +98,8 @@ int mark_program(const struct sitting *s, const char *name, enum reading kind, s
 void leave_unmarked(const struct sitting *s, const char *name, const char *why, struct marked *m)
 {
     struct row *r = new_row(name, m);
-    addf(&r->says, "could not be marked: %s", why);
-    r->agrees = s->paper->expected ? 0 : -1;
-    r->problem = UNMARKED;
+    put_unmarked(r, why);
+    r->agrees = as_expected(s->paper, r->line.at);
 }
 
 void drop_marked(struct marked *m)

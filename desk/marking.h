@@ -29,7 +29,8 @@ struct sitting {
     char **names;
     size_t many;
     unsigned workers;
-    int links; /* links are followed */
+    enum reading kind; /* of the programs */
+    size_t shared;     /* folders that all names begin with */
     int sound; /* handlers are judged, whatever the paper */
 };
 
@@ -53,7 +54,7 @@ struct marked {
 
 /* Runs a program, or tells in its row why it has no closing state. 0 where that could not be done. What `m` held
  * before counts for nothing. */
-int mark_program(const struct sitting *s, const char *name, enum reading kind, struct marked *m);
+int mark_program(const struct sitting *s, const char *name, struct marked *m);
 void leave_unmarked(const struct sitting *s, const char *name, const char *why, struct marked *m); /* its row says so */
 void drop_marked(struct marked *m);
 

@@ -7,14 +7,14 @@
 
 typedef int taker(struct paper *p, uint32_t line, const char *at, const char *end);
 
-/* Line by line; a CR before the LF is none of the line. */
+/* Line by line; a CR before the LF, or at the very end, is none of the line. */
 static int each_line(struct paper *p, taker *take)
 {
     const char *at = p->bytes, *end = p->bytes + p->length;
     int status = DONE;
     for (uint32_t line = 1; at < end && status == DONE; line++) {
         const char *lf = (const char *)memchr(at, '\n', (size_t)(end - at)), *stop = lf ? lf : end;
-        const char *last = lf && stop > at && stop[-1] == '\r' ? stop - 1 : stop;
+        const char *last = stop > at && stop[-1] == '\r' ? stop - 1 : stop;
         status = take(p, line, at, last);
         at = lf ? lf + 1 : end;
     }

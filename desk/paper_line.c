@@ -6,11 +6,9 @@
 #include "machine.h"
 #include "paper_events.h"
 
-/* The rest of the line, up to a zero byte, without the blanks around it. */
+/* The rest of the line without the blanks around it. */
 static int take_text(struct rest *r, char **to)
 {
-    const char *zero = (const char *)memchr(r->at, 0, (size_t)(r->end - r->at));
-    r->end = zero ? zero : r->end;
     while (r->at < r->end && is_blank(*r->at))
         r->at++;
     while (r->end > r->at && is_blank(r->end[-1]))
@@ -24,6 +22,10 @@ static int take_text(struct rest *r, char **to)
 
 static int title(struct rest *r)
 {
+    if (memchr(r->at, 0, (size_t)(r->end - r->at))) {
+        say_at(r->paper->name, r->line, "the title has a zero byte");
+        return 0;
+    }
     return claim_line(r, &r->paper->title_line, "the title") && take_text(r, &r->paper->title);
 }
 

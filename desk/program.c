@@ -1,21 +1,32 @@
 /* A candidate's program, S-records or a source, which the library judges; a paper's machine before its first step. */
+#include <errno.h>
+#include <fcntl.h>
 #include <stdlib.h>
 #include <string.h>
 
 #include "desk.h"
 #include "source.h"
+#include "way.h"
 
-int read_program(const char *name, enum reading kind, struct program *p, struct text *why)
+int read_program(const char *name, enum reading kind, size_t shared, struct program *p, struct text *why)
 {
+    size_t most = kind == ANY_FILE ? MOST_TEXT : MOST_PROGRAM;
+    const char *last = name;
+    int folder = kind == REGULAR_FILE ? open_way(name, shared, &last, why) : AT_FDCWD, problem;
     p->name = name;
-    p->bytes = read_file(name, kind, kind == ANY_FILE ? MOST_TEXT : MOST_PROGRAM, &p->length, why);
+    if (folder == -1)
+        return 0;
+    p->bytes = read_file_at(folder, last, kind, most, &p->length, why);
+    problem = errno;
+    close_way(folder);
+    errno = problem;
     return p->bytes != NULL;
 }
 
 int take_program(const char *name, struct program *p)
 {
     struct text why = {0};
-    int status = read_program(name, ANY_FILE, p, &why) ? DONE : UNREADABLE;
+    int status = read_program(name, ANY_FILE, 0, p, &why) ? DONE : UNREADABLE;
     if (status != DONE)
         say_at(name, 0, "%s", why.at);
     drop_text(&why);

@@ -21,8 +21,9 @@ struct program {
     size_t length;
 };
 
-/* Reads a program, of a sitting where it is not ANY_FILE. 0 with the reason in `why`. */
-int read_program(const char *name, enum reading kind, struct program *p, struct text *why);
+/* Reads a program, of a sitting where it is not ANY_FILE; a REGULAR_FILE is reached by no link behind the folders that
+ * are shared. 0 with the reason in `why`, and in errno, as read_file has it. */
+int read_program(const char *name, enum reading kind, size_t shared, struct program *p, struct text *why);
 int take_program(const char *name, struct program *p); /* DONE, or UNREADABLE, which has been told */
 void drop_program(struct program *p);
 

@@ -19,7 +19,7 @@ static int report(struct sitting *s, const char *name, const char *to)
     static struct marked m;
     struct text page = {0};
     int status = UNREADABLE;
-    if (mark_program(s, name, ANY_FILE, &m)) {
+    if (mark_program(s, name, &m)) {
         if (m.row.digest[0]) {
             add_page(&page, s, &m);
             status = write_file(to, &page);

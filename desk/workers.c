@@ -108,13 +108,16 @@ static void start_clock(void)
 static void mark_one(const struct sitting *s, const struct folder *f, size_t i, struct marked *m)
 {
     struct text path = {0}, page = {0};
+    int problem;
     add_page_path(&path, s, i);
-    if (!mark_program(s, s->names[i], s->links ? LINKED_FILE : REGULAR_FILE, m))
+    if (!mark_program(s, s->names[i], m))
         _exit(UNREADABLE);
     add_page(&page, s, m);
     if (!sha256(page.at, page.length, m->row.page))
         _exit(UNREADABLE);
-    m->row.problem = fill_file(f, path.at, &page);
+    problem = fill_file(f, path.at, &page);
+    if (problem)
+        m->row.problem = problem;
     drop_text(&path);
     drop_text(&page);
 }

@@ -99,13 +99,14 @@ desk_checked() {
         -g -U_FORTIFY_SOURCE -fsanitize=address,undefined -fno-sanitize-recover=all
 }
 
-# desk_tests PROGRAM: every script of tests/desk but valgrind's, whose counts are added up.
+# desk_tests [PROGRAM]: every script of tests/desk but valgrind's, whose counts are added up. Where no program is named
+# it is the one that is used, and tests that a program with a compiler's checks cannot take are among them.
 desk_tests() {
     local script counts p=0 f=0
     for script in tests/desk/*.sh; do
         [ "$script" != tests/desk/valgrind.sh ] || continue
         echo "-- $script"
-        counts=$("$script" "$1" 2>&1 | tee /dev/stderr | count_line /dev/stdin) ||
+        counts=$("$script" "$@" 2>&1 | tee /dev/stderr | count_line /dev/stdin) ||
             [ "${counts#* }" != 0 ] || counts="${counts% *} 1"
         counts=${counts:-0 1}
         p=$((p + ${counts% *})) f=$((f + ${counts#* }))
@@ -175,7 +176,7 @@ part 'example listing' count_status listing
 part 'example host' count_status example_host
 part 'reference card' count_line card
 part 'the program' count_line tests/shell/program.sh
-part 'desk' count_line desk_tests "$build/xm23"
+part 'desk' count_line desk_tests
 part 'desk program with sanitizers of gcc' count_status desk_checked gcc
 part 'desk, sanitizers of gcc' count_line desk_tests "$build/xm23_gcc"
 part 'desk: random runs, sanitizers of gcc' count_line random_papers "$build/xm23_gcc" 160

@@ -6,7 +6,8 @@ set -u
 cd "$(dirname "$0")/../.."
 . tests/shell/expect.sh
 xm23=$(realpath "${1:-build/xm23}")
-sitting=$PWD/examples/sitting
+tests=$(pwd -P)/tests/desk
+sitting=$(pwd -P)/examples/sitting
 paper=$sitting/sum.paper
 sound=$sitting/programs/sound.s19
 unsound=$sitting/programs/unsound.s19
@@ -184,18 +185,50 @@ mv tied/pages/000001-a.s19.html page && ln -s ../../page tied/pages/000001-a.s19
 foreign 'a link in place of a page' tied pages/000001-a.s19.html 'is no file of a marking'
 rm -r tied/pages && mkdir other && ln -s ../other tied/pages
 foreign 'a link in place of the pages' tied pages 'is not in its SHA256SUMS'
+"$xm23" mark -o robbed "$paper" a.s19 b.s19
+rm robbed/pages/000001-a.s19.html
+foreign 'a page that is gone' robbed pages/000001-a.s19.html 'is in its SHA256SUMS and is gone'
+"$xm23" mark -o emptied "$paper" a.s19
+rm -r emptied/pages emptied/index.html
+foreign 'all pages' emptied index.html 'is in its SHA256SUMS and is gone'
 mkdir nested && mkdir -p nested/results.csv
 foreign 'a folder in place of a file' nested results.csv 'is not in its SHA256SUMS'
 # Planted with digests that are right, it goes, and nothing of it stays.
 (cd edited && sha256sum index.html pages/* results.csv > SHA256SUMS)
 expect 'a planted marking' 0 '' '' "$xm23" mark -o edited "$paper" b.s19
 same 'is no row' "$(cells edited name agrees) $(grep -c 'alert' edited/pages/*)" 'b.s19|yes 0'
+# A mount point is told before any program is run.
+mounted='is a mount point, whose place no folder can take: name a folder in it; it is left as it is'
+expect 'a mount point' 3 '' "/proc: $mounted" "$xm23" mark -o /proc "$paper" b.s19
+expect 'by another name' 3 '' "/proc/: $mounted" "$xm23" mark -o /proc/ "$paper" b.s19
+mkdir held
+bound() { unshare -rm bash -c 'mount --bind held held && exec "$@"' bound "$@"; }
+if bound true 2> /dev/null; then
+    expect 'a folder mounted on itself' 3 '' "held: $mounted" bound "$xm23" mark -o held "$paper" b.s19
+    same 'has nothing beside it' "$(beside held)" ''
+else
+    echo 'left out: a folder mounted on itself, for which there is no right here'
+fi
 # Where a file is written beside its place, no link that waits there is followed.
 echo mine > victim
 for i in 0 1 2 3; do ln -s victim "page.html.part$i" 2> /dev/null; done
 ln -s victim page.html.part
 expect 'a link that waits' 0 '' '' "$xm23" report -o page.html "$paper" a.s19
 same 'is not written through' "$(cat victim)" mine
+# A name that leaves no room for another beside it; a file that not everybody may read.
+for long in "$(printf 'x%.0s' $(seq 250))" "$(printf '\xC3\xA4%.0s' $(seq 125))" "$(printf 'x%.0s' $(seq 255))"; do
+    expect 'a page of a long name' 0 '' '' "$xm23" report -o "$long" "$paper" a.s19
+    same 'is there' "$(cmp "$long" page.html && find . -name '*.part-*')" ''
+    rm -f "$long"
+    expect 'a marking of a long name' 0 '' '' "$xm23" mark -o "$long" "$paper" b.s19
+    expect 'and again' 0 '' '' "$xm23" mark -o "./$long/" "$paper" b.s19
+    same 'is there, and nothing beside it' "$(whole "$long") $(find . -name '*.new-*')" 'whole '
+done
+for mode in 600 640 664 444; do
+    rm -f mine.html && touch mine.html && chmod "$mode" mine.html
+    expect "a page of mode $mode" 0 '' '' "$xm23" report -o mine.html "$paper" a.s19
+    same 'keeps it' "$(stat -c '%a' mine.html) $(cmp mine.html page.html)" "$mode "
+done
 
 # ---- what is no regular file is a row, and is not opened
 ln -s "$sound" link.s19
@@ -223,6 +256,67 @@ done
 same 'and nobody opened it' "$(test -e opened && echo opened)" ''
 kill "$writer" 2> /dev/null
 wait "$writer" 2> /dev/null
+
+# ---- and by a link in its folders nothing is reached, but for the folders that all names share
+mkdir -p sittings/setter sittings/cand/bob sittings/cand/carol/src
+cp "$sound" sittings/setter/prog.s19
+cp "$unsound" sittings/cand/bob/prog.s19
+cp "$unsound" sittings/cand/carol/src/prog.s19
+ln -s ../setter sittings/cand/alice
+ln -s sittings office
+here=$(pwd -P)
+reached() { # WHAT SAYS NAME..: the cells of says, one behind the other
+    local what=$1 says=$2
+    shift 2
+    "$xm23" mark -o ways "$paper" "$@" 2> err
+    same "$what" "$(cells ways says | paste -s -d '|')" "$says"
+}
+alice='is reached by a link: sittings/cand/alice'
+reached 'a folder that is a link' "$alice|" sittings/cand/*/prog.s19
+same 'is not marked' "$(cells ways line agrees program_sha256 | sed 's/^0 120 0019 .*/no/')" $'|no|\nno'
+same 'and shows nothing' "$(grep -c MOV ways/pages/000001-*)" 0
+expect 'with -L' 1 '' '' "$xm23" mark -L -o ways "$paper" sittings/cand/*/prog.s19
+same 'it is followed' "$(cells ways agrees)" $'yes\nno'
+reached 'the folders that all share' '|' office/cand/{bob/prog.s19,carol/src/prog.s19}
+reached 'and no further' 'is reached by a link: office/cand/alice|' office/cand/{alice,bob}/prog.s19
+reached 'with dots and doubled slashes' 'is reached by a link: .//office/./cand/alice|' \
+    .//office/./cand/alice/prog.s19 office//cand/bob/prog.s19
+reached 'and back' 'is reached by a link: sittings/cand/bob/../alice||' \
+    sittings/cand/bob/../{alice,carol/../bob}/prog.s19 sittings/./cand/bob/../bob/prog.s19
+reached 'through a link and back' "$alice|" sittings/cand/alice/../cand/bob/prog.s19 sittings/cand/bob/prog.s19
+reached 'one name alone shares nothing' 'is reached by a link: office' office/cand/bob/prog.s19
+reached 'nor does one that is given twice' "$alice|$alice" sittings/cand/alice/prog.s19 sittings/cand/alice/prog.s19
+reached 'but by no link it is reached' '' "$here/sittings/cand/bob/prog.s19"
+reached 'a whole name' "is reached by a link: $here/sittings/cand/alice|" "$here"/sittings/cand/{alice,bob}/prog.s19
+reached 'whole ones and others' "is reached by a link: $here/office|" "$here/office/cand/bob/prog.s19" \
+    sittings/cand/bob/prog.s19
+reached 'of which the root is shared' 'is reached by a link: /proc/self|' /proc/self/status "$sound"
+reached 'a slash behind it' "$alice|Not a directory|is a folder" \
+    sittings/cand/alice/ sittings/cand/bob/prog.s19/ sittings/cand/bob/
+reached 'no name at all' 'No such file or directory|' '' a.s19
+reached 'a name that is too long' 'File name too long|' "$(printf './%.0s' $(seq 2100))a.s19" a.s19
+reached 'a file as a folder' 'Not a directory|No such file or directory' a.s19/b.s19 nowhere/b.s19
+(cd sittings/cand && "$xm23" mark -o ../../ways "$paper" */prog.s19) 2> err
+same 'from the folder of the candidates' "$(cells ways says)" 'is reached by a link: alice'
+chmod 111 sittings/cand
+reached 'a folder that may be passed through' '|' sittings/cand/{bob/prog.s19,carol/src/prog.s19}
+chmod 755 sittings/cand
+# While a folder becomes a link and a folder again, what is read is never the setter's.
+cp -r sittings/cand/bob sittings/cand/dave
+(cd sittings/cand && exec python3 -c '
+import os
+while True:
+    os.rename("dave", ".dave"); os.symlink("../setter", "dave"); os.unlink("dave"); os.rename(".dave", "dave")') &
+turning=$!
+for _ in 1 2 3 4 5; do
+    "$xm23" mark -o ways "$paper" sittings/cand/{bob,dave}/prog.s19{,,,,,,,,,,,,,,,}
+    cells ways agrees
+done > out 2> err
+kill "$turning"
+{ wait "$turning"; } 2> /dev/null
+same 'at no moment' "$(sort -u out) $(wc -l < out)" 'no 160'
+expect 'run follows what was typed' 0 '0 120 001F .*' '' "$xm23" run "$paper" sittings/cand/alice/prog.s19
+expect 'so does report' 0 '' '' "$xm23" report -o page.html "$paper" sittings/cand/alice/prog.s19
 
 # ---- everything after the paper is a name
 mkdir names
@@ -293,23 +387,65 @@ first=$(sum numbers)
 (ulimit -f 8 && exec "$xm23" mark -o numbers "$paper" a.s19 <&- >&- 2>&-)
 same 'and nowhere to tell a mistake' "$? $(sum numbers) $(beside numbers)" "3 $first "
 
-# ---- on the disk before it is in its place
-if [ $# -eq 0 ] && strace -o /dev/null true 2> /dev/null; then
-    strace -f -e trace=syncfs,fsync,renameat,renameat2,rename -o calls "$xm23" mark -o shared "$paper" a.s19
-    same 'synced and then renamed' "$(sed -n 's/^[0-9]* *\(syncfs\|renameat2\|fsync\)(.*/\1/p' calls | tr '\n' ' ')" \
-        'syncfs renameat2 fsync '
+# ---- what the system does, and what it fails to do: a library put before that of C tells the one and has the other.
+# Sanitizers are put there themselves, so this is of the program that is used.
+if [ $# -eq 0 ]; then
+    gcc -shared -fPIC -O1 -Wall -Wextra -Werror -o shim.so "$tests/shim.c" -ldl || exit 1
+    shim() { SHIM_FAILS=$1 SHIM_NOTES=$room/calls LD_PRELOAD=$room/shim.so "${@:2}"; } # FAILS COMMAND..
+    seen() { grep -E "^($1) " calls | tr '\n' ' '; rm -f calls; }
+    # On the disk before it is in its place.
+    "$xm23" mark -o shared "$paper" b.s19
+    shim '' "$xm23" mark -o shared "$paper" a.s19
+    same 'synced and then renamed' "$(seen 'syncfs|fsync|renameat2?')" 'syncfs 0 renameat2 0 fsync 0 '
     # Each program has its time, and each worker its memory.
-    strace -f -e trace=setitimer,prlimit64 -o calls "$xm23" mark -j 2 -o shared "$paper" a.s19 b.s19 pipe
-    same 'ten seconds for each program' \
-        "$(grep -c 'setitimer(ITIMER_PROF, {it_interval={tv_sec=0, tv_usec=0}, it_value={tv_sec=10, tv_usec=0}}' calls)" 3
-    same '512 MiB for each worker' "$(grep -c 'prlimit64(0, RLIMIT_AS, {rlim_cur=524288\*1024, ' calls)" 2
+    shim '' "$xm23" mark -j 2 -o shared "$paper" a.s19 b.s19 pipe
+    sort -o calls calls
+    same 'ten seconds for each program, 512 MiB for each worker' "$(seen 'setitimer|setrlimit|another.*')" \
+        'setitimer 10 setitimer 10 setitimer 10 setrlimit 512 setrlimit 512 '
     # A system that cannot exchange two names does it by turns.
-    strace -f -e trace=renameat2 -e inject=renameat2:error=EINVAL -o calls "$xm23" mark -o shared "$paper" b.s19
+    shim renameat:5:9 "$xm23" mark -o shared "$paper" b.s19
     same 'by turns' "$(whole shared) $(cells shared name) $(beside shared)" 'whole b.s19 '
     # The new one has its place by then: the earlier one goes by the name that it has.
-    strace -f -e trace=renameat2,renameat -e inject=renameat2:error=EINVAL -e inject=renameat:error=EIO:when=3 \
-        -o calls "$xm23" mark -o shared "$paper" a.s19
+    shim renameat:5:3 "$xm23" mark -o shared "$paper" a.s19
     same 'by turns, the last of which fails' "$(whole shared) $(cells shared name) $(beside shared)" 'whole a.s19 '
+    # A disk that takes no name: both markings stay.
+    lost='may be lost with the power: its folder cannot be written: Input/output error'
+    kept="; what was there is 'shared.new-[0-9]+-0' beside it"
+    expect 'a name that is not on the disk' 3 '' "shared: is the new marking, but $lost$kept" \
+        shim fsync:5 "$xm23" mark -o shared "$paper" b.s19
+    same 'both are there' "$(whole shared) $(cells shared name) $(whole shared.new-*) $(cells shared.new-* name)" \
+        'whole b.s19 whole a.s19'
+    rm -r shared.new-*
+    expect 'of one alone' 3 '' "alone: is the new marking, but $lost" shim fsync:5 "$xm23" mark -o alone "$paper" b.s19
+    same 'it is there' "$(whole alone) $(beside alone)" 'whole '
+    expect 'where no folder is brought to the disk' 0 '' '' shim fsync:22 "$xm23" mark -o shared "$paper" b.s19
+    expect 'no disk' 3 '' 'shared: cannot be written: Input/output error' \
+        shim syncfs:5 "$xm23" mark -o shared "$paper" a.s19
+    same 'nothing new is there' "$(whole shared) $(cells shared name) $(beside shared)" 'whole b.s19 '
+    # What the machine cannot do is no word about a program; what a candidate handed in is.
+    cp "$sound" trouble.s19
+    for problem in '5 Input/output error' '12 Cannot allocate memory' '23 Too many open files in system' \
+        '24 Too many open files' '116 Stale file handle'; do
+        for call in openat read; do
+            expect "$call: ${problem#* }" 3 '' 'troubled: 1 program could not be marked; the rows say why' \
+                shim "$call:${problem%% *}" "$xm23" mark -o troubled "$paper" trouble.s19 b.s19
+            same 'is no row of the candidate' "$(cells troubled line says agrees | sed 's/^0 120 .*yes$/yes/')" \
+                "|could not be marked: ${problem#* }|no"$'\nyes'
+            same 'its page says so' "$(grep -c '<p>could not be marked: ' troubled/pages/*trouble*) $(whole troubled)" \
+                '1 whole'
+        done
+    done
+    for problem in '2 No such file or directory' '13 Permission denied' '40 Too many levels of symbolic links'; do
+        expect "openat: ${problem#* }" 1 '' '' \
+            shim "openat:${problem%% *}" "$xm23" mark -o troubled "$paper" trouble.s19 b.s19
+        same 'is a row' "$(cells troubled says)" "${problem#* }"
+    done
+    mkdir -p deep/trouble && cp "$sound" deep/trouble/b.s19
+    expect 'on the way to it' 3 '' 'troubled: 1 program .*' \
+        shim openat:24 "$xm23" mark -o troubled "$paper" deep/trouble/b.s19 a.s19
+    same 'too' "$(cells troubled says)" 'could not be marked: Too many open files'
+    expect 'of a report' 3 '' 'trouble.s19: .*Input/output error' \
+        shim read:5 "$xm23" report -o page.html "$paper" trouble.s19
 fi
 
 # ---- a folder of somebody else's, as who marks may take it over
@@ -319,6 +455,9 @@ if [ "$(id -u)" -eq 0 ] && id nobody > /dev/null 2>&1; then
     chmod 777 handed_on
     expect 'is taken over' 0 '' '' "$xm23" mark -o handed_on "$paper" b.s19
     same 'and not what others may write' "$(stat -c '%U %a' handed_on)" 'root 755'
+    touch theirs.html && chown nobody theirs.html && chmod 622 theirs.html
+    expect "a page of somebody else's" 0 '' '' "$xm23" report -o theirs.html "$paper" b.s19
+    same 'is no more open than usual' "$(stat -c '%U %a' theirs.html)" 'root 600'
 fi
 
 # ---- a row stays one where a spreadsheet splits it by semicolons

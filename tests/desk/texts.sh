@@ -19,6 +19,8 @@ expect 'a subcommand in a message' 2 '' "xm23: '$shown' is no subcommand.*" "$xm
 printf 'steps 5\n\xE2\x80\xAE\\\0\x9B\n' > "$room/p.paper"
 expect 'a word of a paper' 1 '' "$room/p.paper:2: '\\\\xE2\\\\x80\\\\xAE\\\\x5C\\\\x00\\\\x9B' begins no line .*" \
     "$xm23" run "$room/p.paper" "$sound"
+printf 'steps 5\ntitle a \0 b\n' > "$room/p.paper"
+expect 'a title with a zero byte' 1 '' "$room/p.paper:2: the title has a zero byte" "$xm23" run "$room/p.paper" "$sound"
 printf '; \e[2J\e]52;c;AAAA\a \xE2\x80\xAE\n END ; \x9B31m\n' > "$room/escape.asm"
 same 'comments in a listing' "$("$xm23" asm -l "$room/escape.asm" | cut -c20-)" \
     $'; \\x1B[2J\\x1B]52;c;AAAA\\x07 \\xE2\\x80\\xAE\n END ; \\x9B31m'
@@ -46,6 +48,18 @@ print("columns", {len(r) for r in csv.reader(data.decode().splitlines())})
 print("quoted", sum(r["name"].startswith("'") for r in rows))
 END
 same 'names in cells' "$(cat "$room/cells")" $'rows 18\ncontrols []\nformulas []\nback True\ncolumns {11}\nquoted 9'
+
+# ---- lines end in LF or CR LF; of the last one the LF may be missing, or both
+for end in '\n' '\r\n' '\r' ''; do
+    printf 'steps 5\r\ntitle a title\r\nexpect 0 5 * * * * * * * * * * * *%b' "$end" > "$room/ends.paper"
+    expect "a last line that ends in '$end'" 0 '0 5 .*' '' "$xm23" run "$room/ends.paper" "$sound"
+    printf 'steps 5\ntitle a title%b' "$end" > "$room/ends.paper"
+    "$xm23" report -o "$room/ends.html" "$room/ends.paper" "$sound"
+    same 'has no byte of its ending' "$(grep -c '^<p>a title</p>$' "$room/ends.html")" 1
+done
+printf 'steps 5\rtitle\n' > "$room/ends.paper"
+expect 'a CR in the middle of a line' 1 '' "$room/ends.paper:1: '5\\\\x0Dtitle' is no number .*" \
+    "$xm23" run "$room/ends.paper" "$sound"
 
 # ---- the expected line, judged when the paper is read
 line='0 120 001F 0120 0000 0006 0000 FFFF 0800 1016 0003 00 00000000 1'

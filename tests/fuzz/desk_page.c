@@ -208,7 +208,7 @@ int LLVMFuzzerTestOneInput(const uint8_t *data, size_t size)
     sitting.paper = &p;
     addf(&path, "%s/page-%ld.%s", getenv("XM23_FOUND"), (long)getpid(), kind & 1 ? "asm" : "s19");
     put_file(path.at, &program);
-    must(mark_program(&sitting, path.at, ANY_FILE, &m), "a file", path.at, path.length);
+    must(mark_program(&sitting, path.at, &m), "a file", path.at, path.length);
     unlink(path.at);
     m.row.name = name.at;
     add_page(&page, &sitting, &m);

@@ -73,7 +73,8 @@ said() {
     env PATH="$room/bin" APT="$1" "$room/bare/.ci/run" | tr '\n' ';'
 }
 if [ "$(id -u)" -eq 0 ]; then
-    some='installing pkg-config;installing libssl-dev;installing chromium;installing valgrind;installing clang;tested;'
+    some='installing pkg-config;installing libssl-dev;installing chromium;installing valgrind;installing lintian;'
+    some+='installing clang;tested;'
     had='cannot be had \(build/log/apt.out\)'
     same 'apt can' "$(said can)" "$some"
     same 'apt can, once it has the lists' "$(said later)" "$some"

@@ -146,6 +146,7 @@ card() {
 
 part 'what the trace refuses' count_line python3 -B scripts/trace_test.py
 part 'trace to 01' count_line python3 -B scripts/trace.py
+part 'decisions and their index' count_line python3 -B scripts/decisions.py --check
 part 'sentences of the refusals' count_line python3 -B scripts/refusals.py
 part 'legend of every line' count_line python3 -B scripts/legend_test.py
 part 'floors of the crates' count_line python3 -B scripts/floors.py --check

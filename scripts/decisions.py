@@ -5,9 +5,8 @@
     decisions.py --check    whether it is what would be written, and whether every entry has its form; the last line is
                             'N passed, M failed'
 
-A part is `# Part`, a heading of a paper or a topic in it `## Heading`, an entry `### Title` and a list of fields. A `##`
-with 'Asked:' right below it, behind the last part, is a new entry that is not sorted in yet: it needs no line of the
-index.
+A part is `# Part`, a heading of a paper or a topic in it `## Heading`, an entry `### Title` and a list of fields. A
+heading `##` with 'Asked:' right below it is a new entry that is not sorted in yet: it needs no line of the index.
 """
 import os
 import re
@@ -91,7 +90,9 @@ def check(text):
     found, new = parts(text)
     entries = entries_of(found)
     titles = [title for title, _ in entries] + new
-    wrong = [f"docs/DECISIONS.md: '{title}' {fault}" for title, lines in entries for fault in faults_of(title, lines, titles)]
+    wrong = []
+    for title, lines in entries:
+        wrong += [f"docs/DECISIONS.md: '{title}' {fault}" for fault in faults_of(title, lines, titles)]
     if INDEX.search(text).group() != index(found):
         wrong.append("docs/DECISIONS.md: the index is not what scripts/decisions.py writes")
     return 1 + len(titles), wrong

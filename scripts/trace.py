@@ -9,9 +9,12 @@ paper asks for: docs/CALLS.md has a section for each, `## xm23_places: topic`. T
   docs/TRACE.md,
 - on a section of 02 that a tag names and that has no section in docs/TRACE.md, `## 02 §5: topic`, and the other way
   round; on a call the same way, `## call places: topic`, and on one of docs/CALLS.md that no tag names,
-- on a name in docs/TRACE.md that is defined nowhere: `File.antt`: `name` (a file without a folder is of machine/specs),
+- on a block of docs/TRACE.md that has not its form: a sentence, `> ..`, once in its section, and right below it a list
+  whose items are of the kinds below and in their order; on a section without one, a list without a sentence, a row of a
+  table,
+- on a name in docs/TRACE.md that is defined nowhere: said: `crate/specs/File.antt`: `name`, one item for each file;
   proof: `crate::function` and law: `crate/proofs/File.antt::law` and edit: `crate/edit` of a crate that is there,
-  oracle: `file::test`, case: `name`,
+  oracle: `file::test`, case: `name`, test: `path/of/a/file`,
 - on a case of tests/cases that docs/TRACE.md does not name.
 The last line is 'N passed, M failed'.
 """
@@ -30,6 +33,11 @@ REQUEST = re.compile(r"§(1[0-4]|[1-9])(?:, for 01 (.*))?$")
 
 # what may stand after a heading: items, as ", 3" or ", 4 to 7"
 ITEMS = re.compile(r"(, \d+( to \d+)?)*$")
+# the section whose sentences are programs of 003, which no definition says
+EXAMPLES = "Worked examples of 003"
+
+# the items of a block, in their order
+KINDS = ["said", "proof", "law", "edit", "oracle", "case", "test"]
 ANTT = r"^\s*(?:(?:pub|abbrev|unfoldable|data|record)\s+)*%s(?:\s|$)"
 CODE = r"\b(?:fn|struct|enum|type)\s+%s\b"
 
@@ -60,6 +68,57 @@ def headings_in(tag, calls=()):
     parts = [part.strip().partition(" ") for part in tag.split(";")]
     naming = {"01": heading_of, "02": request_of, "call": lambda name: f"call {name}" if name in calls else None}
     return [naming[document](rest) for document, _, rest in parts if document in naming]
+
+
+class Block:
+    """A sentence of a paper and the items below it, [kind, text]."""
+
+    def __init__(self, section, sentence):
+        self.section, self.sentence, self.items = section, sentence, []
+
+    def faults(self):
+        """What is wrong with its form."""
+        kinds = [kind for kind, _ in self.items]
+        if not kinds:
+            yield "nothing stands below it"
+        elif "said" not in kinds and self.section != EXAMPLES:
+            yield "no item 'said'"
+        if any(kind not in KINDS for kind in kinds):
+            yield f"an item is of no kind: {', '.join(sorted(set(kinds) - set(KINDS)))}"
+        elif kinds != sorted(kinds, key=KINDS.index):
+            yield f"its items are not in the order {', '.join(KINDS)}"
+        for kind in KINDS[1:]:
+            if kinds.count(kind) > 1:
+                yield f"it has two items '{kind}'"
+        for kind, text in self.items:
+            if not text or kind != "said" and "`" not in text:
+                yield f"its item '{kind}' names nothing"
+
+
+def blocks(text):
+    """The blocks of docs/TRACE.md below its first section, and the lines that have no place there."""
+    found, astray, section, block, last = [], [], None, None, ""
+    for line in text.split("\n"):
+        item = re.match(r"- ([^:`]*):(?: (.*))?$", line)
+        if line.startswith("## "):
+            section, block = line[3:], None
+        elif section is None:
+            continue
+        elif line.startswith("> ") and last.startswith("> "):
+            block.sentence += " " + line[2:]
+        elif line.startswith("> "):
+            block = Block(section, line[2:])
+            found.append(block)
+        elif item and block and last:
+            block.items.append([item[1], item[2] or ""])
+        elif line.startswith("  ") and block and block.items and last:
+            block.items[-1][1] += " " + line.strip()
+        elif line.startswith(("|", "-", " ", ">")):
+            astray.append(line)
+        elif line:
+            block = None
+        last = line
+    return found, astray
 
 
 class Trace:
@@ -100,7 +159,7 @@ class Trace:
         self.tagged = seen
 
     def document(self):
-        """The sections of docs/TRACE.md, and every name in its rows."""
+        """The sections of docs/TRACE.md, and its blocks."""
         text = (self.root / "docs/TRACE.md").read_text()
         sections = re.findall(r"^## (.*)$", text, re.MULTILINE)
         for heading in HEADINGS:
@@ -109,38 +168,53 @@ class Trace:
         for section in sorted(self.requests | written):
             self.check(section in written, f'docs/TRACE.md has no section "{section}: .."')
             self.check(section in self.tagged, f"no definition has a tag of {section}")
-        for row in re.findall(r"^\|(.*)\|$", text, re.MULTILINE):
-            cells = row.split("|")
-            if len(cells) != 3:
-                self.check(False, f"docs/TRACE.md: {len(cells)} cells in |{row}|")
-                continue
-            for item in cells[1].split(";"):
-                self.item(item)
-            for kind, names in re.findall(r"(proof|law|edit|oracle|case): ((?:`[^`]+`(?:, )?)+)", cells[2]):
-                for name in re.findall(r"`([^`]+)`", names):
-                    self.touching(kind, name)
+        found, astray = blocks(text)
+        self.blocks(found, astray)
+        for section in sections:
+            held = any(block.section == section for block in found)
+            self.check(held, f'docs/TRACE.md: the section "{section}" has no sentence')
         for path in sorted((self.root / "tests/cases").glob("*.txt")):
-            self.check(f"`{path.stem}`" in text, f"docs/TRACE.md: no row names the case {path.stem}")
+            self.check(f"`{path.stem}`" in text, f"docs/TRACE.md: no block names the case {path.stem}")
 
-    def item(self, text):
-        """`File.antt`: `name`, `name`, with other words around the names."""
-        names = re.findall(r"`([^`]+)`", text)
+    def blocks(self, found, astray):
+        """The form of each block, and every name in it."""
+        for line in astray:
+            self.check(False, f"docs/TRACE.md: stands in no block: {line}")
+        seen = set()
+        for block in found:
+            place = f"docs/TRACE.md, {block.section}: '{block.sentence}'"
+            faults = list(block.faults())
+            if (block.section, block.sentence) in seen:
+                faults.append("it stands there twice")
+            seen.add((block.section, block.sentence))
+            self.check(not faults, f"{place}: {'; '.join(faults)}")
+            for kind, text in block.items:
+                names = re.findall(r"`([^`]+)`", text)
+                if kind == "said":
+                    self.said(place, text, names)
+                for name in names if kind in KINDS[1:] else []:
+                    self.touching(kind, name)
+
+    def said(self, place, text, names):
+        """A file and names that it defines, with other words around them; or words alone, where nothing defines it."""
         if not names:
             return
-        file = names[0] if "/" in names[0] else f"machine/specs/{names[0]}"
+        file = names[0]
         pattern = ANTT if file.endswith(".antt") else CODE
-        self.check(len(names) > 1, f"docs/TRACE.md: no definition is named in {text.strip()}")
+        self.check(len(names) > 1, f"{place}: no definition is named in {text}")
         for name in names[1:]:
-            self.check(self.defined(f"crates/{file}", pattern, name), f"docs/TRACE.md: {file} has no {name}")
+            self.check(self.defined(f"crates/{file}", pattern, name), f"{place}: {file} has no {name}")
 
     def touching(self, kind, name):
-        """A crate or a function of one, a law, a must-fail edit, a test of the oracle, a readable case."""
+        """A crate or a function of one, a law, a must-fail edit, a test of the oracle, a readable case, another test."""
         place, _, what = name.partition("::")
         crate, _, edit = place.partition("/")
         if kind == "oracle":
             held = self.defined(f"oracle/{place}.rs", CODE, what)
         elif kind == "case":
             held = (self.root / f"tests/cases/{name}.txt").is_file()
+        elif kind == "test":
+            held = (self.root / name).is_file()
         elif not (self.root / "crates" / crate).is_dir():
             self.absent.add(crate)
             return

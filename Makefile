@@ -1,6 +1,6 @@
 # XM-23 examination machine. 'make help' lists what there is.
 
-.PHONY: help run line lib desk install install-lib deb uninstall input list card report prove edits test fuzz fuzz_words replay bench
+.PHONY: help run line lib desk install install-lib deb uninstall input list card prove edits test fuzz fuzz_words replay bench
 .PHONY: clean headers
 
 CFLAGS = -std=c99 -pedantic -O2 -Wall -Wextra -Werror -Iinclude
@@ -9,11 +9,8 @@ EXAMPLE = examples/interrupts
 PREFIX = /usr/local
 DESTDIR =
 CASE =
-INPUT = $(EXAMPLE).in
-OUT = build/report.html
+OUT =
 CARD = build/card.html
-TITLE =
-EXPECT =
 INPUTS = 100000
 SEED =
 FUZZ_SECONDS = 60
@@ -37,8 +34,8 @@ run: build/xm23
 	@echo 'build/sitting/index.html     the table, for a browser: a page for each program'
 	@echo 'build/sitting/results.csv    the same, for a spreadsheet'
 
-line: target/bin/print_state
-	@target/bin/print_state < $(EXAMPLE).in | python3 -B scripts/legend.py
+line: target/bin/print_state build/xm23
+	@target/bin/print_state < $(EXAMPLE).in | build/xm23 line
 
 lib: $(ARCHIVE)
 	@echo '$<'
@@ -61,11 +58,7 @@ uninstall:
 
 # print_state's input, of a readable case, whose source the library assembles.
 input: $(if $(CASE),$(ARCHIVE))
-	@scripts/input.sh $(call quoted,$(CASE)) $(if $(filter command%,$(origin OUT)),$(call quoted,$(OUT)))
-
-# Nothing is built for an input that is not there.
-report: $(shell test -e $(call quoted,$(INPUT)) && echo target/bin/print_state)
-	@scripts/report.sh $(call quoted,$(INPUT)) $(call quoted,$(OUT)) $(call quoted,$(TITLE)) $(call quoted,$(EXPECT))
+	@scripts/input.sh $(call quoted,$(CASE)) $(if $(OUT),$(call quoted,$(OUT)))
 
 list: build/xm23
 	@build/xm23 dis examples/copy_words.s19
@@ -145,7 +138,7 @@ target/staticlib/libprobe.a: $(call sources,probe)
 target/bin/print_state: $(call sources,print_state)
 
 # What the desk program needs besides is looked for before anything is proved for it.
-$(ARCHIVE) target/bin/print_state: | $(if $(filter run desk install list card bench build/xm23,$(MAKECMDGOALS)),headers)
+$(ARCHIVE) target/bin/print_state: | $(if $(filter run line desk install list card bench build/xm23,$(MAKECMDGOALS)),headers)
 
 headers:
 	@[ -e build/xm23 ] || scripts/crypto.sh > /dev/null

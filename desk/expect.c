@@ -41,10 +41,17 @@ static int is_number(const char *at, size_t length, uint64_t most)
     return length == 1 || (length && at[0] != '0');
 }
 
-static int is_field(const struct word *w, unsigned i)
+/* Who is told of a mistake in a line, and whether * may stand for a field. */
+struct reader {
+    const char *name;
+    uint32_t line;
+    int any;
+};
+
+static int is_field(const struct reader *r, const struct word *w, unsigned i)
 {
     size_t many = 0;
-    if (w->length == 1 && w->at[0] == '*')
+    if (r->any && w->length == 1 && w->at[0] == '*')
         return 1;
     if (!forms[i].digits)
         return is_number(w->at, w->length, forms[i].most);
@@ -53,14 +60,15 @@ static int is_field(const struct word *w, unsigned i)
     return many == w->length && many == forms[i].digits;
 }
 
-static int no_field(const struct paper *p, uint32_t line, const struct word *w, unsigned i)
+static int no_field(const struct reader *r, const struct word *w, unsigned i)
 {
+    const char *star = r->any ? ", or *" : "";
     char says[96];
     if (forms[i].digits)
-        snprintf(says, sizeof says, "is no %s: %u digits of base sixteen, or *", forms[i].name, forms[i].digits);
+        snprintf(says, sizeof says, "is no %s: %u digits of base sixteen%s", forms[i].name, forms[i].digits, star);
     else
-        snprintf(says, sizeof says, "is no %s: 0 to %u, or *", forms[i].name, forms[i].most);
-    say_of(p->name, line, w->at, w->length, says);
+        snprintf(says, sizeof says, "is no %s: 0 to %u%s", forms[i].name, forms[i].most, star);
+    say_of(r->name, r->line, w->at, w->length, says);
     return 0;
 }
 
@@ -90,50 +98,62 @@ static int take_refusal(struct word w, const char **at, const char *end, struct 
     return number && strcmp(xm23_refusal_text(number), xm23_refusal_text(256)) != 0;
 }
 
-static int take_fields(const struct paper *p, uint32_t line, const char **at, const char *end, struct text *t)
+static int take_fields(const struct reader *r, const char **at, const char *end, struct text *t)
 {
     for (unsigned i = 0; i < FIELDS; i++) {
         struct word w;
         if (!next_word(at, end, &w)) {
-            say_at(p->name, line, "the expected line ends before %s: it has 14 fields, or is R and a number",
-                   forms[i].name);
+            say_at(r->name, r->line, "the %sline ends before %s: it has 14 fields, or is R and a number",
+                   r->any ? "expected " : "", forms[i].name);
             return 0;
         }
-        if (!is_field(&w, i))
-            return no_field(p, line, &w, i);
+        if (!is_field(r, &w, i))
+            return no_field(r, &w, i);
         keep(t, &w);
     }
     return 1;
 }
 
-static int take_line(const struct paper *p, uint32_t line, const char **at, const char *end, struct text *t)
+static int take_line(const struct reader *r, const char **at, const char *end, struct text *t)
 {
     const char *from = *at;
     struct word w;
     if (!next_word(at, end, &w) || (w.at[0] != 'R' && w.at[0] != 'r')) {
         *at = from;
-        return take_fields(p, line, at, end, t);
+        return take_fields(r, at, end, t);
     }
     if (take_refusal(w, at, end, t))
         return 1;
-    say_of(p->name, line, w.at, (size_t)(*at - w.at), "is no refusal: R and its number");
+    say_of(r->name, r->line, w.at, (size_t)(*at - w.at), "is no refusal: R and its number");
     return 0;
+}
+
+/* All of a line; NULL where it has a mistake, which has been told. */
+static char *whole_line(const struct reader *r, const char *at, const char *end)
+{
+    struct text t = {0};
+    struct word more;
+    int good = take_line(r, &at, end, &t);
+    if (good && next_word(&at, end, &more)) {
+        say_of(r->name, r->line, more.at, more.length, "is one word too many");
+        good = 0;
+    }
+    if (!good)
+        drop_text(&t);
+    return t.at;
 }
 
 int take_expected(struct paper *p, uint32_t line, const char *at, const char *end)
 {
-    struct text t = {0};
-    struct word more;
-    int good = take_line(p, line, &at, end, &t);
-    if (good && next_word(&at, end, &more)) {
-        say_of(p->name, line, more.at, more.length, "is one word too many");
-        good = 0;
-    }
-    if (good)
-        p->expected = t.at;
-    else
-        drop_text(&t);
-    return good;
+    struct reader r = {p->name, line, 1};
+    p->expected = whole_line(&r, at, end);
+    return p->expected != NULL;
+}
+
+char *take_printed(const char *name, uint32_t line, const char *at, const char *end)
+{
+    struct reader r = {name, line, 0};
+    return whole_line(&r, at, end);
 }
 
 /* ---- judging */

@@ -94,6 +94,12 @@ const struct subcommand subcommands[] = {
      "\n"
      "Status 0: sound. 1: something is found, PROGRAM is refused, or PAPER has a mistake.\n",
      xm23_desk_sound},
+    {"line", "xm23 line [FIELD..]", "tell what each field of a printed line says",
+     "Prints a line of the sheet, as 'xm23 run' and print_state print it, with its legend: what each field is and\n"
+     "says. The line is that of the words FIELD.., or, without any, the first of standard input.\n"
+     "\n"
+     "Status 1: it is no line of the sheet.\n",
+     xm23_desk_line},
     {"asm", "xm23 asm [-l] [-o FILE] [-s START] SOURCE", "assemble a source to S-records, or to a listing",
      "Assembles SOURCE (docs/FORMATS.md has the language) and writes the bytes that it states as S-records. A source\n"
      "at fault is told as 'SOURCE:LINE: R17: ..', and nothing is written.\n"

@@ -2,7 +2,9 @@
 #include <stdio.h>
 #include <stdlib.h>
 #include <string.h>
+#include <unistd.h>
 
+#include "desk.h"
 #include "line.h"
 
 /* What the sheet is asked with: n, the state record, memory, events. Room for it is kept from one to the next. */
@@ -128,4 +130,50 @@ void add_legend(struct text *t, const char *line)
             t->at[--t->length] = 0;
         addf(t, "\n");
     }
+}
+
+/* ---- the command */
+
+/* A line that was printed, and its legend. A number other than 0 is that of the line at fault. */
+static int tell_printed(const char *name, uint32_t number, const char *bytes)
+{
+    struct text t = {0};
+    int status = REFUSED;
+    char *line = take_printed(name, number, bytes, bytes + strcspn(bytes, "\r\n"));
+    if (line) {
+        addf(&t, "%s\n\n", line);
+        add_legend(&t, line);
+        status = write_file("-", &t);
+    }
+    free(line);
+    drop_text(&t);
+    return status;
+}
+
+static int tell_input(void)
+{
+    struct text why = {0};
+    size_t length;
+    char *bytes = read_file("/dev/stdin", ANY_FILE, MOST_TEXT, &length, &why);
+    int status = bytes ? tell_printed("standard input", 1, bytes) : UNREADABLE;
+    if (!bytes)
+        say_at("standard input", 0, "%s", why.at);
+    free(bytes);
+    drop_text(&why);
+    return status;
+}
+
+int xm23_desk_line(int argc, char **argv)
+{
+    struct text words = {0};
+    int status;
+    if (getopt(argc, argv, "+:") != -1)
+        return misused("line");
+    if (optind == argc)
+        return tell_input();
+    for (int i = optind; i < argc; i++)
+        addf(&words, "%s ", argv[i]);
+    status = tell_printed("xm23", 0, words.at);
+    drop_text(&words);
+    return status;
 }

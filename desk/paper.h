@@ -90,6 +90,9 @@ void pack_events(struct paper *p);
 /* What follows the word `expect`, into `expected`; 0 where it has a mistake, which has been told. */
 int take_expected(struct paper *p, uint32_t line, const char *at, const char *end);
 
+/* A line that was printed, in capitals, a blank between two fields; NULL where it is none, which has been told. */
+char *take_printed(const char *name, uint32_t line, const char *at, const char *end);
+
 /* Whether a line is the expected one, * for any field: 1 yes, 0 no, as of an empty line, -1 where none is expected. */
 int as_expected(const struct paper *p, const char *line);
 

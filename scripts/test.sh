@@ -118,10 +118,10 @@ listing() {
     "$build/xm23" dis examples/copy_words.s19 | diff examples/copy_words.lst -
 }
 
-# random_papers PROGRAM RUNS. The oracle's pages are asked for by its program, which is compiled first.
+# random_papers PROGRAM RUNS. The oracle's rows are asked for by its program, which is compiled first.
 random_papers() {
-    scripts/oracle.sh report > /dev/null 2>&1 || [ $? -eq 2 ] &&
-        python3 -B tests/desk/random_runs.py "$1" target/bin/print_state oracle/target/release/examples/report "$2"
+    scripts/oracle.sh walk < examples/interrupts.in > /dev/null &&
+        python3 -B tests/desk/random_runs.py "$1" target/bin/print_state oracle/target/release/examples/walk "$2"
 }
 
 # The machines of the example host print what the program prints; by slices, all but the depth, which is a slice's own.
@@ -148,7 +148,6 @@ part 'what the trace refuses' count_line python3 -B scripts/trace_test.py
 part 'trace to 01' count_line python3 -B scripts/trace.py
 part 'decisions and their index' count_line python3 -B scripts/decisions.py --check
 part 'sentences of the refusals' count_line python3 -B scripts/refusals.py
-part 'legend of every line' count_line python3 -B scripts/legend_test.py
 part 'floors of the crates' count_line python3 -B scripts/floors.py --check
 part 'layout of proofs and code' count_status rt fmt --check
 part 'texts of the must-fail edits' count_line scripts/edits.py --texts
@@ -205,8 +204,7 @@ fi
 part 'Python' count_line python_module
 part 'installing' count_line tests/shell/install.sh
 part 'packages' count_line tests/shell/deb.sh
-part 'the report' count_line tests/shell/report.sh
 part 'going back' count_line tests/shell/back.sh
 part 'the open machine' count_line tests/shell/advance.sh
-part 'mistakes and the legend' count_line tests/shell/tools.sh
+part 'mistakes' count_line tests/shell/tools.sh
 part 'S-records beside srec_cat and objcopy' count_line scripts/peers.sh

@@ -24,7 +24,7 @@ use crate::assemble::judge;
 use crate::inputs::Input;
 use crate::journal::{Held, Journal, KEPT};
 use crate::machine::{event_record, long_log, Event, Lines, Machine, Ran, Shown, LR, PC, RECORD, SP};
-use crate::report::sentence;
+use crate::refusals::sentence;
 use std::collections::HashMap;
 use std::path::PathBuf;
 

@@ -16,7 +16,7 @@ expect 'no word' 2 '' 'usage: xm23 .*' "$xm23"
 expect 'no subcommand' 2 '' "xm23: 'fly' is no subcommand.*" "$xm23" fly
 expect '--help' 0 'usage: .*run .*mark .*report .*back .*events .*asm .*dis .*stack .*card .*Status.*' '' "$xm23" --help
 expect '--version' 0 'xm23 [0-9]+\.[0-9]+\.[0-9]+' '' "$xm23" --version
-for word in run mark report back events sound asm dis stack card; do
+for word in run mark report back events sound line asm dis stack card; do
     expect "$word --help" 0 "usage: xm23 $word .*" '' "$xm23" "$word" --help
     expect "$word -x" 2 '' "$(usage "$word")" "$xm23" "$word" -x
     same "$word is in the manual" "$(grep -qx "\.B $word" man/xm23.1 && echo yes)" yes
@@ -40,10 +40,9 @@ same 'folders' "$(complete_words xm23 mark -o examples/sit)" 'examples/sitting'
 expect 'run' 0 "$line" '' "$xm23" run "$paper" "$sound"
 expect 'run -l' 0 "$line.*reason +0 +all steps are done.*PSW +0003 +priority 0, previous 0, flags: Z C.*" '' \
     "$xm23" run -l "$paper" "$sound"
-same 'the legend is that of legend.py' "$("$xm23" run -l "$paper" "$sound")" \
-    "$(echo "$line" | python3 -B scripts/legend.py)"
+same 'the legend is that of the line' "$("$xm23" run -l "$paper" "$sound")" "$("$xm23" line "$line")"
 same 'a legend on a terminal' "$(python3 -B tests/desk/terminal.py "$xm23" run "$paper" "$sound" | tr -d '\r')" \
-    "$(echo "$line" | python3 -B scripts/legend.py)"
+    "$("$xm23" line "$line")"
 same 'the screen' "$("$xm23" run -l "$paper" "${sound%/*}/screen.asm" 2> /dev/null | tail -1)" '  screen  SUM'
 expect 'no screen without -l' 1 '0 120 004D 0005 .*0 1' '.*another line.*' "$xm23" run "$paper" "${sound%/*}/screen.asm"
 expect 'another line' 1 '0 120 0019 .*' "$paper:21: another line was expected: $line" \

@@ -3,9 +3,9 @@
 random start, program, devices, vectors, memory and events. Of the first half the program is random bytes, and of a
 sixth of them one rule is broken, which a paper tells by the refusal's number: print_state gives the line that xm23 run
 and xm23 mark must give. Of the second half it is a source with handlers, SVC, CEX blocks, faults, sleep and stores:
-there what xm23 report and xm23 back tell of the last steps is held against the oracle's walk of the same run (ORACLE is
-its program, report), the walk's data are replayed, and what xm23 sound tells is held to the walk. The last line is
-'N passed, M failed'."""
+there what xm23 report, xm23 back and xm23 events tell of the last steps and of each event is held against the oracle's
+rows of the same run (ORACLE is its program, walk), the walk's data are replayed, and what xm23 sound tells is held to
+the walk. The last line is 'N passed, M failed'."""
 import base64
 import csv
 import html
@@ -186,12 +186,6 @@ def rows(page, heading):
     return [[html.unescape(re.sub(r"<[^>]*>", "", cell)) for cell in row] for row in cells][1:]
 
 
-ACTS = [(r"skipped by CEX: not decoded", r"skipped by CEX"), (r"asleep: nothing", r"asleep"),
-        (r"entry: line (\d) accepted", r"line of device \1 accepted"), (r"return: pulled (.*)", r"return: \1 pulled"),
-        (r"return, chained entry: line (\d), nothing pushed", r"return, chained to the line of device \1"),
-        (r"entry: SVC to vector", r"SVC by vector"), (r"entry: fault", r"fault")]
-
-
 # Kinds of steps that must be met among those that are compared.
 KINDS = ["skipped", "asleep", "accepted", "chained", "pulled", "SVC by", "fault 8", "fault 9", "fault 10",
          "halt: fault 8", "halt: fault 9", "halt: fault 10", "; fault 9", "ST ", "ST.B", "STR ", "STR.B", "LD ", "LDR "]
@@ -199,32 +193,17 @@ FATES = ["taken", "ENA clear", "after the end", "IE clear", "waits", "overrun ye
 met = set()
 
 
-def in_desk_words(text):
-    for old, new in ACTS:
-        text = re.sub(old, new, text)
-    return re.sub(" +", " ", text).strip()
+class Rows:
+    """What the oracle says of a run: its line, its last steps as a page shows them, its events."""
 
-
-def registers(left):
-    return [part for part in left.split(", ") if re.match(r"(R\d|LR|SP|PSW|CEX) ", part)]
-
-
-def oracle_steps(page):
-    for step, pc, fetched, what, left in rows(page, ">The last steps<"):
-        left = re.sub(r"CEX #00", "CEX #", left)
-        fetched = "" if what.startswith("skipped") else fetched
-        cells = [cell.replace("#", "").replace(",", "") for cell in (step, pc, fetched)]
-        yield cells + [in_desk_words(what), left.replace("#", "").split(", ")]
-
-
-def desk_steps(page):
-    for step, pc, fetched, what, left in rows(page, "<h2>The last "):
-        yield [step, pc, fetched, in_desk_words(what), registers(left) or [""]]
-
-
-def oracle_turns(page):
-    turns = rows(page, ">Entries, returns and faults<")
-    return [[cells[0].replace(",", ""), in_desk_words(cells[1])] for cells in turns]
+    def __init__(self, given):
+        told = run([oracle], input=given)
+        rows = [line.split("\t") for line in told.stdout.decode().splitlines()]
+        self.of = lambda kind: [row[1:] for row in rows if row[0] == kind]
+        self.line = self.of("line")[0][0]
+        self.steps = [[count, pc, fetched, "; ".join(part for part in (instruction, act) if part), left]
+                      for count, pc, fetched, instruction, act, left in self.of("step")]
+        self.turns = [[row[0], row[4]] for row in self.of("step") if row[4] not in ("", "skipped by CEX", "asleep")]
 
 
 def walk_of(page):
@@ -270,48 +249,41 @@ class Walk:
 
 
 def look_at(this, name, files):
-    """The page and what goes back, beside the oracle's walk."""
-    paper, program, given, line, page = files
-    told = run([xm23, "report", paper, program])
-    with open(given, "wb") as file:
-        file.write(this.input())
-    with open(line, "w") as file:
-        file.write(run([xm23, "run", paper, program]).stdout.decode())
-    made = run([oracle, given, line, page])
-    same(f"{name}: the oracle's page", (made.stderr.decode(), made.returncode), ("", 0))
-    if made.returncode:
-        return
-    mine = told.stdout.decode()
-    with open(page) as file:
-        theirs = file.read()
-    steps = list(desk_steps(mine))
-    same(f"{name}: last steps", steps, list(oracle_steps(theirs)))
-    met.update(kind for kind in KINDS for step in steps if kind in step[3])
+    """The page and what goes back, beside the oracle's rows."""
+    paper, program = files
+    line = run([xm23, "run", paper, program]).stdout.decode()
+    theirs = Rows(this.input())
+    same(f"{name}: the oracle's line", theirs.line, line.strip())
+    mine = run([xm23, "report", paper, program]).stdout.decode()
+    same(f"{name}: last steps", rows(mine, "<h2>The last "), theirs.steps[-32:])
+    met.update(kind for kind in KINDS for step in theirs.steps if kind in step[3])
     walk = Walk(mine)
     many = len(walk.steps)
     counts = [int.from_bytes(walk.journal[64 * i + 22:64 * i + 26], "little") for i in range(many)]
-    turns = [[cells[0], in_desk_words(cells[1])] for cells in rows(mine, "<h2>Entries, returns and faults")]
-    last = [turn for turn in oracle_turns(theirs)[-48:] if turn[0] != ".." and int(turn[0]) >= counts[0]]
-    same(f"{name}: entries, returns and faults", turns[-len(last):] if last else turns, last)
+    told = [f"{counts[i]} {walk.data['what'][step[0]]}" for i, step in enumerate(walk.steps)]
+    theirs_told = [" ".join(filter(None, (step[0], step[2], step[3]))) for step in theirs.steps]
+    same(f"{name}: steps of the walk", told, theirs_told)
+    turns = [cells[:2] for cells in rows(mine, "<h2>Entries, returns and faults")]
+    same(f"{name}: entries, returns and faults", turns, theirs.turns[-64:])
     same(f"{name}: every byte that changed has its writer", walk.uncovered, 0)
     unstored = [at for i, at in walk.shown if not 0 <= at - walk.stored_at(i) < walk.steps[i][1]]
     same(f"{name}: every byte that was shown was stored", unstored, [])
-    with open(line) as file:
-        fields = file.read().split()
+    fields = line.split()
     if int(fields[1]) == many:
         same(f"{name}: memory before", bytes(walk.memory), bytes(this.memory))
         same(f"{name}: depth", walk.deepest, int(fields[-1]))
     else:
         same(f"{name}: depth", walk.deepest <= int(fields[-1]), True)
-    look_at_events(this, name, walk, counts, (paper, program), fields)
-    look_at_findings(name, mine, walk, counts, (paper, program))
-    go_back(this, name, walk, counts, (paper, program), int(fields[1]))
+    look_at_events(this, name, walk, counts, files, fields, theirs)
+    look_at_findings(name, mine, walk, counts, files)
+    go_back(this, name, walk, counts, files, int(fields[1]), theirs)
 
 
-def look_at_events(this, name, walk, counts, files, fields):
+def look_at_events(this, name, walk, counts, files, fields, theirs):
     """Each event has its row; each entry is the oldest's that waits; what waits in the end is what the line has."""
     told = run([xm23, "events", "-c", *files]).stdout.decode()
     table = list(csv.DictReader(told.splitlines()))
+    same(f"{name}: events", [row[1:] for row in csv.reader(told.splitlines()[1:])], theirs.of("event"))
     listed = [(int(r["step"]), int(r["device"]), int(r["byte"])) for r in table]
     same(f"{name}: a row for each event", listed, this.events)
     first, end = this.count, this.count + int(fields[1])
@@ -360,10 +332,11 @@ def entries_of(walk, counts):
             yield int(found[1] or found[4]), counts[i], found[2] or found[3]
 
 
-def go_back(this, name, walk, counts, files, steps):
+def go_back(this, name, walk, counts, files, steps, theirs):
     many = dice.randrange(1, len(walk.steps) + 1)
     lines = run([xm23, "back", "-n", str(many), *files]).stdout.decode().splitlines()
-    same(f"{name}: back {many}", [line.split()[0] for line in lines[1:-1]], [str(c) for c in counts[:-many - 1:-1]])
+    told = [" ".join(line.split()) for line in lines[1:-1]]
+    same(f"{name}: back {many}", told, [" ".join(" ".join(step).split()) for step in theirs.steps[:-many - 1:-1]])
     this.n = steps - many
     fields = run([print_state], input=this.input()).stdout.decode().split()
     same(f"{name}: the state {many} back", re.findall(r" ([0-9A-F]{2,8})\b", lines[-1].split(":")[1]), fields[2:13])
@@ -377,8 +350,7 @@ def go_back(this, name, walk, counts, files, steps):
 
 
 with tempfile.TemporaryDirectory() as room:
-    paper, program, marks, given, line_file, page = (
-        os.path.join(room, name) for name in ("p.paper", "p.s19", "marks", "p.in", "p.line", "p.html"))
+    paper, program, marks = (os.path.join(room, name) for name in ("p.paper", "p.s19", "marks"))
     for i in range(runs):
         this = Run()
         with open(paper, "w") as file:
@@ -406,7 +378,7 @@ with tempfile.TemporaryDirectory() as room:
             file.write(this.source)
         line = run([print_state], input=this.input()).stdout.decode().strip()
         same(f"source {i}", run([xm23, "run", paper, source]).stdout.decode().strip(), line)
-        look_at(this, f"source {i}", (paper, source, given, line_file, page))
+        look_at(this, f"source {i}", (paper, source))
     several = [os.path.join(room, f"{i}.asm") for i in range(12)]
     with open(paper, "w") as file:
         file.write(this.paper())

@@ -1,6 +1,5 @@
 #!/usr/bin/env bash
-# Mistakes of the person who types: one line, 'file:line: text' where a file has the mistake, status 2. And the legend,
-# on every kind of line.
+# Mistakes of the person who types: one line, 'file:line: text' where a file has the mistake, status 2. And 'make line'.
 set -u
 cd "$(dirname "$0")/../.."
 . tests/shell/expect.sh
@@ -46,22 +45,9 @@ expect 'the least case' 0 "$room/case.in" '' scripts/input.sh "$room/case.txt" "
 same 'runs' "$(target/bin/print_state < "$room/case.in")" \
     '0 5 0000 0000 0000 0000 0000 0000 0800 1000 0000 00 00000000 0'
 
-# The legend of an accepted line has a row for each field; of a refusal, its sentence.
-legend() {
-    echo "$1" | python3 -B scripts/legend.py
-}
+# The line of the example, and its legend.
 line=$(target/bin/print_state < examples/interrupts.in)
-expect 'a line' 0 "$line.*reason .*R7 +1000 +PC.*PSW .*CEX .*lines .*none.*depth +2 .*" '' legend "$line"
-same 'a row for each field' "$(legend "$line" | tail -n +3 | wc -l)" "$(echo "$line" | wc -w)"
-expect 'a halted machine' 0 '.*reason +1 +halted.*' '' legend "1 ${line#* }"
-for n in $(sed -n 's/^#define XM23_REFUSED_[A-Z_]* \([0-9]*\)$/\1/p' include/xm23.h); do
-    expect "R$n" 0 "R$n.*refusal $n .*" '' legend "R$n"
-    same "R$n has a sentence" "$(legend "R$n" | grep -c 'no refusal has this number')" 0
-done
-expect 'no line' 2 '' 'legend.py: not a line of print_state: .*' legend ''
-expect 'another line' 2 '' 'legend.py: not a line of print_state: .*' legend 'hello world'
-expect 'a reason that no line has' 2 '' 'legend.py: not a line of print_state: .*' legend "2 ${line#* }"
-expect 'a line that is cut' 2 '' 'legend.py: not a line of print_state: .*' legend '0 120 00E7'
+expect 'make line' 0 "$line.*reason .*R7 +1000 +PC.*PSW .*CEX .*lines .*none.*depth +2 .*" '' $make line
 
 expect 'no kit' 2 '' 'prove.py: rt is not here: .*' env PATH="$room" \
     "$(python3 -c 'import sys; print(sys.executable)')" scripts/prove.py program print_state

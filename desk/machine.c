@@ -35,14 +35,25 @@ static uint8_t *log_of(uint64_t n, size_t *length)
     return log;
 }
 
+/* What a log has: all of it, and each device's. */
+static void take_log(const uint8_t *log, uint32_t many, struct outcome *o)
+{
+    for (uint32_t i = 0; i < many; i++, log += XM23_LOG_SIZE) {
+        if (o->screen)
+            add_bytes(o->screen, log + XM23_LOG_BYTE, 1);
+        if (o->shown)
+            add_bytes(&o->shown[log[XM23_LOG_DEVICE] % DEVICES], log + XM23_LOG_BYTE, 1);
+    }
+}
+
 void run_machine(struct machine *m, const struct paper *p, uint64_t n, struct outcome *o)
 {
     size_t length;
     uint8_t *log = log_of(n, &length);
     uint64_t reply = xm23_run(m->memory, sizeof m->memory, m->record, sizeof m->record, p->event_bytes,
                               XM23_EVENT_SIZE * p->many_events, log, length, &o->deepest, n);
-    for (uint32_t i = 0; o->screen && i < XM23_RUN_ADDED(reply); i++)
-        add_bytes(o->screen, log + XM23_LOG_SIZE * i + XM23_LOG_BYTE, 1);
+    if (o->screen || o->shown)
+        take_log(log, XM23_RUN_ADDED(reply), o);
     o->refusal = XM23_RUN_REFUSAL(reply);
     o->reason = XM23_RUN_REASON(reply);
     o->steps = XM23_RUN_STEPS(reply);

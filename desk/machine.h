@@ -10,11 +10,14 @@ struct machine {
     uint8_t memory[XM23_MEMORY_SIZE], record[XM23_RECORD_SIZE];
 };
 
-/* How a run ended. `screen` takes what the output devices showed, in order; NULL where nobody asks. */
+enum { DEVICES = 8 };
+
+/* How a run ended. `screen` takes what the output devices showed, in order, `shown` what each of the eight did; NULL
+ * where nobody asks. */
 struct outcome {
     unsigned refusal, reason;
     uint32_t steps, deepest;
-    struct text *screen;
+    struct text *screen, *shown;
 };
 
 void run_machine(struct machine *m, const struct paper *p, uint64_t n, struct outcome *o);

@@ -2,8 +2,8 @@
 #include <errno.h>
 #include <string.h>
 
+#include "awarded.h"
 #include "line.h"
-#include "sound.h"
 
 /* Of a long screen text the row has the first bytes, and how many there were. */
 static void put_screen(struct row *r, const struct text *screen)
@@ -13,10 +13,12 @@ static void put_screen(struct row *r, const struct text *screen)
         addf(&r->screen, " .. (%lu bytes)", (unsigned long)screen->length);
 }
 
-/* Of a paper with no events there is no handler of a device to judge, and a long run would cost more than all else. */
+/* Of a paper with no events there is no handler of a device to judge, and a long run would cost more than all else; but
+ * where points are given for it, it is judged. */
 int judges(const struct sitting *s)
 {
-    return s->sound || (s->paper->many_events && s->paper->steps <= MOST_JUDGED);
+    return s->sound || asks_verdict(&s->paper->awards) ||
+           (s->paper->many_events && s->paper->steps <= MOST_JUDGED);
 }
 
 static void put_verdict(const struct sitting *s, struct marked *m)
@@ -32,11 +34,18 @@ static void put_verdict(const struct sitting *s, struct marked *m)
     }
 }
 
+static void put_awards(const struct paper *p, struct marked *m)
+{
+    struct closing c = closing_of(&m->after, &m->o, m->verdict);
+    m->row.met = judge_awards(&p->awards, &c);
+}
+
 static void run_marked(const struct sitting *s, struct marked *m)
 {
     struct row *r = &m->row;
     struct fault f = {0};
     m->o.screen = &m->screen;
+    m->o.shown = s->paper->awards.many ? m->shown : NULL;
     m->ran = open_program(s->paper, &m->program, &m->before, &f);
     if (m->ran) {
         add_line(&r->line, &m->before, s->paper);
@@ -48,6 +57,7 @@ static void run_marked(const struct sitting *s, struct marked *m)
         memcpy(&m->scratch, &m->before, sizeof m->scratch);
         walk_run(&m->walk, s->paper, &m->scratch, m->o.steps);
         put_verdict(s, m);
+        put_awards(s->paper, m);
     } else {
         addf(&r->line, "R%u", f.refusal);
         addf(&r->says, "line %lu: %s", (unsigned long)f.line, f.why.at);
@@ -106,6 +116,8 @@ void drop_marked(struct marked *m)
 {
     drop_row(&m->row);
     drop_text(&m->screen);
+    for (unsigned d = 0; d < DEVICES; d++)
+        drop_text(&m->shown[d]);
     drop_verdict(m->verdict);
     drop_program(&m->program);
 }

@@ -17,6 +17,7 @@ struct row {
     char digest[SHA256_TEXT];       /* of the program; empty where it could not be read */
     char page[SHA256_TEXT];         /* of its page, where mark has written it */
     uint32_t steps, deepest;
+    uint64_t met; /* the awards of the paper, as judge_awards has them */
     int agrees;  /* 1 yes, 0 no, -1 no line was expected */
     int problem; /* errno where its page could not be written; UNMARKED */
 };
@@ -47,6 +48,7 @@ struct marked {
     struct machine before, after, scratch;
     struct outcome o;
     struct text screen; /* all of it, of which the row has the first bytes */
+    struct text shown[DEVICES]; /* what each device showed, where an award may ask */
     struct walk walk;
     struct verdict *verdict; /* of sound.h; NULL where it was not judged */
     int ran;

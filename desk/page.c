@@ -34,14 +34,29 @@ void add_page_head(struct text *t, const char *title)
     addf(t, "</title>\n<style>\n%s</style>\n</head>\n<body>\n", page_css);
 }
 
-void open_table(struct text *t, const char *heads)
+void open_heads(struct text *t)
 {
     addf(t, "<div class=\"wide\">\n<table>\n<thead><tr>");
+}
+
+void add_heads(struct text *t, const char *heads)
+{
     for (const char *end; *heads; heads = end + (*end == '|')) {
         end = heads + strcspn(heads, "|");
         addf(t, "<th>%.*s</th>", (int)(end - heads), heads);
     }
+}
+
+void close_heads(struct text *t)
+{
     addf(t, "</tr></thead>\n<tbody>\n");
+}
+
+void open_table(struct text *t, const char *heads)
+{
+    open_heads(t);
+    add_heads(t, heads);
+    close_heads(t);
 }
 
 void close_table(struct text *t)
@@ -214,6 +229,7 @@ static void add_heading(struct text *t, const struct sitting *s, const struct ro
     add_name(t, p->title ? p->title : p->name);
     addf(t, "</p>\n");
     add_verdict(t, r);
+    add_points_line(t, p, r);
     if (r->line.length)
         add_pre(t, " class=\"line\"", r->line.at, r->line.length);
     if (p->expected) {
@@ -227,6 +243,7 @@ static void add_heading(struct text *t, const struct sitting *s, const struct ro
 
 static void add_state(struct text *t, const struct sitting *s, const struct marked *m, unsigned most)
 {
+    add_awards_section(t, s->paper, m);
     addf(t, "<div class=\"beside\">\n<div>\n");
     add_fields(t, s->paper, m->row.line.at);
     addf(t, "</div>\n<div class=\"grow\">\n");

@@ -9,8 +9,16 @@
 void add_page_path(struct text *t, const struct sitting *s, size_t i); /* below the folder */
 void add_page_head(struct text *t, const char *title);
 void open_table(struct text *t, const char *heads); /* names of columns, a bar between two */
+void open_heads(struct text *t); /* or part by part: these three */
+void add_heads(struct text *t, const char *heads);
+void close_heads(struct text *t);
 void close_table(struct text *t);
 void add_page(struct text *t, const struct sitting *s, const struct marked *m);
+
+/* ---- page_award.c: the points in the heading; and of a program that ran, what was found for each award */
+
+void add_points_line(struct text *t, const struct paper *p, const struct row *r);
+void add_awards_section(struct text *t, const struct paper *p, const struct marked *m);
 
 /* The walk on a page: tables that are there without scripts, and the data with the script that walks through it. */
 void add_walk_tables(struct text *t, const struct walk *w, const struct machine *after);

@@ -31,7 +31,7 @@ static int take_lines(struct paper *p)
         say_at(p->name, 0, "has no line 'steps N'");
         status = REFUSED;
     }
-    return status;
+    return status == DONE && !judge_pass(p) ? REFUSED : status;
 }
 
 /* The paper's S-records, under what its other lines lay. Without an S9 they get one that says nothing. */
@@ -218,6 +218,7 @@ void drop_paper(struct paper *p)
     free(p->srec_lines);
     drop_text(&p->srec);
     drop_sources(p);
+    drop_awards(p);
     memset(p, 0, sizeof *p);
 }
 

@@ -4,6 +4,7 @@
 #ifndef PAPER_H
 #define PAPER_H
 
+#include "award.h"
 #include "file.h"
 #include "xm23.h"
 
@@ -44,6 +45,7 @@ struct paper {
     size_t many_sources;
     struct name *names;                      /* what all of them give, in the order of their letters */
     size_t many_names;
+    struct awards awards;
     struct text srec;                        /* its S-record lines, and where each stands */
     uint32_t *srec_lines;
     size_t many_srec;
@@ -84,6 +86,12 @@ void drop_sources(struct paper *p);
 
 void merge_events(struct paper *p); /* those that lines make among the others: by steps, of one step by lines */
 void pack_events(struct paper *p);
+
+/* ---- paper_award.c: what points are given for */
+
+int judge_pass(const struct paper *p); /* whether somebody can pass; told where nobody can */
+void drop_awards(struct paper *p);
+const char *relation_word(enum relation relation);
 
 /* ---- expect.c: the line that a paper expects */
 

@@ -4,6 +4,7 @@
 
 #include "desk.h"
 #include "machine.h"
+#include "paper_award.h"
 #include "paper_events.h"
 
 /* The rest of the line without the blanks around it. */
@@ -205,7 +206,7 @@ static const struct {
 } statements[] = {
     {"title", title}, {"steps", steps}, {"start", start}, {"device", device}, {"vector", vector}, {"bytes", bytes},
     {"words", words}, {"source", brought}, {"use", use}, {"priority", priority}, {"every", take_every},
-    {"type", take_type}, {"expect", expect},
+    {"type", take_type}, {"award", take_award}, {"pass", take_pass}, {"expect", expect},
 };
 
 static int take_line(struct paper *p, uint32_t line, const char *at, const char *end)
@@ -222,7 +223,8 @@ static int take_line(struct paper *p, uint32_t line, const char *at, const char 
         if (is_word(&w, statements[i].name))
             return statements[i].take(&r);
     return wrong_word(&r, &w, "begins no line of a paper: title, steps, start, device, vector, bytes, words, source, "
-                              "use, priority, every, type, expect, an S-record, or an event (step device byte)");
+                              "use, priority, every, type, award, pass, expect, an S-record, or an event (step device "
+                              "byte)");
 }
 
 int paper_line(struct paper *p, uint32_t line, const char *at, const char *end)

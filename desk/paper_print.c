@@ -2,8 +2,8 @@
 #include <string.h>
 #include <unistd.h>
 
+#include "awarded.h"
 #include "desk.h"
-#include "program.h"
 
 /* ---- what stands on one line */
 
@@ -104,17 +104,21 @@ void add_paper(struct text *t, const struct paper *p)
     add_uses(t, p);
     for (size_t i = 0; i < p->many_events; i++)
         addf(t, "%-8lu %u $%02X\n", (unsigned long)p->events[i].step, p->events[i].device, p->events[i].byte);
+    add_award_lines(t, &p->awards);
     if (p->expected)
         addf(t, "expect   %s\n", p->expected);
 }
 
-/* A title may be any bytes: a terminal has them as text. */
+/* A title, which is the first line, may be any bytes: a terminal has them as text. All other lines are text. */
 static int print_paper(const struct paper *p, const char *to)
 {
     struct text t = {0}, plain = {0};
+    size_t title;
     int status;
     add_paper(&t, p);
-    add_plain_lines(&plain, t.at, t.length);
+    title = p->title ? strcspn(t.at, "\n") : 0;
+    add_plain(&plain, t.at, title);
+    add_bytes(&plain, t.at + title, t.length - title);
     status = write_file(to, strcmp(to, "-") == 0 && isatty(STDOUT_FILENO) ? &plain : &t);
     drop_text(&t);
     drop_text(&plain);

@@ -1,17 +1,20 @@
 /* xm23 report: the page of one run. */
 #include <unistd.h>
 
+#include "awarded.h"
 #include "desk.h"
 #include "page.h"
 
 /* What is not as it should be, of a page that is written. */
 static int tell_verdict(const struct paper *p, const struct marked *m)
 {
+    int enough;
     if (!m->ran)
         say_at(m->row.name, 0, "%s: %s", m->row.line.at, m->row.says.at);
     else if (m->row.agrees == 0)
         say_at(p->name, p->expected_line, "another line was expected: %s", p->expected);
-    return m->ran && m->row.agrees != 0 ? DONE : REFUSED;
+    enough = points_enough(p, m->row.met);
+    return m->ran && m->row.agrees != 0 && enough ? DONE : REFUSED;
 }
 
 static int report(struct sitting *s, const char *name, const char *to)

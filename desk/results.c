@@ -3,16 +3,80 @@
 #include <string.h>
 #include <unistd.h>
 
+#include "awarded.h"
 #include "desk.h"
 #include "page.h"
 #include "workers.h"
 
 #define MOST_KEPT 65536 /* bytes that are kept before they are written */
+#define MOST_HEAD 40    /* bytes of an award in the head of the table */
 
-/* How many agree, differ, have no closing state, and could not be marked. */
+/* How many agree, differ, have no closing state, could not be marked, have passed, and have not. */
 struct tally {
-    size_t agree, differ, without, unmarked;
+    size_t agree, differ, without, unmarked, passed, failed;
 };
+
+/* ---- awards: what could not be marked has neither points nor is it said that it has not passed */
+
+static int has_points(const struct row *r)
+{
+    return r->problem != UNMARKED;
+}
+
+static int has_passed(const struct sitting *s, const struct row *r)
+{
+    return has_points(r) ? passes(&s->paper->awards, r->met) : -1;
+}
+
+/* Whether a row is as the paper wants it, as far as that says what it wants. */
+static int is_right(const struct sitting *s, const struct row *r)
+{
+    const struct paper *p = s->paper;
+    return (!p->expected || r->agrees == 1) && (!p->awards.pass_line || has_passed(s, r) == 1);
+}
+
+/* The points of each award, the total, and whether that is enough, each behind a mark. */
+static void add_points(struct text *t, const struct sitting *s, const struct row *r, const char *mark, const char *end)
+{
+    const struct awards *a = &s->paper->awards;
+    static const char *const words[] = {"", "no", "yes"};
+    for (size_t i = 0; i < a->many; i++) {
+        addf(t, "%s", mark);
+        if (has_points(r))
+            addf(t, "%lu", (unsigned long)points_of(a, i, r->met));
+        addf(t, "%s", end);
+    }
+    addf(t, "%s", mark);
+    if (has_points(r))
+        addf(t, "%lu", (unsigned long)total_of(a, r->met));
+    addf(t, "%s%s%s%s", end, mark, words[has_passed(s, r) + 1], end);
+}
+
+static void add_csv_heads(struct text *t, const struct awards *a)
+{
+    for (size_t i = 0; i < a->many; i++) {
+        struct text words = {0};
+        add_criterion(&words, &a->list[i]);
+        addf(t, ",");
+        add_csv(t, words.at, words.length);
+        drop_text(&words);
+    }
+    if (a->many)
+        addf(t, ",total,passed");
+}
+
+/* An award in the head of the table: of a long one the first bytes; and its points. */
+static void add_html_head(struct text *t, const struct award *a)
+{
+    struct text words = {0};
+    add_criterion(&words, a);
+    addf(t, "<th class=\"award\">");
+    add_html(t, words.at, words.length < MOST_HEAD ? words.length : MOST_HEAD);
+    addf(t, "%s<br>of %u</th>", words.length < MOST_HEAD ? "" : " ..", a->points);
+    drop_text(&words);
+}
+
+/* ---- rows */
 
 static void add_csv_row(struct text *t, const struct sitting *s, size_t i, const struct row *r)
 {
@@ -28,6 +92,8 @@ static void add_csv_row(struct text *t, const struct sitting *s, size_t i, const
     add_csv(t, r->handlers.at, r->handlers.length);
     addf(t, ",");
     add_csv(t, r->application.at, r->application.length);
+    if (s->paper->awards.many)
+        add_points(t, s, r, ",", "");
     addf(t, "\n");
 }
 
@@ -58,12 +124,15 @@ static void add_screen(struct text *t, const struct text *screen)
 
 static void add_html_row(struct text *t, const struct sitting *s, size_t i, const struct row *r)
 {
-    addf(t, "<tr data-agrees=\"%s\"><td>%lu</td>", r->agrees == 1 ? "yes" : "no", (unsigned long)i + 1);
+    addf(t, "<tr data-agrees=\"%s\"><td>%lu</td>", is_right(s, r) ? "yes" : "no", (unsigned long)i + 1);
     addf(t, "<td class=\"any name\"><a href=\"");
     add_page_path(t, s, i);
     addf(t, "\">");
     add_name(t, r->name);
-    addf(t, "</a></td><td class=\"nowrap\">%s</td><td class=\"n any sheet\">", verdict(r));
+    addf(t, "</a></td><td class=\"nowrap\">%s</td>", verdict(r));
+    if (s->paper->awards.many)
+        add_points(t, s, r, "<td class=\"n\">", "</td>");
+    addf(t, "<td class=\"n any sheet\">");
     add_html(t, r->line.at, r->line.length);
     addf(t, "%s", r->line.length && r->says.length ? "<br>" : "");
     add_html(t, r->says.at, r->says.length);
@@ -71,6 +140,45 @@ static void add_html_row(struct text *t, const struct sitting *s, size_t i, cons
         (unsigned long)r->steps, (unsigned long)r->deepest, r->handlers.at, r->application.at);
     add_screen(t, &r->screen);
     addf(t, "</td></tr>\n");
+}
+
+static void add_counts(struct text *t, const struct sitting *s, const struct tally *all)
+{
+    const struct paper *p = s->paper;
+    addf(t, "<p id=\"verdict\">%lu program%s", (unsigned long)s->many, s->many == 1 ? "" : "s");
+    if (p->expected)
+        addf(t, ": %lu as expected, %lu not", (unsigned long)all->agree, (unsigned long)all->differ);
+    if (p->awards.pass_line)
+        addf(t, "%s %lu passed, %lu not", p->expected ? ";" : ":", (unsigned long)all->passed,
+            (unsigned long)all->failed);
+    addf(t, "; %lu without a closing state", (unsigned long)all->without);
+    if (all->unmarked)
+        addf(t, "; %lu could not be marked", (unsigned long)all->unmarked);
+    addf(t, "</p>\n");
+}
+
+/* Those that are not as the paper wants them can be shown alone. */
+static void add_find(struct text *t, const struct paper *p)
+{
+    static const char *const which[] = {"", "are not as expected", "have not passed",
+                                        "are not as expected or have not passed"};
+    unsigned wants = (p->expected != NULL) + 2 * (p->awards.pass_line != 0);
+    addf(t, "<div class=\"find\" id=\"find\" hidden><label>Find <input id=\"name\" type=\"search\"></label>");
+    if (wants)
+        addf(t, "<label><input id=\"others\" type=\"checkbox\"> only those that %s</label>", which[wants]);
+    addf(t, "<span id=\"count\" role=\"status\"></span></div>\n");
+}
+
+static void add_index_heads(struct text *t, const struct awards *a)
+{
+    open_heads(t);
+    add_heads(t, "|Program|Verdict");
+    for (size_t i = 0; i < a->many; i++)
+        add_html_head(t, &a->list[i]);
+    if (a->many)
+        addf(t, "<th class=\"award\">Points<br>of %lu</th><th>Passed</th>", (unsigned long)most_of(a));
+    add_heads(t, "Line, or refusal|Steps|Depth|Handlers|Application|Screen");
+    close_heads(t);
 }
 
 static void add_index_head(struct text *t, const struct sitting *s, const struct tally *all)
@@ -81,23 +189,18 @@ static void add_index_head(struct text *t, const struct sitting *s, const struct
     add_page_head(t, title);
     addf(t, "<h1>");
     add_name(t, title);
-    addf(t, "</h1>\n<p id=\"verdict\">%lu program%s", (unsigned long)s->many, s->many == 1 ? "" : "s");
-    if (p->expected)
-        addf(t, ": %lu as expected, %lu not", (unsigned long)all->agree, (unsigned long)all->differ);
-    addf(t, "; %lu without a closing state", (unsigned long)all->without);
-    if (all->unmarked)
-        addf(t, "; %lu could not be marked", (unsigned long)all->unmarked);
-    addf(t, "</p>\n");
+    addf(t, "</h1>\n");
+    add_counts(t, s, all);
+    if (p->awards.pass_line)
+        addf(t, "<p>%lu of %lu points are enough to pass.</p>\n", (unsigned long)p->awards.pass,
+            (unsigned long)most_of(&p->awards));
     if (p->expected) {
         addf(t, "<p>Expected:</p>\n<pre class=\"line\">");
         add_name(t, p->expected);
         addf(t, "</pre>\n");
     }
-    addf(t, "<div class=\"find\" id=\"find\" hidden><label>Find <input id=\"name\" type=\"search\"></label>");
-    if (p->expected)
-        addf(t, "<label><input id=\"others\" type=\"checkbox\"> only those that are not as expected</label>");
-    addf(t, "<span id=\"count\" role=\"status\"></span></div>\n");
-    open_table(t, "|Program|Verdict|Line, or refusal|Steps|Depth|Handlers|Application|Screen");
+    add_find(t, p);
+    add_index_heads(t, &p->awards);
 }
 
 static void add_index_foot(struct text *t, const struct sitting *s)
@@ -169,7 +272,9 @@ static int write_csv(const struct sitting *s, const struct folder *f, const stru
 {
     struct sheet x;
     open_sheet(&x, f, "results.csv");
-    addf(&x.t, "name,line,says,steps,depth,screen,agrees,program_sha256,paper_sha256,handlers,application\n");
+    addf(&x.t, "name,line,says,steps,depth,screen,agrees,program_sha256,paper_sha256,handlers,application");
+    add_csv_heads(&x.t, &s->paper->awards);
+    addf(&x.t, "\n");
     put_rows(s, rows, &x, add_csv_row);
     return close_sheet(&x);
 }
@@ -216,6 +321,8 @@ static int tally_rows(const struct sitting *s, const struct folder *f, const str
         all->differ += r.agrees == 0;
         all->without += !r.line.length || r.line.at[0] == 'R';
         all->unmarked += r.problem == UNMARKED;
+        all->passed += has_passed(s, &r) == 1;
+        all->failed += has_passed(s, &r) == 0;
         drop_row(&r);
     }
     return DONE;
@@ -223,7 +330,7 @@ static int tally_rows(const struct sitting *s, const struct folder *f, const str
 
 int write_results(const struct sitting *s, const struct folder *f, const struct rows *rows, int *verdict)
 {
-    struct tally all = {0, 0, 0, 0};
+    struct tally all = {0};
     int status = tally_rows(s, f, rows, &all);
     if (status == DONE)
         status = write_csv(s, f, rows);
@@ -231,7 +338,7 @@ int write_results(const struct sitting *s, const struct folder *f, const struct 
         status = write_index(s, f, rows, &all);
     if (status == DONE)
         status = write_sums(s, f, rows);
-    *verdict = all.unmarked ? UNREADABLE : all.differ || all.without ? REFUSED : DONE;
+    *verdict = all.unmarked ? UNREADABLE : all.differ || all.without || all.failed ? REFUSED : DONE;
     if (status == DONE && all.unmarked)
         say_at(f->name, 0, "%lu program%s could not be marked; the rows say why", (unsigned long)all.unmarked,
                all.unmarked == 1 ? "" : "s");

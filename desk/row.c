@@ -7,6 +7,7 @@ enum { TEXTS = 5 };
 
 struct head {
     uint64_t number;
+    uint64_t met;
     uint64_t lengths[TEXTS]; /* of line, says, screen, handlers and application, which follow */
     uint32_t steps, deepest;
     int32_t agrees, problem;
@@ -28,6 +29,7 @@ void pack_row(struct text *t, size_t number, const struct row *r)
     struct head h;
     memset(&h, 0, sizeof h);
     h.number = number;
+    h.met = r->met;
     h.steps = r->steps;
     h.deepest = r->deepest;
     h.agrees = r->agrees;
@@ -67,6 +69,7 @@ int unpack_row(const char *bytes, size_t length, size_t number, struct row *r)
     }
     for (unsigned i = 0; i < TEXTS; bytes += h.lengths[i], i++)
         add_bytes(texts[i], bytes, (size_t)h.lengths[i]);
+    r->met = h.met;
     r->steps = h.steps;
     r->deepest = h.deepest;
     r->agrees = h.agrees;

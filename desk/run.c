@@ -1,12 +1,12 @@
 /* xm23 run: one program under a paper. */
 #include <unistd.h>
 
+#include "awarded.h"
 #include "desk.h"
 #include "line.h"
-#include "program.h"
 
-/* The line, and behind it the legend and what the screen showed where they are asked for. */
-static int tell_line(const char *line, const struct text *screen, int legend)
+/* The line, and behind it the legend, what the screen showed and the awards where they are asked for. */
+static int tell_line(const char *line, const struct text *screen, const struct text *awards, int legend)
 {
     struct text t = {0};
     int status;
@@ -20,6 +20,8 @@ static int tell_line(const char *line, const struct text *screen, int legend)
         add_plain(&t, screen->at, screen->length);
         addf(&t, "\n");
     }
+    if (legend && awards->length)
+        addf(&t, "\n%s", awards->at);
     status = write_file("-", &t);
     drop_text(&t);
     return status;
@@ -34,15 +36,36 @@ static int agrees(const struct paper *p, const char *line)
     return same;
 }
 
+/* What a program is awarded, in words: nothing where it did not run. */
+static uint64_t add_points(struct text *t, const struct paper *p, const struct machine *before)
+{
+    static struct awarded w;
+    if (!p->awards.many)
+        return 0;
+    if (!before) {
+        addf(t, "  ");
+        add_total(t, &p->awards, 0);
+        addf(t, "\n");
+        return 0;
+    }
+    award_run(p, before, &w);
+    add_awarded(t, &p->awards, &w);
+    drop_awarded(&w);
+    return w.met;
+}
+
 static int run_program(const struct paper *p, const struct program *program, int legend)
 {
     static struct machine m;
-    struct text line = {0}, screen = {0};
+    struct text line = {0}, screen = {0}, awards = {0};
     struct outcome o = {0};
     struct fault f = {0};
-    int status;
+    uint64_t met = 0;
+    int status, ran;
     o.screen = legend ? &screen : NULL;
-    if (open_program(p, program, &m, &f)) {
+    ran = open_program(p, program, &m, &f);
+    met = add_points(&awards, p, ran ? &m : NULL);
+    if (ran) {
         add_line(&line, &m, p);
         if (legend)
             run_machine(&m, p, p->steps, &o);
@@ -50,11 +73,14 @@ static int run_program(const struct paper *p, const struct program *program, int
         say_fault(program->name, &f);
         addf(&line, "R%u", f.refusal);
     }
-    status = tell_line(line.at, &screen, legend);
-    if (status == DONE && (!agrees(p, line.at) || line.at[0] == 'R'))
-        status = REFUSED;
+    status = tell_line(line.at, &screen, &awards, legend);
+    if (status == DONE) {
+        int as_it_should = agrees(p, line.at), enough = points_enough(p, met);
+        status = ran && as_it_should && enough ? DONE : REFUSED;
+    }
     drop_text(&line);
     drop_text(&screen);
+    drop_text(&awards);
     drop_text(&f.why);
     return status;
 }

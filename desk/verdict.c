@@ -277,6 +277,27 @@ void add_deep(struct text *t, const struct verdict *v)
         (unsigned)XM23_MAX_FRAMES, (unsigned long)v->steps);
 }
 
+/* ---- whether a run was either of the two */
+
+/* Of a run that is judged no further nothing is said. */
+static int none_found(const struct verdict *v, unsigned first, unsigned last)
+{
+    for (unsigned i = 0; i < v->many; i++)
+        if (v->kinds[i] >= first && v->kinds[i] <= last)
+            return 0;
+    return !v->refusal && v->reason != XM23_REASON_DEEP;
+}
+
+int is_sound(const struct verdict *v)
+{
+    return none_found(v, XM23_FOUND_START, XM23_FOUND_CHANGED);
+}
+
+int is_undisturbed(const struct verdict *v)
+{
+    return none_found(v, XM23_FOUND_SLEEP, XM23_FOUND_FOREIGN);
+}
+
 /* ---- in short */
 
 static void add_changes(struct text *t, unsigned detail)

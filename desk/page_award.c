@@ -1,0 +1,50 @@
+/* Awards on a page: of each the points, what is wanted and what is found. */
+#include "awarded.h"
+#include "page.h"
+
+static void add_cell(struct text *t, struct text *words, const char *mark)
+{
+    addf(t, "<td class=\"any\">%s", mark);
+    add_html(t, words->length ? words->at : "", words->length);
+    addf(t, "</td>");
+    drop_text(words);
+}
+
+/* One that is not met is marked, in words too. */
+static void add_row(struct text *t, const struct awards *a, size_t i, const struct marked *m, const struct closing *c)
+{
+    struct text subject = {0}, wanted = {0}, found = {0};
+    int met = m->row.met >> i & 1;
+    add_subject(&subject, &a->list[i]);
+    add_wanted(&wanted, &a->list[i]);
+    add_found(&found, &a->list[i], c, m->verdict);
+    addf(t, "<tr%s><td>%lu of %u</td>", met ? "" : " class=\"other\"", (unsigned long)points_of(a, i, m->row.met),
+        a->list[i].points);
+    add_cell(t, &subject, "");
+    add_cell(t, &wanted, "");
+    add_cell(t, &found, met ? "" : "not so: ");
+    addf(t, "</tr>\n");
+}
+
+void add_awards_section(struct text *t, const struct paper *p, const struct marked *m)
+{
+    const struct awards *a = &p->awards;
+    struct closing c = closing_of(&m->after, &m->o, m->verdict);
+    if (!a->many)
+        return;
+    addf(t, "<h2>Awards</h2>\n<div id=\"awards\">\n");
+    open_table(t, "Points|For|Wanted|Found");
+    for (size_t i = 0; i < a->many; i++)
+        add_row(t, a, i, m, &c);
+    close_table(t);
+    addf(t, "</div>\n");
+}
+
+void add_points_line(struct text *t, const struct paper *p, const struct row *r)
+{
+    if (!p->awards.many || r->problem == UNMARKED)
+        return;
+    addf(t, "<p id=\"points\">");
+    add_total(t, &p->awards, r->met);
+    addf(t, "</p>\n");
+}

@@ -134,6 +134,12 @@ example_host() {
         diff <(sed 's/ [0-9]*$//' "$build/interrupts.lines") -
 }
 
+# docs/TRUST.md names the logic of the kit by which all is proved, whatever else its name says.
+kit_named() {
+    local kit
+    kit=$(rt version) && grep -qF "${kit#* }" docs/TRUST.md || { echo "docs/TRUST.md does not name this kit: $kit"; return 1; }
+}
+
 # The module over a shared library of the archive.
 python_module() {
     scripts/shared.sh "$xm23" "$build/python/libxm23.so.$(scripts/version.sh)" &&
@@ -146,6 +152,10 @@ card() {
 
 part 'what the trace refuses' count_line python3 -B scripts/trace_test.py
 part 'trace to 01' count_line python3 -B scripts/trace.py
+part 'what the documents refuse' count_line python3 -B scripts/documents_test.py
+part 'width of the documents' count_line python3 -B scripts/width.py
+part 'lines of the desk' count_line python3 -B scripts/desk_lines.py --check
+part 'the kit that is named' count_status kit_named
 part 'decisions and their index' count_line python3 -B scripts/decisions.py --check
 part 'sentences of the refusals' count_line python3 -B scripts/refusals.py
 part 'floors of the crates' count_line python3 -B scripts/floors.py --check

@@ -27,7 +27,7 @@ SHARED = build/libxm23.so.$(VERSION)
 help:
 	@cat docs/COMMANDS.txt
 
-# Of the example sitting one program is as expected and four are not: status 1 is what it ends with.
+# Of the example sitting one program is as expected and five are not: status 1 is what it ends with.
 run: build/xm23
 	@rm -rf build/sitting
 	@cd examples/sitting && ../../build/xm23 mark -o ../../build/sitting sum.paper programs/* || [ $$? -eq 1 ]

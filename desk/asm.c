@@ -7,7 +7,7 @@
 /* The PC that is asked for; told where it is none. */
 static int put_start(const struct program *p, const char *start, struct assembled *a)
 {
-    unsigned refusal = start ? source_value(p->bytes, p->length, start, &a->pc) : XM23_ACCEPTED;
+    unsigned refusal = start ? source_value(p->files[0].bytes, p->files[0].length, start, &a->pc) : XM23_ACCEPTED;
     if (refusal)
         say_text("-s %s: R%u: %s", start, refusal, xm23_refusal_text(refusal));
     return !refusal;
@@ -17,7 +17,7 @@ static int put_start(const struct program *p, const char *start, struct assemble
 static void add_lines(struct text *t, const struct program *p, const struct assembled *a)
 {
     struct text lines = {0};
-    add_source_listing(&lines, p->bytes, p->length, a, 0);
+    add_source_listing(&lines, p->files[0].bytes, p->files[0].length, a, 0);
     add_plain_lines(t, lines.at, lines.length);
     addf(t, "start %04X\n", a->pc);
     drop_text(&lines);
@@ -29,7 +29,7 @@ static int assemble_program(const struct program *p, const char *to, const char 
     struct text t = {0};
     struct fault f = {0};
     int status = REFUSED;
-    if (!assemble_source(p->bytes, p->length, &a, &f)) {
+    if (!assemble_source(p->files[0].bytes, p->files[0].length, &a, &f)) {
         say_fault(p->name, &f);
     } else if (put_start(p, start, &a)) {
         if (listing)
@@ -62,7 +62,7 @@ int xm23_desk_asm(int argc, char **argv)
         return misused("asm");
     if (overwrites(to, argv[optind]))
         return UNREADABLE;
-    status = take_program(argv[optind], &p);
+    status = take_file(argv[optind], &p);
     if (status == DONE)
         status = assemble_program(&p, to, start, listing);
     drop_program(&p);

@@ -57,7 +57,9 @@ static int list(const struct program *p, const char *to)
     struct text t = {0};
     struct fault f = {0};
     int status = REFUSED;
-    if (!load_program(p, &a, &f)) {
+    if (overwrites_program(to, p)) {
+        status = UNREADABLE;
+    } else if (!load_program(p, &a, &f)) {
         say_fault(p->name, &f);
     } else {
         add_listing(&t, a.memory, a.set);
@@ -81,8 +83,6 @@ int xm23_desk_dis(int argc, char **argv)
     }
     if (argc - optind != 1)
         return misused("dis");
-    if (overwrites(to, argv[optind]))
-        return UNREADABLE;
     status = take_program(argv[optind], &p);
     if (status == DONE)
         status = list(&p, to);

@@ -40,6 +40,17 @@ static void put_awards(const struct paper *p, struct marked *m)
     m->row.met = judge_awards(&p->awards, &c);
 }
 
+/* Why a program is not run: the refusal, of a folder with the file that is refused; or that two of its files state a
+ * byte, which has no number. */
+static void put_fault(struct row *r, const struct fault *f)
+{
+    if (f->refusal) {
+        addf(&r->line, "R%u", f->refusal);
+        addf(&r->says, "%s%sline %lu: ", f->file ? f->file->name : "", f->file ? ", " : "", (unsigned long)f->line);
+    }
+    add_bytes(&r->says, f->why.at, f->why.length);
+}
+
 static void run_marked(const struct sitting *s, struct marked *m)
 {
     struct row *r = &m->row;
@@ -59,8 +70,7 @@ static void run_marked(const struct sitting *s, struct marked *m)
         put_verdict(s, m);
         put_awards(s->paper, m);
     } else {
-        addf(&r->line, "R%u", f.refusal);
-        addf(&r->says, "line %lu: %s", (unsigned long)f.line, f.why.at);
+        put_fault(r, &f);
     }
     drop_text(&f.why);
 }
@@ -92,7 +102,7 @@ int mark_program(const struct sitting *s, const char *name, struct marked *m)
     struct text why = {0};
     int good = 1;
     if (read_program(name, s->kind, s->shared, &m->program, &why)) {
-        good = sha256(m->program.bytes, m->program.length, r->digest);
+        good = digest_program(&m->program, r->digest);
         if (good)
             run_marked(s, m);
     } else if (is_trouble(errno)) {

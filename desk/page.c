@@ -4,21 +4,32 @@
 #include "page.h"
 #include "line.h"
 #include "sound.h"
-#include "source.h"
 #include "word.h"
 
 #define MOST_PAGE 400000  /* bytes */
 #define MOST_ROWS 512     /* of memory, of the listing and of the source */
 #define FEW_ROWS 32       /* on a page that is else too long */
-#define MOST_SOURCE 65536 /* bytes of a source that is listed */
 #define MOST_SHOWN 2048   /* bytes of screen text */
+
+/* The last part of a name; slashes behind it are none of it. */
+static const char *last_part(const char *name, size_t *length)
+{
+    size_t end = strlen(name), start;
+    while (end && name[end - 1] == '/')
+        end--;
+    for (start = end; start && name[start - 1] != '/';)
+        start--;
+    *length = end - start;
+    return name + start;
+}
 
 /* The number of the program among those of the sitting, and its name as far as it may stand in a file's name. */
 void add_page_path(struct text *t, const struct sitting *s, size_t i)
 {
-    const char *slash = strrchr(s->names[i], '/'), *name = slash ? slash + 1 : s->names[i];
+    size_t length;
+    const char *name = last_part(s->names[i], &length);
     addf(t, "pages/%06lu-", (unsigned long)i + 1);
-    for (unsigned at = 0; at < 40 && name[at]; at++) {
+    for (size_t at = 0; at < 40 && at < length; at++) {
         char c = name[at];
         int plain = (c >= '0' && c <= '9') || (c >= 'A' && c <= 'Z') || (c >= 'a' && c <= 'z') || c == '.' || c == '-';
         addf(t, "%c", plain ? c : '_');
@@ -88,8 +99,7 @@ static void add_pre(struct text *t, const char *class, const char *bytes, size_t
     addf(t, "</pre>\n");
 }
 
-/* Rows that are not broken on a screen, which moves them sideways instead. */
-static void add_wide(struct text *t, const struct text *rows)
+void add_wide(struct text *t, const struct text *rows)
 {
     addf(t, "<div class=\"wide\">");
     add_pre(t, "", rows->at, rows->length);
@@ -185,23 +195,6 @@ static void add_program(struct text *t, const struct paper *p, const struct mach
     drop_text(&listing);
 }
 
-/* A source as it was handed in, with places and words. */
-static void add_source(struct text *t, const struct program *p, unsigned most)
-{
-    static struct assembled a;
-    struct text listing = {0};
-    struct fault f = {0};
-    if (!is_source(p->name) || p->length > MOST_SOURCE || !assemble_source(p->bytes, p->length, &a, &f)) {
-        drop_text(&f.why);
-        return;
-    }
-    add_source_listing(&listing, p->bytes, p->length, &a, most);
-    addf(t, "<h2>Source</h2>\n<div id=\"source\">\n");
-    add_wide(t, &listing);
-    addf(t, "</div>\n");
-    drop_text(&listing);
-}
-
 static void add_foot(struct text *t, const struct sitting *s, const struct row *r)
 {
     unsigned v = xm23_version();
@@ -256,7 +249,7 @@ static void add_state(struct text *t, const struct sitting *s, const struct mark
     add_walk_tables(t, &m->walk, &m->after);
     add_events_table(t, &m->walk, s->paper, most);
     add_memory(t, &m->before, &m->after, most);
-    add_source(t, &m->program, most);
+    add_sources(t, &m->program, most);
     add_program(t, s->paper, &m->before, most);
 }
 
@@ -270,6 +263,8 @@ static void add_rows(struct text *t, const struct sitting *s, const struct marke
         add_screen(t, &m->screen);
     if (m->ran)
         add_state(t, s, m, most);
+    if (r->digest[0])
+        add_files(t, s->paper, &m->program);
     add_foot(t, s, r);
     if (m->ran && m->walk.many)
         add_walk_data(t, &m->walk, &m->after, &m->screen);

@@ -13,7 +13,13 @@ void open_heads(struct text *t); /* or part by part: these three */
 void add_heads(struct text *t, const char *heads);
 void close_heads(struct text *t);
 void close_table(struct text *t);
+void add_wide(struct text *t, const struct text *rows); /* not broken on a screen, which moves them sideways */
 void add_page(struct text *t, const struct sitting *s, const struct marked *m);
+
+/* ---- page_files.c: the sources as they were handed in, of so many lines in all; of a folder what it has */
+
+void add_sources(struct text *t, const struct program *p, unsigned most);
+void add_files(struct text *t, const struct paper *paper, const struct program *p);
 
 /* ---- page_award.c: the points in the heading; and of a program that ran, what was found for each award */
 

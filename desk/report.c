@@ -10,7 +10,7 @@ static int tell_verdict(const struct paper *p, const struct marked *m)
 {
     int enough;
     if (!m->ran)
-        say_at(m->row.name, 0, "%s: %s", m->row.line.at, m->row.says.at);
+        say_at(m->row.name, 0, "%s%s%s", m->row.line.at, m->row.line.length ? ": " : "", m->row.says.at);
     else if (m->row.agrees == 0)
         say_at(p->name, p->expected_line, "another line was expected: %s", p->expected);
     enough = points_enough(p, m->row.met);
@@ -23,11 +23,11 @@ static int report(struct sitting *s, const char *name, const char *to)
     struct text page = {0};
     int status = UNREADABLE;
     if (mark_program(s, name, &m)) {
-        if (m.row.digest[0]) {
+        if (!m.row.digest[0])
+            say_at(name, 0, "%s", m.row.says.at);
+        else if (!overwrites_program(to, &m.program)) {
             add_page(&page, s, &m);
             status = write_file(to, &page);
-        } else {
-            say_at(name, 0, "%s", m.row.says.at);
         }
     }
     if (status == DONE)
@@ -53,7 +53,7 @@ int xm23_desk_report(int argc, char **argv)
     }
     if (argc - optind != 2)
         return misused("report");
-    if (overwrites(to, argv[optind]) || overwrites(to, argv[optind + 1]))
+    if (overwrites(to, argv[optind]))
         return UNREADABLE;
     status = read_paper(argv[optind], &p);
     if (status != DONE)

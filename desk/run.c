@@ -10,8 +10,9 @@ static int tell_line(const char *line, const struct text *screen, const struct t
 {
     struct text t = {0};
     int status;
-    addf(&t, "%s\n", line);
-    if (legend) {
+    if (*line)
+        addf(&t, "%s\n", line);
+    if (legend && *line) {
         addf(&t, "\n");
         add_legend(&t, line);
     }
@@ -71,7 +72,9 @@ static int run_program(const struct paper *p, const struct program *program, int
             run_machine(&m, p, p->steps, &o);
     } else {
         say_fault(program->name, &f);
-        addf(&line, "R%u", f.refusal);
+        add_bytes(&line, "", 0);
+        if (f.refusal)
+            addf(&line, "R%u", f.refusal);
     }
     status = tell_line(line.at, &screen, &awards, legend);
     if (status == DONE) {

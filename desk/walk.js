@@ -161,7 +161,7 @@
 
   // Lines of a source by address and word, from its listing on the page.
   const listed = new Map();
-  for (const line of (document.querySelector('#source pre') || { textContent: '' }).textContent.split('\n')) {
+  for (const line of [...document.querySelectorAll('#source pre')].map((pre) => pre.textContent).join('\n').split('\n')) {
     const parts = /^([0-9A-F]{4})  ([0-9A-F]{4}) +(\d+\.  .*)$/.exec(line);
     if (parts) listed.set(parts[1] + parts[2], parts[3]);
   }

@@ -41,6 +41,8 @@ def opened(path):
 entries = {}
 for name in sorted(os.listdir(FOLDER)):
     path = os.path.join(FOLDER, name)
+    if os.path.isdir(path):  # several files of one candidate: xm23 mark takes them
+        continue
     try:
         traced, judged = opened(path), opened(path)
         trace = traced.trace(STEPS, TICKS, [xm23.Kind.ACCEPT, xm23.Kind.CHAIN])

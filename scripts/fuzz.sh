@@ -127,6 +127,8 @@ desk_paper_seeds() {
     cp examples/sitting/sum.paper "$1"
     printf 'steps 9\npriority 2\nbytes 7 $1 #-2 %s\nstart CEX=1 LINES=$12\nexpect R11 ; x\n' "'a'" > "$1/more.paper"
     printf 'steps 9\nsource examples/sitting/sources/clock.asm\nvector 1 $60 TICK\nwords TICKS 0\n' > "$1/source.paper"
+    printf 'steps 9\naward 3 R0 = $1F\naward 2 screen 2 has "a\\x41"\naward 1 sound\naward 1 bytes 7 != 1 2\npass 4\n' \
+        > "$1/awards.paper"
     printf 'steps 9\n5 2 7\nevery 3 from 1 to 9 1 0\ntype 4 every 2 0 "a\\n\\x41\\""\ntitle x\n' > "$1/events.paper"
 }
 
@@ -138,6 +140,8 @@ desk_program_seeds() {
     for file in "$out"/sources/*; do
         { printf 1; cat "$file"; } > "$1/$(basename "$file").asm"
     done
+    { printf 2; cat examples/sitting/programs/with_handlers/handler1.asm; printf '\377'; cat tests/srec/objcopy.s19
+        printf '\377'; cat examples/sitting/programs/with_handlers/handler2.asm; } > "$1/folder"
 }
 
 # What the page shows of the run, then a name and a title, each after its length.

@@ -52,14 +52,14 @@ def on_paper(browser, what, room):
 
 def try_index(browser, marks, room):
     browser.open(os.path.join(marks, "index.html"))
-    same("index: rows", shown_rows(browser), 5)
+    same("index: rows", shown_rows(browser), 6)
     browser.click("#name")
     browser.type("SCREEN")
-    same("index: find", (shown_rows(browser), browser.text("count")), (1, "1 of 5 are shown"))
+    same("index: find", (shown_rows(browser), browser.text("count")), (1, "1 of 6 are shown"))
     browser.value("document.getElementById('name').value = ''")
     browser.click("#others")
     browser.value("document.getElementById('name').dispatchEvent(new Event('input'))")
-    same("index: those that are not as expected", shown_rows(browser), 4)
+    same("index: those that are not as expected", shown_rows(browser), 5)
     fits(browser, "index")
     on_paper(browser, "index", room)
     same("index: errors", browser.errors(), [])

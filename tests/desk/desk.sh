@@ -54,7 +54,7 @@ expect 'run with three words' 2 '' "$(usage run)" "$xm23" run "$paper" "$sound" 
 expect 'no such paper' 3 '' 'no/paper: No such file.*' "$xm23" run no/paper "$sound"
 expect 'a folder as paper' 3 '' '/: is a folder' "$xm23" run / "$sound"
 expect 'no such program' 3 '' 'no/program: No such file.*' "$xm23" run "$paper" no/program
-expect 'a folder as program' 3 '' '/: is a folder' "$xm23" run "$paper" /
+expect 'a folder without a program' 3 '' '/: is a folder, and no file in it ends in .s19 or .asm' "$xm23" run "$paper" /
 expect 'an endless program' 3 '' '/dev/zero: is longer than 16777216 bytes' "$xm23" run "$paper" /dev/zero
 expect 'an endless paper' 3 '' '/dev/zero: is longer than 16777216 bytes' "$xm23" run /dev/zero "$sound"
 expect 'an empty program' 1 'R10' '/dev/null:1: R10: .*' "$xm23" run "$paper" /dev/null
@@ -255,7 +255,7 @@ same 'says so' "$(grep -c '>Refused: not the expected line<' "$room/report.html"
 same 'and has no walk' "$(grep -c 'id="walk"' "$room/report.html")" 0
 rm "$room/report.html"
 expect 'report of no program' 3 '' 'no/such: No such .*' "$xm23" report -o "$room/report.html" sum.paper no/such
-expect 'report of a folder' 3 '' '/: is a folder' "$xm23" report -o "$room/report.html" sum.paper /
+expect 'report of a folder without a program' 3 '' '/: is a folder, and .*' "$xm23" report -o "$room/report.html" sum.paper /
 expect 'report of no paper' 3 '' 'no/such: No such .*' "$xm23" report -o "$room/report.html" no/such programs/sound.s19
 same 'then there is no page' "$(ls "$room" | grep report)" ''
 expect 'report to a full disk' 3 '' '/dev/full: cannot be written: .*' \
@@ -439,9 +439,9 @@ expect 'stack of three' 2 '' "$(usage stack)" "$xm23" stack a b c
 cd examples/sitting || exit 1
 expect 'mark' 1 '' '' "$xm23" mark -o "$room/marks" sum.paper programs/*
 same 'its results' "$(cat "$room/marks/results.csv")" "$(cat expected.csv)"
-same 'a page for each' "$(ls "$room/marks/pages" | wc -l)" 5
+same 'a page for each' "$(ls "$room/marks/pages" | wc -l)" 6
 same 'links to pages that are there' "$(sed -n 's/.*href="\([^"]*\)".*/\1/p' "$room/marks/index.html" |
-    while read -r page; do test -f "$room/marks/$page" && echo yes; done | sort | uniq -c | tr -d ' ')" 5yes
+    while read -r page; do test -f "$room/marks/$page" && echo yes; done | sort | uniq -c | tr -d ' ')" 6yes
 sum() { (cd "$1" && find . -type f -exec cksum {} + | sort -k 3); }
 first=$(sum "$room/marks")
 expect 'mark again' 1 '' '' "$xm23" mark -j 1 -o "$room/marks" sum.paper programs/*
@@ -515,7 +515,7 @@ same 'what is said' "$(python3 -c 'import csv, sys
 for r in list(csv.DictReader(open(sys.argv[1], newline="")))[:6]:
     print(r["line"] + ":" + r["says"].split(":")[0])' "$room/bad/results.csv")" \
     ':No such file or directory
-:is a folder
+:is a folder, and no file in it ends in .s19 or .asm
 :is no regular file
 :is no regular file
 R10:line 1

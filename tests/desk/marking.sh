@@ -251,7 +251,8 @@ writer=$!
 for option in '' -L; do
     # shellcheck disable=SC2086
     expect "a pipe $option" 1 '' '' timeout 20 "$xm23" mark $option -o pipes "$paper" pipe /dev/zero / "$sound"
-    same 'is a row' "$(cells pipes says)" $'is no regular file\nis no regular file\nis a folder'
+    same 'is a row' "$(cells pipes says)" \
+        $'is no regular file\nis no regular file\nis a folder, and no file in it ends in .s19 or .asm'
 done
 same 'and nobody opened it' "$(test -e opened && echo opened)" ''
 kill "$writer" 2> /dev/null
@@ -291,7 +292,7 @@ reached 'a whole name' "is reached by a link: $here/sittings/cand/alice|" "$here
 reached 'whole ones and others' "is reached by a link: $here/office|" "$here/office/cand/bob/prog.s19" \
     sittings/cand/bob/prog.s19
 reached 'of which the root is shared' 'is reached by a link: /proc/self|' /proc/self/status "$sound"
-reached 'a slash behind it' "$alice|Not a directory|is a folder" \
+reached 'a slash behind it' "$alice|Not a directory|" \
     sittings/cand/alice/ sittings/cand/bob/prog.s19/ sittings/cand/bob/
 reached 'no name at all' 'No such file or directory|' '' a.s19
 reached 'a name that is too long' 'File name too long|' "$(printf './%.0s' $(seq 2100))a.s19" a.s19

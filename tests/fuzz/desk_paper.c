@@ -82,6 +82,17 @@ static int same_events(const struct paper *a, const struct paper *b)
            memcmp(a->event_bytes, b->event_bytes, XM23_EVENT_SIZE * i) == 0;
 }
 
+static int same_awards(const struct awards *a, const struct awards *b)
+{
+    size_t i = 0;
+    while (i < a->many && i < b->many && a->list[i].subject == b->list[i].subject &&
+           a->list[i].number == b->list[i].number && a->list[i].at == b->list[i].at &&
+           a->list[i].relation == b->list[i].relation && a->list[i].points == b->list[i].points &&
+           holds(IS, &a->list[i].wanted, &b->list[i].wanted))
+        i++;
+    return a->many == b->many && i == a->many && a->pass == b->pass && same_lines(&a->pass_line, &b->pass_line, 1);
+}
+
 /* Everything but names, sources and the numbers of lines. */
 static int same_paper(const struct paper *a, const struct paper *b)
 {
@@ -91,7 +102,7 @@ static int same_paper(const struct paper *a, const struct paper *b)
            a->devices == b->devices && a->steps == b->steps && a->priority == b->priority && same_events(a, b) &&
            same_lines(a->start_line, b->start_line, STARTS) && same_lines(a->device_line, b->device_line, 8) &&
            same_lines(a->vector_line, b->vector_line, 16) && same_lines(a->use_line, b->use_line, 8) &&
-           same_lines(&a->priority_line, &b->priority_line, 1);
+           same_lines(&a->priority_line, &b->priority_line, 1) && same_awards(&a->awards, &b->awards);
 }
 
 static void print_and_read(const struct paper *p)

@@ -653,7 +653,8 @@ uint32_t xm23_back(uint8_t *memory, size_t memory_len, uint8_t *record, size_t r
  * broke, of each the first step that did, and who ran then. Where no kind is found, the program ended as it would have
  * with no events: registers, PSW, CEX state and memory are those of the run with no events after as many steps as the
  * application took, but for the device registers and the bytes with mark XM23_WROTE_OTHER. And wherever the premises
- * hold no kind is found: no sound handler is blamed.
+ * hold no kind is found: no sound handler is blamed. A kind is found exactly if its own premise fails, and its finding
+ * has the least step at which it does.
  *
  * A device's frame is every frame that is not the application's own, which are those of SVC opened while no device's
  * frame is open. The nine findings stand in the order of XM23_FOUND_..., each judged over the whole run. Who ran: the

@@ -3,28 +3,20 @@ use Prim.Native.Nat.{ℕ, zero, suc, _+_, _*_, _/_, _%_, _^_, _<_}
 use native.Mathlib.Nat.{add-suc, zero-add, suc-add, add-comm, mul-comm, mul-assoc, add-mul-mod-self-right}
 use native.Mathlib.Omega.{arith}
 use mathlib.Core.Bool.{Bool, true, false, cond, not}
-use mathlib.Core.List.{List, [], _∷_, _++_, append-nil, append-assoc}
+use mathlib.Core.List.{List, [], _∷_, _++_, append-nil}
 use mathlib.Core.Path.{_≡_, refl, sym, ap, _∙_}
 use lib.Dec.{eqb}
-use lib.ListN.{length, getD, set, drop, drop-of-length-le, length-set, List·getD-append}
-use lib.Seq.{sets, sets-eq, getD-append-add, set-getD}
+use lib.ListN.{length, getD, set, drop, drop-of-length-le, length-set}
+use lib.Seq.{sets, sets-eq, set-getD}
 use Rattle.stores.proofs.Laws.{sets-before}
 use Rattle.word.specs.Width.{bit}
-use Rattle.machine_laws.specs.Bounds.{Each}
 use Rattle.machine_laws.proofs.Cases.{bool-cases}
-use Rattle.soundness.specs.Findings.{Kind, started, faulted, unopened, trapped, unclosed, changed, slept, device, foreign}
-use Rattle.soundness.specs.Findings.{Handler, Finding, nothing}
+use Rattle.soundness.specs.Findings.{Kind, Handler, Finding, nothing}
 use Rattle.machine.specs.Record.{countByte}
 use Rattle.soundness.specs.Judge.{fourBytes, findingBytes, findingsBytes}
+use Rattle.soundness.proofs.Blocks.{joined, Sixteen, joined-at, blocks, block-sixteen, blocks-sixteen, joined-blocks}
 
--- ---- blocks joined
-
-abbrev pub joined : List (List ℕ) → List ℕ
-joined [] = []
-joined (b ∷ bs) = b ++ joined bs
-
-abbrev pub Sixteen : List (List ℕ) → Type 0
-Sixteen bs = Each (λ b. length b ≡ 16) bs
+-- ---- a block replaced
 
 set-past : (a b : List ℕ) (i v : ℕ) → set (a ++ b) (length a + i) v ≡ a ++ set b i v
 set-past [] b i v = rw (zero-add i) refl
@@ -54,34 +46,7 @@ joined-set (b ∷ bs) s (suc i) x e h =
     ∙ sets-past b (joined bs) (16 * i) x
     ∙ ap (λ l. b ++ l) (joined-set bs (s .1) i x e (omega (arith, h)))
 
--- byte j of block i
-pub joined-at : (bs : List (List ℕ)) → Sixteen bs → (i j : ℕ) → j < 16 → i < length bs
-    → getD (joined bs) (16 * i + j) 0 ≡ getD (getD bs i []) j 0
-joined-at [] s i j k h = absurd (omega (arith, h))
-joined-at (b ∷ bs) s zero j k h =
-    let p : 16 * 0 + j ≡ j = omega arith in
-    ap (λ n. getD (b ++ joined bs) n 0) p ∙ List·getD-append b (joined bs) 0 j (omega (arith, s .0, k))
-joined-at (b ∷ bs) s (suc i) j k h =
-    let p : 16 * suc i + j ≡ length b + (16 * i + j) = omega (arith, s .0) in
-    ap (λ n. getD (b ++ joined bs) n 0) p
-    ∙ getD-append-add b (joined bs) (16 * i + j) 0
-    ∙ joined-at bs (s .1) i j k (omega (arith, h))
-
--- ---- the findings' blocks
-
-abbrev pub blocks : ℕ → (Kind → Finding) → List (List ℕ)
-blocks c f =
-    findingBytes c (f started) ∷ findingBytes c (f faulted) ∷ findingBytes c (f unopened) ∷ findingBytes c (f trapped)
-    ∷ findingBytes c (f unclosed) ∷ findingBytes c (f changed) ∷ findingBytes c (f slept) ∷ findingBytes c (f device)
-    ∷ findingBytes c (f foreign) ∷ []
-
-block-sixteen′ : (c : ℕ) (b : Bool) (k x a : ℕ) (h : Handler)
-    → length (findingBytes c (record { found = b; step = k; detail = x; address = a; by = h })) ≡ 16
-block-sixteen′ c true k x a h = refl
-block-sixteen′ c false k x a h = refl
-
-pub block-sixteen : (c : ℕ) (x : Finding) → length (findingBytes c x) ≡ 16
-block-sixteen c x = block-sixteen′ c (x .found) (x .step) (x .detail) (x .address) (x .by)
+-- ---- a block's flag
 
 block-flag′ : (c : ℕ) (b : Bool) (k x a : ℕ) (h : Handler)
     → getD (findingBytes c (record { found = b; step = k; detail = x; address = a; by = h })) 8 0 ≡ bit b
@@ -90,16 +55,6 @@ block-flag′ c false k x a h = refl
 
 pub block-flag : (c : ℕ) (x : Finding) → getD (findingBytes c x) 8 0 ≡ bit (x .found)
 block-flag c x = block-flag′ c (x .found) (x .step) (x .detail) (x .address) (x .by)
-
-join-nine : (a b c d e f g h i : List ℕ)
-    → a ++ b ++ c ++ d ++ e ++ f ++ g ++ h ++ i ≡ a ++ (b ++ (c ++ (d ++ (e ++ (f ++ (g ++ (h ++ (i ++ []))))))))
-join-nine a b c d e f g h i = simp (append-assoc, append-nil)
-
-pub joined-blocks : (c : ℕ) (f : Kind → Finding) → findingsBytes c f ≡ joined (blocks c f)
-joined-blocks c f =
-    join-nine (findingBytes c (f started)) (findingBytes c (f faulted)) (findingBytes c (f unopened)) (findingBytes c (f trapped))
-    (findingBytes c (f unclosed)) (findingBytes c (f changed)) (findingBytes c (f slept)) (findingBytes c (f device))
-    (findingBytes c (f foreign))
 
 -- ---- one kind told
 
@@ -121,33 +76,6 @@ tell-block c x broke y =
     ∙ tell-block′ c (x .found) broke (x .step) (x .detail) (x .address) (x .by) y
 
 -- ---- the blocks of what is found
-
-pub blocks-sixteen : (c : ℕ) (f : Kind → Finding) → Sixteen (blocks c f)
-blocks-sixteen c f = (
-  block-sixteen c (f started),
-  (
-    block-sixteen c (f faulted),
-    (
-      block-sixteen c (f unopened),
-      (
-        block-sixteen c (f trapped),
-        (
-          block-sixteen c (f unclosed),
-          (
-            block-sixteen c (f changed),
-            (
-              block-sixteen c (f slept),
-              (
-                block-sixteen c (f device),
-                (block-sixteen c (f foreign), tt),
-              ),
-            ),
-          ),
-        ),
-      ),
-    ),
-  ),
-)
 
 bit-set : (b : Bool) → bit (not (eqb (bit b) 0)) ≡ bit b
 bit-set true = refl

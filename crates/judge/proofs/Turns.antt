@@ -35,20 +35,7 @@ deep-law o l p v w a =
 
 -- nothing more happens to a run that is over
 over-stays : (ev : List Event) (x : Judging) → over? x ≡ true → onward ev x ≡ x
-over-stays ev x h =
-    let b = deliver ev (x .state) in
-    let a = planOf b .act in
-    let t = stepOf ev (x .state) in
-    ap (λ c. cond c x
-    (cond (tooDeep? a (x .watch))
-    (record { state = x .state; steps = x .steps; watch = x .watch; noted = x .noted; deep = true })
-    (record {
-      state = t;
-      steps = suc (x .steps);
-      watch = watchAfter a (x .steps) b t (x .watch);
-      noted = λ κ. findAfter κ (x .steps) (seenBy a b t (x .watch)) (x .noted κ);
-      deep = false;
-    }))) h
+over-stays ev x h = rw h refl
 
 module _ (ev : List Event) (s₀ : State) where
   pub judged-over : (k j : ℕ) → over? (judgedRun ev s₀ k) ≡ true → judgedRun ev s₀ (k + j) ≡ judgedRun ev s₀ k

@@ -22,7 +22,8 @@ use Rattle.soundness.specs.Judge.{Judging, begun, judgedRun, closingTold, findi
 use Rattle.soundness.specs.Judge.{judgeAccepted, judgedOn, judgeCallOf}
 use Rattle.soundness.proofs.Judge.{run-follows}
 use Rattle.soundness.proofs.Verdict.{judge-accepted, judge-refused, judge-start, judge-writers, judge-findings}
-use Rattle.findings.proofs.Laws.{joined, blocks, blocks-sixteen, block-sixteen, joined-blocks, joined-set}
+use Rattle.soundness.proofs.Blocks.{joined, blocks, blocks-sixteen, block-sixteen, joined-blocks}
+use Rattle.findings.proofs.Laws.{joined-set}
 use Rattle.open_frames.specs.declared.Open.{Open}
 use Rattle.open_frames.specs.Open.{handlerOf}
 use Rattle.judge.specs.Reached.{toldBy, JudgedIs}

@@ -1,10 +1,10 @@
 -- A judged run follows the run, and tells what is found in it. Assumes nothing.
 use Prim.Native.Nat.{ℕ, zero, suc, _≤_}
 use native.Mathlib.Omega.{arith}
-use mathlib.Core.Bool.{Bool, true, false, cond, _&&_, _||_, true≢false}
+use mathlib.Core.Bool.{Bool, true, false, _&&_, _||_, true≢false}
 use mathlib.Core.List.{List, [], _∷_}
 use mathlib.Core.Logic.{_≢_}
-use mathlib.Core.Path.{_≡_, refl, sym, ap, subst, _∙_}
+use mathlib.Core.Path.{_≡_, refl, sym, ap, _∙_}
 use lib.Dec.{eqb}
 use lib.ListN.{length}
 use Rattle.machine.specs.State.{State}
@@ -104,7 +104,7 @@ module _ (ev : List Event) (s : State) where
         let w = A .within in
         bool-cases (over? x)
         (λ q.
-        subst (At (suc n)) (sym (ap stays q))
+        rw q
         (record {
           within = omega (arith, w);
           state = A .state;
@@ -116,7 +116,7 @@ module _ (ev : List Event) (s : State) where
         (λ q.
         bool-cases (tooDeep? (planOf (deliver ev (x .state)) .act) (x .watch))
         (λ d.
-        subst (At (suc n)) (sym (ap stays q ∙ ap stops d))
+        rw (q, d)
         (record {
           within = omega (arith, w);
           state = A .state;
@@ -127,7 +127,7 @@ module _ (ev : List Event) (s : State) where
         }))
         (λ d.
         let done = A .whole q in
-        subst (At (suc n)) (sym (ap stays q ∙ ap stops d))
+        rw (q, d)
         (record {
           within = omega (arith, w);
           state = next-state;
@@ -141,26 +141,6 @@ module _ (ev : List Event) (s : State) where
         ever : (b : Bool) → (b || true) ≡ true
         ever true = refl
         ever false = refl
-
-        deepened : Judging
-        deepened = record { state = x .state; steps = x .steps; watch = x .watch; noted = x .noted; deep = true }
-
-        taken : Judging
-        taken =
-            record {
-              state = stepOf ev (x .state);
-              steps = suc (x .steps);
-              watch = watchAfter (planOf (deliver ev (x .state)) .act) (x .steps) (deliver ev (x .state)) (stepOf ev (x .state)) (x .watch);
-              noted = λ κ. findAfter κ (x .steps)
-                  (seenBy (planOf (deliver ev (x .state)) .act) (deliver ev (x .state)) (stepOf ev (x .state)) (x .watch)) (x .noted κ);
-              deep = false;
-            }
-
-        stops : Bool → Judging
-        stops b = cond b deepened taken
-
-        stays : Bool → Judging
-        stays b = cond b x (cond (tooDeep? (planOf (deliver ev (x .state)) .act) (x .watch)) deepened taken)
 
   judged-at : (n : ℕ) → At n (judgedRun ev s n)
   unfolding judgedRun

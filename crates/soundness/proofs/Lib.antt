@@ -1,9 +1,11 @@
 pub mod First
 pub mod Changes
+pub mod Layers
+pub mod Since
 pub mod Soundness
 pub mod Opened
-pub mod Layers
 pub mod Writers
 pub mod Watch
 pub mod Judge
+pub mod Blocks
 pub mod Verdict

@@ -1,9 +1,10 @@
--- Nothing is found in a run of an accepted start exactly if it keeps the premises of resumption. Assumes nothing.
-use Prim.Native.Nat.{ℕ, _+_, _*_}
+-- A kind is found in a run exactly if its premise fails, first at the step told; nothing is found in a run of an accepted start exactly if
+-- it keeps the premises of resumption. Assumes nothing.
+use Prim.Native.Nat.{ℕ, _+_, _*_, _<_}
 use native.Mathlib.Omega.{arith}
 use mathlib.Core.Bool.{Bool, true, false, cond, not, _&&_, _||_, true≢false, false≢true}
 use mathlib.Core.List.{List, [], _∷_}
-use mathlib.Core.Path.{_≡_, refl, sym, ap, _∙_}
+use mathlib.Core.Path.{_≡_, refl, sym, ap, subst, _∙_}
 use lib.Dec.{eqb}
 use Rattle.word.specs.Width.{bit}
 use Rattle.word.specs.Psw.{asleep?}
@@ -15,17 +16,20 @@ use Rattle.machine.specs.declared.Act.{Act}
 use Rattle.machine.specs.declared.Act.the-variants as acts
 use Rattle.machine_laws.specs.Bounds.{Each}
 use Rattle.machine_laws.proofs.Cases.{bool-cases, list-cases, eq-of, is-eq}
-use Rattle.resume.specs.Frames.{Start, Frame, none?, own?, Calm, due, act, frames, foreign?}
+use Rattle.resume.specs.Frames.{Start, Frame, none?, own?, Calm, due, act, frames, application?, foreign?}
 use Rattle.resume.specs.Resume.{Premises}
 use Rattle.resume.proofs.RowFacts.{Restored, OwnTrap, Awake, ReadsOwn}
+use Rattle.resume.proofs.Step.{each-map}
 use Rattle.resume.proofs.Resume.{resumes}
 use Rattle.soundness.specs.Findings.{Kind, started, faulted, unopened, trapped, unclosed, changed, slept, device, foreign}
 use Rattle.soundness.specs.Findings.{Handler, Finding, nothing, finding, applicationRuns, fault?, pull?, return?, changesOf}
 use Rattle.soundness.specs.Findings.{keptIn, keptAt, changes}
 use Rattle.soundness.specs.Findings.{some?, startFaults, breaks?, readsIn, seen, startFinding, openFinding, foundOf, kindsFound}
-use Rattle.soundness.specs.Findings.{handlers, oldest}
-use Rattle.soundness.specs.Soundness.{Judges, SoundResumes, FindsFirst, FindsAll}
+use Rattle.soundness.specs.Findings.{handlers, oldest, firstBreach}
+use Rattle.soundness.specs.Soundness.{Judges, SoundResumes, FindsFirst, FindsAll, NoFault, ReturnsFramed, Least, Premise, OpenSince}
+use Rattle.soundness.specs.Soundness.{FailsAt, JudgesKinds, Divides}
 use Rattle.soundness.proofs.First.{breach-none, none-breach, breach-first}
+use Rattle.soundness.proofs.Since.{since, open-step}
 use Rattle.soundness.proofs.Changes.{bit-clear, not-clear, found-unchanged, unchanged-found}
 
 -- ---- tests
@@ -50,48 +54,62 @@ either-right false b e = e
 
 -- ---- a step's premises
 
--- a fault or a return with no frame open is what calm rules out
-calm-fault : (a : Act) (fs : List Frame) → Calm a fs → fault? a ≡ false
-calm-fault acts.Stopped fs c = refl
-calm-fault acts.Pull fs c = refl
-calm-fault (acts.Chain d) fs c = refl
-calm-fault (acts.Accept d) fs c = refl
-calm-fault acts.Sleep fs c = refl
-calm-fault (acts.Fault v) fs c = absurd c
-calm-fault acts.Halt fs c = absurd c
-calm-fault acts.Skip fs c = refl
-calm-fault (acts.Trap v) fs c = refl
-calm-fault acts.Plain fs c = refl
-calm-fault (acts.Loads byte a d) fs c = refl
-calm-fault (acts.Stores byte a v) fs c = refl
+-- a fault, and a return with no frame open, are what calm rules out
+calm-fault : (a : Act) (fs : List Frame) → Calm a fs → NoFault a
+calm-fault a fs c = record { no-fault = λ v e. subst (λ x. Calm x fs) e c; no-halt = λ e. subst (λ x. Calm x fs) e c }
 
-calm-return : (a : Act) (fs : List Frame) → Calm a fs → return? a && none? fs ≡ false
-calm-return acts.Stopped fs c = refl
-calm-return acts.Pull fs c = c
-calm-return (acts.Chain d) fs c = c
-calm-return (acts.Accept d) fs c = refl
-calm-return acts.Sleep fs c = refl
-calm-return (acts.Fault v) fs c = refl
-calm-return acts.Halt fs c = refl
-calm-return acts.Skip fs c = refl
-calm-return (acts.Trap v) fs c = refl
-calm-return acts.Plain fs c = refl
-calm-return (acts.Loads byte a d) fs c = refl
-calm-return (acts.Stores byte a v) fs c = refl
+calm-return : (a : Act) (fs : List Frame) → Calm a fs → ReturnsFramed a fs
+calm-return a fs c = record { pulls = λ e. subst (λ x. Calm x fs) e c; chains = λ d e. subst (λ x. Calm x fs) e c }
 
-calm-of : (a : Act) (fs : List Frame) → fault? a ≡ false → return? a && none? fs ≡ false → Calm a fs
-calm-of acts.Stopped fs e h = tt
-calm-of acts.Pull fs e h = h
-calm-of (acts.Chain d) fs e h = h
-calm-of (acts.Accept d) fs e h = tt
-calm-of acts.Sleep fs e h = tt
-calm-of (acts.Fault v) fs e h = true≢false e
-calm-of acts.Halt fs e h = true≢false e
-calm-of acts.Skip fs e h = tt
-calm-of (acts.Trap v) fs e h = tt
-calm-of acts.Plain fs e h = tt
-calm-of (acts.Loads byte a d) fs e h = tt
-calm-of (acts.Stores byte a v) fs e h = tt
+calm-of : (a : Act) (fs : List Frame) → NoFault a → ReturnsFramed a fs → Calm a fs
+calm-of acts.Stopped fs f r = tt
+calm-of acts.Pull fs f r = r .pulls refl
+calm-of (acts.Chain d) fs f r = r .chains d refl
+calm-of (acts.Accept d) fs f r = tt
+calm-of acts.Sleep fs f r = tt
+calm-of (acts.Fault v) fs f r = f .no-fault v refl
+calm-of acts.Halt fs f r = f .no-halt refl
+calm-of acts.Skip fs f r = tt
+calm-of (acts.Trap v) fs f r = tt
+calm-of acts.Plain fs f r = tt
+calm-of (acts.Loads byte a d) fs f r = tt
+calm-of (acts.Stores byte a v) fs f r = tt
+
+-- their tests
+fault-none : (a : Act) → fault? a ≡ false → NoFault a
+fault-none a e =
+    record { no-fault = λ v q. true≢false (sym (ap fault? q) ∙ e); no-halt = λ q. true≢false (sym (ap fault? q) ∙ e) }
+
+none-fault : (a : Act) → NoFault a → fault? a ≡ false
+none-fault acts.Stopped f = refl
+none-fault acts.Pull f = refl
+none-fault (acts.Chain d) f = refl
+none-fault (acts.Accept d) f = refl
+none-fault acts.Sleep f = refl
+none-fault (acts.Fault v) f = absurd (f .no-fault v refl)
+none-fault acts.Halt f = absurd (f .no-halt refl)
+none-fault acts.Skip f = refl
+none-fault (acts.Trap v) f = refl
+none-fault acts.Plain f = refl
+none-fault (acts.Loads byte a d) f = refl
+none-fault (acts.Stores byte a v) f = refl
+
+return-framed : (a : Act) (fs : List Frame) → return? a && none? fs ≡ false → ReturnsFramed a fs
+return-framed a fs e = record { pulls = λ q. both-false e (ap return? q); chains = λ d q. both-false e (ap return? q) }
+
+framed-return : (a : Act) (fs : List Frame) → ReturnsFramed a fs → return? a && none? fs ≡ false
+framed-return acts.Stopped fs r = refl
+framed-return acts.Pull fs r = r .pulls refl
+framed-return (acts.Chain d) fs r = r .chains d refl
+framed-return (acts.Accept d) fs r = refl
+framed-return acts.Sleep fs r = refl
+framed-return (acts.Fault v) fs r = refl
+framed-return acts.Halt fs r = refl
+framed-return acts.Skip fs r = refl
+framed-return (acts.Trap v) fs r = refl
+framed-return acts.Plain fs r = refl
+framed-return (acts.Loads byte a d) fs r = refl
+framed-return (acts.Stores byte a v) fs r = refl
 
 pull-is : (a : Act) → pull? a ≡ true → a ≡ acts.Pull
 pull-is acts.Stopped e = absurd (false≢true e)
@@ -107,29 +125,22 @@ pull-is acts.Plain e = absurd (false≢true e)
 pull-is (acts.Loads byte a d) e = absurd (false≢true e)
 pull-is (acts.Stores byte a v) e = absurd (false≢true e)
 
--- bytes of which none is a device register and none foreign
-each-of : (g : ℕ → Bool) (l : List ℕ) → some? device? l ≡ false → some? g l ≡ false
-    → Each (λ a. (device? a ≡ false) × (g a ≡ false)) l
-each-of g [] e h = tt
-each-of g (a ∷ l) e h = (
-  (either-left (device? a) (some? device? l) e, either-left (g a) (some? g l) h),
-  each-of g l (either-right (device? a) (some? device? l) e) (either-right (g a) (some? g l) h),
-)
+-- bytes of which none has it
+some-none : (g : ℕ → Bool) (l : List ℕ) → some? g l ≡ false → Each (λ a. g a ≡ false) l
+some-none g [] e = tt
+some-none g (a ∷ l) e = (either-left (g a) (some? g l) e, some-none g l (either-right (g a) (some? g l) e))
 
-each-device : (g : ℕ → Bool) (l : List ℕ) → Each (λ a. (device? a ≡ false) × (g a ≡ false)) l → some? device? l ≡ false
-each-device g [] h = refl
-each-device g (a ∷ l) h = λ i. h .0 .0 i || each-device g l (h .1) i
+none-some : (g : ℕ → Bool) (l : List ℕ) → Each (λ a. g a ≡ false) l → some? g l ≡ false
+none-some g [] h = refl
+none-some g (a ∷ l) h = λ i. h .0 i || none-some g l (h .1) i
 
-each-foreign : (g : ℕ → Bool) (l : List ℕ) → Each (λ a. (device? a ≡ false) × (g a ≡ false)) l → some? g l ≡ false
-each-foreign g [] h = refl
-each-foreign g (a ∷ l) h = λ i. h .0 .1 i || each-foreign g l (h .1) i
+each-both : (P Q : ℕ → Type 0) (l : List ℕ) → Each P l → Each Q l → Each (λ a. P a × Q a) l
+each-both P Q [] p q = tt
+each-both P Q (a ∷ l) p q = ((p .0, q .0), each-both P Q l (p .1) (q .1))
 
 -- ---- a step's breaches
 
 module _ (ev : List Event) (s : State) (k : ℕ) where
-  calm-step : breaks? faulted (seen ev s k) ≡ false → breaks? unopened (seen ev s k) ≡ false → Calm (act ev s k) (frames ev s k)
-  calm-step = calm-of (act ev s k) (frames ev s k)
-
   trap-own : breaks? trapped (seen ev s k) ≡ false → OwnTrap ev s k
   trap-own e h = not-clear (own? (frames ev s k)) (both-false e h)
 
@@ -165,14 +176,17 @@ module _ (ev : List Event) (s : State) (k : ℕ) where
   awake-slept : Awake ev s k → breaks? slept (seen ev s k) ≡ false
   awake-slept f = false-both f
 
-  reads-own : breaks? device (seen ev s k) ≡ false → breaks? foreign (seen ev s k) ≡ false → ReadsOwn ev s k
-  reads-own e h mine = each-of (foreign? ev s k) (readsIn (seen ev s k)) (both-false e mine) (both-false h mine)
+  abbrev mine? : Bool
+  mine? = application? ev s k
 
-  own-device : ReadsOwn ev s k → breaks? device (seen ev s k) ≡ false
-  own-device f = false-both (λ mine. each-device (foreign? ev s k) (readsIn (seen ev s k)) (f mine))
+  abbrev reads : List ℕ
+  reads = readsIn (seen ev s k)
 
-  own-foreign : ReadsOwn ev s k → breaks? foreign (seen ev s k) ≡ false
-  own-foreign f = false-both (λ mine. each-foreign (foreign? ev s k) (readsIn (seen ev s k)) (f mine))
+  unread : (g : ℕ → Bool) → mine? && some? g reads ≡ false → mine? ≡ true → Each (λ a. g a ≡ false) reads
+  unread g e mine = some-none g reads (both-false e mine)
+
+  read-none : (g : ℕ → Bool) → (mine? ≡ true → Each (λ a. g a ≡ false) reads) → mine? && some? g reads ≡ false
+  read-none g f = false-both (λ mine. none-some g reads (f mine))
 
 -- ---- the start and the close
 
@@ -188,6 +202,16 @@ clear-start s e =
 
 faults-clear : (a b c : Bool) → bit a + 2 * bit b + 4 * bit c ≡ 0 → (a ≡ false) × (b ≡ false) × (c ≡ false)
 faults-clear a b c e = (bit-clear a (omega (arith, e)), bit-clear b (omega (arith, e)), bit-clear c (omega (arith, e)))
+
+start-first : (s : State) → startFinding s .found ≡ true → startFinding s .step ≡ 0
+start-first s e =
+    bool-cases (eqb (startFaults s) 0)
+    (λ q. ap (λ b. cond b nothing (finding 0 (startFaults s) (pc (s .core)) applicationRuns) .step) q)
+    (λ q. ap (λ b. cond b nothing (finding 0 (startFaults s) (pc (s .core)) applicationRuns) .step) q)
+
+none-of : (fs : List Frame) → none? fs ≡ true → fs ≡ []
+none-of [] e = refl
+none-of (f ∷ fs) e = absurd (false≢true e)
 
 closed-of : (fs : List Frame) (h : Handler) → openFinding (none? fs) h .found ≡ false → fs ≡ []
 closed-of [] h e = refl
@@ -237,49 +261,139 @@ none-kinds f e κ =
     of-each device z = z .7
     of-each foreign z = z .8
 
--- ---- the theorem
+-- ---- kind by kind
 
-module _ (memory r events : List ℕ) (n : ℕ) where
+module _ (memory r events : List ℕ) where
   abbrev ev : List Event
   ev = eventsOf events
 
   abbrev s : State
   s = stateIn r memory
 
-  none-premises : Start memory r events n → ((κ : Kind) → foundOf ev s κ n .found ≡ false) → Premises memory r events n
-  none-premises ok none =
-      let z = faults-clear (asleep? (s .core .psw)) (s .halted) (not (eqb (s .lines) 0)) (start-clear s (none started)) in
+  kind-sound : (κ : Kind) (n : ℕ) → foundOf ev s κ n .found ≡ false → Premise memory r events κ n
+  kind-sound started n e =
+      let z = faults-clear (asleep? (s .core .psw)) (s .halted) (not (eqb (s .lines) 0)) (start-clear s e) in
+      (z .0, z .1, eq-of (not-clear (eqb (s .lines) 0) (z .2)))
+  kind-sound faulted n e = λ k h. fault-none (act ev s k) (breach-none ev s faulted n e k h)
+  kind-sound unopened n e = λ k h. return-framed (act ev s k) (frames ev s k) (breach-none ev s unopened n e k h)
+  kind-sound trapped n e = λ k h. trap-own ev s k (breach-none ev s trapped n e k h)
+  kind-sound unclosed n e = closed-of (frames ev s n) (oldest (handlers ev s n)) e
+  kind-sound changed n e = λ k f fs h. unchanged-restored ev s k (breach-none ev s changed n e k h) f fs
+  kind-sound slept n e = λ k h. slept-awake ev s k (breach-none ev s slept n e k h)
+  kind-sound device n e = λ k h. unread ev s k device? (breach-none ev s device n e k h)
+  kind-sound foreign n e = λ k h. unread ev s k (foreign? ev s k) (breach-none ev s foreign n e k h)
+
+  kind-complete : (κ : Kind) (n : ℕ) → Premise memory r events κ n → foundOf ev s κ n .found ≡ false
+  kind-complete started n P = clear-start s (λ i. bit (P .0 i) + 2 * bit (P .1 i) + 4 * bit (not (is-eq (P .2) i)))
+  kind-complete faulted n P = none-breach ev s faulted n (λ k h. none-fault (act ev s k) (P k h))
+  kind-complete unopened n P = none-breach ev s unopened n (λ k h. framed-return (act ev s k) (frames ev s k) (P k h))
+  kind-complete trapped n P = none-breach ev s trapped n (λ k h. own-trapped ev s k (P k h))
+  kind-complete unclosed n P = ap (λ fs. openFinding (none? fs) (oldest (handlers ev s n)) .found) P
+  kind-complete changed n P = none-breach ev s changed n (λ k h. restored-unchanged ev s k (λ f fs. P k f fs h))
+  kind-complete slept n P = none-breach ev s slept n (λ k h. awake-slept ev s k (P k h))
+  kind-complete device n P = none-breach ev s device n (λ k h. read-none ev s k device? (P k h))
+  kind-complete foreign n P = none-breach ev s foreign n (λ k h. read-none ev s k (foreign? ev s k) (P k h))
+
+  -- of a kind whose breaches are steps'
+  least : (κ : Kind) (P : ℕ → Type 0) → ((n : ℕ) → firstBreach ev s κ n .found ≡ false → P n)
+      → ((n : ℕ) → P n → firstBreach ev s κ n .found ≡ false)
+      → (n : ℕ) → firstBreach ev s κ n .found ≡ true → Least P n (firstBreach ev s κ n .step)
+  least κ P to from n e =
+      let F = breach-first ev s κ n e in
       record {
-        accepted = ok;
-        awake = z .0;
-        not-halted = z .1;
-        no-line = eq-of (not-clear (eqb (s .lines) 0) (z .2));
-        calm = λ k h. calm-step ev s k (breach-none ev s faulted n (none faulted) k h) (breach-none ev s unopened n (none unopened) k h);
-        own-traps = λ k h. trap-own ev s k (breach-none ev s trapped n (none trapped) k h);
-        closed = closed-of (frames ev s n) (oldest (handlers ev s n)) (none unclosed);
-        restored = λ k f fs h. unchanged-restored ev s k (breach-none ev s changed n (none changed) k h) f fs;
-        never-sleeps = λ k h. slept-awake ev s k (breach-none ev s slept n (none slept) k h);
-        reads-own = λ k h.
-            reads-own ev s k (breach-none ev s device n (none device) k h) (breach-none ev s foreign n (none foreign) k h);
+        within = F .within;
+        kept = λ j l. to j (none-breach ev s κ j (λ i b. F .none-before i (omega (arith, l, b))));
+        broken = λ j l p. true≢false (sym (F .breaks) ∙ breach-none ev s κ j (from j p) (firstBreach ev s κ n .step) l);
       }
 
-  premises-none : Premises memory r events n → (κ : Kind) → foundOf ev s κ n .found ≡ false
-  premises-none P started =
-      clear-start s (λ i. bit (P .awake i) + 2 * bit (P .not-halted i) + 4 * bit (not (is-eq (P .no-line) i)))
-  premises-none P faulted = none-breach ev s faulted n (λ k h. calm-fault (act ev s k) (frames ev s k) (P .calm k h))
-  premises-none P unopened = none-breach ev s unopened n (λ k h. calm-return (act ev s k) (frames ev s k) (P .calm k h))
-  premises-none P trapped = none-breach ev s trapped n (λ k h. own-trapped ev s k (P .own-traps k h))
-  premises-none P unclosed = ap (λ fs. openFinding (none? fs) (oldest (handlers ev s n)) .found) (P .closed)
-  premises-none P changed = none-breach ev s changed n (λ k h. restored-unchanged ev s k (λ f fs. P .restored k f fs h))
-  premises-none P slept = none-breach ev s slept n (λ k h. awake-slept ev s k (P .never-sleeps k h))
-  premises-none P device = none-breach ev s device n (λ k h. own-device ev s k (P .reads-own k h))
-  premises-none P foreign = none-breach ev s foreign n (λ k h. own-foreign ev s k (P .reads-own k h))
+  open-since : (n : ℕ) → foundOf ev s unclosed n .found ≡ true → OpenSince memory r events n (foundOf ev s unclosed n .step)
+  open-since n e =
+      let o = open-step (none? (frames ev s n)) (oldest (handlers ev s n)) e in
+      let S = since ev s n (o .0) in
+      subst (OpenSince memory r events n) (sym (o .1))
+      (record {
+        within = S .within;
+        open-since = λ j l m none. true≢false (sym (ap none? none) ∙ S .open-since j l m);
+        none-before = λ nc. none-of (frames ev s (oldest (handlers ev s n) .opened)) (S .none-before nc);
+      })
+
+  kind-least : (κ : Kind) (n : ℕ) → foundOf ev s κ n .found ≡ true → FailsAt memory r events κ n (foundOf ev s κ n .step)
+  kind-least started n e = (start-first s e, λ P. true≢false (sym e ∙ kind-complete started n P))
+  kind-least faulted n e = least faulted (Premise memory r events faulted) (kind-sound faulted) (kind-complete faulted) n e
+  kind-least unopened n e = least unopened (Premise memory r events unopened) (kind-sound unopened) (kind-complete unopened) n e
+  kind-least trapped n e = least trapped (Premise memory r events trapped) (kind-sound trapped) (kind-complete trapped) n e
+  kind-least unclosed n e = open-since n e
+  kind-least changed n e = least changed (Premise memory r events changed) (kind-sound changed) (kind-complete changed) n e
+  kind-least slept n e = least slept (Premise memory r events slept) (kind-sound slept) (kind-complete slept) n e
+  kind-least device n e = least device (Premise memory r events device) (kind-sound device) (kind-complete device) n e
+  kind-least foreign n e = least foreign (Premise memory r events foreign) (kind-sound foreign) (kind-complete foreign) n e
+
+pub judges-kinds : JudgesKinds
+judges-kinds memory r events κ n =
+    record {
+      sound = kind-sound memory r events κ n;
+      complete = kind-complete memory r events κ n;
+      least = kind-least memory r events κ n;
+    }
+
+-- ---- the premises together
+
+module _ (memory r events : List ℕ) (n : ℕ) where
+  abbrev list : List Event
+  list = eventsOf events
+
+  abbrev start : State
+  start = stateIn r memory
+
+  calm-parts : Premise memory r events faulted n → Premise memory r events unopened n
+      → (k : ℕ) → k < n → Calm (act list start k) (frames list start k)
+  calm-parts f u k h = calm-of (act list start k) (frames list start k) (f k h) (u k h)
+
+  reads-parts : Premise memory r events device n → Premise memory r events foreign n → (k : ℕ) → k < n → ReadsOwn list start k
+  reads-parts d f k h mine =
+      each-both (λ a. device? a ≡ false) (λ a. foreign? list start k a ≡ false) (reads list start k) (d k h mine) (f k h mine)
+
+  premises-apart : Premises memory r events n → (κ : Kind) → Premise memory r events κ n
+  premises-apart P started = (P .awake, P .not-halted, P .no-line)
+  premises-apart P faulted = λ k h. calm-fault (act list start k) (frames list start k) (P .calm k h)
+  premises-apart P unopened = λ k h. calm-return (act list start k) (frames list start k) (P .calm k h)
+  premises-apart P trapped = P .own-traps
+  premises-apart P unclosed = P .closed
+  premises-apart P changed = P .restored
+  premises-apart P slept = P .never-sleeps
+  premises-apart P device = λ k h mine. each-map _ _ (λ a p. p .0) (reads list start k) (P .reads-own k h mine)
+  premises-apart P foreign = λ k h mine. each-map _ _ (λ a p. p .1) (reads list start k) (P .reads-own k h mine)
+
+  premises-together : Start memory r events n → ((κ : Kind) → Premise memory r events κ n) → Premises memory r events n
+  premises-together ok P =
+      record {
+        accepted = ok;
+        awake = P started .0;
+        not-halted = P started .1;
+        no-line = P started .2;
+        calm = calm-parts (P faulted) (P unopened);
+        own-traps = P trapped;
+        closed = P unclosed;
+        restored = P changed;
+        never-sleeps = P slept;
+        reads-own = reads-parts (P device) (P foreign);
+      }
+
+pub divides : Divides
+divides memory r events n =
+    record {
+      calm = calm-parts memory r events n;
+      reads-own = reads-parts memory r events n;
+      apart = premises-apart memory r events n;
+      together = premises-together memory r events n;
+    }
 
 pub judges : Judges
 judges memory r events n ok =
+    let found : Kind → Finding = λ κ. foundOf (eventsOf events) (stateIn r memory) κ n in
     record {
-      sound = λ e. none-premises memory r events n ok (none-kinds (λ κ. foundOf (eventsOf events) (stateIn r memory) κ n) e);
-      complete = λ P. kinds-none (λ κ. foundOf (eventsOf events) (stateIn r memory) κ n) (premises-none memory r events n P);
+      sound = λ e. divides memory r events n .together ok (λ κ. kind-sound memory r events κ n (none-kinds found e κ));
+      complete = λ P. kinds-none found (λ κ. kind-complete memory r events κ n (divides memory r events n .apart P κ));
     }
 
 pub sound-resumes : SoundResumes

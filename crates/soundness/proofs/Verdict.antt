@@ -1,5 +1,5 @@
 -- A call that leaves what `judgeCallOf` gives keeps its promise. Assumes nothing.
-use Prim.Native.Nat.{ℕ, _+_, _*_, _/_, _%_, _<_}
+use Prim.Native.Nat.{ℕ, _+_, _-_, _*_, _/_, _%_, _<_, _≤_}
 use native.Mathlib.Omega.{arith}
 use mathlib.Core.Bool.{Bool, true, false, cond, not, _&&_}
 use mathlib.Core.List.{List}
@@ -14,7 +14,7 @@ use Rattle.machine.specs.declared.Verdict.the-variants.{Accepted, MemoryLength,
 use Rattle.machine.specs.declared.Verdict.the-variants.{EventFields, EventOrder, EventTwins, LogLength, JournalFit, StepsKept}
 use Rattle.machine.specs.State.{State}
 use Rattle.machine.specs.Memory.{byteAt}
-use Rattle.machine.specs.Record.{stateIn, recordOf}
+use Rattle.machine.specs.Record.{fourAt, stateIn, recordOf}
 use Rattle.machine.specs.Events.{Event, eventsOf}
 use Rattle.machine.specs.Run.{runOf}
 use Rattle.machine.specs.Refusal.{verdictOf, refusalNumber}
@@ -29,12 +29,16 @@ use Rattle.resume.specs.Resume.{Premises}
 use Rattle.resume.specs.Resumption.{CallResumes}
 use Rattle.resume.proofs.Resume.{resumes}
 use Rattle.soundness.specs.Findings.{Kind, started, faulted, unopened, trapped, unclosed, changed, slept, device, foreign}
-use Rattle.soundness.specs.Findings.{Finding, kindsFound}
+use Rattle.soundness.specs.Findings.{Finding, kindsFound, foundOf}
+use Rattle.soundness.specs.Soundness.{FailsAt, KindJudged}
 use Rattle.soundness.specs.Watch.{Watch}
 use Rattle.soundness.specs.Judge.{Judging, judgedReason, closingTold, findingsBytes, JudgeClosing, judgeRefusal, judgeRefused}
 use Rattle.soundness.specs.Judge.{judgeAccepted, judgedOn, judgeCallOf}
-use Rattle.soundness.specs.Verdict.{TrueVerdict, Judgement}
-use Rattle.soundness.proofs.Watch.{writer-is}
+use Rattle.soundness.specs.Verdict.{countIn, TrueVerdict, Judgement}
+use Rattle.soundness.proofs.Changes.{bit-clear}
+use Rattle.soundness.proofs.Soundness.{judges-kinds}
+use Rattle.soundness.proofs.Watch.{writer-is, foreign-within}
+use Rattle.soundness.proofs.Blocks.{bit-told, bit-found, count-told}
 use Rattle.soundness.proofs.Judge.{run-follows, tries}
 
 -- ---- refusals
@@ -153,6 +157,22 @@ kinds-lt f =
 
 -- ---- the promise
 
+count-is : (r memory : List ℕ) → stateIn r memory .count ≡ fourAt r 22
+unfolding stateIn
+count-is r memory = refl
+
+-- a premise of a run of n fails at one of its steps
+fails-within : (memory r events : List ℕ) (κ : Kind) (n k : ℕ) → FailsAt memory r events κ n k → k ≤ n
+fails-within memory r events started n k F = omega (arith, F .0)
+fails-within memory r events faulted n k F = let w = F .within in omega (arith, w)
+fails-within memory r events unopened n k F = let w = F .within in omega (arith, w)
+fails-within memory r events trapped n k F = let w = F .within in omega (arith, w)
+fails-within memory r events unclosed n k F = let w = F .within in omega (arith, w)
+fails-within memory r events changed n k F = let w = F .within in omega (arith, w)
+fails-within memory r events slept n k F = let w = F .within in omega (arith, w)
+fails-within memory r events device n k F = let w = F .within in omega (arith, w)
+fails-within memory r events foreign n k F = let w = F .within in omega (arith, w)
+
 module _
     (memory r events : List ℕ) (n : ℕ) (bm : Bytes memory) (br : Bytes r) (be : Bytes events)
     (ok : verdictOf memory r events n ≡ Accepted) where
@@ -217,10 +237,36 @@ module _
           resumes = λ e. close-resumes (t .sound e);
           found = λ i. kindsFound (λ κ. t .tells κ i);
           told = ef ∙ (λ i. findingsBytes (s .count) (λ κ. t .tells κ i));
+          kind-sound = λ κ e. judged κ .sound (is-found κ (bit-clear (told κ .found) (sym (bit-told told κ) ∙ e)));
+          kind-complete = λ κ P. bit-told told κ ∙ ap bit (ap (λ (y : Finding). y .found) (t .tells κ) ∙ judged κ .complete P);
+          kind-least = λ κ e. least κ (is-found κ (bit-found (told κ .found) (sym (bit-told told κ) ∙ e)));
           marks = λ a h.
               ap (λ l. byteAt l a) ew ∙ ap (λ (w : Watch). byteAt (w .writers) a) (run-follows ev s n .carries)
               ∙ writer-is ev s (x .steps) a h;
+          foreign-marks = λ a h.
+              ap (λ l. eqb (byteAt l a) 2) ew ∙ ap (λ (w : Watch). eqb (byteAt (w .writers) a) 2) (run-follows ev s n .carries)
+              ∙ foreign-within ev s (x .steps) a h;
         }
+      where
+        judged : (κ : Kind) → KindJudged memory r events κ (x .steps)
+        judged κ = judges-kinds memory r events κ (x .steps)
+
+        is-found : (κ : Kind) {b : Bool} → told κ .found ≡ b → foundOf ev s κ (x .steps) .found ≡ b
+        is-found κ e = sym (ap (λ (y : Finding). y .found) (tries memory r events n begins .tells κ)) ∙ e
+
+        least : (κ : Kind) → foundOf ev s κ (x .steps) .found ≡ true
+            → FailsAt memory r events κ (x .steps) (countIn findings′ κ - s .count)
+        least κ e =
+            let t = tries memory r events n begins in
+            let F = judged κ .least e in
+            let w = fails-within memory r events κ (x .steps) (foundOf ev s κ (x .steps) .step) F in
+            let c : s .count + n ≤ 4294967295 =
+            subst (λ k. k + n ≤ 4294967295) (sym (count-is r memory)) (passed memory r events n ok .count-fits) in
+            let told-count : countIn findings′ κ ≡ s .count + foundOf ev s κ (x .steps) .step =
+            ap (λ l. countIn l κ) (ef ∙ (λ i. findingsBytes (s .count) (λ κ. t .tells κ i)))
+            ∙ count-told (s .count) (λ κ. foundOf ev s κ (x .steps)) κ e (omega (arith, c, w, run-follows ev s n .within)) in
+            let is : foundOf ev s κ (x .steps) .step ≡ countIn findings′ κ - s .count = omega (arith, told-count) in
+            subst (FailsAt memory r events κ (x .steps)) is F
 
 -- of a call whose reply and buffers are those of `judgeCallOf`
 pub judgement : (memory r events writers findings : List ℕ) (n reply : ℕ) (memory′ r′ writers′ findings′ : List ℕ)

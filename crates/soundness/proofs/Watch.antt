@@ -84,7 +84,8 @@ module _ (ev : List Event) (s : State) where
   mark-next true own y b e = mark-is own
   mark-next false own y b e = e
 
-  foreign-within : (k a : ℕ) → a < 65536 → eqb (byteAt (watch ev s k .writers) a) 2 ≡ foreign? ev s k a
+  -- and 2 that it is a handler's or an entry's
+  pub foreign-within : (k a : ℕ) → a < 65536 → eqb (byteAt (watch ev s k .writers) a) 2 ≡ foreign? ev s k a
   unfolding watch foreign?
   foreign-within zero a h = ap (λ x. eqb x 2) (zero-at 65536 a)
   foreign-within (suc k) a h =

@@ -1,6 +1,7 @@
 -- Seven kinds, one after the other: each changes its own sixteen bytes alone, so that in the end every kind has what `findAfter`
 -- gives. Assumes nothing.
-use Rattle.findings.proofs.Laws.{stage-start, tell-law, joined-blocks}
+use Rattle.soundness.proofs.Blocks.{joined-blocks}
+use Rattle.findings.proofs.Laws.{stage-start, tell-law}
 use Rattle.findings.specs.Told.{toldAfter}
 use Rattle.open_frames.specs.Open.{handlerOf}
 use Rattle.soundness.specs.Findings.{finding, findingOf, faulted, unopened, trapped, changed, slept, device, foreign}

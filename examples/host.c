@@ -1,15 +1,16 @@
 /*
  * Keeps several machines open, over libxm23.a: each is advanced by slices of steps in turn, and in the end one line is
- * printed for each, the line of print_state. What the output devices show is read from a short log after each slice; a
- * slice that the log has no room for goes on in the next turn. With SCREEN set in the environment, the bytes that a
- * machine's devices showed are printed below its line. The depth, the line's last field, is a slice's own: the deepest
- * is printed, which is the run's where one slice takes all of it and less where frames stay open from slice to slice.
+ * printed for each, the line of print_state. The first slice is handed all events; a later one only those still to come.
+ * What the output devices show is read from a short log after each slice; a slice that the log has no room for goes on
+ * in the next turn. With SCREEN set in the environment, the bytes that a machine's devices showed are printed below its
+ * line. The depth, the line's last field, is of the whole run, where a slice gives its own: the sheet is asked for it.
  *
  *   host SLICE INPUT..      SLICE is how many steps at a time, an INPUT a file as print_state reads it
  */
 
 #include <stdio.h>
 #include <stdlib.h>
+#include <string.h>
 
 #include "xm23.h"
 
@@ -18,12 +19,14 @@
 #define MOST (LEAST + XM23_EVENT_SIZE * (XM23_MAX_EVENTS + 1))
 #define RECORDS 32 /* of the log; a host that wants no turn cut short lends as many as a slice has steps */
 
-/* An open machine: the input as it was read, of which record and memory are advanced, and how far it has come. */
+/* An open machine: the input as it was read, the record and the memory, which are advanced, and how far it has come. */
 struct machine {
     const char *name;
     uint8_t input[MOST];
     size_t length;
-    uint32_t steps, deepest;
+    uint8_t record[XM23_RECORD_SIZE], memory[XM23_MEMORY_SIZE];
+    size_t passed; /* bytes of events, from the list's beginning on, that are passed over */
+    uint32_t steps;
     unsigned refusal, reason;
     uint8_t *shown; /* device and byte, two bytes each */
     size_t shown_len;
@@ -50,6 +53,8 @@ static struct machine *open_machine(const char *name)
         m->refusal = XM23_REFUSED_RECORD;
     else if (m->length < LEAST)
         m->refusal = XM23_REFUSED_MEMORY;
+    memcpy(m->record, m->input + 4, sizeof m->record);
+    memcpy(m->memory, m->input + HEAD, sizeof m->memory);
     return m;
 }
 
@@ -67,7 +72,7 @@ static uint32_t asked(const struct machine *m)
 /* A run that is too long as a whole is handed to the call as a whole, to be refused. */
 static int too_long(const struct machine *m)
 {
-    uint32_t count = four(m->input + 4 + XM23_RECORD_COUNT);
+    uint32_t count = four(m->record + XM23_RECORD_COUNT);
     return asked(m) > XM23_MAX_STEPS || UINT32_MAX - count < asked(m) - m->steps;
 }
 
@@ -87,16 +92,27 @@ static void keep(struct machine *m, const uint8_t *log, uint32_t records)
     }
 }
 
-/* The machine's call: the whole list of events each time, those of earlier steps being passed over. */
+/*
+ * Leaves out the events of steps before the machine's: handed over or not, they do nothing, and what is left of an
+ * accepted list is accepted (crates/passed_over). Only after an accepted call: it has judged the whole list.
+ */
+static void pass_over(struct machine *m)
+{
+    uint32_t count = four(m->record + XM23_RECORD_COUNT);
+    while (LEAST + m->passed < m->length && four(m->input + LEAST + m->passed + XM23_EVENT_STEP) < count)
+        m->passed += XM23_EVENT_SIZE;
+}
+
+/* The machine's call, with the events still to come. The depth that it gives is the slice's own. */
 static uint64_t run(struct machine *m, uint64_t n)
 {
     uint8_t log[XM23_LOG_SIZE * RECORDS];
     uint32_t deepest = 0;
-    uint64_t reply = xm23_run(m->input + HEAD, XM23_MEMORY_SIZE, m->input + 4, XM23_RECORD_SIZE, m->input + LEAST,
-                              m->length - LEAST, log, sizeof log, &deepest, n);
+    uint64_t reply = xm23_run(m->memory, sizeof m->memory, m->record, sizeof m->record, m->input + LEAST + m->passed,
+                              m->length - LEAST - m->passed, log, sizeof log, &deepest, n);
     keep(m, log, XM23_RUN_ADDED(reply));
-    if (deepest > m->deepest)
-        m->deepest = deepest;
+    if (!XM23_RUN_REFUSAL(reply))
+        pass_over(m);
     return reply;
 }
 
@@ -135,9 +151,18 @@ static void print_shown(const struct machine *m, unsigned device)
         putchar('\n');
 }
 
+/* The depth of the whole run: the last field of the sheet's line, which runs the input as it was read. */
+static const char *depth(const struct machine *m, char line[XM23_LINE_SIZE])
+{
+    uint32_t reply = xm23_sheet(m->input, m->length, (uint8_t *)line, XM23_LINE_SIZE);
+    line[XM23_LINE_LENGTH(reply) - 1] = '\0'; /* its LF */
+    return strrchr(line, ' ') + 1;
+}
+
 static void print_line(const struct machine *m)
 {
-    const uint8_t *record = m->input + 4;
+    const uint8_t *record = m->record;
+    char line[XM23_LINE_SIZE];
     int i;
     if (m->refusal) {
         printf("R%u\n", m->refusal);
@@ -150,7 +175,7 @@ static void print_line(const struct machine *m)
     printf(" %04X %02X ", (unsigned)two(record + XM23_RECORD_PSW), record[XM23_RECORD_CEX]);
     for (i = 7; i >= 0; i--)
         printf("%X", XM23_RECORD_WAITING(record, i));
-    printf(" %u\n", (unsigned)m->deepest);
+    printf(" %s\n", depth(m, line));
 }
 
 int main(int argc, char **argv)

@@ -68,6 +68,7 @@ card: build/xm23
 
 # Crates, and crates or single edits: CRATE='run refusal/refuses_all'.
 prove:
+	@$(if $(strip $(CRATE)),scripts/prove.py above $(CRATE))
 	@scripts/prove.py crates $(CRATE)
 
 edits:

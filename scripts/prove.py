@@ -4,20 +4,28 @@
     prove.py program NAME    target/bin/NAME
     prove.py archive NAME    target/staticlib/libNAME.a
     prove.py crates NAME ..  these and those that they stand on; no NAME: every crate
+    prove.py above NAME ..   proves nothing: which crates stand on these, and about how long these and all of them take
+    prove.py seconds [LOG]   proves nothing: writes docs/seconds.txt, by which that is known, of what rt ci printed
 
 Nothing is printed where nothing was to be done. What rt printed is in build/log. The status is rt's. The gate is rt ci,
 which starts from nothing.
 """
 import glob
 import os
+import re
 import shutil
 import subprocess
 import sys
 import tempfile
+import textwrap
 import time
 
 sys.dont_write_bytecode = True
 from progress import ROOT, clock, crates, watched
+
+
+# Seconds of each crate's check, kept for people who ask how long a change will take.
+SECONDS = "docs/seconds.txt"
 
 
 def below(names):
@@ -29,6 +37,64 @@ def below(names):
             found.add(name)
             todo += deps[name]
     return found
+
+
+def above(names):
+    """The crates that stand on these, in the order of crates.txt."""
+    found = set(names)
+    for name, deps in crates().items():
+        if found & set(deps):
+            found.add(name)
+    return [name for name in crates() if name in found - set(names)]
+
+
+def seconds():
+    """Seconds of each crate's check, as docs/seconds.txt has them."""
+    with open(SECONDS, encoding="utf-8") as file:
+        pairs = (line.split() for line in file if not line.startswith("#"))
+        return {name: int(took) for name, took in pairs}
+
+
+def keep_seconds(log):
+    """Writes docs/seconds.txt of a log of rt ci, in the order of crates.txt."""
+    if not os.path.exists(log):
+        print(f"prove.py: {log}: no such file; rt ci leaves one ('make test')", file=sys.stderr)
+        return 2
+    with open(log, encoding="utf-8", errors="replace") as file:
+        took = dict(re.findall(r"^rt: (\w+) proved \((\d+) s\)$", file.read(), re.M))
+    missing = [name for name in crates() if name not in took]
+    if missing:
+        print(f"prove.py: {log} has no seconds of {', '.join(missing)}", file=sys.stderr)
+        return 1
+    with open(SECONDS, "w", encoding="utf-8") as file:
+        file.write("# Seconds of each crate's check, as rt ci printed them on two cores: scripts/prove.py seconds\n")
+        file.writelines(f"{name} {took[name]}\n" for name in crates())
+    return 0
+
+
+def longest(names, took):
+    """Seconds of the longest way through these crates, one standing on the other."""
+    ends = {}
+    for name, deps in crates().items():
+        if name in names:
+            ends[name] = took.get(name, 0) + max((ends[dep] for dep in deps if dep in ends), default=0)
+    return max(ends.values(), default=0)
+
+
+def tell_above(names):
+    """Prints which crates are proved again where these change, and about how long that takes here."""
+    follow, took, cores = above(names), seconds(), os.cpu_count() or 1
+    about = lambda crates: clock(max(sum(took.get(name, 0) for name in crates) / cores, longest(crates, took)))
+    print(f"{', '.join(names)}: about {about(names)} on {cores} cores ({SECONDS})")
+    if follow:
+        print(f"{len(follow)} crates follow, about {about([*names, *follow])} in all ('make prove'):")
+        print(textwrap.fill(" ".join(follow), 110, initial_indent="    ", subsequent_indent="    "))
+    else:
+        print("no crate stands on it" if len(names) == 1 else "no crate stands on them")
+    unknown = [name for name in [*names, *follow] if name not in took]
+    if unknown:
+        print(f"not timed yet: {', '.join(unknown)}")
+    return 0
 
 
 def changed_since(time_then, crate):
@@ -88,7 +154,11 @@ def main():
             place, names, work = f"target/staticlib/lib{name}.a", parts_of(name), lambda progress: archive(progress, name)
         case ["crates", *names] if all(name in crates() for name in names):
             place, work = None, lambda progress: progress.rt("check", *names)
-        case ["crates", *names]:
+        case ["above", *names] if names and all(name in crates() for name in names):
+            return tell_above(names)
+        case ["seconds", *log] if len(log) < 2:
+            return keep_seconds((log or ["build/log/rt_ci.out"])[0])
+        case ["crates" | "above", *names] if names:
             print(f"prove.py: no crate {', '.join(sorted(set(names) - set(crates())))}", file=sys.stderr)
             return 2
         case _:

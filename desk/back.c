@@ -1,44 +1,57 @@
-/* xm23 back: from the closing state backwards. */
+/* xm23 back: from the closing state, or from any step, backwards. */
 #include <stdio.h>
 #include <stdlib.h>
 #include <string.h>
 #include <unistd.h>
 
 #include "desk.h"
-#include "program.h"
+#include "names.h"
 #include "walk.h"
 
-/* A run with its walk, and how far back it is asked for. */
+enum { SOME_STEPS = 16 };
+
+/* What is asked for, and the run. */
 struct backwards {
-    struct machine m;
+    struct machine before, m;
     struct walk walk;
-    unsigned long most;
-    long byte; /* -1: none */
+    struct names names;
+    unsigned long most; /* steps; 0: not said */
+    const char *byte;   /* an address or a name; NULL: none */
+    unsigned at;        /* what it comes to */
+    int asked;          /* from the step of a count on, and not from the last */
+    uint32_t count;
+    uint32_t past;      /* steps of the run to look back from */
 };
 
-static void add_step(struct text *t, const struct step *s)
+/* ---- what is printed */
+
+/* A row, with the label that PC is at or behind at its end. */
+static void add_step(struct text *t, const struct step *s, const struct names *names)
 {
-    struct text what = {0}, left = {0};
+    struct text what = {0}, left = {0}, place = {0};
+    unsigned pc = step_pc(s);
     char word[8] = "";
     if (s->fetched)
         snprintf(word, sizeof word, "%04X", s->word);
     add_what(&what, s);
     add_left(&left, s);
-    addf(t, "%-10lu  %04X  %-4s  %-24s  %s", (unsigned long)step_count(s), get_word(s->before, XM23_RECORD_REGISTER(7)),
-        word, what.at, left.at ? left.at : "");
+    addf(t, "%-10lu  %04X  %-4s  %-24s  %s", (unsigned long)step_count(s), pc, word, what.at, left.at ? left.at : "");
+    if (add_label(&place, names, pc))
+        addf(t, "%s; %s", left.at ? "  " : "", place.at);
     while (t->at[t->length - 1] == ' ')
         t->at[--t->length] = 0;
     addf(t, "\n");
     drop_text(&what);
     drop_text(&left);
+    drop_text(&place);
 }
 
-/* The state before a step: the library goes back to it from the close. */
-static void add_state(struct text *t, const struct backwards *b, const struct step *s)
+/* The state before a step: the library goes back to it. */
+static void add_state(struct text *t, const struct backwards *b)
 {
     static const char *const names[] = {"R0", "R1", "R2", "R3", "R4", "LR", "SP", "PC", "PSW"};
     const uint8_t *record = b->m.record;
-    addf(t, "before step %lu:", (unsigned long)step_count(s));
+    addf(t, "before step %lu:", (unsigned long)get_long(record, XM23_RECORD_COUNT));
     for (unsigned i = 0; i < 9; i++)
         addf(t, " %s %04X", names[i], get_word(record, 2 * i));
     addf(t, " CEX %02X lines ", record[XM23_RECORD_CEX]);
@@ -47,54 +60,113 @@ static void add_state(struct text *t, const struct backwards *b, const struct st
     addf(t, "\n");
 }
 
-/* The steps from the last on, as many as are asked for, or as far as the one that wrote the byte. */
-static uint32_t steps_back(const struct backwards *b)
-{
-    const struct walk *w = &b->walk;
-    uint32_t many = 0;
-    while (many < w->many && many < b->most) {
-        many++;
-        if (b->byte >= 0 && step_wrote(&w->steps[w->many - many], (unsigned)b->byte))
-            return many;
-    }
-    return b->byte < 0 ? many : 0;
-}
-
-static int tell_steps(struct backwards *b, const char *name)
+/* So many steps from a place of the run on, the newest first, and the state before them. */
+static int tell_steps(struct backwards *b, const struct paper *p, uint32_t first, uint32_t many)
 {
     struct walk *w = &b->walk;
+    struct outcome o = {0};
     struct text t = {0};
-    uint32_t many = steps_back(b);
     int status;
-    if (!many) {
-        unsigned long looked = w->many < b->most ? w->many : b->most;
-        if (looked)
-            say_at(name, 0, "none of the last %lu steps wrote $%04lX", looked, b->byte);
-        else
-            say_at(name, 0, "no step was taken");
-        return REFUSED;
-    }
-    walk_back(w, &b->m, w->many, many);
+    memcpy(&b->m, &b->before, sizeof b->m);
+    run_machine(&b->m, p, first, &o);
+    walk_on(w, p, &b->m, many);
     addf(&t, "%-10s  %-4s  %-4s  %-24s  %s\n", "step", "PC", "word", "instruction", "what it left");
-    for (uint32_t i = 0; i < many; i++)
-        add_step(&t, &w->steps[w->many - 1 - i]);
-    add_state(&t, b, &w->steps[w->many - many]);
+    if (first + many < b->past)
+        addf(&t, "..          %lu steps left out\n", (unsigned long)(b->past - first - many));
+    for (uint32_t i = w->many; i-- > 0;)
+        add_step(&t, &w->steps[i], &b->names);
+    add_state(&t, b);
     status = write_file("-", &t);
     drop_text(&t);
     return status;
 }
 
+/* ---- the steps that are asked for */
+
+/* The address that a word is, base sixteen, a $ before it or not; 0: it is none. */
+static int address_of(const char *word, unsigned *at)
+{
+    const char *digits = word + (*word == '$');
+    size_t length = strspn(digits, "0123456789abcdefABCDEF");
+    *at = (unsigned)strtoul(digits, NULL, 16);
+    return length > 0 && length <= 8 && !digits[length] && *at < XM23_MEMORY_SIZE;
+}
+
+/* The byte that a word names: by a name of the sources, else by its address. */
+static int find_byte(struct backwards *b, const char *name)
+{
+    int64_t value = 0;
+    int found = named_value(&b->names, b->byte, &value);
+    if (found == 2)
+        say_at(name, 0, "%s is a name of two sources, with two values: give the address", b->byte);
+    else if (found && (value < 0 || value >= XM23_MEMORY_SIZE))
+        say_at(name, 0, "%s comes to %lld, which is no address", b->byte, (long long)value);
+    else if (found)
+        b->at = (unsigned)value;
+    else if (!address_of(b->byte, &b->at))
+        say_at(name, 0, "%s is no name that a source of the program or of the paper gives", b->byte);
+    else
+        found = 1;
+    return found == 1 && value >= 0 && value < XM23_MEMORY_SIZE;
+}
+
+static int tell_none(const struct backwards *b, const char *name, uint32_t looked)
+{
+    if (!looked)
+        say_at(name, 0, "no step was taken");
+    else if (b->asked)
+        say_at(name, 0, "none of the %lu steps up to step %lu wrote $%04X", (unsigned long)looked,
+               (unsigned long)b->count, b->at);
+    else
+        say_at(name, 0, "none of the last %lu steps wrote $%04X", (unsigned long)looked, b->at);
+    return REFUSED;
+}
+
+/* The step that wrote the byte, and those behind it; of too many the ones that follow on it. */
+static int tell_writer(struct backwards *b, const struct paper *p, const char *name)
+{
+    uint32_t looked = b->most && b->most < b->past ? (uint32_t)b->most : b->past, first = b->past - looked, found;
+    struct outcome o = {0};
+    if (!find_byte(b, name))
+        return REFUSED;
+    memcpy(&b->m, &b->before, sizeof b->m);
+    run_machine(&b->m, p, first, &o);
+    found = last_writer(&b->walk, p, &b->m, looked, b->at);
+    if (!found)
+        return tell_none(b, name, looked);
+    first += found - 1;
+    return tell_steps(b, p, first, b->past - first <= MOST_WALK ? b->past - first : SOME_STEPS);
+}
+
+static int tell_back(struct backwards *b, const struct paper *p, const char *name)
+{
+    uint32_t most = b->most ? (uint32_t)b->most : SOME_STEPS;
+    if (b->byte)
+        return tell_writer(b, p, name);
+    if (!b->past)
+        return tell_none(b, name, 0);
+    most = most < b->past ? most : b->past;
+    return tell_steps(b, p, b->past - most, most);
+}
+
+/* ---- the command */
+
 static int back_program(const struct paper *p, const struct program *program, struct backwards *b)
 {
-    static struct machine before;
     struct outcome o = {0};
     struct fault f = {0};
+    uint32_t step = 0;
     int status = REFUSED;
-    if (open_program(p, program, &b->m, &f)) {
-        memcpy(&before, &b->m, sizeof before);
+    if (open_program(p, program, &b->before, &f)) {
+        memcpy(&b->m, &b->before, sizeof b->m);
         run_machine(&b->m, p, p->steps, &o);
-        walk_run(&b->walk, p, &before, o.steps);
-        status = tell_steps(b, program->name);
+        b->past = o.steps;
+        gather_names(&b->names, p, program);
+        if (!b->asked || find_step(program->name, &b->before, o.steps, b->count, 0, &step)) {
+            b->past = b->asked ? step + 1 : o.steps;
+            status = tell_back(b, p, program->name);
+        }
+        free_names(&b->names);
     } else {
         say_fault(program->name, &f);
     }
@@ -117,30 +189,34 @@ static int back_file(const char *paper, const char *name, struct backwards *b)
     return status;
 }
 
-/* A number of a base from 1 on, a $ before base sixteen; -1 where it is none. */
-static long number_of(const char *word, int base, long most)
+/* How many steps: 1 to MOST_WALK; 0 where it is none. */
+static unsigned long number_of(const char *word)
 {
-    char *end;
-    long value;
-    word += base == 16 && *word == '$';
-    value = strtol(word, &end, base);
-    return *word >= '0' && *word != '-' && !*end && value <= most ? value : -1;
+    uint32_t number;
+    return step_word(word, &number) && number <= MOST_WALK ? number : 0;
+}
+
+/* Whether a word is an address, or could be a name: capital letters and digits, a letter first. */
+static int names_byte(const char *word)
+{
+    unsigned at;
+    return address_of(word, &at) ||
+           (*word >= 'A' && *word <= 'Z' && !word[strspn(word, "ABCDEFGHIJKLMNOPQRSTUVWXYZ0123456789")]);
 }
 
 int xm23_desk_back(int argc, char **argv)
 {
     static struct backwards b;
-    long most = -1;
-    int option, counted = 0;
-    b.byte = -1;
-    while ((option = getopt(argc, argv, "+:n:w:")) != -1) {
-        if (option == 'n')
-            counted = 1, most = number_of(optarg, 10, MOST_WALK);
+    int option, good = 1;
+    while (good && (option = getopt(argc, argv, "+:a:n:w:")) != -1) {
+        if (option == 'a')
+            good = b.asked = step_word(optarg, &b.count);
+        else if (option == 'n')
+            good = (b.most = number_of(optarg)) > 0;
         else if (option == 'w')
-            b.byte = number_of(optarg, 16, 0xFFFF);
-        if (option == ':' || option == '?' || (option == 'n' && most < 1) || (option == 'w' && b.byte < 0))
-            return misused("back");
+            good = names_byte(b.byte = optarg);
+        else
+            good = 0;
     }
-    b.most = counted ? (unsigned long)most : b.byte < 0 ? 16 : MOST_WALK;
-    return argc - optind == 2 ? back_file(argv[optind], argv[optind + 1], &b) : misused("back");
+    return good && argc - optind == 2 ? back_file(argv[optind], argv[optind + 1], &b) : misused("back");
 }

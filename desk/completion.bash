@@ -8,16 +8,16 @@ _xm23() {
         return
     fi
     case ${COMP_WORDS[1]} in
-        run) options='-l --help' ;;
+        run) options='-l -n --help' ;;
         mark) options='-j -o -0 -L -s --help' ;;
-        back) options='-n -w --help' ;;
+        back) options='-a -n -w --help' ;;
         events) options='-c --help' ;;
         asm) options='-l -o -s --help' ;;
-        report) options='-s -o --help' ;;
+        report) options='-s -a -o --help' ;;
         dis | paper | card) options='-o --help' ;;
         sound | line | stack) options='--help' ;;
     esac
-    if [[ $before == -[jsnw] ]]; then
+    if [[ $before == -[ajsnw] ]]; then
         return
     elif [ "$before" = -o ] && [ "${COMP_WORDS[1]}" = mark ]; then
         mapfile -t COMPREPLY < <(compgen -d -- "$word")

@@ -6,16 +6,18 @@
 #include "sound.h"
 
 const struct subcommand subcommands[] = {
-    {"run", "xm23 run [-l] PAPER PROGRAM", "run a program under a paper and print the line of the sheet",
+    {"run", "xm23 run [-l] [-n STEP] PAPER PROGRAM", "run a program under a paper and print the line of the sheet",
      "Runs PROGRAM under PAPER and prints the line of the sheet: reason, steps, R0 to R7, PSW, CEX, lines and depth,\n"
      "or R and the number of a refusal. On a terminal, or with -l, a legend follows, and what the output devices\n"
      "showed.\n"
      "\n"
      "A PAPER is a text (man 5 xm23). A PROGRAM is S-records, or a source where its name ends in .asm.\n"
      "\n"
-     "  -l    legend and screen text too, wherever the line goes\n"
+     "  -l       legend and screen text too, wherever the line goes\n"
+     "  -n STEP  the line as it is before the step of that count; no line is expected then\n"
      "\n"
-     "Status 1: PROGRAM is refused, PAPER has a mistake, or another line was expected.\n",
+     "Status 1: PROGRAM is refused, PAPER has a mistake, another line was expected, or the run does not come to\n"
+     "STEP.\n",
      xm23_desk_run},
     {"mark", "xm23 mark [-Ls] [-j N] [-o DIR] PAPER PROGRAM.. | xm23 mark [-Ls] [-j N] [-o DIR] -0 PAPER",
      "run every program of a sitting and write results and pages",
@@ -50,29 +52,35 @@ const struct subcommand subcommands[] = {
      "Status 0: every program ran, and closed as expected where a line is. 1: some did not, or PAPER has a mistake.\n"
      "3: a program could not be marked, as its row says; or PAPER cannot be read, or DIR cannot be written.\n",
      xm23_desk_mark},
-    {"report", "xm23 report [-s] [-o PAGE] PAPER PROGRAM",
-     "write the page of one run, with its last steps to walk through",
+    {"report", "xm23 report [-s] [-a STEP] [-o PAGE] PAPER PROGRAM",
+     "write the page of one run, with 1,024 of its steps to walk through",
      "Runs PROGRAM under PAPER and writes a page of HTML: the line, the closing state beside the expected one, the\n"
      "screen, a picture of the whole run, whether the handlers were sound, and the last 1,024 steps to walk forwards\n"
      "and backwards: registers, instruction, what it wrote, stack with its frames, screen so far, who wrote a byte.\n"
-     "Without scripts, and in print, it has the picture, the closing state and the last 32 steps. It is whole by\n"
-     "itself.\n"
+     "Where the last steps change nothing but the step count, as BRA to itself, the walk shows those before them, and\n"
+     "the page says so. Without scripts, and in print, it has the picture, the closing state and the last 32 steps.\n"
+     "It is whole by itself.\n"
      "\n"
+     "  -a STEP   the 1,024 steps around the one of that count instead, and the machine before it\n"
      "  -s        judge the handlers, whatever PAPER has, as mark -s does\n"
      "  -o PAGE   write there instead of to standard output\n"
      "\n"
-     "Status 1: PROGRAM is refused, PAPER has a mistake, or another line was expected; but for a mistake in PAPER the\n"
-     "page is written.\n",
+     "Status 1: PROGRAM is refused, PAPER has a mistake, the run has no such STEP, or another line was expected; in\n"
+     "the first and the last case the page is written.\n",
      xm23_desk_report},
-    {"back", "xm23 back [-n STEPS] [-w ADDRESS] PAPER PROGRAM",
-     "go back from the closing state, as far as the step that wrote a byte",
+    {"back", "xm23 back [-a STEP] [-n STEPS] [-w BYTE] PAPER PROGRAM",
+     "go back from the close or from any step, as far as the step that wrote a byte",
      "Runs PROGRAM under PAPER and prints its last steps, the newest first: step, PC, word, instruction, what it\n"
-     "left; then the state before the last of those printed.\n"
+     "left, and the label of a source that it is at or behind; then the state before the last of those printed.\n"
      "\n"
-     "  -n STEPS    so many steps, 1 to 1,024 (16)\n"
-     "  -w ADDRESS  as far as the step that wrote the byte at ADDRESS, base sixteen\n"
+     "  -a STEP   from the step of that count on, and not from the last\n"
+     "  -n STEPS  so many steps, 1 to 1,024 (16)\n"
+     "  -w BYTE   as far as the step that wrote the byte: of the whole run, or of the STEPS of -n. Where more than\n"
+     "            1,024 steps lie between, that step and 15 behind it. BYTE is an address, base sixteen, or a name\n"
+     "            that a source of PROGRAM or PAPER gives; what is both is the name, with a $ before it the address\n"
      "\n"
-     "Status 1: PROGRAM is refused, PAPER has a mistake, or none of these steps wrote the byte.\n",
+     "Status 1: PROGRAM is refused, PAPER has a mistake, the run has no such STEP, or none of the steps wrote the\n"
+     "byte.\n",
      xm23_desk_back},
     {"events", "xm23 events [-c] PAPER PROGRAM", "tell what became of each event of a paper",
      "Runs PROGRAM under PAPER and prints a row for each event of PAPER: its line there, step, device and byte;\n"

@@ -8,7 +8,7 @@
 #include "line.h"
 
 /* What the sheet is asked with: n, the state record, memory, events. Room for it is kept from one to the next. */
-static const uint8_t *input_of(const struct machine *m, const struct paper *p, size_t *length)
+static const uint8_t *input_of(const struct machine *m, const struct paper *p, uint64_t steps, size_t *length)
 {
     static uint8_t *input;
     static size_t room;
@@ -18,8 +18,8 @@ static const uint8_t *input_of(const struct machine *m, const struct paper *p, s
         input = (uint8_t *)room_for(input, *length);
         room = *length;
     }
-    put_word(input, 0, (unsigned)(p->steps & 0xFFFF));
-    put_word(input, 2, (unsigned)(p->steps >> 16));
+    put_word(input, 0, (unsigned)(steps & 0xFFFF));
+    put_word(input, 2, (unsigned)(steps >> 16));
     memcpy(input + 4, m->record, XM23_RECORD_SIZE);
     memcpy(input + memory, m->memory, XM23_MEMORY_SIZE);
     if (events)
@@ -27,11 +27,11 @@ static const uint8_t *input_of(const struct machine *m, const struct paper *p, s
     return input;
 }
 
-void add_line(struct text *t, const struct machine *m, const struct paper *p)
+void add_line(struct text *t, const struct machine *m, const struct paper *p, uint64_t steps)
 {
     uint8_t line[XM23_LINE_SIZE];
     size_t length;
-    const uint8_t *input = input_of(m, p, &length);
+    const uint8_t *input = input_of(m, p, steps, &length);
     uint32_t reply = xm23_sheet(input, length, line, sizeof line);
     add_bytes(t, line, XM23_LINE_LENGTH(reply) - 1);
 }

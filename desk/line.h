@@ -6,8 +6,8 @@
 
 #include "machine.h"
 
-/* The line of the run that a paper asks for, from a machine before its first step: a run of its own, no LF. */
-void add_line(struct text *t, const struct machine *m, const struct paper *p);
+/* The line of a run of so many steps under a paper, from a machine before its first step: a run of its own, no LF. */
+void add_line(struct text *t, const struct machine *m, const struct paper *p, uint64_t steps);
 
 /* A row for each field of a line: its name, the field, what it says. */
 struct field {

@@ -2,7 +2,7 @@
 #include <unistd.h>
 
 #include "desk.h"
-#include "program.h"
+#include "names.h"
 #include "word.h"
 
 /* Blanks up to the comments of a line that began at a place of the text. */
@@ -29,16 +29,19 @@ static unsigned add_listed(struct text *t, unsigned at, const uint8_t *memory, i
     return both ? 2 : 1;
 }
 
-/* ORG before bytes that follow no others, a blank line between two parts. */
-static void add_listing(struct text *t, const uint8_t *memory, const uint8_t *set)
+/* ORG before bytes that follow no others, a blank line between two parts; labels on lines of their own. */
+static void add_listing(struct text *t, const uint8_t *memory, const uint8_t *set, const struct names *names)
 {
     unsigned next = XM23_MEMORY_SIZE;
     for (unsigned pair = 0; pair < XM23_MEMORY_SIZE; pair += 2) {
         unsigned at = pair + !set[pair];
+        const struct name *label = label_at(names, at);
         if (!set[pair] && !set[pair + 1])
             continue;
         if (at != next)
             addf(t, "%s    ORG $%04X\n", t->length ? "\n" : "", at);
+        if (label && is_only(names, label))
+            addf(t, "%.*s\n", (int)label->length, label->at);
         next = at + add_listed(t, at, memory, set[pair] && set[pair + 1]);
     }
 }
@@ -54,6 +57,7 @@ static void add_end(struct text *t, unsigned start)
 static int list(const struct program *p, const char *to)
 {
     static struct assembled a;
+    static struct names names;
     struct text t = {0};
     struct fault f = {0};
     int status = REFUSED;
@@ -62,7 +66,9 @@ static int list(const struct program *p, const char *to)
     } else if (!load_program(p, &a, &f)) {
         say_fault(p->name, &f);
     } else {
-        add_listing(&t, a.memory, a.set);
+        gather_names(&names, NULL, p);
+        add_listing(&t, a.memory, a.set, &names);
+        free_names(&names);
         add_end(&t, a.pc);
         status = write_file(to, &t);
     }

@@ -120,7 +120,7 @@ static unsigned workers_of(const char *word)
 
 int xm23_desk_mark(int argc, char **argv)
 {
-    struct sitting s = {NULL, "", NULL, 0, processors(), REGULAR_FILE, 0, 0};
+    struct sitting s = {NULL, "", NULL, 0, processors(), REGULAR_FILE, 0, 0, 0, 0};
     const char *folder = "marks";
     int option, listed = 0, status = DONE;
     while ((option = getopt(argc, argv, "+:j:o:0Ls")) != -1) {

@@ -51,6 +51,35 @@ static void put_fault(struct row *r, const struct fault *f)
     add_bytes(&r->says, f->why.at, f->why.length);
 }
 
+/* The bytes that the screen showed in the first steps of the run. */
+static size_t shown_in(const struct sitting *s, struct marked *m, uint32_t steps)
+{
+    struct outcome o = {0};
+    struct text screen = {0};
+    size_t shown;
+    o.screen = &screen;
+    memcpy(&m->scratch, &m->before, sizeof m->scratch);
+    run_machine(&m->scratch, s->paper, steps, &o);
+    shown = screen.length;
+    drop_text(&screen);
+    return shown;
+}
+
+/* The steps of the run that its page has. */
+static void walk_marked(const struct sitting *s, struct marked *m)
+{
+    uint32_t start = get_long(m->before.record, XM23_RECORD_COUNT);
+    struct part part;
+    if (s->asked && s->around >= start && s->around - start < m->o.steps)
+        part = part_around(m->o.steps, s->around - start);
+    else
+        part = closing_part(m->o.steps, idle_steps(s->paper, &m->before, &m->after, m->o.steps));
+    memcpy(&m->scratch, &m->before, sizeof m->scratch);
+    walk_run(&m->walk, s->paper, &m->scratch, &part);
+    m->walk.before = (uint32_t)(part.asked ? shown_in(s, m, part.first) : m->screen.length - m->walk.shown);
+    gather_names(&m->names, s->paper, &m->program);
+}
+
 static void run_marked(const struct sitting *s, struct marked *m)
 {
     struct row *r = &m->row;
@@ -59,14 +88,13 @@ static void run_marked(const struct sitting *s, struct marked *m)
     m->o.shown = s->paper->awards.many ? m->shown : NULL;
     m->ran = open_program(s->paper, &m->program, &m->before, &f);
     if (m->ran) {
-        add_line(&r->line, &m->before, s->paper);
+        add_line(&r->line, &m->before, s->paper, s->paper->steps);
         memcpy(&m->after, &m->before, sizeof m->after);
         run_machine(&m->after, s->paper, s->paper->steps, &m->o);
         r->steps = m->o.steps;
         r->deepest = m->o.deepest;
         put_screen(r, &m->screen);
-        memcpy(&m->scratch, &m->before, sizeof m->scratch);
-        walk_run(&m->walk, s->paper, &m->scratch, m->o.steps);
+        walk_marked(s, m);
         put_verdict(s, m);
         put_awards(s->paper, m);
     } else {
@@ -129,5 +157,6 @@ void drop_marked(struct marked *m)
     for (unsigned d = 0; d < DEVICES; d++)
         drop_text(&m->shown[d]);
     drop_verdict(m->verdict);
+    free_names(&m->names);
     drop_program(&m->program);
 }

@@ -4,7 +4,7 @@
 #ifndef MARKING_H
 #define MARKING_H
 
-#include "program.h"
+#include "names.h"
 #include "walk.h"
 
 #define MOST_SCREEN 8192 /* bytes of screen text that are kept of one program */
@@ -33,6 +33,8 @@ struct sitting {
     enum reading kind; /* of the programs */
     size_t shared;     /* folders that all names begin with */
     int sound; /* handlers are judged, whatever the paper */
+    int asked; /* pages are about the step of this count */
+    uint32_t around;
 };
 
 void drop_row(struct row *r);
@@ -50,6 +52,7 @@ struct marked {
     struct text screen; /* all of it, of which the row has the first bytes */
     struct text shown[DEVICES]; /* what each device showed, where an award may ask */
     struct walk walk;
+    struct names names;
     struct verdict *verdict; /* of sound.h; NULL where it was not judged */
     int ran;
 };

@@ -126,6 +126,25 @@ static void add_fields(struct text *t, const struct paper *p, const char *line)
     close_table(t);
 }
 
+/* The machine before the step that the page is about, where it is about one: what the sheet says of it, but for the
+ * reason, which is that so many steps are done. */
+static void add_there(struct text *t, const struct sitting *s, const struct marked *m)
+{
+    struct field rows[FIELDS];
+    struct text line = {0};
+    int many;
+    if (!m->walk.part.asked)
+        return;
+    add_line(&line, &m->before, s->paper, m->walk.part.first + m->walk.part.look);
+    many = line_fields(line.at, rows);
+    addf(t, "<h2>Machine before step %lu</h2>\n", (unsigned long)s->around);
+    open_table(t, "Field|Value|Says");
+    for (int i = 1; i < many; i++)
+        addf(t, "<tr><th>%s</th><td class=\"n\">%s</td><td>%s</td></tr>\n", rows[i].name, rows[i].value, rows[i].says);
+    close_table(t);
+    drop_text(&line);
+}
+
 static void add_sixteen(struct text *t, const uint8_t *bytes)
 {
     for (unsigned i = 0; i < 16; i++)
@@ -172,16 +191,21 @@ static void add_word(struct text *t, const struct paper *p, unsigned at, unsigne
 }
 
 /* What was in memory before the first step: the program with the paper over it. */
-static void add_program(struct text *t, const struct paper *p, const struct machine *before, unsigned most)
+static void add_program(struct text *t, const struct paper *p, const struct marked *m, unsigned most)
 {
     struct text listing = {0};
     unsigned many = 0, last = XM23_MEMORY_SIZE;
     for (unsigned at = 0; at < XM23_MEMORY_SIZE; at += 2) {
-        unsigned word = get_word(before->memory, at);
+        unsigned word = get_word(m->before.memory, at);
+        const struct name *label = label_at(&m->names, at);
         if (!word || many++ >= most)
             continue;
         if (last + 2 < at)
             addf(&listing, "\n");
+        if (label) {
+            add_name_letters(&listing, label);
+            addf(&listing, "\n");
+        }
         add_word(&listing, p, at, word);
         last = at;
     }
@@ -242,15 +266,18 @@ static void add_state(struct text *t, const struct sitting *s, const struct mark
     addf(t, "</div>\n<div class=\"grow\">\n");
     add_picture(t, &m->walk.picture, m->walk.many ? step_count(&m->walk.steps[0]) : 0);
     addf(t, "</div>\n</div>\n");
-    if (m->walk.many)
+    if (m->walk.many) {
+        add_walk_words(t, &m->walk);
         addf(t, "%s<noscript><p>Without scripts the walk is not shown; its last steps are below.</p></noscript>\n",
             walk_html);
+    }
+    add_there(t, s, m);
     add_sound_section(t, m);
-    add_walk_tables(t, &m->walk, &m->after);
+    add_walk_tables(t, &m->walk, &m->names, &m->after);
     add_events_table(t, &m->walk, s->paper, most);
     add_memory(t, &m->before, &m->after, most);
     add_sources(t, &m->program, most);
-    add_program(t, s->paper, &m->before, most);
+    add_program(t, s->paper, m, most);
 }
 
 /* With so many rows at most of memory, of the listing and of the source. */
@@ -267,7 +294,7 @@ static void add_rows(struct text *t, const struct sitting *s, const struct marke
         add_files(t, s->paper, &m->program);
     add_foot(t, s, r);
     if (m->ran && m->walk.many)
-        add_walk_data(t, &m->walk, &m->after, &m->screen);
+        add_walk_data(t, &m->walk, &m->names, &m->screen);
     addf(t, "</body>\n</html>\n");
 }
 

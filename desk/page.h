@@ -27,9 +27,10 @@ void add_points_line(struct text *t, const struct paper *p, const struct row *r)
 void add_awards_section(struct text *t, const struct paper *p, const struct marked *m);
 
 /* The walk on a page: tables that are there without scripts, and the data with the script that walks through it. */
-void add_walk_tables(struct text *t, const struct walk *w, const struct machine *after);
+void add_walk_words(struct text *t, const struct walk *w);
+void add_walk_tables(struct text *t, const struct walk *w, const struct names *names, const struct machine *after);
 void add_events_table(struct text *t, const struct walk *w, const struct paper *p, unsigned most);
-void add_walk_data(struct text *t, const struct walk *w, const struct machine *after, const struct text *screen);
+void add_walk_data(struct text *t, const struct walk *w, const struct names *names, const struct text *screen);
 
 /* ---- what pages carry: the files of these names, page.css and so on */
 

@@ -1,43 +1,52 @@
-/*
- * The walk on a page: its last steps, the frames and the stack at the close as tables, which are there without scripts;
- * and the whole walk as data for desk/walk.js.
- */
-#include <stdlib.h>
+/* The walk on a page: some of its steps, the frames and the stack as tables, which are there without scripts. */
 #include <string.h>
 
 #include "page.h"
 
-#define LAST_STEPS 32 /* rows of the table of last steps */
-#define MOST_TURNS 64 /* of that of entries, returns and faults */
+#define MOST_TURNS 64 /* rows of the table of entries, returns and faults */
 #define MOST_WORDS 24 /* of that of the stack */
-#define SCREEN_BEFORE 2048 /* bytes of screen text from before the walk */
 
-/* ---- tables */
-
-static void add_step_row(struct text *t, const struct step *s)
+static void add_step_row(struct text *t, const struct step *s, const struct names *names, int asked)
 {
     struct text what = {0};
     add_what(&what, s);
-    addf(t, "<tr><td class=\"n\">%lu</td><td class=\"n\">%04X</td><td class=\"n\">", (unsigned long)step_count(s),
-        get_word(s->before, XM23_RECORD_REGISTER(7)));
+    addf(t, "<tr%s><td class=\"n\">%lu</td>", asked ? " class=\"changed\"" : "", (unsigned long)step_count(s));
+    addf(t, "<td class=\"n\">%04X</td><td class=\"n\">", step_pc(s));
     if (s->fetched)
         addf(t, "%04X", s->word);
     addf(t, "</td><td class=\"n pre\">");
     add_html(t, what.at, what.length);
     addf(t, "</td><td class=\"n\">");
     add_left(t, s);
+    if (names->many) {
+        addf(t, "</td><td class=\"n\">");
+        add_label(t, names, step_pc(s));
+    }
     addf(t, "</td></tr>\n");
     drop_text(&what);
 }
 
-static void add_last_steps(struct text *t, const struct walk *w)
+static void add_span(struct text *t, const struct walk *w, uint32_t first, uint32_t past)
 {
-    uint32_t many = w->many < LAST_STEPS ? w->many : LAST_STEPS;
-    addf(t, "<h2>The last %lu step%s</h2>\n", (unsigned long)many, many == 1 ? "" : "s");
-    addf(t, "<p>A step is named by the step count before it.</p>\n");
-    open_table(t, "Step|PC|Word|Instruction, or what else it was|What it left, PC aside");
-    for (uint32_t i = w->many - many; i < w->many; i++)
-        add_step_row(t, &w->steps[i]);
+    addf(t, "%lu to %lu", (unsigned long)step_count(&w->steps[first]), (unsigned long)step_count(&w->steps[past - 1]));
+}
+
+/* The last steps, or those around the one that was asked for. */
+static void add_few_steps(struct text *t, const struct walk *w, const struct names *names)
+{
+    uint32_t past = w->part.told, many = past < FEW_STEPS ? past : FEW_STEPS;
+    if (w->part.asked) {
+        addf(t, "<h2>Steps ");
+        add_span(t, w, past - many, past);
+    } else {
+        addf(t, "<h2>The last %lu step%s", (unsigned long)many, many == 1 ? "" : "s");
+    }
+    addf(t, "%s</h2>\n<p>A step is named by the step count before it.</p>\n",
+        w->part.idle ? " before the closing ones" : "");
+    open_table(t, names->many ? "Step|PC|Word|Instruction, or what else it was|What it left, PC aside|Place"
+                              : "Step|PC|Word|Instruction, or what else it was|What it left, PC aside");
+    for (uint32_t i = past - many; i < past; i++)
+        add_step_row(t, &w->steps[i], names, w->part.asked && i == w->part.look);
     close_table(t);
 }
 
@@ -52,7 +61,14 @@ static void add_turns(struct text *t, const struct walk *w)
     unsigned many = 0, passed = 0;
     for (uint32_t i = 0; i < w->many; i++)
         many += (unsigned)is_turn(&w->steps[i]);
-    addf(t, "<h2>Entries, returns and faults of the last %lu steps</h2>\n", (unsigned long)w->many);
+    addf(t, "<h2>Entries, returns and faults of ");
+    if (w->part.behind) {
+        addf(t, "steps ");
+        add_span(t, w, 0, w->many);
+    } else {
+        addf(t, "the last %lu steps", (unsigned long)w->many);
+    }
+    addf(t, "</h2>\n");
     if (!many) {
         addf(t, "<p>None.</p>\n");
         return;
@@ -67,17 +83,23 @@ static void add_turns(struct text *t, const struct walk *w)
         addf(t, "<tr><td class=\"n\">%lu</td><td>", (unsigned long)step_count(s));
         add_act(t, s->kind, s->number);
         addf(t, "</td><td class=\"n\">%04X</td><td class=\"n\">%04X</td><td class=\"n\">%04X</td><td>%u</td></tr>\n",
-            get_word(s->before, XM23_RECORD_REGISTER(7)), get_word(s->after, XM23_RECORD_REGISTER(7)),
+            step_pc(s), get_word(s->after, XM23_RECORD_REGISTER(7)),
             get_word(s->after, XM23_RECORD_REGISTER(6)), XM23_PSW_CURRENT(get_word(s->after, XM23_RECORD_PSW)));
     }
     close_table(t);
+}
+
+/* The newest frame that is open where the tables look; 0: none. */
+static unsigned newest_frame(const struct walk *w)
+{
+    return w->part.look ? w->steps[w->part.look - 1].frame : 0;
 }
 
 /* What the word at an even address is of the frames that are open. */
 static void add_place(struct text *t, const struct walk *w, unsigned at)
 {
     static const char *const words[] = {"CEX", "PSW", "LR", "PC"};
-    unsigned number = 0, open = w->many ? w->steps[w->many - 1].frame : 0;
+    unsigned number = 0, open = newest_frame(w);
     for (unsigned f = open; f; f = w->frames[f].older)
         number++;
     for (unsigned f = open; f; f = w->frames[f].older, number--)
@@ -90,19 +112,30 @@ static void add_place(struct text *t, const struct walk *w, unsigned at)
             }
 }
 
-/* The words from SP upwards, as far as the oldest open frame, and some more. */
-static void add_stack(struct text *t, const struct walk *w, const struct machine *after)
+/* The step before which the tables look, or the close. */
+static void add_when(struct text *t, const struct walk *w, const struct machine *m)
 {
-    unsigned sp = get_word(after->record, XM23_RECORD_REGISTER(6)), many = 8;
-    for (unsigned f = w->many ? w->steps[w->many - 1].frame : 0; f; f = w->frames[f].older) {
+    if (w->part.asked)
+        addf(t, "before step %lu", (unsigned long)get_long(m->record, XM23_RECORD_COUNT));
+    else
+        addf(t, "at the close");
+}
+
+/* The words from SP upwards, as far as the oldest open frame, and some more. */
+static void add_stack(struct text *t, const struct walk *w, const struct machine *m)
+{
+    unsigned sp = get_word(m->record, XM23_RECORD_REGISTER(6)), many = 8;
+    for (unsigned f = newest_frame(w); f; f = w->frames[f].older) {
         unsigned up = ((w->frames[f].sp - sp) & 0xFFFF) / 2 + 6;
         many = up > many && up <= MOST_WORDS ? up : many;
     }
-    addf(t, "<h2>Stack at the close</h2>\n");
+    addf(t, "<h2>Stack ");
+    add_when(t, w, m);
+    addf(t, "</h2>\n");
     open_table(t, "Address|Word|What it is");
     for (unsigned i = 0; i < many; i++) {
         unsigned at = (sp + 2 * i) & 0xFFFE;
-        addf(t, "<tr><td class=\"n\">%04X</td><td class=\"n\">%04X</td><td>%s", at, word_at(after->memory, at),
+        addf(t, "<tr><td class=\"n\">%04X</td><td class=\"n\">%04X</td><td>%s", at, word_at(m->memory, at),
             i ? "" : "SP. ");
         add_place(t, w, at);
         addf(t, "</td></tr>\n");
@@ -113,14 +146,16 @@ static void add_stack(struct text *t, const struct walk *w, const struct machine
 }
 
 /* The devices that are not all zeros, or have events waiting. */
-static void add_devices(struct text *t, const struct machine *m)
+static void add_devices(struct text *t, const struct walk *w, const struct machine *m)
 {
     static const struct {
         unsigned bit;
         const char *name;
     } bits[] = {{0x10, "ENA"}, {0x08, "OF"}, {0x04, "DBA"}, {0x02, "input"}, {0x01, "IE"}};
     unsigned many = 0;
-    addf(t, "<h2>Devices at the close</h2>\n");
+    addf(t, "<h2>Devices ");
+    add_when(t, w, m);
+    addf(t, "</h2>\n");
     for (unsigned d = 0; d < 8; d++) {
         unsigned status = m->memory[2 * d], data = m->memory[2 * d + 1], waiting = XM23_RECORD_WAITING(m->record, d);
         if (!status && !data && !waiting)
@@ -168,132 +203,44 @@ void add_events_table(struct text *t, const struct walk *w, const struct paper *
     addf(t, "</pre>\n");
 }
 
-void add_walk_tables(struct text *t, const struct walk *w, const struct machine *after)
+/* Which steps the walk has, where they are not all; and that the last ones of the run change nothing. */
+void add_walk_words(struct text *t, const struct walk *w)
 {
-    add_last_steps(t, w);
+    const struct part *p = &w->part;
+    const struct step *s = &w->steps[p->idle ? w->many + p->behind - p->idle : 0];
+    struct text what = {0};
+    if (p->first || p->behind) {
+        addf(t, "<p>The walk shows steps ");
+        add_span(t, w, 0, w->many);
+        addf(t, " of %lu", (unsigned long)p->first + w->many + p->behind);
+        if (p->asked)
+            addf(t, ", around step %lu", (unsigned long)step_count(&w->steps[p->look]));
+        addf(t, ".</p>\n");
+    }
+    if (!p->idle)
+        return;
+    add_what(&what, s);
+    addf(t, "<p>From step %lu on nothing changes but the step count: ", (unsigned long)step_count(s));
+    add_html(t, what.at, what.length);
+    addf(t, " at $%04X, in the last %lu step%s.%s</p>\n", step_pc(s), (unsigned long)p->idle, p->idle == 1 ? "" : "s",
+        p->behind ? " The walk shows the steps before them, and of them the first." : "");
+    drop_text(&what);
+}
+
+/* The machine where the tables look. */
+static void look_at(const struct walk *w, const struct machine *after, struct machine *m)
+{
+    memcpy(m, w->part.asked ? &w->end : after, sizeof *m);
+    if (w->part.asked)
+        walk_back(w, m, w->many, w->many - w->part.look);
+}
+
+void add_walk_tables(struct text *t, const struct walk *w, const struct names *names, const struct machine *after)
+{
+    static struct machine m;
+    look_at(w, after, &m);
+    add_few_steps(t, w, names);
     add_turns(t, w);
-    add_stack(t, w, after);
-    add_devices(t, after);
-}
-
-/* ---- data */
-
-static void add_base64(struct text *t, const uint8_t *bytes, size_t length)
-{
-    static const char digits[] = "ABCDEFGHIJKLMNOPQRSTUVWXYZabcdefghijklmnopqrstuvwxyz0123456789+/";
-    for (size_t i = 0; i < length; i += 3) {
-        size_t many = length - i < 3 ? length - i : 3;
-        unsigned group = (unsigned)bytes[i] << 16 | (many > 1 ? bytes[i + 1] << 8 : 0) | (many > 2 ? bytes[i + 2] : 0);
-        char four[4] = {digits[group >> 18], digits[group >> 12 & 63], digits[group >> 6 & 63], digits[group & 63]};
-        memset(four + many + 1, '=', 3 - many);
-        add_bytes(t, four, 4);
-    }
-}
-
-/* Memory at the close, stretches of zeros left out: where each stretch begins, and its bytes. */
-static void add_memory_data(struct text *t, const uint8_t *memory)
-{
-    unsigned at = 0, end, many = 0;
-    addf(t, "\"memory\":[");
-    while (at < XM23_MEMORY_SIZE) {
-        unsigned zeros = 0;
-        for (end = at; end < XM23_MEMORY_SIZE && zeros < 24; end++)
-            zeros = memory[end] ? 0 : zeros + 1;
-        if (end - zeros > at) {
-            addf(t, "%s[%u,\"", many++ ? "," : "", at);
-            add_base64(t, memory + at, end - zeros - at);
-            addf(t, "\"]");
-        }
-        for (at = end; at < XM23_MEMORY_SIZE && !memory[at];)
-            at++;
-    }
-    addf(t, "],\n");
-}
-
-/* Texts, each once: where a text stands in the list. */
-struct texts {
-    struct text list;
-    char *known[2 * MOST_WALK];
-    unsigned place[2 * MOST_WALK], many;
-};
-
-static unsigned place_of(struct texts *all, const char *text)
-{
-    unsigned hash = 5381, slot;
-    for (const char *c = text; *c; c++)
-        hash = 33 * hash + (unsigned char)*c;
-    slot = hash % (2 * MOST_WALK);
-    while (all->known[slot] && strcmp(all->known[slot], text) != 0)
-        slot = (slot + 1) % (2 * MOST_WALK);
-    if (!all->known[slot]) {
-        all->known[slot] = (char *)room_for(NULL, strlen(text) + 1);
-        memcpy(all->known[slot], text, strlen(text) + 1);
-        all->place[slot] = all->many++;
-        addf(&all->list, "%s\"%s\"", all->many > 1 ? "," : "", text);
-    }
-    return all->place[slot];
-}
-
-static void add_steps_data(struct text *t, const struct walk *w)
-{
-    static struct texts all;
-    memset(&all, 0, sizeof all);
-    addf(t, "\"steps\":[");
-    for (uint32_t i = 0; i < w->many; i++) {
-        const struct step *s = &w->steps[i];
-        struct text what = {0};
-        if (s->fetched)
-            addf(&what, "%04X ", s->word);
-        add_what(&what, s);
-        addf(t, "%s[%u,%u,%u", i ? "," : "", place_of(&all, what.at), s->stored, s->frame);
-        if (stores_device(s))
-            addf(t, ",%u", s->at);
-        addf(t, "]");
-        drop_text(&what);
-    }
-    addf(t, "],\n\"what\":[%s],\n", all.list.at ? all.list.at : "");
-    for (unsigned i = 0; i < 2 * MOST_WALK; i++)
-        free(all.known[i]);
-    drop_text(&all.list);
-}
-
-static void add_frames_data(struct text *t, const struct walk *w)
-{
-    addf(t, "\"frames\":[null");
-    for (unsigned f = 1; f <= w->many_frames; f++) {
-        addf(t, ",[%u,%u,%u,\"", w->frames[f].older, w->frames[f].sp, w->frames[f].step);
-        add_act(t, w->frames[f].kind, w->frames[f].number);
-        addf(t, "\"]");
-    }
-    addf(t, "],\n");
-}
-
-/* The screen: its last bytes from before the walk, how many there were before these, and those of the walk by step. */
-static void add_screen_data(struct text *t, const struct walk *w, const struct text *screen)
-{
-    size_t before = screen->length - w->shown, kept = before < SCREEN_BEFORE ? before : SCREEN_BEFORE;
-    addf(t, "\"shown\":%lu,\"screen\":\"", (unsigned long)(before - kept));
-    if (kept)
-        add_base64(t, (const uint8_t *)screen->at + before - kept, kept);
-    addf(t, "\",\"log\":[");
-    for (uint32_t i = 0; i < w->shown; i++) {
-        const uint8_t *record = w->log + XM23_LOG_SIZE * i;
-        unsigned long step = get_long(record, XM23_LOG_STEP) - step_count(&w->steps[0]);
-        addf(t, "%s[%lu,%u,%u]", i ? "," : "", step, record[XM23_LOG_DEVICE], record[XM23_LOG_BYTE]);
-    }
-    addf(t, "]");
-}
-
-void add_walk_data(struct text *t, const struct walk *w, const struct machine *after, const struct text *screen)
-{
-    addf(t, "<script type=\"application/json\" id=\"data\">{\n\"journal\":\"");
-    add_base64(t, w->journal, XM23_JOURNAL_SIZE * (size_t)w->many);
-    addf(t, "\",\n\"close\":\"");
-    add_base64(t, w->close, sizeof w->close);
-    addf(t, "\",\n");
-    add_memory_data(t, after->memory);
-    add_steps_data(t, w);
-    add_frames_data(t, w);
-    add_screen_data(t, w, screen);
-    addf(t, "}\n</script>\n<script>\n%s</script>\n", walk_js);
+    add_stack(t, w, &m);
+    add_devices(t, w, &m);
 }

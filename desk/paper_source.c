@@ -21,7 +21,7 @@ static int by_letters(const void *a, const void *b)
 
 static const struct name *find_name(const struct paper *p, const char *name, size_t length)
 {
-    struct name key = {name, length, 0, 0};
+    struct name key = {name, length, 0, 0, 0};
     return p->many_names ? (const struct name *)bsearch(&key, p->names, p->many_names, sizeof key, by_letters) : NULL;
 }
 

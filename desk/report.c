@@ -21,10 +21,13 @@ static int report(struct sitting *s, const char *name, const char *to)
 {
     static struct marked m;
     struct text page = {0};
+    uint32_t step;
     int status = UNREADABLE;
     if (mark_program(s, name, &m)) {
         if (!m.row.digest[0])
             say_at(name, 0, "%s", m.row.says.at);
+        else if (s->asked && m.ran && !find_step(name, &m.before, m.o.steps, s->around, 0, &step))
+            status = REFUSED;
         else if (!overwrites_program(to, &m.program)) {
             add_page(&page, s, &m);
             status = write_file(to, &page);
@@ -43,12 +46,12 @@ int xm23_desk_report(int argc, char **argv)
     struct sitting s = {0};
     const char *to = "-";
     int option, status;
-    while ((option = getopt(argc, argv, "+:o:s")) != -1) {
+    while ((option = getopt(argc, argv, "+:a:o:s")) != -1) {
         if (option == 'o')
             to = optarg;
         else if (option == 's')
             s.sound = 1;
-        else
+        else if (option != 'a' || !(s.asked = step_word(optarg, &s.around)))
             return misused("report");
     }
     if (argc - optind != 2)

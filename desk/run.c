@@ -1,9 +1,16 @@
 /* xm23 run: one program under a paper. */
+#include <string.h>
 #include <unistd.h>
 
 #include "awarded.h"
 #include "desk.h"
 #include "line.h"
+
+/* What is asked for: the legend; the machine before the step of a count, and not at the close. */
+struct asked {
+    int legend, early;
+    uint32_t count;
+};
 
 /* The line, and behind it the legend, what the screen showed and the awards where they are asked for. */
 static int tell_line(const char *line, const struct text *screen, const struct text *awards, int legend)
@@ -67,7 +74,7 @@ static int run_program(const struct paper *p, const struct program *program, int
     ran = open_program(p, program, &m, &f);
     met = add_points(&awards, p, ran ? &m : NULL);
     if (ran) {
-        add_line(&line, &m, p);
+        add_line(&line, &m, p, p->steps);
         if (legend)
             run_machine(&m, p, p->steps, &o);
     } else {
@@ -88,12 +95,38 @@ static int run_program(const struct paper *p, const struct program *program, int
     return status;
 }
 
-static int run_file(const struct paper *p, const char *name, int legend)
+/* The machine before a step: no line is expected of it, and nothing is awarded. */
+static int run_early(const struct paper *p, const struct program *program, const struct asked *a)
+{
+    static struct machine m, after;
+    struct text line = {0}, screen = {0}, awards = {0};
+    struct outcome o = {0};
+    struct fault f = {0};
+    uint32_t step;
+    int status = REFUSED;
+    if (!open_program(p, program, &m, &f)) {
+        drop_text(&f.why);
+        return run_program(p, program, a->legend);
+    }
+    memcpy(&after, &m, sizeof after);
+    run_machine(&after, p, p->steps, &o);
+    if (find_step(program->name, &m, o.steps, a->count, 1, &step)) {
+        add_line(&line, &m, p, step);
+        o.screen = &screen;
+        run_machine(&m, p, step, &o);
+        status = tell_line(line.at, &screen, &awards, a->legend);
+    }
+    drop_text(&line);
+    drop_text(&screen);
+    return status;
+}
+
+static int run_file(const struct paper *p, const char *name, const struct asked *a)
 {
     struct program program = {0};
     int status = take_program(name, &program);
     if (status == DONE)
-        status = run_program(p, &program, legend);
+        status = a->early ? run_early(p, &program, a) : run_program(p, &program, a->legend);
     drop_program(&program);
     return status;
 }
@@ -101,17 +134,20 @@ static int run_file(const struct paper *p, const char *name, int legend)
 int xm23_desk_run(int argc, char **argv)
 {
     static struct paper p;
-    int option, legend = isatty(STDOUT_FILENO), status;
-    while ((option = getopt(argc, argv, "+:l")) != -1) {
-        if (option != 'l')
+    struct asked a = {0};
+    int option, status;
+    a.legend = isatty(STDOUT_FILENO);
+    while ((option = getopt(argc, argv, "+:ln:")) != -1) {
+        if (option == 'l')
+            a.legend = 1;
+        else if (option != 'n' || !(a.early = step_word(optarg, &a.count)))
             return misused("run");
-        legend = 1;
     }
     if (argc - optind != 2)
         return misused("run");
     status = read_paper(argv[optind], &p);
     if (status == DONE) {
-        status = run_file(&p, argv[optind + 1], legend);
+        status = run_file(&p, argv[optind + 1], &a);
         drop_paper(&p);
     }
     return status;

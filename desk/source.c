@@ -93,13 +93,17 @@ size_t source_names(const char *source, size_t length, struct name **names)
 {
     struct places p = read_places(source, length);
     size_t many = 0, at = 0;
-    *names = (struct name *)room_for(NULL, p.many * sizeof **names);
+    for (size_t i = 0; i < p.many; i++)
+        many += record_of(&p, i)[XM23_PLACE_NAMED];
+    *names = (struct name *)room_for(NULL, (many + 1) * sizeof **names);
+    many = 0;
     for (size_t i = 0; i < p.many; at = after_line(source, length, at), i++)
         if (record_of(&p, i)[XM23_PLACE_NAMED]) {
             struct name *n = &(*names)[many++];
             n->at = first_word(source, at, &n->length);
             n->value = XM23_PLACE_VALUE_OF(record_of(&p, i));
             n->line = (uint32_t)i + 1;
+            n->kind = record_of(&p, i)[XM23_PLACE_KIND];
         }
     free(p.records);
     return many;

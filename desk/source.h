@@ -16,6 +16,7 @@ struct name {
     size_t length;
     int64_t value;
     uint32_t line;
+    uint8_t kind; /* XM23_PLACE_EQU; of any other it is a label, the place of its line */
 };
 
 size_t source_names(const char *source, size_t length, struct name **names); /* how many, in the order of their lines */

@@ -27,7 +27,7 @@ void add_act(struct text *t, unsigned kind, unsigned number)
 void add_what(struct text *t, const struct step *s)
 {
     if (s->fetched)
-        add_instruction(t, get_word(s->before, XM23_RECORD_REGISTER(7)), s->word);
+        add_instruction(t, step_pc(s), s->word);
     if (s->kind >= XM23_KIND_PLAIN)
         return;
     addf(t, "%s", s->fetched ? "; " : "");

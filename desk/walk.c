@@ -1,6 +1,6 @@
 /*
- * The last steps of a run: a second run up to them, their trace, and their journal, by which xm23_back goes back step
- * by step. The trace tells what each step was, and of the whole run what became of events; nothing is judged here.
+ * Some steps of a run: a second run up to them, their trace, and their journal, by which xm23_back goes back step by
+ * step. The trace tells what each step was, and of the whole run what became of events; nothing is judged here.
  */
 #include <string.h>
 
@@ -9,6 +9,11 @@
 uint32_t step_count(const struct step *s)
 {
     return get_long(s->before, XM23_RECORD_COUNT);
+}
+
+unsigned step_pc(const struct step *s)
+{
+    return get_word(s->before, XM23_RECORD_REGISTER(7));
 }
 
 /* ---- what a step was, by the trace */
@@ -66,7 +71,7 @@ static void ask_again(struct machine *then, const struct machine *m, const struc
 static void ask_step(struct step *s, const struct machine *m, const struct paper *p)
 {
     static struct machine then;
-    unsigned psw = get_word(s->before, XM23_RECORD_PSW), pc = get_word(s->before, XM23_RECORD_REGISTER(7));
+    unsigned psw = get_word(s->before, XM23_RECORD_PSW), pc = step_pc(s);
     uint8_t fault[XM23_TRACE_SIZE];
     if (s->kind == XM23_KIND_HALT) {
         ask_again(&then, m, p, psw & ~XM23_PSW_FLT, fault);
@@ -106,13 +111,8 @@ int step_wrote(const struct step *s, unsigned at)
 static void keep_after(struct step *s, const uint8_t *memory)
 {
     unsigned at = get_word(s->before, XM23_JOURNAL_ADDRESS);
-    memcpy(s->devices, memory, sizeof s->devices);
     for (unsigned i = 0; i < 8; i++)
         s->bytes[i] = memory[(at + i) & 0xFFFF];
-    if (is_entry(s)) {
-        s->at = (uint16_t)at;
-        s->stored = 8;
-    }
 }
 
 /* The journal began with no record kept, at its first place. */
@@ -127,8 +127,6 @@ static void go_back(struct walk *w, const struct paper *p, struct machine *m)
 {
     for (uint32_t i = w->many; i-- > 0;) {
         struct step *s = &w->steps[i];
-        s->before = w->journal + XM23_JOURNAL_SIZE * i;
-        s->after = i + 1 == w->many ? w->close : w->journal + XM23_JOURNAL_SIZE * (i + 1);
         keep_after(s, m->memory);
         walk_back(w, m, i + 1, 1);
         ask_step(s, m, p);
@@ -156,36 +154,86 @@ static void find_frames(struct walk *w)
     }
 }
 
-/* The last steps twice from the same state: the trace of them, and then the journal. */
-static void run_last(struct walk *w, const struct paper *p, struct machine *m, uint32_t last)
+/* ---- runs */
+
+/* The journal tells what was before each step, and so what the one before it left; and where an entry pushed. */
+static void take_journal(struct walk *w)
 {
-    static struct machine traced;
-    uint32_t deepest = 0, kept = 0, place = 0;
+    for (uint32_t i = 0; i < w->many; i++) {
+        struct step *s = &w->steps[i];
+        const uint8_t *after = w->journal + XM23_JOURNAL_SIZE * (i + 1);
+        int last = i + 1 == w->many;
+        s->before = w->journal + XM23_JOURNAL_SIZE * i;
+        s->after = last ? w->end.record : after;
+        memcpy(s->devices, last ? w->end.memory : after + XM23_JOURNAL_DEVICES, sizeof s->devices);
+        if (is_entry(s)) {
+            s->at = (uint16_t)get_word(s->before, XM23_JOURNAL_ADDRESS);
+            s->stored = 8;
+        }
+    }
+}
+
+/* Steps twice from the same state: the trace of them, and then the journal; `m` is run to their end. */
+static uint32_t run_part(struct walk *w, const struct paper *p, struct machine *m, uint32_t many)
+{
+    uint32_t deepest = 0, kept = 0, place = 0, records;
     size_t events = XM23_EVENT_SIZE * p->many_events;
     uint64_t reply;
-    memcpy(&traced, m, sizeof traced);
-    reply = xm23_trace(traced.memory, sizeof traced.memory, traced.record, sizeof traced.record, p->event_bytes, events,
-                       w->trace, sizeof w->trace, XM23_KINDS, last);
-    follow_trace(&w->fates, p, w->trace, XM23_TRACE_ADDED(reply));
-    draw_trace(&w->picture, w->trace, XM23_TRACE_ADDED(reply));
-    take_trace(w, XM23_TRACE_ADDED(reply));
+    memset(w->steps, 0, sizeof w->steps);
+    memcpy(&w->end, m, sizeof w->end);
+    reply = xm23_trace(w->end.memory, sizeof w->end.memory, w->end.record, sizeof w->end.record, p->event_bytes, events,
+                       w->trace, sizeof w->trace, XM23_KINDS, many);
+    records = XM23_TRACE_ADDED(reply);
+    take_trace(w, records);
     reply = xm23_run_journal(m->memory, sizeof m->memory, m->record, sizeof m->record, p->event_bytes, events, w->log,
-                             sizeof w->log, &deepest, w->journal, sizeof w->journal, &kept, &place, last);
+                             sizeof w->log, &deepest, w->journal, sizeof w->journal, &kept, &place, many);
     w->many = XM23_RUN_STEPS(reply);
     w->shown = XM23_RUN_ADDED(reply);
-    memcpy(w->close, m->record, sizeof w->close);
+    take_journal(w);
+    return records;
+}
+
+static void look_back(struct walk *w, const struct paper *p, struct machine *m)
+{
+    go_back(w, p, m);
+    find_frames(w);
+}
+
+void walk_on(struct walk *w, const struct paper *p, struct machine *m, uint32_t many)
+{
+    memset(w, 0, sizeof *w);
+    run_part(w, p, m, many);
+    look_back(w, p, m);
 }
 
 /* Of a walk that was there nothing stays: what is told of a run is its own. */
-void walk_run(struct walk *w, const struct paper *p, struct machine *m, uint32_t steps)
+void walk_run(struct walk *w, const struct paper *p, struct machine *m, const struct part *part)
 {
-    uint32_t last = steps < MOST_WALK ? steps : MOST_WALK;
+    static struct machine rest;
+    uint32_t records;
     memset(w, 0, sizeof *w);
+    w->part = *part;
     begin_fates(&w->fates, p, m);
-    begin_picture(&w->picture, m->record, steps);
-    trace_events(&w->fates, &w->picture, p, m, steps - last);
-    run_last(w, p, m, last);
+    begin_picture(&w->picture, m->record, part->first + part->many + part->behind);
+    trace_events(&w->fates, &w->picture, p, m, part->first);
+    records = run_part(w, p, m, part->many);
+    follow_trace(&w->fates, p, w->trace, records);
+    draw_trace(&w->picture, w->trace, records);
+    memcpy(&rest, &w->end, sizeof rest);
+    trace_events(&w->fates, &w->picture, p, &rest, part->behind);
     end_picture(&w->picture);
-    go_back(w, p, m);
-    find_frames(w);
+    look_back(w, p, m);
+}
+
+uint32_t last_writer(struct walk *w, const struct paper *p, struct machine *m, uint32_t many, unsigned at)
+{
+    uint32_t done = 0, found = 0;
+    do {
+        run_part(w, p, m, many - done < MOST_WALK ? many - done : MOST_WALK);
+        for (uint32_t i = 0; i < w->many; i++)
+            if (step_wrote(&w->steps[i], at))
+                found = done + i + 1;
+        done += w->many;
+    } while (w->many && done < many);
+    return found;
 }

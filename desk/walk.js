@@ -1,5 +1,5 @@
-// The last steps of a run, to walk forwards and backwards. Nothing is executed: what a step was and what it left came
-// with the page, and memory is what the journal's records put back.
+// Some steps of a run, to walk forwards and backwards. Nothing is executed: what a step was and what it left came with
+// the page, and memory is what the journal's records put back.
 'use strict';
 (() => {
   const data = JSON.parse(document.getElementById('data').textContent);
@@ -158,6 +158,8 @@
   const what = (i) => data.what[data.steps[i][0]];
   const plain = (i) => what(i).replace(/^[0-9A-F]{4} /, '').replace(/ +/g, ' ');
   const pc = (i) => hex(word(record(i), 14), 4);
+  const label = (i) => data.places[pc(i)] || '';
+  const labelled = Object.keys(data.places).length > 0;
 
   // Lines of a source by address and word, from its listing on the page.
   const listed = new Map();
@@ -172,6 +174,7 @@
     for (let i = from; i < Math.min(many, from + 15); i++) {
       const cells = [[first + i, 'n'], [pc(i), 'n'], [what(i), 'n pre'], [leftBy(i), 'n']];
       if (listed.size > 0) cells.push([source(i), 'n pre']);
+      if (labelled) cells.push([label(i), 'n']);
       const tr = row(cells, i === now - 1 ? 'current' : '');
       tr.dataset.to = i + 1;
       rows.push(tr);
@@ -179,10 +182,11 @@
     get('around').replaceChildren(...rows);
   };
 
+  const end = data.behind === 0 ? ' The run ends here.' : ' ' + data.behind + ' more steps follow.';
   const showNow = () => {
     const text = now === 0 ? 'Before step ' + first + ', the first of these.' :
-      'After step ' + (first + now - 1) + ', at $' + pc(now - 1) + ': ' + plain(now - 1) + '. It left: ' +
-      (leftBy(now - 1) || 'nothing but PC') + '.' + (now === many ? ' The run ends here.' : '');
+      'After step ' + (first + now - 1) + ', at $' + pc(now - 1) + (label(now - 1) && ' ' + label(now - 1)) + ': ' +
+      plain(now - 1) + '. It left: ' + (leftBy(now - 1) || 'nothing but PC') + '.' + (now === many ? end : '');
     get('now').textContent = text;
     get('step').value = now === 0 ? '' : first + now - 1;
     get('slide').value = now;
@@ -208,13 +212,16 @@
 
   // ---- who wrote this byte
   const address = () => {
-    const text = get('byte').value.trim().replace(/^\$/, '');
+    const word = get('byte').value.trim();
+    const text = word.replace(/^\$/, '');
+    if (/^[A-Z]/.test(word) && word in data.names) return data.names[word];
     return /^[0-9A-Fa-f]{1,4}$/.test(text) ? parseInt(text, 16) : -1;
   };
   const seek = (direction) => {
     const at = address();
     if (at < 0) {
-      get('found').textContent = 'An address has one to four digits of base sixteen.';
+      get('found').textContent = 'An address has one to four digits of base sixteen.' +
+        (Object.keys(data.names).length > 0 ? ' Names of the source may stand for it.' : '');
       return;
     }
     const again = get('found').dataset.of === at + ' ' + now && wrote(now - 1, at);
@@ -270,8 +277,9 @@
     event.preventDefault();
   });
 
+  if (data.behind > 0) get('title').textContent = 'Walk through steps ' + first + ' to ' + (first + many - 1);
   get('slide').max = many;
   get('walk').hidden = false;
-  move(many);
+  move(data.at);
   show();
 })();

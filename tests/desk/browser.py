@@ -204,19 +204,25 @@ def try_without_scripts(browser, marks):
     text = browser.call("DOM.getOuterHTML", nodeId=browser.call("DOM.getDocument")["root"]["nodeId"])["outerHTML"]
     browser.call("Emulation.setScriptExecutionDisabled", value=False)
     same("without scripts: no walk", 'id="walk" hidden' in text, True)
-    last = text[text.index("<h2>The last 32 steps</h2>"):]
+    last = text[text.index("<h2>The last 32 steps before the closing ones</h2>"):]
     same("without scripts: the last 32 steps", last[:last.index("</table>")].count("<tr>"), 33)
     same("without scripts: the closing state", "<h2>Closing state</h2>" in text, True)
     same("without scripts: it says so", "Without scripts" in text, True)
 
 
-def try_long(browser, room):
+def long_run(room, tick):
+    """A million steps: the paper of the sitting with one tick more, and the page of sound.s19 under it."""
     paper, page = os.path.join(room, "long.paper"), os.path.join(room, "long.html")
     with open("sum.paper") as file:
         text = re.sub(r"(?m)^expect.*\n", "", file.read()).replace("steps    120", "steps 1000000")
     with open(paper, "w") as file:
-        file.write(text)
+        file.write(text + f"{tick} 1 0\n")
     run("report", "-o", page, paper, "programs/sound.s19")
+    return paper, page
+
+
+def try_long(browser, room):
+    page = long_run(room, 999990)[1]
     same("long: at most 400 KB", os.path.getsize(page) <= 400_000, True)
     browser.open(page)
     browser.press("Home")
@@ -224,6 +230,52 @@ def try_long(browser, room):
     browser.press("End")
     same("long: the close", browser.text("now").startswith("After step 999999"), True)
     same("long: errors", browser.errors(), [])
+
+
+def try_closing(browser, room):
+    """Of a closing loop the first step is the last of the walk."""
+    browser.open(long_run(room, 5000)[1])
+    same("closing: its title", browser.text("title"), "Walk through steps 3989 to 5012")
+    same("closing: its end", browser.text("now"),
+         "After step 5012, at $1016: BRA $1016. It left: nothing but PC. 994987 more steps follow.")
+    same("closing: what is told", browser.value("[...document.querySelectorAll('p')].filter("
+         "(p) => p.innerText.startsWith('From step 5012 on nothing changes')).length"), 1)
+    same("closing: registers", registers(browser), last_state("long.paper", room, "-a", "5012", "-n", "1"))
+    same("closing: errors", browser.errors(), [])
+
+
+def last_state(paper, room, *words):
+    last = run("back", *words, os.path.join(room, paper), "programs/sound.s19").splitlines()[-1]
+    return re.findall(r" ([0-9A-F]{2,8})\b", last.split(":")[1])
+
+
+def try_around(browser, room):
+    """A page about any step opens on it, and its walk goes both ways from there, with labels of the source."""
+    page = os.path.join(room, "around.html")
+    run("report", "-a", "50000", "-o", page, "ticks.paper", "sources/sound.asm")
+    browser.open(page)
+    same("around: its title", browser.text("title"), "Walk through steps 49488 to 50511")
+    same("around: its step", browser.text("now"), "After step 50000, at $2012 TICK+18: MOV LR,PC. It left: nothing but PC.")
+    browser.value("document.getElementById('step').value = '49990'; document.getElementById('step').onchange()")
+    for step in (49990, 49991, 49992):
+        row = browser.value("[...document.querySelector('#around .current').cells].map((c) => c.textContent)")
+        told = run("back", "-a", str(step), "-n", "1", "ticks.paper", "sources/sound.asm").splitlines()[1]
+        told = re.split(r" *; ", told)
+        same(f"around: step {step}", [re.sub(" +", " ", " ".join(row[:4])).strip(), row[5]],
+             [re.sub(" +", " ", told[0]), told[1] if len(told) > 1 else ""])
+        browser.press("ArrowRight")
+    browser.press("End")
+    same("around: its end", browser.text("now").endswith(" 49488 more steps follow."), True)
+    browser.value("document.getElementById('byte').value = 'TICKS'")
+    browser.click("#writer")
+    step = re.match(r"Step (\d+) wrote \$0130: ST R1,R0.", browser.text("found"))
+    told = run("back", "-a", "50511", "-w", "TICKS", "ticks.paper", "sources/sound.asm").splitlines()[-2]
+    same("around: a byte by its name", step and step[1], told.split()[0])
+    browser.press("Home")
+    same("around: its start", browser.text("now"), "Before step 49488, the first of these.")
+    fits(browser, "around")
+    on_paper(browser, "around", room)
+    same("around: errors", browser.errors(), [])
 
 
 with tempfile.TemporaryDirectory() as room:
@@ -248,6 +300,8 @@ with tempfile.TemporaryDirectory() as room:
         try_picture(browser, marks)
         try_without_scripts(browser, marks)
         try_long(browser, room)
+        try_closing(browser, room)
+        try_around(browser, room)
     finally:
         browser.close()
 end()

@@ -325,7 +325,7 @@ sed 's/^steps.*/steps 3000/; /^22\|^65\|^120/d' clock.paper > long.paper
 same 'of many bytes some are told' "$(section page.html | grep '^<p>' | sed 's/.*, \(\$6[0-9A-F]*, and\)/\1/')" \
     "\$6058, and 41 more.</p>"
 "$xm23" sound long.paper R3_is_left.asm > out
-sed 's/^steps.*/steps 1100/' long.paper > far.paper
+{ sed 's/^steps.*/steps 1100/' long.paper && echo '1090 0 7'; } > far.paper
 "$xm23" report -o page.html far.paper R3_is_left.asm
 same 'a step before the walk has no link' "$(section page.html | grep '^<li>')" "<li>$(cat out)</li>"
 

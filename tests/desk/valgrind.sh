@@ -29,6 +29,14 @@ clean 'asm of noise' 1 asm "$room/noise"
 clean 'report' 1 report -o "$room/report.html" "$paper" "$programs/screen.asm"
 clean 'report of a refused program' 1 report -o "$room/report.html" "$paper" "$programs/refused.s19"
 clean 'report of no program' 3 report -o "$room/report.html" "$paper" no/such
+clean 'run to a step' 0 run -n 46 "$paper" "$programs/sound.s19"
+clean 'run to no step' 1 run -n 461 "$paper" "$programs/sound.s19"
+clean 'report of a step' 1 report -a 60 -o "$room/report.html" "$paper" "$programs/screen.asm"
+clean 'report of no step' 1 report -a 600 -o "$room/report.html" "$paper" "$programs/screen.asm"
+clean 'report of a long run' 0 report -o "$room/report.html" examples/sitting/ticks.paper examples/sitting/sources/sound.asm
+clean 'back from a step' 0 back -a 60 "$paper" "$programs/screen.asm"
+clean 'back to the writer of a name' 0 back -w TICKS examples/sitting/ticks.paper examples/sitting/sources/sound.asm
+clean 'back to no name' 1 back -w NOBODY "$paper" "$programs/screen.asm"
 clean 'back' 0 back "$paper" "$programs/halting.s19"
 clean 'back to a writer' 0 back -w 120 "$paper" "$programs/sound.s19"
 clean 'back to nobody' 1 back -w 4321 "$paper" "$programs/sound.s19"
@@ -39,6 +47,7 @@ clean 'sound' 0 sound "$paper" "$programs/sound.s19"
 clean 'sound of a fault' 1 sound "$paper" "$programs/halting.s19"
 clean 'sound of a refused program' 1 sound "$paper" "$programs/refused.s19"
 clean 'run of a source' 1 run "$paper" "$programs/screen.asm"
+clean 'dis of a source' 0 dis "$programs/screen.asm"
 clean 'dis' 0 dis -o "$room/list" examples/copy_words.s19
 clean 'stack' 0 stack "$paper"
 clean 'card' 0 card -o "$room/card.html"

@@ -21,6 +21,7 @@ from tally import end, same
 
 xm23, print_state, oracle, runs = sys.argv[1], sys.argv[2], sys.argv[3], int(sys.argv[4])
 dice = random.Random(int(sys.argv[5]) if len(sys.argv) > 5 else 1)
+steps_dice = random.Random(23)
 FINDINGS = ["fault ", "a return with no frame open", "SVC ", "never returned", "R2 was", "SP was", "the frame's byte",
             "chained onto the frame of device", "the application set SLP", "a register of device",
             "which a handler or its entry wrote last", "sound: ", "starts, at step"]
@@ -148,6 +149,7 @@ class Source(Run):
         self.named_pc = False
         self.lines = dice.choice([0, 0, 0, 0x10023])
         lines = ["ORG $1000", "LOOP ADD #1,R0"] + some(dice.randrange(3, 12), 1) + ["BRA LOOP"]
+        self.labelled = range(0x1000, 0x1000 + 2 * (len(lines) - 1))
         for at in (0x2000, 0x2100, 0x2200, 0x2300):
             lines += [f"ORG ${at:04X}"] + some(dice.randrange(0, 5), 0) + some(dice.randrange(0, 3), 1) + ["MOV LR,PC"]
         self.source = "\n".join(lines + ["END\n"])
@@ -169,6 +171,17 @@ class Source(Run):
 
     def break_rule(self):
         pass
+
+    def place(self, pc):
+        """The label of a step, as pages and xm23 back show it."""
+        at = int(pc, 16)
+        return "" if at not in self.labelled else "LOOP" if at == 0x1000 else f"LOOP+{at - 0x1000}"
+
+    def cut(self, steps):
+        """The input of a run of fewer steps."""
+        n, self.n = self.n, steps
+        given, self.n = self.input(), n
+        return given
 
 
 def run(command, **more):
@@ -254,21 +267,11 @@ def look_at(this, name, files):
     line = run([xm23, "run", paper, program]).stdout.decode()
     theirs = Rows(this.input())
     same(f"{name}: the oracle's line", theirs.line, line.strip())
-    mine = run([xm23, "report", paper, program]).stdout.decode()
-    same(f"{name}: last steps", rows(mine, "<h2>The last "), theirs.steps[-32:])
     met.update(kind for kind in KINDS for step in theirs.steps if kind in step[3])
-    walk = Walk(mine)
-    many = len(walk.steps)
-    counts = [int.from_bytes(walk.journal[64 * i + 22:64 * i + 26], "little") for i in range(many)]
-    told = [f"{counts[i]} {walk.data['what'][step[0]]}" for i, step in enumerate(walk.steps)]
-    theirs_told = [" ".join(filter(None, (step[0], step[2], step[3]))) for step in theirs.steps]
-    same(f"{name}: steps of the walk", told, theirs_told)
-    turns = [cells[:2] for cells in rows(mine, "<h2>Entries, returns and faults")]
-    same(f"{name}: entries, returns and faults", turns, theirs.turns[-64:])
-    same(f"{name}: every byte that changed has its writer", walk.uncovered, 0)
-    unstored = [at for i, at in walk.shown if not 0 <= at - walk.stored_at(i) < walk.steps[i][1]]
-    same(f"{name}: every byte that was shown was stored", unstored, [])
     fields = line.split()
+    mine = run([xm23, "report", paper, program]).stdout.decode()
+    walk, counts = look_at_walk(this, name, mine, "<h2>The last ", this.count + int(fields[1]))
+    many = len(walk.steps)
     if int(fields[1]) == many:
         same(f"{name}: memory before", bytes(walk.memory), bytes(this.memory))
         same(f"{name}: depth", walk.deepest, int(fields[-1]))
@@ -276,7 +279,49 @@ def look_at(this, name, files):
         same(f"{name}: depth", walk.deepest <= int(fields[-1]), True)
     look_at_events(this, name, walk, counts, files, fields, theirs)
     look_at_findings(name, mine, walk, counts, files)
+    any_step(this, name, files, int(fields[1]))
     go_back(this, name, walk, counts, files, int(fields[1]), theirs)
+
+
+def look_at_walk(this, name, page, table, end):
+    """The walk of a page and its tables, beside the oracle's rows of the run as far as the walk goes."""
+    walk = Walk(page)
+    many = len(walk.steps)
+    counts = [int.from_bytes(walk.journal[64 * i + 22:64 * i + 26], "little") for i in range(many)]
+    theirs = Rows(this.cut(counts[0] + many - this.count))
+    same(f"{name}: steps behind the walk", walk.data["behind"], end - counts[0] - many)
+    told = [f"{counts[i]} {walk.data['what'][step[0]]}" for i, step in enumerate(walk.steps)]
+    theirs_told = [" ".join(filter(None, (step[0], step[2], step[3]))) for step in theirs.steps]
+    same(f"{name}: steps of the walk", told, theirs_told[-many:])
+    by_count = {step[0]: step + [this.place(step[1])] for step in theirs.steps}
+    few = rows(page, table)
+    same(f"{name}: steps of the table", few, [by_count.get(row[0]) for row in few])
+    same(f"{name}: as many as there are", len(few) == 32 or few[0][0] == str(counts[0]), True)
+    turns = [cells[:2] for cells in rows(page, "<h2>Entries, returns and faults")]
+    there = [turn for turn in theirs.turns if int(turn[0]) >= counts[0]]
+    same(f"{name}: entries, returns and faults", turns, there[-64:])
+    same(f"{name}: every byte that changed has its writer", walk.uncovered, 0)
+    unstored = [at for i, at in walk.shown if not 0 <= at - walk.stored_at(i) < walk.steps[i][1]]
+    same(f"{name}: every byte that was shown was stored", unstored, [])
+    idle = re.search(r"<p>From step (\d+) on nothing changes but the step count", page)
+    if idle:
+        closing = [step[4] for step in theirs.steps if int(step[0]) >= int(idle[1])]
+        same(f"{name}: closing steps leave nothing", set(closing), {""})
+        met.add("closing steps")
+    return walk, counts
+
+
+def any_step(this, name, files, steps):
+    """The page of a step that is drawn, and the line before it."""
+    step = steps_dice.randrange(steps)
+    name, count = f"{name}, step {this.count + step}", str(this.count + step)
+    page = run([xm23, "report", "-a", count, *files]).stdout.decode()
+    walk, counts = look_at_walk(this, name, page, "<h2>Steps ", this.count + steps)
+    same(f"{name}: opens there", counts[walk.data["at"] - 1], int(count))
+    line = run([print_state], input=this.cut(step)).stdout.decode()
+    same(f"{name}: run -n", run([xm23, "run", "-n", count, *files]).stdout.decode(), line)
+    there = rows(page, "<h2>Machine before step ")
+    same(f"{name}: the machine", [row[1] for row in there], line.split()[1:])
 
 
 def look_at_events(this, name, walk, counts, files, fields, theirs):
@@ -336,9 +381,10 @@ def go_back(this, name, walk, counts, files, steps, theirs):
     many = dice.randrange(1, len(walk.steps) + 1)
     lines = run([xm23, "back", "-n", str(many), *files]).stdout.decode().splitlines()
     told = [" ".join(line.split()) for line in lines[1:-1]]
-    same(f"{name}: back {many}", told, [" ".join(" ".join(step).split()) for step in theirs.steps[:-many - 1:-1]])
-    this.n = steps - many
-    fields = run([print_state], input=this.input()).stdout.decode().split()
+    places = [f"; {this.place(step[1])}" if this.place(step[1]) else "" for step in theirs.steps]
+    wanted = [" ".join(" ".join(step + [place]).split()) for step, place in zip(theirs.steps, places)]
+    same(f"{name}: back {many}", told, wanted[:-many - 1:-1])
+    fields = run([print_state], input=this.cut(steps - many)).stdout.decode().split()
     same(f"{name}: the state {many} back", re.findall(r" ([0-9A-F]{2,8})\b", lines[-1].split(":")[1]), fields[2:13])
     at = dice.choice(sorted(walk.writers)) if walk.writers else 0x4321
     told = run([xm23, "back", "-w", f"{at:X}", *files])
@@ -390,5 +436,6 @@ with tempfile.TemporaryDirectory() as room:
         with open(os.path.join(marks, "pages", marked), "rb") as file:
             alone = run([xm23, "report", paper, name]).stdout
             same(f"{name}: the page is of its program alone", (len(alone) > 9999, file.read()), (True, alone))
-same("kinds of steps, fates of events and findings that were not met", sorted(set(KINDS + FATES + FINDINGS) - met), [])
+wanted = {*KINDS, *FATES, *FINDINGS, "closing steps"}
+same("kinds of steps, fates of events and findings that were not met", sorted(wanted - met), [])
 end()

@@ -161,6 +161,17 @@ expect 'a page of 1,024 labels' 0 '' '' "$xm23" report -o names.html plain.paper
 python3 -c 'print("A" * 500000 + " ORG $1000\nB" + "A" * 400000 + " ADD #1,R0\nEND")' > huge.asm
 expect 'a page of huge names' 0 '' '' "$xm23" report -o huge.html plain.paper huge.asm
 
+# A folder: the names of all its sources; where two of them give one twice, a listing leaves it out.
+mkdir both
+printf ' ORG $1000\nSTART SVC #12\nLOOP BRA LOOP\nEND\n' > both/program.asm
+printf ' ORG $3000\nTRAP ADD #1,R0\nLOOP MOV LR,PC\n ORG $FFF0\n WORD $0040\n WORD TRAP\nEND\n' > both/trap.asm
+same 'labels of a folder' "$("$xm23" back -n 4 <(printf 'steps 4\nstart SP=$800\n') both | sed -n 's/.*; //p' | tr '\n' ' ')" \
+    'LOOP TRAP START '
+expect 'a name that two files give' 1 '' 'both: LOOP is a name of two sources, .*' "$xm23" back -w LOOP plain.paper both
+expect 'a name of one file' 1 '' 'both: none of the last 1000000 steps wrote \$3000' "$xm23" back -w TRAP plain.paper both
+same 'its listing assembles' "$("$xm23" dis both > both.asm; "$xm23" asm both.asm | grep -v ^S9)" \
+    "$("$xm23" asm both/program.asm | grep ^S1; "$xm23" asm both/trap.asm | grep ^S1)"
+
 # ---- report -a
 expect 'report -a' 0 '' '' "$xm23" report -a 500000 -o at.html long.paper mine.asm
 steps() { # PAGE: the steps of its walk, and how many

@@ -10,8 +10,8 @@ paper asks for: docs/CALLS.md has a section for each, `## xm23_places: topic`. T
 - on a section of 02 that a tag names and that has no section in docs/TRACE.md, `## 02 §5: topic`, and the other way
   round; on a call the same way, `## call places: topic`, and on one of docs/CALLS.md that no tag names,
 - on a block of docs/TRACE.md that has not its form: a sentence, `> ..`, once in its section, and right below it a list
-  whose items are of the kinds below and in their order; on a section without one, a list without a sentence, a row of a
-  table,
+  whose items are of the kinds below and in their order; on a section without one, or that the list at the top has not,
+  a list without a sentence, a row of a table,
 - on a name in docs/TRACE.md that is defined nowhere: said: `crate/specs/File.antt`: `name`, one item for each file;
   proof: `crate::function` and law: `crate/proofs/File.antt::law` and edit: `crate/edit` of a crate that is there,
   oracle: `file::test`, case: `name`, test: `path/of/a/file`,
@@ -168,6 +168,8 @@ class Trace:
         for section in sorted(self.requests | written):
             self.check(section in written, f'docs/TRACE.md has no section "{section}: .."')
             self.check(section in self.tagged, f"no definition has a tag of {section}")
+        listed = re.findall(r"^ *- \[(.*)\]\(#.*\)$", text.partition("\n## ")[0], re.MULTILINE)
+        self.check(listed == sections, "docs/TRACE.md: the list at its top is not that of its sections")
         found, astray = blocks(text)
         self.blocks(found, astray)
         for section in sections:

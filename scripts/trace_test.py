@@ -1,6 +1,7 @@
 #!/usr/bin/env python3
 """trace.py held to what it must refuse. The last line is 'N passed, M failed'."""
 import pathlib
+import re
 import sys
 import tempfile
 
@@ -8,14 +9,20 @@ from trace import HEADINGS, OWED, Trace, tags
 
 SPECS = "".join(f"-- says {heading}. [01 {heading}; 003 6]\nabbrev pub d{i} : ℕ\n" for i, heading in enumerate(OWED))
 BLOCK = "> Sentence\n- said: `machine/specs/A.antt`: `d0`\n- case: `one`\n\n"
-DOCUMENT = "# Trace\n\n- a list above\n\n" + "".join(f"## {heading}\n\n{BLOCK}" for heading in HEADINGS)
+DOCUMENT = "".join(f"## {heading}\n\n{BLOCK}" for heading in HEADINGS)
 
 CALLS = "# Calls\n\n## xm23_one: first\n"
 BITS = f"## 02 §5: bits\n{BLOCK}"
 CALLED = f"{BITS}## call one: first\n{BLOCK}"
 
 
-def failures(specs=SPECS, document=DOCUMENT, calls="# Calls\n"):
+def topped(sections):
+    """A document of these sections, with the list of them at its top."""
+    titles = re.findall(r"^## (.*)$", sections, re.M)
+    return "# Trace\n\n- a list\n" + "".join(f"  - [{title}](#x)\n" for title in titles) + f"\n{sections}"
+
+
+def failures(specs=SPECS, document=DOCUMENT, calls="# Calls\n", top=topped):
     """What trace.py says of a repository with one file of definitions."""
     with tempfile.TemporaryDirectory() as name:
         root = pathlib.Path(name)
@@ -25,7 +32,7 @@ def failures(specs=SPECS, document=DOCUMENT, calls="# Calls\n"):
             "crates/machine/must-fail/deaf.edit": "",
             "oracle/tests/t.rs": "fn holds() {}\n",
             "tests/cases/one.txt": "",
-            "docs/TRACE.md": document,
+            "docs/TRACE.md": top(document),
             "docs/CALLS.md": calls,
         }.items():
             (root / path).parent.mkdir(parents=True, exist_ok=True)
@@ -83,6 +90,8 @@ CASES = {
     "a list with no sentence": len(failures(document=DOCUMENT.replace("> Sentence\n", "", 1))) == 3,
     "a list below other words": len(failures(document=DOCUMENT + f"Other words.\n- {SAID}\n")) == 1,
     "a section with no sentence": len(failures(document=DOCUMENT.replace(BLOCK, "Other words.\n", 1))) == 1,
+    "a section not in the list at the top": len(failures(top=lambda text: topped(text).replace("[Entry]", "[x]"))) == 1,
+    "no list at the top": len(failures(top=lambda text: text)) == 1,
     "a row of a table": len(failures(document=DOCUMENT + "| Sentence | `A.antt`: `d0` | case: `one` |\n")) == 1,
     "a sentence twice in a section": len(failures(document=DOCUMENT + BLOCK)) == 1,
     "an example of 003 needs no definition":

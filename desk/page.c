@@ -45,16 +45,16 @@ void add_page_head(struct text *t, const char *title)
     addf(t, "</title>\n<style>\n%s</style>\n</head>\n<body>\n", page_css);
 }
 
-void open_heads(struct text *t)
+void open_heads(struct text *t, const char *classes)
 {
-    addf(t, "<div class=\"wide\">\n<table>\n<thead><tr>");
+    addf(t, "<div class=\"wide%s\">\n<table>\n<thead><tr>", classes);
 }
 
-void add_heads(struct text *t, const char *heads)
+void add_heads(struct text *t, const char *heads, const char *classes)
 {
     for (const char *end; *heads; heads = end + (*end == '|')) {
         end = heads + strcspn(heads, "|");
-        addf(t, "<th>%.*s</th>", (int)(end - heads), heads);
+        addf(t, "<th%s>%.*s</th>", classes, (int)(end - heads), heads);
     }
 }
 
@@ -65,8 +65,8 @@ void close_heads(struct text *t)
 
 void open_table(struct text *t, const char *heads)
 {
-    open_heads(t);
-    add_heads(t, heads);
+    open_heads(t, "");
+    add_heads(t, heads, "");
     close_heads(t);
 }
 

@@ -9,8 +9,8 @@
 void add_page_path(struct text *t, const struct sitting *s, size_t i); /* below the folder */
 void add_page_head(struct text *t, const char *title);
 void open_table(struct text *t, const char *heads); /* names of columns, a bar between two */
-void open_heads(struct text *t); /* or part by part: these three */
-void add_heads(struct text *t, const char *heads);
+void open_heads(struct text *t, const char *classes); /* or part by part: these three */
+void add_heads(struct text *t, const char *heads, const char *classes);
 void close_heads(struct text *t);
 void close_table(struct text *t);
 void add_wide(struct text *t, const struct text *rows); /* not broken on a screen, which moves them sideways */

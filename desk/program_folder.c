@@ -1,5 +1,5 @@
 /* A program that is a folder: its files that end in .s19 or .asm, at most nine, in the order of the bytes of their
- * names. Nobody typed these names: no link among them is followed, unless links are, and no pipe or device is opened. */
+ * names. Nobody typed these names: a link among them is followed where all links are, and no pipe or device is opened. */
 #include <dirent.h>
 #include <errno.h>
 #include <fcntl.h>

@@ -35,21 +35,29 @@ static int is_right(const struct sitting *s, const struct row *r)
     return (!p->expected || r->agrees == 1) && (!p->awards.pass_line || has_passed(s, r) == 1);
 }
 
-/* The points of each award, the total, and whether that is enough, each behind a mark. */
+/* The points of each award, each between two marks. */
 static void add_points(struct text *t, const struct sitting *s, const struct row *r, const char *mark, const char *end)
 {
     const struct awards *a = &s->paper->awards;
-    static const char *const words[] = {"", "no", "yes"};
     for (size_t i = 0; i < a->many; i++) {
         addf(t, "%s", mark);
         if (has_points(r))
             addf(t, "%lu", (unsigned long)points_of(a, i, r->met));
         addf(t, "%s", end);
     }
-    addf(t, "%s", mark);
+}
+
+static void add_sum_of(struct text *t, const struct sitting *s, const struct row *r)
+{
     if (has_points(r))
-        addf(t, "%lu", (unsigned long)total_of(a, r->met));
-    addf(t, "%s%s%s%s", end, mark, words[has_passed(s, r) + 1], end);
+        addf(t, "%lu", (unsigned long)total_of(&s->paper->awards, r->met));
+}
+
+/* yes or no; nothing where the paper does not say who passes. */
+static const char *passed_word(const struct sitting *s, const struct row *r)
+{
+    static const char *const words[] = {"", "no", "yes"};
+    return words[has_passed(s, r) + 1];
 }
 
 static void add_csv_heads(struct text *t, const struct awards *a)
@@ -92,8 +100,12 @@ static void add_csv_row(struct text *t, const struct sitting *s, size_t i, const
     add_csv(t, r->handlers.at, r->handlers.length);
     addf(t, ",");
     add_csv(t, r->application.at, r->application.length);
-    if (s->paper->awards.many)
+    if (s->paper->awards.many) {
         add_points(t, s, r, ",", "");
+        addf(t, ",");
+        add_sum_of(t, s, r);
+        addf(t, ",%s", passed_word(s, r));
+    }
     addf(t, "\n");
 }
 
@@ -130,13 +142,20 @@ static void add_html_row(struct text *t, const struct sitting *s, size_t i, cons
     addf(t, "\">");
     add_name(t, r->name);
     addf(t, "</a></td><td class=\"nowrap\">%s</td>", verdict(r));
-    if (s->paper->awards.many)
-        add_points(t, s, r, "<td class=\"n\">", "</td>");
-    addf(t, "<td class=\"n any sheet\">");
+    if (s->paper->awards.many) {
+        addf(t, "<td class=\"right\">");
+        add_sum_of(t, s, r);
+        addf(t, "</td>");
+        if (s->paper->awards.pass_line)
+            addf(t, "<td>%s</td>", passed_word(s, r));
+        add_points(t, s, r, "<td class=\"right\">", "</td>");
+    }
+    addf(t, "<td class=\"n any sheet more\">");
     add_html(t, r->line.at, r->line.length);
     addf(t, "%s", r->line.length && r->says.length ? "<br>" : "");
     add_html(t, r->says.at, r->says.length);
-    addf(t, "</td><td class=\"n\">%lu</td><td class=\"n\">%lu</td><td>%s</td><td>%s</td><td class=\"n any\">",
+    addf(t, "</td><td class=\"n more\">%lu</td><td class=\"n more\">%lu</td><td class=\"more\">%s</td>"
+            "<td class=\"more\">%s</td><td class=\"n any more\">",
         (unsigned long)r->steps, (unsigned long)r->deepest, r->handlers.at, r->application.at);
     add_screen(t, &r->screen);
     addf(t, "</td></tr>\n");
@@ -171,13 +190,13 @@ static void add_find(struct text *t, const struct paper *p)
 
 static void add_index_heads(struct text *t, const struct awards *a)
 {
-    open_heads(t);
-    add_heads(t, "|Program|Verdict");
+    open_heads(t, a->many ? " points" : "");
+    add_heads(t, "|Program|Verdict", "");
+    if (a->many)
+        addf(t, "<th>Points<br>of %lu</th>%s", (unsigned long)most_of(a), a->pass_line ? "<th>Passed</th>" : "");
     for (size_t i = 0; i < a->many; i++)
         add_html_head(t, &a->list[i]);
-    if (a->many)
-        addf(t, "<th class=\"award\">Points<br>of %lu</th><th>Passed</th>", (unsigned long)most_of(a));
-    add_heads(t, "Line, or refusal|Steps|Depth|Handlers|Application|Screen");
+    add_heads(t, "Line, or refusal|Steps|Depth|Handlers|Application|Screen", " class=\"more\"");
     close_heads(t);
 }
 
@@ -194,6 +213,8 @@ static void add_index_head(struct text *t, const struct sitting *s, const struct
     if (p->awards.pass_line)
         addf(t, "<p>%lu of %lu points are enough to pass.</p>\n", (unsigned long)p->awards.pass,
             (unsigned long)most_of(&p->awards));
+    if (p->awards.many)
+        addf(t, "<p class=\"on_paper\">Lines, steps, findings and screens are in results.csv and on the pages.</p>\n");
     if (p->expected) {
         addf(t, "<p>Expected:</p>\n<pre class=\"line\">");
         add_name(t, p->expected);

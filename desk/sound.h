@@ -32,7 +32,7 @@ const uint8_t *finding_of(const struct verdict *v, unsigned kind);
 void add_sound(struct text *t); /* the sentence of a run in which nothing is found */
 void add_deep(struct text *t, const struct verdict *v); /* where the reason is XM23_REASON_DEEP: no further */
 
-/* Whether a run that is judged to its end has no finding about handlers, kinds 0 to 5, or about the application, 6 to 8. */
+/* Whether a run that is judged to its end has no finding about handlers, kinds 0 to 5; about the application, 6 to 8. */
 int is_sound(const struct verdict *v);
 int is_undisturbed(const struct verdict *v);
 

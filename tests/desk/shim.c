@@ -1,9 +1,10 @@
 /*
  * Put before the C library by LD_PRELOAD, so that a test can have the system fail, and see in which order it is called.
- * SHIM_NOTES names a file that gets a line for each call; SHIM_FAILS is CALL:ERRNO, or CALL:ERRNO:NTH. openat and read
- * fail of `trouble` and `trouble.s19`, fsync of folders.
+ * SHIM_NOTES names a file that gets a line for each call; SHIM_FAILS is CALL:ERRNO, or CALL:ERRNO:NTH. openat, read and
+ * readdir fail of `trouble` and `trouble.s19`, fsync of folders.
  */
 #define _GNU_SOURCE
+#include <dirent.h>
 #include <dlfcn.h>
 #include <errno.h>
 #include <fcntl.h>
@@ -80,6 +81,13 @@ ssize_t read(int file, void *to, size_t most)
     if (file >= 0 && file < (int)sizeof troubled && troubled[file] && fails("read"))
         return -1;
     return real(file, to, most);
+}
+
+struct dirent *readdir(DIR *folder)
+{
+    struct dirent *(*real)(DIR *) = (struct dirent * (*)(DIR *))dlsym(RTLD_NEXT, "readdir");
+    int file = dirfd(folder);
+    return file >= 0 && file < (int)sizeof troubled && troubled[file] && fails("readdir") ? NULL : real(folder);
 }
 
 int fsync(int file)

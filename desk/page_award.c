@@ -2,15 +2,15 @@
 #include "awarded.h"
 #include "page.h"
 
-static void add_cell(struct text *t, struct text *words, const char *mark)
+static void add_cell(struct text *t, struct text *words, const char *classes)
 {
-    addf(t, "<td class=\"any\">%s", mark);
+    addf(t, "<td class=\"%s\">", classes);
     add_html(t, words->length ? words->at : "", words->length);
     addf(t, "</td>");
     drop_text(words);
 }
 
-/* One that is not met is marked, in words too. */
+/* One that is not met is marked, and its points say so. */
 static void add_row(struct text *t, const struct awards *a, size_t i, const struct marked *m, const struct closing *c)
 {
     struct text subject = {0}, wanted = {0}, found = {0};
@@ -18,11 +18,11 @@ static void add_row(struct text *t, const struct awards *a, size_t i, const stru
     add_subject(&subject, &a->list[i]);
     add_wanted(&wanted, &a->list[i]);
     add_found(&found, &a->list[i], c, m->verdict);
-    addf(t, "<tr%s><td>%lu of %u</td>", met ? "" : " class=\"other\"", (unsigned long)points_of(a, i, m->row.met),
+    addf(t, "<tr%s><td class=\"nowrap\">%lu of %u</td>", met ? "" : " class=\"other\"", (unsigned long)points_of(a, i, m->row.met),
         a->list[i].points);
-    add_cell(t, &subject, "");
-    add_cell(t, &wanted, "");
-    add_cell(t, &found, met ? "" : "not so: ");
+    add_cell(t, &subject, "small");
+    add_cell(t, &wanted, "n any");
+    add_cell(t, &found, "n any");
     addf(t, "</tr>\n");
 }
 

@@ -245,12 +245,12 @@ same 'who is neither' "$(grep -o 'data-agrees="[a-z]*"' some/index.html | tr '\n
     'data-agrees="no" data-agrees="no" '
 awards_of() { # PAGE: the table of awards, a bar between two cells
     sed -n '/<div id="awards">/,/^<\/div>$/p' "$1" |
-        sed -n 's/<\/td><td[^>]*>/|/g; s/<tr[^>]*><td>//; s/<\/td><\/tr>$//p'
+        sed -n 's/<\/td><td[^>]*>/|/g; s/<tr[^>]*><td[^>]*>//; s/<\/td><\/tr>$//p'
 }
 same 'what is found beside what is wanted' "$(awards_of marks/pages/000002-*)" \
-    '0 of 4|word $0120|= $001F|not so: $0019
-0 of 2|R0|= $001F|not so: $0019
-0 of 1|screen 2|= &#34;SUM&#34;|not so: &#34;&#34;
+    '0 of 4|word $0120|= $001F|$0019
+0 of 2|R0|= $001F|$0019
+0 of 1|screen 2|= &#34;SUM&#34;|&#34;&#34;
 3 of 3|word $0130|&#62;= $0002|$0002
 1 of 1|reason|!= 1|0
 2 of 2|sound||sound'
@@ -295,7 +295,7 @@ same 'what a program shows' "$("$xm23" run -l shows.paper odd.asm | tail -2 | he
     '     0 of 1     screen 2 = "x": "=<b>\x1B"&\x00"'
 "$xm23" report -o page.html shows.paper odd.asm
 same 'on its page' "$(awards_of page.html)" \
-    '0 of 1|screen 2|= &#34;x&#34;|not so: &#34;=&#60;b&#62;\x1B&#34;&#38;\x00&#34;'
+    '0 of 1|screen 2|= &#34;x&#34;|&#34;=&#60;b&#62;\x1B&#34;&#38;\x00&#34;'
 printf ' ORG $1000\n MOVLZ $05,R1\n MOVLZ $3C,R0\nHERE ST.B R0,R1\n BRA HERE\n END\n' > loud.asm
 {
     printf 'steps 1000000\ndevice 2 $10\n'
@@ -304,7 +304,7 @@ printf ' ORG $1000\n MOVLZ $05,R1\n MOVLZ $3C,R0\nHERE ST.B R0,R1\n BRA HERE\n E
 expect 'a long screen, many times' 0 '' '' timeout 60 "$xm23" mark -o most most.paper loud.asm
 same 'has a page that is not too long' "$(python3 -B "$top/tests/desk/pages.py" most/index.html most/pages/*)" \
     'all well-formed'
-same 'and says how long it was' "$(grep -c 'not so: .* .. (499999 bytes)' most/pages/*)" 64
+same 'and says how long it was' "$(grep -c ' .. (499999 bytes)' most/pages/*)" 64
 
 # ---- the example: a program and eight handlers under a paper with awards
 cd "$sitting" || exit 1

@@ -6,10 +6,10 @@
 #include "sound.h"
 
 const struct subcommand subcommands[] = {
-    {"run", "xm23 run [-l] [-n STEP] PAPER PROGRAM", "run a program under a paper and print the line of the sheet",
+    {"run", "xm23 run [-l] [-n STEP] [PAPER] PROGRAM", "run a program under a paper and print the line of the sheet",
      "Runs PROGRAM under PAPER and prints the line of the sheet: reason, steps, R0 to R7, PSW, CEX, lines and depth,\n"
      "or R and the number of a refusal. On a terminal, or with -l, a legend follows, and what the output devices\n"
-     "showed.\n"
+     "showed. Without a PAPER the program starts with memory zero and SP $0800, and takes at most 1,000,000 steps.\n"
      "\n"
      "A PAPER is a text (man 5 xm23). A PROGRAM is S-records, or a source where its name ends in .asm.\n"
      "\n"
@@ -110,7 +110,7 @@ const struct subcommand subcommands[] = {
      xm23_desk_line},
     {"asm", "xm23 asm [-l] [-o FILE] [-s START] SOURCE", "assemble a source to S-records, or to a listing",
      "Assembles SOURCE (docs/FORMATS.md has the language) and writes the bytes that it states as S-records. A source\n"
-     "at fault is told as 'SOURCE:LINE: R17: ..', and nothing is written.\n"
+     "at fault is told as 'SOURCE:LINE: R17: ..', with a hint where one is found, and nothing is written.\n"
      "\n"
      "  -l        a listing instead: address, word, line number and line, as far as END, and where it starts\n"
      "  -o FILE   write there instead of to standard output\n"

@@ -99,6 +99,7 @@ static void run_marked(const struct sitting *s, struct marked *m)
         put_awards(s->paper, m);
     } else {
         put_fault(r, &f);
+        memcpy(m->hint, f.hint, sizeof m->hint);
     }
     drop_text(&f.why);
 }

@@ -54,6 +54,7 @@ struct marked {
     struct walk walk;
     struct names names;
     struct verdict *verdict; /* of sound.h; NULL where it was not judged */
+    char hint[sizeof ((struct fault *)0)->hint]; /* of a source that is refused */
     int ran;
 };
 

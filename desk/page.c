@@ -92,6 +92,15 @@ static void add_verdict(struct text *t, const struct row *r)
     }
 }
 
+static void add_hint_of(struct text *t, const struct marked *m)
+{
+    if (!m->hint[0])
+        return;
+    addf(t, "<p id=\"hint\">");
+    add_html(t, m->hint, strlen(m->hint));
+    addf(t, "</p>\n");
+}
+
 static void add_pre(struct text *t, const char *class, const char *bytes, size_t length)
 {
     addf(t, "<pre%s>", class);
@@ -286,6 +295,7 @@ static void add_rows(struct text *t, const struct sitting *s, const struct marke
     const struct row *r = &m->row;
     addf(t, "<!DOCTYPE html>\n");
     add_heading(t, s, r);
+    add_hint_of(t, m);
     if (m->screen.length)
         add_screen(t, &m->screen);
     if (m->ran)

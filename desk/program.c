@@ -207,9 +207,12 @@ int open_program(const struct paper *p, const struct program *program, struct ma
 
 int say_fault(const char *name, const struct fault *f)
 {
+    const char *told = f->file ? f->file->path : name;
     if (f->refusal)
-        say_at(f->file ? f->file->path : name, f->line, "R%u: %s", f->refusal, f->why.at);
+        say_at(told, f->line, "R%u: %s", f->refusal, f->why.at);
     else
         say_at(name, 0, "%s", f->why.at);
+    if (f->hint[0])
+        say_at(told, f->line, "%s", f->hint);
     return REFUSED;
 }

@@ -16,6 +16,7 @@ struct fault {
     uint32_t line;
     struct text why;
     const struct handed *file;
+    char hint[512]; /* a guess at what is wrong with the line; empty where there is none */
 };
 
 /* A file that was handed in: S-records, or a source where its name ends in .asm. */

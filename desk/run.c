@@ -1,4 +1,4 @@
-/* xm23 run: one program under a paper. */
+/* xm23 run: one program under a paper, or under none. */
 #include <string.h>
 #include <unistd.h>
 
@@ -12,8 +12,12 @@ struct asked {
     uint32_t count;
 };
 
+/* What stands for a paper where none is named. */
+static const char no_name[] = "no paper", no_lines[] = "steps 1000000\nstart SP=$0800\n";
+
 /* The line, and behind it the legend, what the screen showed and the awards where they are asked for. */
-static int tell_line(const char *line, const struct text *screen, const struct text *awards, int legend)
+static int tell_line(const struct paper *p, const char *line, const struct text *screen, const struct text *awards,
+                     int legend)
 {
     struct text t = {0};
     int status;
@@ -23,6 +27,8 @@ static int tell_line(const char *line, const struct text *screen, const struct t
         addf(&t, "\n");
         add_legend(&t, line);
     }
+    if (legend && *line && p->name == no_name)
+        addf(&t, "  paper   none      memory zero, SP 0800, at most 1,000,000 steps\n");
     if (legend && screen->length) {
         addf(&t, "\n  screen  ");
         add_plain(&t, screen->at, screen->length);
@@ -83,7 +89,7 @@ static int run_program(const struct paper *p, const struct program *program, int
         if (f.refusal)
             addf(&line, "R%u", f.refusal);
     }
-    status = tell_line(line.at, &screen, &awards, legend);
+    status = tell_line(p, line.at, &screen, &awards, legend);
     if (status == DONE) {
         int as_it_should = agrees(p, line.at), enough = points_enough(p, met);
         status = ran && as_it_should && enough ? DONE : REFUSED;
@@ -114,7 +120,7 @@ static int run_early(const struct paper *p, const struct program *program, const
         add_line(&line, &m, p, step);
         o.screen = &screen;
         run_machine(&m, p, step, &o);
-        status = tell_line(line.at, &screen, &awards, a->legend);
+        status = tell_line(p, line.at, &screen, &awards, a->legend);
     }
     drop_text(&line);
     drop_text(&screen);
@@ -131,6 +137,13 @@ static int run_file(const struct paper *p, const char *name, const struct asked 
     return status;
 }
 
+static int no_paper(struct paper *p)
+{
+    struct text bytes = {0};
+    add_bytes(&bytes, no_lines, sizeof no_lines - 1);
+    return take_paper(no_name, bytes.at, bytes.length, p);
+}
+
 int xm23_desk_run(int argc, char **argv)
 {
     static struct paper p;
@@ -143,11 +156,11 @@ int xm23_desk_run(int argc, char **argv)
         else if (option != 'n' || !(a.early = step_word(optarg, &a.count)))
             return misused("run");
     }
-    if (argc - optind != 2)
+    if (argc - optind != 1 && argc - optind != 2)
         return misused("run");
-    status = read_paper(argv[optind], &p);
+    status = argc - optind == 1 ? no_paper(&p) : read_paper(argv[optind], &p);
     if (status == DONE) {
-        status = run_file(&p, argv[optind + 1], &a);
+        status = run_file(&p, argv[argc - 1], &a);
         drop_paper(&p);
     }
     return status;

@@ -3,10 +3,12 @@
  * xm23_places, every byte by xm23_assemble. Here lines are cut, at LF and CR LF, and of the language one thing is read:
  * the first word of a line that the library says to have a name.
  */
+#include <stdio.h>
 #include <stdlib.h>
 #include <string.h>
 
 #include "source.h"
+#include "hint.h"
 
 enum { MOST_BELOW = 16 }; /* calls for bytes on which later lines stand */
 
@@ -136,6 +138,15 @@ uint32_t line_stating(const char *source, size_t length, unsigned at)
     return (uint32_t)line;
 }
 
+static void put_hint(const char *source, size_t length, struct fault *f)
+{
+    struct text t = {0};
+    addf(&t, "%s", "");
+    add_hint(&t, source, length, f->refusal, f->line);
+    snprintf(f->hint, sizeof f->hint, "%s", t.at);
+    drop_text(&t);
+}
+
 int assemble_source(const char *source, size_t length, struct assembled *a, struct fault *f)
 {
     uint64_t reply;
@@ -145,6 +156,7 @@ int assemble_source(const char *source, size_t length, struct assembled *a, stru
         f->refusal = XM23_REFUSAL(reply);
         f->line = XM23_ASSEMBLE_LINE(reply);
         addf(&f->why, "%s", xm23_refusal_text(f->refusal));
+        put_hint(source, length, f);
         return 0;
     }
     find_stated(source, length, a);

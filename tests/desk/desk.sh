@@ -49,7 +49,7 @@ expect 'another line' 1 '0 120 0019 .*' "$paper:21: another line was expected: $
     "$xm23" run "$paper" "${sound%/*}/unsound.s19"
 expect 'a refused program' 1 'R11' ".*refused.s19:2: R11: a line's checksum differs.*" \
     "$xm23" run "$paper" "${sound%/*}/refused.s19"
-expect 'run with one word' 2 '' "$(usage run)" "$xm23" run "$paper"
+expect 'a paper alone, taken for a program' 1 R10 "$paper:1: R10: .*" "$xm23" run "$paper"
 expect 'run with three words' 2 '' "$(usage run)" "$xm23" run "$paper" "$sound" "$sound"
 expect 'no such paper' 3 '' 'no/paper: No such file.*' "$xm23" run no/paper "$sound"
 expect 'a folder as paper' 3 '' '/: is a folder' "$xm23" run / "$sound"
@@ -225,7 +225,7 @@ assembled 0 $'.*0000  70  .*' '' ' ORG #70000\nA BSS #0\n ORG #0\n BYTE (A-$1110
 { for i in $(seq 32768); do echo 'WORD #7'; done; echo END; } > "$room/all.asm"
 expect 'all of memory' 0 'S113[^Z]*S113FFF0[0-9A-F]*'$'\n''S9030000FC' '' "$xm23" asm "$room/all.asm"
 assembled 1 '' "$room/a.asm:2: R17: a line fits no statement.*" ' BYTE #1\n HALT R0\nEND'
-assembled 1 '' "$room/a.asm:3: R17: .*END is missing" ' BYTE #1\nA\n'
+assembled 1 '' "$room/a.asm:3: R17: .*END is missing.*:3: END is missing, .*" ' BYTE #1\nA\n'
 assembled 1 '' "$room/a.asm:1: R17: .*" ''
 assembled 1 '' "$room/a.asm:1: R18: a name is unknown.*" ' BRA X\nEND' -l
 assembled 1 '' "$room/a.asm:2: R19: a value leaves 32 bits.*" 'A\n BYTE #256\nEND' -o "$room/none.s19"

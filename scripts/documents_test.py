@@ -1,11 +1,13 @@
 #!/usr/bin/env python3
-"""width.py, desk_lines.py and decisions.py held to what they must refuse. The last line is 'N passed, M failed'."""
+"""width.py, references.py, desk_lines.py and decisions.py held to what they must refuse. The last line is
+'N passed, M failed'."""
 import pathlib
 import sys
 import tempfile
 
 import decisions
 import desk_lines
+import references
 import width
 
 
@@ -18,6 +20,17 @@ def wide(path, text):
         files, found = width.check(name)
         assert files == 1
         return len(found)
+
+
+def named(text, page="docs/A.md"):
+    """(how many names references.py finds in a page, how many of them are not there)."""
+    with tempfile.TemporaryDirectory() as name:
+        root = pathlib.Path(name)
+        for path in ("scripts/a.py", "crates/alu/specs/Alu.antt", page):
+            (root / path).parent.mkdir(parents=True, exist_ok=True)
+            (root / path).write_text(text, encoding="utf-8")
+        looked, wrong = references.check(root)
+        return looked, len(wrong)
 
 
 LINES = {"a.c": 10, "b.c": 20}
@@ -52,6 +65,12 @@ CASES = {
     "a row of 301": wide("CHANGELOG.md", "|" + "x" * 300) == 1,
     "a manual page": wide("man/a.1", "x" * 161) == 1,
     "a text": wide("docs/a.txt", "x" * 161) == 1,
+    "files that are there": named("scripts/a.py, (crates/alu), `alu/specs/Alu.antt`, crates/*/specs/.") == (4, 0),
+    "a file that is gone": named("scripts/a.py and scripts/b.py") == (2, 1),
+    "a file of a crate that is gone": named("`alu/specs/Sums.antt`", "man/a.1") == (1, 1),
+    "a folder that is gone": named("see tests/none/") == (1, 1),
+    "a name that is cut short, and other paths": named("scripts/.., /usr/scripts/x, build/scripts/x") == (0, 0),
+    "notes of their time": named("scripts/b.py", "docs/landings/a.md") == (0, 0),
     "a sound table": lines_wrong(TABLE) == 0,
     "another number": lines_wrong(TABLE.replace("20", "21")) == 1,
     "a file that no row has": lines_wrong(TABLE, {**LINES, "c.c": 1}) == 1,

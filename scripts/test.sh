@@ -153,6 +153,7 @@ part 'what the trace refuses' count_line python3 -B scripts/trace_test.py
 part 'trace to 01' count_line python3 -B scripts/trace.py
 part 'what the documents refuse' count_line python3 -B scripts/documents_test.py
 part 'width of the documents' count_line python3 -B scripts/width.py
+part 'files that the documents name' count_line python3 -B scripts/references.py
 part 'lines of the desk' count_line python3 -B scripts/desk_lines.py --check
 part 'the kit that is named' count_status kit_named
 part 'decisions and their index' count_line python3 -B scripts/decisions.py --check

@@ -10,7 +10,6 @@ use mathlib.Core.Path.{_≡_, refl, sym, ap, subst, _∙_}
 use lib.Dec.{eqb, ltb}
 use lib.ListN.{length, length-append}
 use lib.Seq.{sets, length-sets}
-use borrow.Author.Tests.{lt-ltb}
 use Rattle.word.specs.Psw.{bitOf}
 use Rattle.machine.specs.declared.Rest.{Rest}
 use Rattle.machine.specs.State.{State}
@@ -24,7 +23,8 @@ use Rattle.machine_laws.proofs.Cases.{bool-cases, eq-of, lt-of, ge-of, is-lt, n
 use Rattle.machine_laws.proofs.Runs.{step-live}
 use Rattle.devices.specs.Cursor.{Ordered}
 use Rattle.devices.proofs.Laws.{stepAt, step-le}
-use Rattle.turn.specs.Due.{dueOf, Awaits}
+use Rattle.turn.specs.Due.{Awaits}
+use Rattle.turn.proofs.Laws.{due-in}
 use Rattle.trace.specs.Trace.{Entry, tracedOf, traceBytes}
 use Rattle.trace.specs.Traced.{Traced, traced, runTraced}
 use Rattle.trace.specs.Before.{eventsBefore}
@@ -91,10 +91,6 @@ sparse-of ks h =
     record { sleep = p .0; skip = q .0; plain = r .0; load = s .0; store = s .1 }
 
 -- ---- no event due
-
-due-in : (b : List ℕ) (k : ℕ) → k < eventCount b → dueOf b k ≡ eventAt b k .step
-unfolding dueOf
-due-in b k h = rw (lt-ltb k (eventCount b) h)
 
 none-from : (b : List ℕ) (n i k : ℕ) → ((j : ℕ) → j < i + n → eventAt b j .step ≢ k) → NoneOf (eventsFrom b i n) k
 unfolding eventsFrom

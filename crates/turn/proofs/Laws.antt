@@ -31,7 +31,8 @@ use Rattle.turn.specs.Due.{dueOf, Awaits}
 
 -- ---- the event awaited
 
-due-in : (b : List ℕ) (k : ℕ) → k < eventCount b → dueOf b k ≡ eventAt b k .step
+-- the step of a record that there is
+pub due-in : (b : List ℕ) (k : ℕ) → k < eventCount b → dueOf b k ≡ eventAt b k .step
 unfolding dueOf
 due-in b k h = rw (lt-ltb k (eventCount b) h)
 

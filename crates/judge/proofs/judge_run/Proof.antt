@@ -71,12 +71,29 @@ loop-holds c =
       refl,
     )
 
--- ways back: from the loop to the start, from a turn to the loop
+-- ways back: from the loop to the start, from a turn to the loop; from the end of a turn to its plan, from there to its events, to the
+-- bytes that it keeps and to its beginning; from its events to the loop
 abbrev start : tie.At-loop Inv-loop μ-loop → tie.Start Inv-loop μ-loop
 start c = c .before .before .before .before .before .before .before .before .before
 
 abbrev loop-of : tie.Then1 Inv-loop μ-loop → tie.At-loop Inv-loop μ-loop
 loop-of c = c .before .before
+
+abbrev plan-of : tie.After-at Inv-loop μ-loop → tie.After-plan Inv-loop μ-loop
+plan-of c = c .before .before .before .before .before .before .before .before .before .before .before .before .before .before .before
+    .before .before .before .before .before .before .before .before
+
+abbrev delivery-of : tie.After-plan Inv-loop μ-loop → tie.After-deliver-due Inv-loop μ-loop
+delivery-of c = c .before .before .before .before .before .before
+
+abbrev keep-of : tie.After-plan Inv-loop μ-loop → tie.After-keep Inv-loop μ-loop
+keep-of c = delivery-of c .before .before .before
+
+abbrev turn-of : tie.After-plan Inv-loop μ-loop → tie.Then1 Inv-loop μ-loop
+turn-of c = keep-of c .before .before .before .before
+
+abbrev turned : tie.After-deliver-due Inv-loop μ-loop → tie.At-loop Inv-loop μ-loop
+turned c = c .before .before .before .before .before .before .before .before .before
 
 -- a turn that is begun is of a machine not halted, with steps to do
 on : (c : tie.Then1 Inv-loop μ-loop)
@@ -109,39 +126,35 @@ plan-requires c κs =
 
 slice-aggregate-put-back : tie.Need-slice-aggregate-put-back Inv-loop μ-loop
 slice-aggregate-put-back c =
-    let at-keep = c .before .before .before .before .before .before .before .before .before .before .before .before .before in
-    omega (arith, at-keep .keep .ensures .1)
+    let p : tie.After-plan Inv-loop μ-loop = search in
+    omega (arith, keep-of p .keep .ensures .1)
 
 put-back-requires : tie.Need-put-back-requires Inv-loop μ-loop
 put-back-requires c κs =
     let p = c .before .before .before .before in
-    let at-keep = p .before .before .before .before .before .before .before .before .before in
-    (plan-requires (p .before) (p .plan .lifetimes) .0, omega (arith, at-keep .keep .ensures .1))
+    (plan-requires (p .before) (p .plan .lifetimes) .0, omega (arith, keep-of p .keep .ensures .1))
 
 slice-aggregate-take : tie.Need-slice-aggregate-take Inv-loop μ-loop
 slice-aggregate-take c =
-    let at-if1 = c .before .before .before .before .before .before .before .before .before .before .before .before .before .before
-    .before .before .before .before .before in
-    omega (arith, loop-of at-if1 .loop .inv .7 .0)
+    let p : tie.After-plan Inv-loop μ-loop = search in
+    omega (arith, loop-of (turn-of p) .loop .inv .7 .0)
 
 slice-aggregate-take-2 : tie.Need-slice-aggregate-take-2 Inv-loop μ-loop
 slice-aggregate-take-2 c =
-    let at-if1 = c .before .before .before .before .before .before .before .before .before .before .before .before .before .before
-    .before .before .before .before .before .before in
-    omega (arith, loop-of at-if1 .loop .inv .7 .1)
+    let p : tie.After-plan Inv-loop μ-loop = search in
+    omega (arith, loop-of (turn-of p) .loop .inv .7 .1)
 
 slice-aggregate-take-3 : tie.Need-slice-aggregate-take-3 Inv-loop μ-loop
 slice-aggregate-take-3 c =
-    let at-if1 = c .before .before .before .before .before .before .before .before .before .before .before .before .before .before
-    .before .before .before .before .before .before .before in
-    omega (arith, loop-of at-if1 .loop .inv .7 .2)
+    let p : tie.After-plan Inv-loop μ-loop = search in
+    omega (arith, loop-of (turn-of p) .loop .inv .7 .2)
 
 take-requires : tie.Need-take-requires Inv-loop μ-loop
 take-requires c κs =
     let at-if2 : tie.Else2 Inv-loop μ-loop = search in
     let at-too-deep : tie.After-too-deep Inv-loop μ-loop = search in
     let p : tie.After-plan Inv-loop μ-loop = search in
-    let i = p .before .before .before .before .before .before .before .before .before .before .before .before .before in
+    let i = turn-of p in
     let l = loop-of i in
     let s = start l in
     let e = ap (λ (x : State). x .count) (l .before .before .before .rest-of .ensures []) in
@@ -159,28 +172,11 @@ take-requires c κs =
 
 add-done : tie.Need-add-done Inv-loop μ-loop
 add-done c =
-    let at-if1 = c .before .before .before .before .before .before .before .before .before .before .before .before .before .before
-    .before .before .before .before .before .before .before .before .before .before .before .before .before .before .before .before
-    .before .before .before .before .before .before in
-    omega (arith, on at-if1 .1, start (loop-of at-if1) .pre .4)
+    let i = turn-of (plan-of c) in
+    omega (arith, on i .1, start (loop-of i) .pre .4)
 
 loop-less : tie.Need-loop-less Inv-loop μ-loop
-loop-less c =
-    let at-if1 = c .before .before .before .before .before .before .before .before .before .before .before .before .before .before
-    .before .before .before .before .before .before .before .before .before .before .before .before .before .before .before .before
-    .before .before .before .before .before .before in
-    omega (arith, on at-if1 .1)
-
--- ways back from the end of a turn: to its plan, from there to its events, from there to the loop
-abbrev plan-of : tie.After-at Inv-loop μ-loop → tie.After-plan Inv-loop μ-loop
-plan-of c = c .before .before .before .before .before .before .before .before .before .before .before .before .before .before .before
-    .before .before .before .before .before .before .before .before
-
-abbrev delivery-of : tie.After-plan Inv-loop μ-loop → tie.After-deliver-due Inv-loop μ-loop
-delivery-of c = c .before .before .before .before .before .before
-
-abbrev turned : tie.After-deliver-due Inv-loop μ-loop → tie.At-loop Inv-loop μ-loop
-turned c = c .before .before .before .before .before .before .before .before .before
+loop-less c = omega (arith, on (turn-of (plan-of c)) .1)
 
 -- a step that is taken: what it begins in, and its plan
 abbrev begins : (c : tie.After-at Inv-loop μ-loop) → State

@@ -155,8 +155,10 @@ static void print_shown(const struct machine *m, unsigned device)
 static const char *depth(const struct machine *m, char line[XM23_LINE_SIZE])
 {
     uint32_t reply = xm23_sheet(m->input, m->length, (uint8_t *)line, XM23_LINE_SIZE);
+    const char *last;
     line[XM23_LINE_LENGTH(reply) - 1] = '\0'; /* its LF */
-    return strrchr(line, ' ') + 1;
+    last = strrchr(line, ' ');
+    return last ? last + 1 : line; /* of a refused run the line is one word */
 }
 
 static void print_line(const struct machine *m)

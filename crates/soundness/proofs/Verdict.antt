@@ -1,5 +1,5 @@
 -- A call that leaves what `judgeCallOf` gives keeps its promise. Assumes nothing.
-use Prim.Native.Nat.{ℕ, _+_, _-_, _*_, _/_, _%_, _<_, _≤_}
+use Prim.Native.Nat.{ℕ, _+_, _*_, _/_, _%_, _<_, _≤_}
 use native.Mathlib.Omega.{arith}
 use mathlib.Core.Bool.{Bool, true, false, cond, not, _&&_}
 use mathlib.Core.List.{List}
@@ -34,7 +34,7 @@ use Rattle.soundness.specs.Soundness.{FailsAt, KindJudged}
 use Rattle.soundness.specs.Watch.{Watch}
 use Rattle.soundness.specs.Judge.{Judging, judgedReason, closingTold, findingsBytes, JudgeClosing, judgeRefusal, judgeRefused}
 use Rattle.soundness.specs.Judge.{judgeAccepted, judgedOn, judgeCallOf}
-use Rattle.soundness.specs.Verdict.{countIn, TrueVerdict, Judgement}
+use Rattle.soundness.specs.Verdict.{countIn, FoundAt, TrueVerdict, Judgement}
 use Rattle.soundness.proofs.Changes.{bit-clear}
 use Rattle.soundness.proofs.Soundness.{judges-kinds}
 use Rattle.soundness.proofs.Watch.{writer-is, foreign-within}
@@ -255,18 +255,19 @@ module _
         is-found κ e = sym (ap (λ (y : Finding). y .found) (tries memory r events n begins .tells κ)) ∙ e
 
         least : (κ : Kind) → foundOf ev s κ (x .steps) .found ≡ true
-            → FailsAt memory r events κ (x .steps) (countIn findings′ κ - s .count)
+            → FoundAt memory r events κ (x .steps) (countIn findings′ κ)
         least κ e =
             let t = tries memory r events n begins in
             let F = judged κ .least e in
             let w = fails-within memory r events κ (x .steps) (foundOf ev s κ (x .steps) .step) F in
             let c : s .count + n ≤ 4294967295 =
             subst (λ k. k + n ≤ 4294967295) (sym (count-is r memory)) (passed memory r events n ok .count-fits) in
-            let told-count : countIn findings′ κ ≡ s .count + foundOf ev s κ (x .steps) .step =
-            ap (λ l. countIn l κ) (ef ∙ (λ i. findingsBytes (s .count) (λ κ. t .tells κ i)))
-            ∙ count-told (s .count) (λ κ. foundOf ev s κ (x .steps)) κ e (omega (arith, c, w, run-follows ev s n .within)) in
-            let is : foundOf ev s κ (x .steps) .step ≡ countIn findings′ κ - s .count = omega (arith, told-count) in
-            subst (FailsAt memory r events κ (x .steps)) is F
+            record {
+              step = foundOf ev s κ (x .steps) .step;
+              counted = ap (λ l. countIn l κ) (ef ∙ (λ i. findingsBytes (s .count) (λ κ. t .tells κ i)))
+                  ∙ count-told (s .count) (λ κ. foundOf ev s κ (x .steps)) κ e (omega (arith, c, w, run-follows ev s n .within));
+              fails = F;
+            }
 
 -- of a call whose reply and buffers are those of `judgeCallOf`
 pub judgement : (memory r events writers findings : List ℕ) (n reply : ℕ) (memory′ r′ writers′ findings′ : List ℕ)

@@ -3,7 +3,7 @@
 -- events; a kind is found exactly if its own premise fails, and its finding tells the step at which that first fails
 -- (document 01, "Resumption"; document 02, §13).
 -- Assumes nothing.
-use Prim.Native.Nat.{ℕ, zero, suc, _-_, _*_, _/_, _%_, _^_, _<_}
+use Prim.Native.Nat.{ℕ, zero, suc, _+_, _*_, _/_, _%_, _^_, _<_}
 use mathlib.Core.Bool.{cond}
 use mathlib.Core.List.{List}
 use mathlib.Core.Path.{_≡_}
@@ -51,6 +51,13 @@ bitIn kinds κ = kinds / 2 ^ numberOf κ % 2
 abbrev pub countIn : (findings : List ℕ) → Kind → ℕ
 countIn findings κ = fourAt findings (16 * numberOf κ)
 
+-- What a finding of a kind tells of a run of n: a step, by the step count before it, at which that kind's own premise
+-- first fails. [01 Resumption; call judge]
+pub record FoundAt (memory r events : List ℕ) (κ : Kind) (n count : ℕ) : Type 0 where
+  pub step : ℕ
+  pub counted : count ≡ stateIn r memory .count + step
+  pub fails : FailsAt memory r events κ n step
+
 -- Of a call that was handed memory, r and events, did so many steps, found these kinds, a bit for each, and leaves the
 -- buffers with a prime. [01 Resumption; 02 §13; call judge]
 pub record TrueVerdict
@@ -67,9 +74,8 @@ pub record TrueVerdict
   -- kind by kind: a bit is clear exactly if that kind's own premise holds of the steps done
   pub kind-sound : (κ : Kind) → bitIn kinds κ ≡ 0 → Premise memory r events κ steps
   pub kind-complete : (κ : Kind) → Premise memory r events κ steps → bitIn kinds κ ≡ 0
-  -- and where it is set, the finding tells the step at which that premise first fails, by the step count before it
-  pub kind-least : (κ : Kind) → bitIn kinds κ ≡ 1
-      → FailsAt memory r events κ steps (countIn findings′ κ - stateIn r memory .count)
+  -- and where it is set, the finding tells the step at which that premise first fails
+  pub kind-least : (κ : Kind) → bitIn kinds κ ≡ 1 → FoundAt memory r events κ steps (countIn findings′ κ)
   -- each byte's mark says who wrote it last; it is 2 exactly if a handler or an entry did
   pub marks : (a : ℕ) → a < 65536 → byteAt writers′ a ≡ lastWriter (eventsOf events) (stateIn r memory) steps a
   pub foreign-marks : (a : ℕ) → a < 65536

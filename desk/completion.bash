@@ -4,7 +4,7 @@ _xm23() {
     COMPREPLY=()
     compopt -o filenames 2> /dev/null
     if [ "$COMP_CWORD" -eq 1 ]; then
-        mapfile -t COMPREPLY < <(compgen -W 'run mark report back events sound line asm dis paper stack card --help --version' -- "$word")
+        mapfile -t COMPREPLY < <(compgen -W 'run mark report back events sound line asm dis paper check stack card --help --version' -- "$word")
         return
     fi
     case ${COMP_WORDS[1]} in
@@ -15,7 +15,7 @@ _xm23() {
         asm) options='-l -o -s --help' ;;
         report) options='-s -a -o --help' ;;
         dis | paper | card) options='-o --help' ;;
-        sound | line | stack) options='--help' ;;
+        sound | line | check | stack) options='--help' ;;
     esac
     if [[ $before == -[ajsnw] ]]; then
         return

@@ -77,27 +77,25 @@ void trace_events(struct fates *f, struct picture *d, const struct paper *p, str
 
 /* ---- in words */
 
-enum { TAKEN, ENA_CLEAR, BEFORE_START, AFTER_END, NOT_TAKEN, IE_CLEAR, COUNT_FULL, WAITS, ACCEPTED, CHAINED, WORDS };
+static const char *const words[EVENT_WORDS] = {"taken", "ENA clear", "before the start", "after the end", "",
+                                               "IE clear", "count full", "waits", "accepted", "chained"};
 
-static const char *const words[WORDS] = {"taken", "ENA clear", "before the start", "after the end", "", "IE clear",
-                                         "count full", "waits", "accepted", "chained"};
-
-static int event_of(const struct fates *f, const struct paper *p, size_t i)
+int event_of(const struct fates *f, const struct paper *p, size_t i)
 {
     if (f->each[i].due)
-        return f->each[i].effect & XM23_EFFECT_TAKEN ? TAKEN : ENA_CLEAR;
-    return p->events[i].step < f->start ? BEFORE_START : AFTER_END;
+        return f->each[i].effect & XM23_EFFECT_TAKEN ? EVENT_TAKEN : EVENT_ENA_CLEAR;
+    return p->events[i].step < f->start ? EVENT_BEFORE_START : EVENT_AFTER_END;
 }
 
-static int interrupt_of(const struct fate *e)
+int interrupt_of(const struct fate *e)
 {
     if (!(e->effect & XM23_EFFECT_TAKEN))
-        return NOT_TAKEN;
+        return EVENT_NOT_TAKEN;
     if (!(e->effect & XM23_EFFECT_RAISED))
-        return IE_CLEAR;
+        return EVENT_IE_CLEAR;
     if (!raised(e))
-        return COUNT_FULL;
-    return e->entry == XM23_KIND_ACCEPT ? ACCEPTED : e->entry == XM23_KIND_CHAIN ? CHAINED : WAITS;
+        return EVENT_COUNT_FULL;
+    return e->entry == XM23_KIND_ACCEPT ? EVENT_ACCEPTED : e->entry == XM23_KIND_CHAIN ? EVENT_CHAINED : EVENT_WAITS;
 }
 
 const char *event_word(const struct fates *f, const struct paper *p, size_t i)
@@ -119,7 +117,7 @@ const char *overrun_word(const struct fate *e)
 
 void add_totals(struct text *t, const struct fates *f, const struct paper *p)
 {
-    unsigned long many[WORDS] = {0}, overruns = 0, before = f->entered;
+    unsigned long many[EVENT_WORDS] = {0}, overruns = 0, before = f->entered;
     for (size_t i = 0; i < p->many_events; i++) {
         many[event_of(f, p, i)]++;
         many[interrupt_of(&f->each[i])]++;
@@ -128,9 +126,11 @@ void add_totals(struct text *t, const struct fates *f, const struct paper *p)
     for (unsigned d = 0; d < 8; d++)
         before += f->before[d];
     addf(t, "events %lu: taken %lu, ENA clear %lu, before the start %lu, after the end %lu\n",
-        (unsigned long)p->many_events, many[TAKEN], many[ENA_CLEAR], many[BEFORE_START], many[AFTER_END]);
+        (unsigned long)p->many_events, many[EVENT_TAKEN], many[EVENT_ENA_CLEAR], many[EVENT_BEFORE_START],
+        many[EVENT_AFTER_END]);
     addf(t, "taken %lu: accepted %lu, chained %lu, waits %lu, count full %lu, IE clear %lu; overruns %lu\n",
-        many[TAKEN], many[ACCEPTED], many[CHAINED], many[WAITS], many[COUNT_FULL], many[IE_CLEAR], overruns);
+        many[EVENT_TAKEN], many[EVENT_ACCEPTED], many[EVENT_CHAINED], many[EVENT_WAITS], many[EVENT_COUNT_FULL],
+        many[EVENT_IE_CLEAR], overruns);
     if (before)
         addf(t, "waiting before the first step %lu: entered %lu\n", before, f->entered);
 }

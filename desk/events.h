@@ -30,6 +30,15 @@ void follow_trace(struct fates *f, const struct paper *p, const uint8_t *trace, 
 /* Runs on by n steps, and follows their trace; the picture too, where it is not NULL. */
 void trace_events(struct fates *f, struct picture *d, const struct paper *p, struct machine *m, uint64_t n);
 
+/* What became of an event: whether it came due and was taken; and of one taken, what its interrupt did. */
+enum {
+    EVENT_TAKEN, EVENT_ENA_CLEAR, EVENT_BEFORE_START, EVENT_AFTER_END, EVENT_NOT_TAKEN, EVENT_IE_CLEAR,
+    EVENT_COUNT_FULL, EVENT_WAITS, EVENT_ACCEPTED, EVENT_CHAINED, EVENT_WORDS
+};
+
+int event_of(const struct fates *f, const struct paper *p, size_t i);
+int interrupt_of(const struct fate *e);
+
 /* A word for each: whether it was taken, else why not; an overrun; its interrupt. Empty where it was not taken. */
 const char *event_word(const struct fates *f, const struct paper *p, size_t i);
 const char *overrun_word(const struct fate *e);

@@ -133,6 +133,19 @@ const struct subcommand subcommands[] = {
      "\n"
      "Status 1: PAPER has a mistake, or a source that it brings.\n",
      xm23_desk_paper},
+    {"check", "xm23 check PAPER [MODEL]", "look a paper over before its sitting, with the setter's own solution",
+     "Reads PAPER and prints a line for each thing to look at: no 'expect' and no 'award'; events before the start or\n"
+     "behind the last step; events on devices with ENA clear or without a vector; a 'use' of a device whose vector\n"
+     "'stack' does not know. Events of one line are one finding.\n"
+     "\n"
+     "With MODEL, a program, its run is looked at: events that come behind a halt, find ENA clear, are overruns, are\n"
+     "lost or wait at the close, or ask for a handler with no vector; bytes of MODEL over which PAPER lays others;\n"
+     "a line that is not the expected one; points that it does not get; what 'sound' finds of its handlers; a handler\n"
+     "that holds more stack bytes than its 'use', or all together more than the figure of 'stack'. Below the findings\n"
+     "stand its line, its points and the stack bytes.\n"
+     "\n"
+     "Status 0: nothing found. 1: something, or MODEL is refused, or PAPER has a mistake.\n",
+     xm23_desk_check},
     {"stack", "xm23 stack PAPER [PROGRAM]", "tell the stack bytes that a paper's handlers can need",
      "Prints the stack bytes that the handlers of the devices with a line 'use DEVICE BYTES' can need together,\n"
      "above the priority of the line 'priority P' (0). The vectors are PAPER's, and those of PROGRAM where PAPER has\n"

@@ -2,7 +2,7 @@
 #include <unistd.h>
 
 #include "desk.h"
-#include "program.h"
+#include "stack.h"
 
 /* A row for each device that the paper gives a use of, then the figure. */
 static void add_rows(struct text *t, const struct paper *p, const uint8_t *vectors, uint32_t bytes)
@@ -40,6 +40,20 @@ static unsigned without_vector(const struct paper *p, const struct assembled *a)
     return 8;
 }
 
+struct need stack_need(const struct paper *p, const struct assembled *a)
+{
+    uint8_t vectors[XM23_VECTORS_SIZE];
+    struct need n;
+    uint32_t reply;
+    lay_vectors(p, a, vectors);
+    reply = xm23_stack(vectors, sizeof vectors, p->devices, p->uses, XM23_USES_SIZE, (uint32_t)p->priority);
+    n.refusal = XM23_REFUSAL(reply);
+    n.bytes = XM23_STACK_BYTES(reply);
+    n.without = without_vector(p, a);
+    n.line = n.refusal ? line_of(p) : 0;
+    return n;
+}
+
 static int no_vector(const struct paper *p, unsigned d, const char *program)
 {
     if (program)
@@ -53,23 +67,22 @@ static int no_vector(const struct paper *p, unsigned d, const char *program)
 /* `program` is the name of the one that was given, or NULL. */
 static int tell_bytes(const struct paper *p, const struct assembled *a, const char *program)
 {
+    struct need n = stack_need(p, a);
     uint8_t vectors[XM23_VECTORS_SIZE];
     struct text t = {0};
-    uint32_t reply;
     int status;
-    lay_vectors(p, a, vectors);
-    reply = xm23_stack(vectors, sizeof vectors, p->devices, p->uses, XM23_USES_SIZE, (uint32_t)p->priority);
-    if (XM23_REFUSAL(reply)) {
-        say_at(p->name, line_of(p), "R%u: %s", XM23_REFUSAL(reply), xm23_refusal_text(XM23_REFUSAL(reply)));
+    if (n.refusal) {
+        say_at(p->name, n.line, "R%u: %s", n.refusal, xm23_refusal_text(n.refusal));
         return REFUSED;
     }
     if (!p->devices) {
         say_at(p->name, 0, "has no line 'use DEVICE BYTES'");
         return REFUSED;
     }
-    if (without_vector(p, a) < 8)
-        return no_vector(p, without_vector(p, a), program);
-    add_rows(&t, p, vectors, XM23_STACK_BYTES(reply));
+    if (n.without < 8)
+        return no_vector(p, n.without, program);
+    lay_vectors(p, a, vectors);
+    add_rows(&t, p, vectors, n.bytes);
     status = write_file("-", &t);
     drop_text(&t);
     return status;

@@ -49,6 +49,10 @@ clean 'sound of a refused program' 1 sound "$paper" "$programs/refused.s19"
 clean 'run of a source' 1 run "$paper" "$programs/screen.asm"
 clean 'dis of a source' 0 dis "$programs/screen.asm"
 clean 'dis' 0 dis -o "$room/list" examples/copy_words.s19
+clean 'check' 0 check "$paper"
+clean 'check with a model' 1 check "$paper" "$programs/sound.s19"
+clean 'check with a folder' 1 check examples/sitting/handlers.paper examples/sitting/programs/with_handlers
+clean 'check with a refused model' 1 check "$paper" "$programs/refused.s19"
 clean 'stack' 0 stack "$paper"
 clean 'card' 0 card -o "$room/card.html"
 clean 'mark' 1 mark -j 2 -o "$room/marks" "$paper" "$programs"/* "$room/noise" no/such /

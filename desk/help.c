@@ -8,40 +8,46 @@
 const struct subcommand subcommands[] = {
     {"run", "xm23 run [-l] [-n STEP] [PAPER] PROGRAM", "run a program under a paper and print the line of the sheet",
      "Runs PROGRAM under PAPER and prints the line of the sheet: reason, steps, R0 to R7, PSW, CEX, lines and depth,\n"
-     "or R and the number of a refusal. On a terminal, or with -l, a legend follows, and what the output devices\n"
-     "showed. Without a PAPER the program starts with memory zero and SP $0800, and takes at most 1,000,000 steps.\n"
+     "or R and the number of a refusal. On a terminal, or with -l, a legend follows, what the output devices showed,\n"
+     "and of a PAPER with awards the points of each, what was found where it is not met, and the total. Without a\n"
+     "PAPER the program starts with memory zero and SP $0800, and takes at most 1,000,000 steps.\n"
      "\n"
-     "A PAPER is a text (man 5 xm23). A PROGRAM is S-records, or a source where its name ends in .asm.\n"
+     "A PAPER is a text (man 5 xm23). A PROGRAM is S-records, or a source where its name ends in .asm, or a folder of\n"
+     "such files: those that end in .s19 or .asm, nine at most, in the order of their names. The PC is that of\n"
+     "program.*, else of the first; no two may state a byte.\n"
      "\n"
-     "  -l       legend and screen text too, wherever the line goes\n"
+     "  -l       legend, screen text and awards too, wherever the line goes\n"
      "  -n STEP  the line as it is before the step of that count; no line is expected then\n"
      "\n"
-     "Status 1: PROGRAM is refused, PAPER has a mistake, another line was expected, or the run does not come to\n"
-     "STEP.\n",
+     "Status 1: PROGRAM is refused, PAPER has a mistake, another line was expected, the points are not enough to\n"
+     "pass, or the run does not come to STEP.\n",
      xm23_desk_run},
     {"mark", "xm23 mark [-Ls] [-j N] [-o DIR] PAPER PROGRAM.. | xm23 mark [-Ls] [-j N] [-o DIR] -0 PAPER",
      "run every program of a sitting and write results and pages",
      "Runs each PROGRAM under PAPER, and writes the folder DIR\n"
      "  results.csv      a row for each: name, line or refusal, what is wrong, steps, depth, screen text, agreement\n"
      "                   with the expected line, SHA-256 of program and paper, whether its handlers are sound and\n"
-     "                   its application undisturbed\n"
+     "                   its application undisturbed; of a PAPER with awards the points of each, the total, and\n"
+     "                   whether it is enough to pass\n"
      "  index.html       the same as a table, with a link to each page\n"
      "  pages/           a page for each program\n"
      "  SHA256SUMS       digests of all these files: sha256sum -c SHA256SUMS\n"
-     "Programs are S-records, or sources where their names end in .asm; one that cannot be read or loaded is a row,\n"
-     "and so is a folder, a link, a pipe or a device, which is not opened, and what a link in the folders of its name\n"
-     "leads to; folders with which all names begin may be links. Everything behind PAPER is a name.\n"
+     "Programs are S-records, or sources where their names end in .asm, or folders of such files ('xm23 run --help');\n"
+     "one that cannot be read or loaded is a row, and so is a link, a pipe or a device, itself or in a folder, which\n"
+     "is not opened, and what a link in the folders of its name leads to; folders with which all names begin may be\n"
+     "links. Everything behind PAPER is a name.\n"
      "\n"
-     "A program may have 1 MiB, and may take 10 seconds of processor time and 512 MiB of memory. What passes that is\n"
-     "a row that says so, and the others are marked.\n"
+     "A program may have 1 MiB, all its files together, and may take 10 seconds of processor time and 512 MiB of\n"
+     "memory. What passes that is a row that says so, and the others are marked.\n"
      "\n"
      "DIR is written beside its place, and put there when it is whole. An earlier marking is then removed; nothing is\n"
      "taken over from it. Any other folder that is there, or an earlier marking that somebody changed, is left alone.\n"
      "Stopped in the middle, what was there is as it was: give the same command again. The same files give the same\n"
      "bytes.\n"
      "\n"
-     "Handlers are judged ('xm23 sound --help') where PAPER has events and at most 100,000 steps, and with -s always,\n"
-     "at 0.03 s of processor time for a million steps of a program. Else the two cells are 'not judged'.\n"
+     "Handlers are judged ('xm23 sound --help') where PAPER has events and at most 100,000 steps, or an award for\n"
+     "that, and with -s always, at 0.03 s of processor time for a million steps of a program. Else the two cells are\n"
+     "'not judged'.\n"
      "\n"
      "  -L       follow links\n"
      "  -s       judge the handlers, whatever PAPER has\n"
@@ -49,14 +55,16 @@ const struct subcommand subcommands[] = {
      "  -o DIR   where the results go (marks)\n"
      "  -0       the names of the programs from standard input, a zero byte behind each: find .. -print0\n"
      "\n"
-     "Status 0: every program ran, and closed as expected where a line is. 1: some did not, or PAPER has a mistake.\n"
+     "Status 0: every program ran, closed as expected where a line is, and passed where PAPER says who does. 1: some\n"
+     "did not, or PAPER has a mistake.\n"
      "3: a program could not be marked, as its row says; or PAPER cannot be read, or DIR cannot be written.\n",
      xm23_desk_mark},
     {"report", "xm23 report [-s] [-a STEP] [-o PAGE] PAPER PROGRAM",
      "write the page of one run, with 1,024 of its steps to walk through",
-     "Runs PROGRAM under PAPER and writes a page of HTML: the line, the closing state beside the expected one, the\n"
-     "screen, a picture of the whole run, whether the handlers were sound, and the last 1,024 steps to walk forwards\n"
-     "and backwards: registers, instruction, what it wrote, stack with its frames, screen so far, who wrote a byte.\n"
+     "Runs PROGRAM under PAPER and writes a page of HTML: the line, the points and what was found for each award, the\n"
+     "closing state beside the expected one, the screen, a picture of the whole run, whether the handlers were sound,\n"
+     "and the last 1,024 steps to walk forwards and backwards: registers, instruction, what it wrote, stack with its\n"
+     "frames, screen so far, who wrote a byte.\n"
      "Where the last steps change nothing but the step count, as BRA to itself, the walk shows those before them, and\n"
      "the page says so. Without scripts, and in print, it has the picture, the closing state and the last 32 steps.\n"
      "It is whole by itself.\n"
@@ -65,8 +73,8 @@ const struct subcommand subcommands[] = {
      "  -s        judge the handlers, whatever PAPER has, as mark -s does\n"
      "  -o PAGE   write there instead of to standard output\n"
      "\n"
-     "Status 1: PROGRAM is refused, PAPER has a mistake, the run has no such STEP, or another line was expected; in\n"
-     "the first and the last case the page is written.\n",
+     "Status 1: PROGRAM is refused, PAPER has a mistake, the run has no such STEP, another line was expected, or the\n"
+     "points are not enough to pass; but in the second and the third case the page is written.\n",
      xm23_desk_report},
     {"back", "xm23 back [-a STEP] [-n STEPS] [-w BYTE] PAPER PROGRAM",
      "go back from the close or from any step, as far as the step that wrote a byte",

@@ -309,6 +309,15 @@ same 'and says how long it was' "$(grep -c ' .. (499999 bytes)' most/pages/*)" 6
 # ---- the example: a program and eight handlers under a paper with awards
 cd "$sitting" || exit 1
 expect 'the example' 1 '' '' "$xm23" mark -o "$room/example" handlers.paper programs/*
+# docs/SITTING.md: the lines of the paper, and what two commands print.
+awk '/^    award/,/^$/' "$top/docs/SITTING.md" | sed 's/^    //; /^$/d' > "$room/doc"
+same 'the awards of the guide' "$(cat "$room/doc")" "$(grep -E '^(award|pass)' handlers.paper)"
+for program in with_handlers unsound.s19; do
+    sed -n "/^    \$ xm23 run -l handlers.paper programs\/$program$/,/^$/p" "$top/docs/SITTING.md" |
+        sed '1d; $d; s/^    //; /^\.\.$/d' > "$room/doc"
+    same "what it prints of $program" "$("$xm23" run -l handlers.paper "programs/$program" 2> "$room/err" |
+        grep -Fx -f "$room/doc")" "$(cat "$room/doc")"
+done
 cd "$room" || exit 1
 same 'its points' "$(cells example total passed | paste -s -d ' ')" '2|no 0|no 6|no 12|no 6|no 20|yes'
 count

@@ -199,6 +199,38 @@ def try_screen(browser, marks):
     same("screen: errors", browser.errors(), [])
 
 
+def try_points(browser, marks, room):
+    """A paper with awards: the table fits, its points stand before the lines, on paper across and without these."""
+    browser.open(os.path.join(marks, "index.html"))
+    heads = browser.value("[...document.querySelectorAll('thead th')].map((h) => h.textContent)")
+    same("points: heads", heads[2:7], ["Verdict", "Pointsof 20", "Passed", "word $0120 = $001Fof 4", "R0 = $001Fof 2"])
+    browser.click("#others")
+    same("points: those that have not passed", shown_rows(browser), 5)
+    fits(browser, "points")
+    path = os.path.join(room, "points.pdf")
+    browser.pdf(path)
+    with open(path, "rb") as file:
+        boxes = re.findall(rb"/MediaBox *\[0 0 (\d+)[\d.]* (\d+)[\d.]*\]", file.read())
+    same("points: one sheet, across", [(int(w) > int(h), abs(int(w) - 842) < 3) for w, h in boxes], [(True, True)])
+    browser.call("Emulation.setEmulatedMedia", media="print")
+    same("points: on paper no lines", browser.value("getComputedStyle(document.querySelector('td.sheet')).display"),
+         "none")
+    browser.call("Emulation.setEmulatedMedia", media="")
+    same("points: errors", browser.errors(), [])
+
+
+def try_folder(browser, marks):
+    """A page of nine files: the walk has lines of each source."""
+    browser.open(os.path.join(marks, "pages/000006-with_handlers.html"))
+    fits(browser, "folder")
+    seen = []
+    for step in (3, 102, 125):
+        browser.value(f"document.getElementById('step').value = '{step}'; document.getElementById('step').onchange()")
+        seen.append(browser.value("document.querySelector('#around .current').cells[4].textContent").split(".  ")[1])
+    same("folder: lines of its sources", [line.strip() for line in seen], ["MOVLZ #0,R0", "ST R1,-SP", "LD R0,R1"])
+    same("folder: errors", browser.errors(), [])
+
+
 def try_without_scripts(browser, marks):
     browser.open(os.path.join(marks, "pages/000005-unsound.s19.html"), scripts=False)
     text = browser.call("DOM.getOuterHTML", nodeId=browser.call("DOM.getDocument")["root"]["nodeId"])["outerHTML"]
@@ -300,6 +332,10 @@ with tempfile.TemporaryDirectory() as room:
         try_picture(browser, marks)
         try_without_scripts(browser, marks)
         try_long(browser, room)
+        points = os.path.join(room, "points")
+        run("mark", "-o", points, "handlers.paper", *sorted("programs/" + name for name in os.listdir("programs")))
+        try_points(browser, points, room)
+        try_folder(browser, points)
         try_closing(browser, room)
         try_around(browser, room)
     finally:

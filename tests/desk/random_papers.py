@@ -1,7 +1,7 @@
 #!/usr/bin/env python3
 """xm23 paper on random papers: random_papers.py XM23 PAPERS [SEED]. A paper is random lines of every kind in random
-order, with sources, names, every and type; what it must come to is worked out here: start, bytes, events, expected
-line. The printed paper is held to that, and read again it must print the same. The last line is 'N passed, M
+order, with sources, names, every and type; what it must come to is worked out here: start, bytes, events, awards,
+expected line. The printed paper is held to that, and read again it must print the same. The last line is 'N passed, M
 failed'."""
 import os
 import random
@@ -15,6 +15,7 @@ xm23, papers = sys.argv[1], int(sys.argv[2])
 dice = random.Random(int(sys.argv[3]) if len(sys.argv) > 3 else 1)
 PARTS = [*((f"R{i}", 2) for i in range(5)), ("LR", 2), ("SP", 2), ("PC", 2), ("PSW", 2), ("CEX", 2), ("COUNT", 4),
          ("LINES", 4)]
+REGISTERS = ["R0", "R1", "R2", "R3", "R4", "LR", "SP", "PC"]
 ESCAPES = {10: "\\n", 13: "\\r", 9: "\\t", 34: '\\"', 92: "\\\\"}
 
 
@@ -27,6 +28,11 @@ def quoted(data):
     return '"' + "".join(ESCAPES.get(b) if b in ESCAPES and dice.randrange(2) else
                          chr(b) if 32 <= b < 127 and b not in b'"\\' else f"\\x{b:02{dice.choice('xX')}}"
                          for b in data) + '"'
+
+
+def plain(data):
+    """A text as the desk prints it: UTF-8 as it is, the rest, quote and backslash as \\xHH."""
+    return "".join(chr(b) if 32 <= b < 127 and b not in b'"\\' else f"\\x{b:02X}" for b in data)
 
 
 class Paper:
@@ -43,6 +49,12 @@ class Paper:
         for _ in range(dice.randrange(12)):
             dice.choice([self.add_data, self.add_data, self.add_srec, self.add_device, self.add_vector, self.add_use,
                          self.add_event, self.add_every, self.add_type, self.add_part, self.add_part])()
+        self.awards, self.points, self.pass_at = [], 0, None
+        for _ in range(dice.choice([0, 0, 1, 5, 20])):
+            self.add_award()
+        if self.points and dice.randrange(2):
+            self.pass_at = dice.randrange(1, self.points + 1)
+            self.add(f"pass {self.number(self.pass_at)}")
         self.title = dice.choice([None, "", "A title ; no comment", "<i> \x1b & \\ \xe9"])
         if self.title is not None:
             self.add("title  " + self.title + "  ")
@@ -137,6 +149,46 @@ class Paper:
         self.start[name] = f"{name}=${value:0{2 * width}X}"
         self.add(f"start {name}={self.number(value)}")
 
+    def add_award(self):
+        """A criterion of any kind, once: as it is written, and as it is understood."""
+        points, kind = dice.choice([1, 7, 1000]), dice.randrange(8)
+        relation = dice.choice(["=", "!=", "<=", ">="])
+        either = dice.choice(["=", "!="])
+        value = dice.choice([0, 31, 32768, 65535])
+        signed = dice.choice([-1, -128, 0, 127, 255])
+        at = dice.randrange(0x10000) & ~1
+        if kind == 0:
+            i = dice.randrange(8)
+            name = dice.choice([f"R{i}", REGISTERS[i]])
+            written, known = f"{name} {relation} {self.number(value)}", f"{REGISTERS[i]} {relation} ${value:04X}"
+        elif kind == 1:
+            written = f"byte {self.number(at)} {either} {self.number(signed)}"
+            known = f"byte ${at:04X} {either} ${signed & 255:02X}"
+        elif kind == 2:
+            written = f"word {self.number(at)} {either} {self.number(signed)}"
+            known = f"word ${at:04X} {either} ${signed & 65535:04X}"
+        elif kind == 3:
+            values = [dice.choice([-1, 0, 255]) for _ in range(dice.randrange(1, 9))]
+            at = min(at, 0x10000 - len(values))
+            written = f"bytes {self.number(at)} {either} {' '.join(map(self.number, values))}"
+            known = f"bytes ${at:04X} {either} {' '.join(f'${v & 255:02X}' for v in values)}"
+        elif kind == 4:
+            d, data = dice.randrange(8), bytes(dice.choices(b'aB 09;"\\\n\x00\x7F', k=dice.randrange(1, 20)))
+            relation = dice.choice(["=", "!=", "has"])
+            written, known = f"screen {d} {relation} {quoted(data)}", f'screen {d} {relation} "{plain(data)}"'
+        elif kind == 5:
+            written = known = dice.choice(["sound", "undisturbed", f"reason {either} {dice.randrange(2)}"])
+        elif kind == 6:
+            written, known = f"depth {relation} {self.number(value)}", f"depth {relation} {value}"
+        else:
+            name, digits, most = dice.choice([("PSW", 4, 0xFFFF), ("CEX", 2, 0x7F)])
+            value &= most
+            written, known = f"{name} {either} {self.number(value)}", f"{name} {either} ${value:0{digits}X}"
+        if known not in [k for _, k in self.awards]:
+            self.awards.append((points, known))
+            self.points += points
+            self.add(f"award {self.number(points)} {written}")
+
     def claim(self, step, d, b, kind):
         """Whether the event may be: one of a device on a step."""
         if (step, d) in self.events or len(self.events) >= 4096:
@@ -214,6 +266,8 @@ def run(folder):
     if paper.start:
         wanted += ["start " + " ".join(paper.start[name] for name, _ in PARTS if name in paper.start)]
     wanted += [f"use {d} {paper.uses[d]}" for d in sorted(paper.uses)]
+    wanted += [" ".join(f"award {points} {known}".split()) for points, known in paper.awards]
+    wanted += [f"pass {paper.pass_at}"] if paper.pass_at else []
     wanted += ["expect " + paper.expected] if paper.expected else []
     same("the rest", other, wanted)
 

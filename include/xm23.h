@@ -24,10 +24,17 @@
 extern "C" {
 #endif
 
-/* ---- version: of this header, as one number; xm23_version gives that of the library */
+/*
+ * ---- version: of this header, as one number; xm23_version gives that of the library
+ *
+ * What is here is stable: names, parameters, layouts of numbers and records, refusals and the order in which they are
+ * tested stay as they are while the major number does. The minor number rises where a call, a constant or a kind of
+ * record is added, the patch number where nothing of this header changes. The shared library's name for the loader has
+ * the major number alone.
+ */
 
-#define XM23_VERSION_MAJOR 0
-#define XM23_VERSION_MINOR 22
+#define XM23_VERSION_MAJOR 1
+#define XM23_VERSION_MINOR 0
 #define XM23_VERSION_PATCH 0
 #define XM23_VERSION (XM23_VERSION_MAJOR * 65536 + XM23_VERSION_MINOR * 256 + XM23_VERSION_PATCH)
 

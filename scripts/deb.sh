@@ -85,7 +85,7 @@ mkdir -p "$stage/usr/lib/$triplet"
 mv "$stage"/usr/lib/libxm23* "$stage/usr/lib/pkgconfig" "$stage/usr/lib/$triplet/"
 sed -i "s|^libdir=.*|libdir=\${prefix}/lib/$triplet|" "$stage/usr/lib/$triplet/pkgconfig/xm23.pc"
 
-move libxm23 "lib/$triplet/libxm23.so.$version" "lib/$triplet/libxm23.so.${version%.*}"
+move libxm23 "lib/$triplet/libxm23.so.$version" "lib/$triplet/libxm23.so.${version%%.*}"
 move libxm23-dev include/xm23.h "lib/$triplet/libxm23.a" "lib/$triplet/libxm23.so" "lib/$triplet/pkgconfig/xm23.pc" \
     share/man/man3
 move python3-xm23 lib/python3/dist-packages/xm23.py
@@ -96,7 +96,7 @@ for package in libxm23 libxm23-dev python3-xm23 xm23; do
     papers "$package"
 done
 mkdir -p "$room/libxm23/DEBIAN"
-echo "libxm23 ${version%.*} libxm23 (= $version)" > "$room/libxm23/DEBIAN/shlibs"
+echo "libxm23 ${version%%.*} libxm23 (= $version)" > "$room/libxm23/DEBIAN/shlibs"
 echo 'activate-noawait ldconfig' > "$room/libxm23/DEBIAN/triggers"
 
 control libxm23 "$architecture" libs "$(needs "build/libxm23.so.$version")" 'XM-23 examination machine, shared library' << 'END'

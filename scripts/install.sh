@@ -11,7 +11,7 @@ fi
 verb=$1 prefix=${2%/} to=$3${2%/}
 cd "$(dirname "$0")/.."
 version=$(scripts/version.sh)
-major_minor=${version%.*}
+major=${version%%.*}
 calls=$(sed -n 's/^\(static inline \)\{0,1\}[a-z].*[ *]\(xm23_[a-z_]*\)(.*/\2/p' include/xm23.h | sort -u)
 
 put() { # MODE FILE PLACE
@@ -26,7 +26,7 @@ pages() {
     done
 }
 
-library="include/xm23.h lib/libxm23.a lib/libxm23.so.$version lib/libxm23.so.$major_minor lib/libxm23.so
+library="include/xm23.h lib/libxm23.a lib/libxm23.so.$version lib/libxm23.so.$major lib/libxm23.so
     lib/pkgconfig/xm23.pc lib/python3/dist-packages/xm23.py share/man/man3/xm23.3 $(pages)"
 programs="bin/print_state bin/xm23 share/man/man1/print_state.1 share/man/man1/xm23.1 share/man/man5/xm23.5
     share/bash-completion/completions/xm23"
@@ -36,8 +36,8 @@ install_library() {
     put 644 include/xm23.h include/xm23.h
     put 644 target/staticlib/libxm23.a lib/libxm23.a
     put 755 "build/libxm23.so.$version" "lib/libxm23.so.$version"
-    ln -sf "libxm23.so.$version" "$to/lib/libxm23.so.$major_minor"
-    ln -sf "libxm23.so.$major_minor" "$to/lib/libxm23.so"
+    ln -sf "libxm23.so.$version" "$to/lib/libxm23.so.$major"
+    ln -sf "libxm23.so.$major" "$to/lib/libxm23.so"
     pc=$(< xm23.pc.in)
     pc=${pc//@PREFIX@/"$prefix"}
     printf '%s\n' "${pc//@VERSION@/"$version"}" > build/xm23.pc

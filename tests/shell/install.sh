@@ -8,7 +8,7 @@ make="make -s --no-print-directory"
 version=$(scripts/version.sh)
 prefix=$room/usr
 files="bin/print_state bin/xm23 include/xm23.h
-    lib/libxm23.a lib/libxm23.so lib/libxm23.so.${version%.*} lib/libxm23.so.$version
+    lib/libxm23.a lib/libxm23.so lib/libxm23.so.${version%%.*} lib/libxm23.so.$version
     lib/pkgconfig/xm23.pc lib/python3/dist-packages/xm23.py share/man/man1/print_state.1 share/man/man1/xm23.1
     share/man/man3/xm23.3 share/man/man3/xm23_decode.3 share/man/man5/xm23.5 share/bash-completion/completions/xm23"
 
@@ -42,7 +42,7 @@ expect 'the version' 0 "$version" '' env PKG_CONFIG_PATH="$prefix/lib/pkgconfig"
 
 same 'exports of the shared library' "$(nm -D --defined-only "$prefix/lib/libxm23.so" | grep -vc ' T xm23_')" 0
 same 'its name' "$(readelf -d "$prefix/lib/libxm23.so" | sed -n 's/.*SONAME.*\[\(.*\)\]/\1/p')" \
-    "libxm23.so.${version%.*}"
+    "libxm23.so.${version%%.*}"
 same 'what it needs' "$(readelf -d "$prefix/lib/libxm23.so" | sed -n 's/.*NEEDED.*\[\(.*\)\]/\1/p')" libc.so.6
 same 'and of it' "$(nm -D --undefined-only "$prefix/lib/libxm23.so" | awk '{ print $2 }' | sed 's/@.*//' | sort | xargs)" \
     'memcpy memset'

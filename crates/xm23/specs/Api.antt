@@ -54,4 +54,4 @@ pub use Rattle.sheet_call.specs.Call.{Sheeted, sheetCallOf}
 
 -- xm23_version replies versionNumber: major, minor and patch, which are those of the header.
 abbrev pub versionNumber : ℕ
-versionNumber = 0 * 65536 + 22 * 256 + 0
+versionNumber = 1 * 65536 + 0 * 256 + 0

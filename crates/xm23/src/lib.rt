@@ -26,7 +26,7 @@ use isa_ranges::operation_of;
 pub extern "C" fn xm23_version() -> u32
     ensures reply { λ r. ⌜ r ≡ versionNumber ⌝ }
 {
-    0x001600
+    0x010000
 }
 
 // The number of the instruction that a word means; that of the illegal one is 0.

@@ -17,6 +17,7 @@ PAGES = ["README.md", "docs/*.md", "docs/*.txt", "man/*.[1-8]"]
 LEFT = "docs/TRACE.md"
 LINK = re.compile(r"\]\((?!\w+:)([^)#\s]*)(?:#([^)\s]*))?\)")
 FOLDERS = "bench|crates|desk|docs|examples|include|man|oracle|python|scripts|tests"
+BUILT = "oracle/target"  # made by what is built, so not there in a clean clone
 NAME = re.compile(rf"(?<![\w/.$-])((?:{FOLDERS}|\w+(?=/(?:specs|proofs|src|must-fail)/))/[\w./*-]*[\w*])")
 
 
@@ -24,7 +25,7 @@ def names(text):
     """The names of files in a text, with the lines that they stand in. One that is cut short by .. is none."""
     for number, line in enumerate(text.split("\n"), 1):
         for found in NAME.finditer(line):
-            if ".." not in found[1]:
+            if ".." not in found[1] and not found[1].startswith(BUILT):
                 yield number, found[1]
 
 

@@ -1,3 +1,4 @@
+pub mod Roomed
 pub mod Room
 pub mod LogBytes
 pub mod Turns

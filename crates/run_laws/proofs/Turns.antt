@@ -4,8 +4,8 @@ use Prim.Native.Nat.{ℕ, zero, suc, _+_, _-_, _%_, _<_, _≤_}
 use native.Mathlib.Nat.{min-eq-left}
 use native.Mathlib.Omega.{arith}
 use mathlib.Core.Bool.{true, false, cond, not, _&&_, false≢true}
-use mathlib.Core.List.{List, [], _∷_, _++_, append-nil}
-use mathlib.Core.Path.{_≡_, refl, sym, ap, subst, _∙_}
+use mathlib.Core.List.{List, [], _∷_, _++_}
+use mathlib.Core.Path.{_≡_, refl, sym, ap, _∙_}
 use lib.Dec.{eqb, ltb}
 use lib.ListN.{length, take, drop, length-take, length-drop, take-append-drop}
 use lib.Seq.{sets, sets-eq, ext-getD, getD-drop}
@@ -22,12 +22,14 @@ use Rattle.machine_laws.specs.Bounds.{Each}
 use Rattle.machine_laws.proofs.Steps.{deliver-size}
 use Rattle.machine_laws.proofs.Writes.{deliver-bytes}
 use Rattle.machine_laws.proofs.Cases.{bool-cases, ge-of, not-lt}
-use Rattle.machine_laws.proofs.Runs.{step-live, run-zero, run-next, run-halted, run-append}
+use Rattle.machine_laws.proofs.Runs.{run-zero, run-next, run-halted, run-append}
 use Rattle.machine.specs.Log.{Shown, shownOn, loggedOf, loggedNext}
-use Rattle.machine.specs.Logged.{Logged, logged, ranOf, fresh, over?, onward, runLogged, joined}
+use Rattle.machine.specs.Logged.{Logged, logged, ranOf, fresh, onward, runLogged}
 use Rattle.machine.specs.Uneventful.{uneventful?, nextAct, Uneventful}
-use Rattle.run_laws.proofs.Room.{logged-zero, logged-next, onward-over, onward-stuck, onward-taken, logged-stays}
-use Rattle.run_laws.proofs.Room.{logged-append, logged-run, roomy-run, short-fills, records-le}
+use Rattle.run_laws.specs.Roomed.{runRoomed}
+use Rattle.run_laws.proofs.Roomed as laws
+use Rattle.run_laws.proofs.Room.{of, to, logged-is, logged-zero, logged-next, onward-over, onward-taken}
+use Rattle.run_laws.proofs.Room.{logged-run, roomy-run, short-fills, records-le}
 
 -- ---- steps that add nothing
 
@@ -92,8 +94,8 @@ module _ (ev : List Event) (s₀ : State) (k : ℕ) where
   turn-start = sym (logged-zero ev s₀ k)
 
   module _ (x : Logged) (held : x ≡ runLogged ev s₀ k (x .steps)) (roomy : x .short ≡ false) where
-    not-over : x .state .halted ≡ false → over? x ≡ false
-    not-over h = rw (h, roomy) refl
+    holds : to x ≡ runRoomed (loggedNext ev) ev s₀ k (x .steps)
+    holds = ap to (held ∙ logged-is ev s₀ k (x .steps))
 
     module _ (live : x .state .halted ≡ false) (t : State) (delivered : t ≡ deliver ev (x .state)) (xs : List Shown)
         (told : xs ≡ loggedOf (planOf t .act) t) where
@@ -105,47 +107,29 @@ module _ (ev : List Event) (s₀ : State) (k : ℕ) where
       pub turn-taken : (u : State) → u ≡ finished t → length (x .records) + length xs ≤ k
           → logged u (suc (x .steps)) (x .records ++ xs) false ≡ runLogged ev s₀ k (suc (x .steps))
       turn-taken u done fits =
-          let fits′ = subst (λ ys. length (x .records) + length ys ≤ k) next-is fits in
-          let step-is : u ≡ stepOf ev (x .state) = done ∙ ap finished delivered ∙ sym (step-live ev (x .state) live) in
-          sym (logged-next ev s₀ k (x .steps)
-          ∙ ap (onward ev k) (sym held)
-          ∙ onward-taken ev k x (not-over live) fits′
-          ∙ (λ i. logged (sym step-is i) (suc (x .steps)) (x .records ++ sym next-is i) false))
+          ap of (laws.turn-taken (loggedNext ev) ev s₀ k (to x) holds roomy live xs next-is u (done ∙ ap finished delivered) fits)
+          ∙ sym (logged-is ev s₀ k (suc (x .steps)))
 
       -- the step is not taken: the run ends as it was before the events of that step
       pub turn-short : (n : ℕ) → x .steps < n → k < length (x .records) + length xs
           → logged (x .state) (x .steps) (x .records) true ≡ runLogged ev s₀ k n
       turn-short n below past =
-          let past′ = subst (λ ys. k < length (x .records) + length ys) next-is past in
-          let y = logged (x .state) (x .steps) (x .records) true in
-          let one : runLogged ev s₀ k (suc (x .steps)) ≡ y =
-          logged-next ev s₀ k (x .steps) ∙ ap (onward ev k) (sym held) ∙ onward-stuck ev k x (not-over live) past′ in
-          let n-is : suc (x .steps) + (n - suc (x .steps)) ≡ n = omega arith in
-          sym (ap (runLogged ev s₀ k) (sym n-is)
-          ∙ logged-stays ev s₀ k (suc (x .steps)) (n - suc (x .steps)) (ap over? one ∙ rw live refl)
-          ∙ one)
+          ap of (laws.turn-short (loggedNext ev) ev s₀ k (to x) holds roomy live xs next-is n below past) ∙ sym (logged-is ev s₀ k n)
 
     -- a stretch: the state after it, and that its steps are uneventful
     pub turn-stretch : (v : State) (j : ℕ) → ran v j ≡ runOf ev (x .state) j → Uneventful ev (x .state) j
         → logged v (x .steps + j) (x .records) false ≡ runLogged ev s₀ k (x .steps + j)
     turn-stretch v j e f =
-        let y = runLogged ev s₀ k (x .steps) in
-        sym (logged-append ev s₀ k (x .steps) j (ap (λ z. z .short) (sym held) ∙ roomy)
-        ∙ ap (λ z. joined z (runLogged ev (z .state) (k - length (z .records)) j)) (sym held)
-        ∙ ap (joined x) (uneventful-run ev (x .state) (k - length (x .records)) j f)
-        ∙ ap (λ r. joined x (logged (r .state) (r .steps) [] false)) (sym e)
-        ∙ ap (λ ys. logged v (x .steps + j) ys false) (append-nil (x .records)))
+        let room = k - length (x .records) in
+        let none = ap to (sym (logged-is ev (x .state) room j) ∙ uneventful-run ev (x .state) room j f) in
+        ap of (laws.turn-stretch (loggedNext ev) ev s₀ k (to x) holds roomy v j e none) ∙ sym (logged-is ev s₀ k (x .steps + j))
 
     -- all steps done, and halted before that
     pub turn-full : (n : ℕ) → x .steps ≤ n → n ≤ x .steps → x ≡ runLogged ev s₀ k n
-    turn-full n h l = let q : x .steps ≡ n = omega arith in held ∙ ap (runLogged ev s₀ k) q
+    turn-full n h l = ap of (laws.turn-full (loggedNext ev) ev s₀ k (to x) holds roomy n h l) ∙ sym (logged-is ev s₀ k n)
 
     pub turn-halted : (n : ℕ) → x .steps ≤ n → x .state .halted ≡ true → x ≡ runLogged ev s₀ k n
-    turn-halted n h l =
-        let q : x .steps + (n - x .steps) ≡ n = omega arith in
-        held
-        ∙ sym (logged-stays ev s₀ k (x .steps) (n - x .steps) (ap over? (sym held) ∙ rw l refl))
-        ∙ ap (runLogged ev s₀ k) q
+    turn-halted n h l = ap of (laws.turn-halted (loggedNext ev) ev s₀ k (to x) holds roomy n h l) ∙ sym (logged-is ev s₀ k n)
 
 -- ---- the events of an untaken step, given back
 

@@ -25,8 +25,8 @@ use Rattle.trace.specs.Theorems.{actRecord, EventsThenAct, TellsBefore, 
 use Rattle.trace.specs.Theorems.{ShortUntaken, EightFree, NeverShort, GoesOn, actsOf, OneAct, FewerKinds, ClosesAsRun}
 use Rattle.trace.specs.Theorems.{CallAnswers, TraceLeft}
 use Rattle.trace.proofs.Steps.{next-acts, asked-append, traced-all, traced-act}
-use Rattle.trace.proofs.Room.{onward-cases, awake-of, traced-zero, traced-next, traced-run, traced-records, traced-le, records-fit}
-use Rattle.trace.proofs.Room.{stops, roomy-run, traced-slices}
+use Rattle.run_laws.proofs.Roomed.{onward-cases, awake-of, room-zero, room-next, room-run, room-records, room-le, records-fit}
+use Rattle.run_laws.proofs.Roomed.{stops, roomy-run, room-slices}
 use Rattle.trace.proofs.Runs.{one-act, fewer-run, fewer-records}
 use Rattle.trace.proofs.Before.{events-before, events-devices, events-apart}
 use Rattle.trace.proofs.Enough.{eight-free, room-enough}
@@ -86,7 +86,7 @@ effects-before = events-before
 -- ---- the records of a run
 
 pub in-order : InOrder
-in-order ks ev s k n = traced-records ks ev s k n
+in-order ks ev s k n = room-records (tracedOf ks ev) ev s k n
 
 -- a set of kinds, as each record of a filtered list has it
 abbrev Asked : ℕ → Entry → Type 0
@@ -102,24 +102,24 @@ unfolding tracedOf
 only-traced ks ev s = only ks (stepTraced ev s)
 
 pub only-asked : OnlyAsked
-only-asked ks ev s k zero = rw (traced-zero ks ev s k) tt
+only-asked ks ev s k zero = rw (room-zero (tracedOf ks ev) ev s k) tt
 only-asked ks ev s k (suc n) =
     let x = runTraced ks ev s k n in
-    rw (traced-next ks ev s k n)
-    (onward-cases ks ev k x (λ y. Each (Asked ks) (y .records))
+    rw (room-next (tracedOf ks ev) ev s k n)
+    (onward-cases (tracedOf ks ev) ev k x (λ y. Each (Asked ks) (y .records))
     (λ q. only-asked ks ev s k n)
     (λ q l. only-asked ks ev s k n)
     (λ q l. each-append (Asked ks) (x .records) (tracedOf ks ev (x .state)) (only-asked ks ev s k n) (only-traced ks ev (x .state))))
 
 pub short-untaken : ShortUntaken
 short-untaken ks ev s k n q =
-    let h = stops ks ev s k n q in
+    let h = stops (tracedOf ks ev) ev s k n q in
     record {
       reason = rw q refl;
       before = h .before;
       live = h .live;
       past = h .past;
-      state = ap (λ r. r .state) (traced-run ks ev s k n);
+      state = ap (λ r. r .state) (room-run (tracedOf ks ev) ev s k n);
     }
 
 pub eight-stay-free : EightFree
@@ -129,24 +129,24 @@ pub never-short : NeverShort
 never-short ks ev s k n h = room-enough ks ev s k n h
 
 pub goes-on : GoesOn
-goes-on ks ev s k n K N w h = traced-slices ks ev s k K n N w h
+goes-on ks ev s k n K N w h = room-slices (tracedOf ks ev) ev s k K n N w h
 
 -- ---- the three laws
 
 acts-in-order : (ev : List Event) (s : State) (k n : ℕ)
     → asked actKinds (runTraced allKinds ev s k n .records) ≡ actsOf ev s (runTraced allKinds ev s k n .steps)
 unfolding asked actsOf
-acts-in-order ev s k zero = rw (traced-zero allKinds ev s k) refl
+acts-in-order ev s k zero = rw (room-zero (tracedOf allKinds ev) ev s k) refl
 acts-in-order ev s k (suc n) =
     let x = runTraced allKinds ev s k n in
-    rw (traced-next allKinds ev s k n)
-    (onward-cases allKinds ev k x (λ y. asked actKinds (y .records) ≡ actsOf ev s (y .steps))
+    rw (room-next (tracedOf allKinds ev) ev s k n)
+    (onward-cases (tracedOf allKinds ev) ev k x (λ y. asked actKinds (y .records) ≡ actsOf ev s (y .steps))
     (λ q. acts-in-order ev s k n)
     (λ q l. acts-in-order ev s k n)
     (λ q l.
     asked-append actKinds (x .records) (tracedOf allKinds ev (x .state))
     ∙ (λ i. acts-in-order ev s k n i ++ traced-act ev (x .state) (awake-of x q) i)
-    ∙ ap (λ r. actsOf ev s (x .steps) ++ actRecord ev (r .state) ∷ []) (traced-run allKinds ev s k n)))
+    ∙ ap (λ r. actsOf ev s (x .steps) ++ actRecord ev (r .state) ∷ []) (room-run (tracedOf allKinds ev) ev s k n)))
 
 pub one-act-each : OneAct
 one-act-each ev s k n = record { acts = acts-in-order ev s k n; as-many = one-act ev s k n }
@@ -157,11 +157,11 @@ fewer-kinds ev s a b j k n f p q = record { run = fewer-run ev s a b f j k n p q
 pub closes-as-run : ClosesAsRun
 closes-as-run ks ev s k n =
     record {
-      run = traced-run ks ev s k n;
-      few = traced-le ks ev s k n;
-      whole = roomy-run ks ev s k n;
+      run = room-run (tracedOf ks ev) ev s k n;
+      few = room-le (tracedOf ks ev) ev s k n;
+      whole = roomy-run (tracedOf ks ev) ev s k n;
       logged = λ room h q.
-          roomy-run ks ev s k n q ∙ sym (log.roomy-run ev s room n (log.room-enough ev s room n h));
+          roomy-run (tracedOf ks ev) ev s k n q ∙ sym (log.roomy-run ev s room n (log.room-enough ev s room n h));
     }
 
 -- ---- the call
@@ -182,7 +182,7 @@ trace-left memory r events trace ks n h =
     let x = runOn memory r events trace ks n in
     let c = ap (λ y. y .trace) (accepted-call memory r events trace ks n h) in
     let p = accepted-passed memory r events trace ks n h in
-    let f = records-fit ks ev s (roomOf trace) n in
+    let f = records-fit (tracedOf ks ev) ev s (roomOf trace) n in
     let fits : 16 * length (x .records) ≤ length trace = omega arith in
     record {
       size = ap length c ∙ length-sets trace 0 (traceBytes (x .records));

@@ -18,10 +18,11 @@ use Rattle.machine.specs.Run.{reasonNumber}
 use Rattle.machine.specs.Call.{replyNumber}
 use Rattle.machine_laws.specs.Passed.{Passed}
 use Rattle.machine_laws.proofs.Cases.{is-eq, is-lt, not-eq, not-lt}
+use Rattle.trace.specs.Trace.{tracedOf}
 use Rattle.trace.specs.Traced.{Traced, runTraced, reasonTraced}
 use Rattle.trace.specs.Before.{Apart}
 use Rattle.trace.specs.Call.{Closing, misfits, refusalOf, roomOf, traceAfter, closing, runOn, traceCallOf}
-use Rattle.trace.proofs.Room.{traced-le}
+use Rattle.run_laws.proofs.Roomed.{room-le}
 use Rattle.trace.proofs.Before.{events-apart}
 use Rattle.trace.proofs.Enough.{records-few}
 use Rattle.trace.proofs.Calls.{refused-call, accepted-call, refusal-first, refusal-then, accepted-passed}
@@ -86,7 +87,7 @@ module _ (memory r events trace : List ℕ) (ks n f : ℕ) (e : f ≡ refusalOf 
     -- few steps and few records, so that each has its bits
     pub few-steps : ran .steps ≤ 1000000
     few-steps =
-        let l = traced-le ks (eventsOf events) (stateOf m memory) (roomOf trace) n in
+        let l = room-le (tracedOf ks (eventsOf events)) (eventsOf events) (stateOf m memory) (roomOf trace) n in
         let p = call-passed h .few-steps in
         omega arith
 

@@ -29,9 +29,9 @@ use Rattle.trace.specs.Trace.{Entry, tracedOf, traceBytes}
 use Rattle.trace.specs.Traced.{Traced, traced, runTraced}
 use Rattle.trace.specs.Before.{eventsBefore}
 use Rattle.trace.specs.Kinds.{Sparse, NoneOf, Quiet}
-use Rattle.trace.proofs.Room.{records-fit}
+use Rattle.run_laws.proofs.Roomed.{records-fit, turn-start, turn-taken, turn-short, turn-full, turn-halted}
 use Rattle.trace.proofs.Bytes.{trace-stored}
-use Rattle.trace.proofs.Turns.{turn-start, turn-taken, turn-short, turn-stretch, turn-full, turn-halted}
+use Rattle.trace.proofs.Turns.{turn-stretch}
 use Rattle.trace_record.proofs.Index.{index-none}
 use Rattle.trace_run.specs.Reached.{Reached, Turn, sparse?}
 
@@ -124,7 +124,7 @@ module _ (ks : ℕ) (ev : List Event) (s₀ : State) (k : ℕ) (lent : List ℕ)
   pub reached-start : Reached (at 0) lent s₀ 0 0 lent false
   unfolding traceBytes
   reached-start =
-      subst (λ x. Reached x lent s₀ 0 0 lent false) (turn-start ks ev s₀ k)
+      subst (λ x. Reached x lent s₀ 0 0 lent false) (turn-start (tracedOf ks ev) ev s₀ k)
       (record { state = refl; steps = refl; added = refl; trace = refl; short = refl })
 
   module _ (s : State) (done added : ℕ) (trace : List ℕ) (h : Reached (at done) lent s done added trace false) where
@@ -140,7 +140,7 @@ module _ (ks : ℕ) (ev : List Event) (s₀ : State) (k : ℕ) (lent : List ℕ)
 
     -- the records fit the room, and the trace keeps its length
     pub added-fit : added ≤ k
-    added-fit = let f = records-fit ks ev s₀ k done in let e = h .added in omega arith
+    added-fit = let f = records-fit (tracedOf ks ev) ev s₀ k done in let e = h .added in omega arith
 
     pub trace-size : length trace ≡ length lent
     trace-size = ap length (h .trace) ∙ length-sets lent 0 (traceBytes (at done .records))
@@ -155,12 +155,12 @@ module _ (ks : ℕ) (ev : List Event) (s₀ : State) (k : ℕ) (lent : List ℕ)
     -- all steps done, or halted before that
     reached-full : (n : ℕ) → done ≤ n → n ≤ done → Reached (at n) lent s done added trace false
     reached-full n l m =
-        subst (λ x. Reached x lent s done added trace false) (turn-full ks ev s₀ k held held-is refl n l m) as-held
+        subst (λ x. Reached x lent s done added trace false) (turn-full (tracedOf ks ev) ev s₀ k held held-is refl n l m) as-held
 
     pub reached-left : (n : ℕ) → done ≤ n → (s .halted || eqb done n) ≡ true → Reached (at n) lent s done added trace false
     reached-left n l b =
         bool-cases (s .halted)
-        (λ q. subst (λ x. Reached x lent s done added trace false) (turn-halted ks ev s₀ k held held-is refl n l q) as-held)
+        (λ q. subst (λ x. Reached x lent s done added trace false) (turn-halted (tracedOf ks ev) ev s₀ k held held-is refl n l q) as-held)
         (λ q.
         let e : done ≡ n = eq-of (sym (ap (λ (c : Bool). c || eqb done n) q) ∙ b) in
         reached-full n l (omega arith))
@@ -178,7 +178,7 @@ module _ (ks : ℕ) (ev : List Event) (s₀ : State) (k : ℕ) (lent : List ℕ)
           → Reached (at (done + 1)) lent u (done + 1) added′ trace′ false
       reached-step u e b added′ ea trace′ el =
           let fits : length (held .records) + length xs ≤ k = subst (λ i. i ≤ k) fits-is (ge-of (sym test ∙ b)) in
-          let w = turn-taken ks ev s₀ k held held-is refl live xs told u e fits in
+          let w = turn-taken (tracedOf ks ev) ev s₀ k held held-is refl live xs told u e fits in
           rw (add-one done)
           (subst (λ x. Reached x lent u (suc done) added′ trace′ false) w
           (record {
@@ -193,7 +193,7 @@ module _ (ks : ℕ) (ev : List Event) (s₀ : State) (k : ℕ) (lent : List ℕ)
       pub reached-short : (n : ℕ) → done < n → lacks ≡ true → Reached (at n) lent s done added trace true
       reached-short n l b =
           let past : k < length (held .records) + length xs = subst (λ i. k < i) fits-is (lt-of (sym test ∙ b)) in
-          subst (λ x. Reached x lent s done added trace true) (turn-short ks ev s₀ k held held-is refl live xs told n l past)
+          subst (λ x. Reached x lent s done added trace true) (turn-short (tracedOf ks ev) ev s₀ k held held-is refl live xs told n l past)
           (record { state = refl; steps = refl; added = h .added; trace = h .trace; short = refl })
 
     -- one turn's step, taken or not

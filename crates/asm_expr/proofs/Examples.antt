@@ -5,8 +5,9 @@ use Prim.Native.Nat.{ℕ}
 use lib.IntN.{pos, negsuc}
 use Rattle.asm_value.specs.declared.Value.the-variants.{Known, Unknown, Outside}
 use Rattle.asm_value.specs.Value.{fitted, applied, joined}
-use Rattle.asm_text.specs.Text.{blank?, letter?, nameByte?, digitOf, digit?, span, after, numeral, word, spelled, spelledFrom}
-use Rattle.asm_words.specs.Words.{numberIn, words, wordNumber, directives, mnemonics, registers, conditionWords, emulated}
+use Rattle.asm_text.specs.Text.{ascii, blank?, letter?, nameByte?, digitOf, digit?, span, after, numeral, word, same}
+use Rattle.asm_words.specs.Words.{meaning, branches, operations, unaries, moves, valuedWords, otherWords, keywords, registers}
+use Rattle.asm_words.specs.Words.{conditions, emulated, words, wordOf, free?}
 use Rattle.asm_expr.specs.Grammar.{digitsAt, nameAt, plainAt, closed, plus?, times?, chain, partsOf, factorWith, factorOf}
 use Rattle.asm_expr.specs.Meaning.{valueOf, answerOf}
 use Rattle.asm_expr.specs.declared.Answer.{Answer}
@@ -19,30 +20,28 @@ reads s = answerOf (λ n. Unknown) (factorOf 16 s 0)
 -- numbers and brackets. [02 §12]
 pub numbers :
     -- (#1+#2*#3) is 7: * before +
-    (reads (40 ∷ 35 ∷ 49 ∷ 43 ∷ 35 ∷ 50 ∷ 42 ∷ 35 ∷ 51 ∷ 41 ∷ []) ≡ Parsed (Known (pos 7)) 10)
+    (reads (ascii "(#1+#2*#3)") ≡ Parsed (Known (pos 7)) 10)
     -- (#9-#3-#2) is 4: equals from the left
-    × (reads (40 ∷ 35 ∷ 57 ∷ 45 ∷ 35 ∷ 51 ∷ 45 ∷ 35 ∷ 50 ∷ 41 ∷ []) ≡ Parsed (Known (pos 4)) 10)
+    × (reads (ascii "(#9-#3-#2)") ≡ Parsed (Known (pos 4)) 10)
     -- (#-7/#2) is -3: division towards zero
-    × (reads (40 ∷ 35 ∷ 45 ∷ 55 ∷ 47 ∷ 35 ∷ 50 ∷ 41 ∷ []) ≡ Parsed (Known (negsuc 2)) 8)
+    × (reads (ascii "(#-7/#2)") ≡ Parsed (Known (negsuc 2)) 8)
     -- #16 is sixteen, $10 too
-    × (reads (35 ∷ 49 ∷ 54 ∷ []) ≡ Parsed (Known (pos 16)) 3)
-    × (reads (36 ∷ 49 ∷ 48 ∷ []) ≡ Parsed (Known (pos 16)) 3)
+    × (reads (ascii "#16") ≡ Parsed (Known (pos 16)) 3)
+    × (reads (ascii "$10") ≡ Parsed (Known (pos 16)) 3)
     -- (#1/(#2-#2)) divides by zero: 19
-    × (reads (40 ∷ 35 ∷ 49 ∷ 47 ∷ 40 ∷ 35 ∷ 50 ∷ 45 ∷ 35 ∷ 50 ∷ 41 ∷ 41 ∷ []) ≡ Parsed Outside 12)
+    × (reads (ascii "(#1/(#2-#2))") ≡ Parsed Outside 12)
     -- #-2147483648 is the least value
-    × (reads (35 ∷ 45 ∷ 50 ∷ 49 ∷ 52 ∷ 55 ∷ 52 ∷ 56 ∷ 51 ∷ 54 ∷ 52 ∷ 56 ∷ []) ≡ Parsed (Known (negsuc 2147483647)) 12)
+    × (reads (ascii "#-2147483648") ≡ Parsed (Known (negsuc 2147483647)) 12)
     -- $FFFFFFFF is outside 32 signed bits: 19
-    × (reads (36 ∷ 70 ∷ 70 ∷ 70 ∷ 70 ∷ 70 ∷ 70 ∷ 70 ∷ 70 ∷ []) ≡ Parsed Outside 9)
+    × (reads (ascii "$FFFFFFFF") ≡ Parsed Outside 9)
     -- -#5 has its sign before the mark: 17
-    × (reads (45 ∷ 35 ∷ 53 ∷ []) ≡ Malformed)
+    × (reads (ascii "-#5") ≡ Malformed)
     -- #1+ bare is the number alone, before the +
-    × (reads (35 ∷ 49 ∷ 43 ∷ []) ≡ Parsed (Known (pos 1)) 2)
+    × (reads (ascii "#1+") ≡ Parsed (Known (pos 1)) 2)
     -- 16 brackets one in another are lawful
-    × (reads (40 ∷ 40 ∷ 40 ∷ 40 ∷ 40 ∷ 40 ∷ 40 ∷ 40 ∷ 40 ∷ 40 ∷ 40 ∷ 40 ∷ 40 ∷ 40 ∷ 40 ∷ 40 ∷ 35 ∷ 49 ∷ 41 ∷ 41 ∷ 41 ∷ 41 ∷ 41 ∷ 41 ∷
-    41 ∷ 41 ∷ 41 ∷ 41 ∷ 41 ∷ 41 ∷ 41 ∷ 41 ∷ 41 ∷ 41 ∷ []) ≡ Parsed (Known (pos 1)) 34)
+    × (reads (ascii "((((((((((((((((#1))))))))))))))))") ≡ Parsed (Known (pos 1)) 34)
     -- the 17th is 17
-    × (reads (40 ∷ 40 ∷ 40 ∷ 40 ∷ 40 ∷ 40 ∷ 40 ∷ 40 ∷ 40 ∷ 40 ∷ 40 ∷ 40 ∷ 40 ∷ 40 ∷ 40 ∷ 40 ∷ 40 ∷ 35 ∷ 49 ∷ 41 ∷ 41 ∷ 41 ∷ 41 ∷ 41 ∷
-    41 ∷ 41 ∷ 41 ∷ 41 ∷ 41 ∷ 41 ∷ 41 ∷ 41 ∷ 41 ∷ 41 ∷ 41 ∷ 41 ∷ []) ≡ Malformed)
+    × (reads (ascii "(((((((((((((((((#1)))))))))))))))))") ≡ Malformed)
 unfolding fitted applied joined blank? letter? nameByte? digitOf digit? span after numeral word digitsAt
     plainAt closed plus? times? chain partsOf factorWith factorOf valueOf answerOf
 numbers = (refl, refl, refl, refl, refl, refl, refl, refl, refl, refl, refl, refl)
@@ -50,14 +49,14 @@ numbers = (refl, refl, refl, refl, refl, refl, refl, refl, refl, refl, refl, ref
 -- names. [02 §12]
 pub names :
     -- (#1/#0+X) has an unknown name: 18 before 19
-    (reads (40 ∷ 35 ∷ 49 ∷ 47 ∷ 35 ∷ 48 ∷ 43 ∷ 88 ∷ 41 ∷ []) ≡ Parsed Unknown 9)
+    (reads (ascii "(#1/#0+X)") ≡ Parsed Unknown 9)
     -- (#1/#0+X has no closing bracket: 17 before both
-    × (reads (40 ∷ 35 ∷ 49 ∷ 47 ∷ 35 ∷ 48 ∷ 43 ∷ 88 ∷ []) ≡ Malformed)
+    × (reads (ascii "(#1/#0+X") ≡ Malformed)
     -- RET is a word of the language, and no name: 17
-    × (reads (82 ∷ 69 ∷ 84 ∷ []) ≡ Malformed)
+    × (reads (ascii "RET") ≡ Malformed)
     -- R8 is a name
-    × (reads (82 ∷ 56 ∷ []) ≡ Parsed Unknown 2)
+    × (reads (ascii "R8") ≡ Parsed Unknown 2)
 unfolding fitted applied joined blank? letter? nameByte? digitOf digit? span after numeral word digitsAt
-    plainAt closed plus? times? chain partsOf factorWith factorOf valueOf answerOf nameAt wordNumber words directives mnemonics registers
-    conditionWords emulated numberIn spelled spelledFrom
+    plainAt closed plus? times? chain partsOf factorWith factorOf valueOf answerOf nameAt wordOf words keywords valuedWords branches
+    operations unaries moves otherWords registers conditions emulated meaning same free?
 names = (refl, refl, refl, refl)

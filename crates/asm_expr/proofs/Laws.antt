@@ -14,7 +14,7 @@ use Rattle.asm_value.specs.declared.Value.the-variants.{Outside}
 use Rattle.asm_value.specs.Value.{fitted, withSign, joined}
 use Rattle.asm_text.proofs.Laws.{byte-in, kind-in, after-more, after-le, name-zero, no-digit}
 use Rattle.asm_text.specs.Text.{byteAt, blank?, letter?, nameByte?, digit?, digitOf, span, after, numeral, word}
-use Rattle.asm_words.specs.Words.{wordNumber}
+use Rattle.asm_words.specs.Words.{wordOf, free?}
 use Rattle.asm_expr.specs.Grammar.{Expr, binary, Parse, parsed, malformed, follow, digitsAt, nameAt, plainAt}
 use Rattle.asm_expr.specs.Grammar.{closed, plus?, times?, chain, partsOf, factorWith, factorOf, termOf, expressionOf}
 use Rattle.asm_expr.specs.Meaning.{valueOf, answerOf, shut}
@@ -69,7 +69,7 @@ letter-name b h = rw h
 
 reach-name : (s : List ℕ) (i : ℕ) → letter? (byteAt s i) ≡ true → Reach s i (nameAt s i)
 unfolding nameAt
-reach-name s i h = reach-cond s i (eqb (wordNumber (word (drop i s))) 0) _ _
+reach-name s i h = reach-cond s i (free? (wordOf (word (drop i s)))) _ _
     (λ q. after-ahead nameByte? name-zero s i (letter-name (byteAt s i) h))
     (λ q. tt)
 
@@ -352,16 +352,16 @@ digits-some look m base s i b d n j v e f h ej en ev = rw (t) (go ∙ ap (Parsed
     go = ap (λ w. Parsed w j) (ev ∙ ap (λ k. fitted (withSign m k)) en ∙ fitted-cut m (numeral base 0 (drop i s)))
 
 -- a name's word is none of the language
-module _ (look : List ℕ → Value) (s : List ℕ) (i m : ℕ) (e : m ≡ wordNumber (word (drop i s))) where
-  pub name-word : (m ≡ 0 → ⊥) → Malformed ≡ answerOf look (nameAt s i)
+module _ (look : List ℕ → Value) (s : List ℕ) (i : ℕ) (m : Bool) (e : m ≡ free? (wordOf (word (drop i s)))) where
+  pub name-word : m ≡ false → Malformed ≡ answerOf look (nameAt s i)
   unfolding nameAt answerOf
-  name-word h = rw (ne-eqb (wordNumber (word (drop i s))) 0 (λ z. h (e ∙ z)))
+  name-word h = rw (sym e ∙ h)
 
-  pub name-read : (v : Value) (j : ℕ) → m ≡ 0 → v ≡ look (word (drop i s)) → j ≡ after nameByte? s i
+  pub name-read : (v : Value) (j : ℕ) → m ≡ true → v ≡ look (word (drop i s)) → j ≡ after nameByte? s i
       → Parsed v j ≡ answerOf look (nameAt s i)
   unfolding nameAt answerOf valueOf
   name-read v j h ev ej =
-      rw (eq-eqb (wordNumber (word (drop i s))) 0 (sym e ∙ h))
+      rw (sym e ∙ h)
       (ap (λ w. Parsed w j) ev ∙ ap (Parsed (look (word (drop i s)))) ej)
 
 module _ (s : List ℕ) (i b : ℕ) (e : b ≡ byteAt s i) where

@@ -8,11 +8,12 @@
 use mathlib.Core.Bool.{Bool, true, false, cond, _||_}
 use mathlib.Core.List.{List}
 use Prim.Native.Nat.{ℕ, zero, suc, _+_}
+use Prim.Native.Char.{code}
 use lib.Dec.{eqb}
 use lib.ListN.{length, drop}
 use lib.IntN.{ℤ}
 use Rattle.asm_value.specs.Value.{withSign}
-use Rattle.asm_words.specs.Words.{wordNumber}
+use Rattle.asm_words.specs.Words.{wordOf, free?}
 use Rattle.asm_text.specs.Text.{byteAt, blank?, letter?, nameByte?, digit?, after, numeral, word}
 
 -- an expression: a number, of any size; a name; two parts with the byte of + - * or / between them. [02 §12]
@@ -47,27 +48,27 @@ digitsAt negative base s i =
 -- a name at i: a word that is none of the language. [02 §12]
 unfoldable pub nameAt : List ℕ → ℕ → Parse
 nameAt s i =
-    cond (eqb (wordNumber (word (drop i s))) 0) (parsed (name (word (drop i s))) (after nameByte? s i)) malformed
+    cond (free? (wordOf (word (drop i s)))) (parsed (name (word (drop i s))) (after nameByte? s i)) malformed
 
--- a number or a name at i: # is byte 35, - 45, $ 36. [02 §12]
+-- a number or a name at i. [02 §12]
 unfoldable pub plainAt : List ℕ → ℕ → Parse
 plainAt s i =
     cond (letter? (byteAt s i)) (nameAt s i)
-    (cond (eqb (byteAt s i) 35)
-    (cond (eqb (byteAt s (i + 1)) 45) (digitsAt true 10 s (i + 2)) (digitsAt false 10 s (i + 1)))
-    (cond (eqb (byteAt s i) 36) (digitsAt false 16 s (i + 1))
+    (cond (eqb (byteAt s i) (code "#"))
+    (cond (eqb (byteAt s (i + 1)) (code "-")) (digitsAt true 10 s (i + 2)) (digitsAt false 10 s (i + 1)))
+    (cond (eqb (byteAt s i) (code "$")) (digitsAt false 16 s (i + 1))
     malformed))
 
--- e, and ) after it, byte 41. [02 §12]
+-- e, and ) after it. [02 §12]
 unfoldable pub closed : List ℕ → Expr → ℕ → Parse
-closed s e i = cond (eqb (byteAt s (after blank? s i)) 41) (parsed e (after blank? s i + 1)) malformed
+closed s e i = cond (eqb (byteAt s (after blank? s i)) (code ")")) (parsed e (after blank? s i + 1)) malformed
 
--- + is 43, - 45; * is 42, / 47
+-- the signs of a sum, and of a product
 unfoldable pub plus? : ℕ → Bool
-plus? b = eqb b 43 || eqb b 45
+plus? b = eqb b (code "+") || eqb b (code "-")
 
 unfoldable pub times? : ℕ → Bool
-times? b = eqb b 42 || eqb b 47
+times? b = eqb b (code "*") || eqb b (code "/")
 
 -- e at the left, and then, n times at most, a sign of the kind and a part: equals from the left. [02 §12]
 unfoldable pub chain : (ℕ → Bool) → (ℕ → Parse) → List ℕ → ℕ → Expr → ℕ → Parse
@@ -81,10 +82,10 @@ chain sign part s (suc n) e i =
 unfoldable pub partsOf : (ℕ → Bool) → (ℕ → Parse) → List ℕ → ℕ → Parse
 partsOf sign part s i = follow (part i) (λ e j. chain sign part s (length s) e j)
 
--- a bracket with `inner` in it, or what is plain; ( is byte 40
+-- a bracket with `inner` in it, or what is plain
 unfoldable pub factorWith : (ℕ → Parse) → List ℕ → ℕ → Parse
 factorWith inner s i =
-    cond (eqb (byteAt s (after blank? s i)) 40)
+    cond (eqb (byteAt s (after blank? s i)) (code "("))
     (follow (inner (after blank? s i + 1)) (closed s))
     (plainAt s (after blank? s i))
 

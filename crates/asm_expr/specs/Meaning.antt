@@ -2,6 +2,7 @@
 use mathlib.Core.Bool.{cond}
 use mathlib.Core.List.{List}
 use Prim.Native.Nat.{ℕ, _+_}
+use Prim.Native.Char.{code}
 use lib.Dec.{eqb}
 use Rattle.asm_value.specs.declared.Value.{Value}
 use Rattle.asm_value.specs.declared.Value.the-variants.{Known, Unknown, Outside}
@@ -25,4 +26,4 @@ answerOf look (parsed e i) = Parsed (valueOf look e) i
 -- an answer, and ) after it
 unfoldable pub shut : List ℕ → Answer → Answer
 shut s Malformed = Malformed
-shut s (Parsed v i) = cond (eqb (byteAt s (after blank? s i)) 41) (Parsed v (after blank? s i + 1)) Malformed
+shut s (Parsed v i) = cond (eqb (byteAt s (after blank? s i)) (code ")")) (Parsed v (after blank? s i + 1)) Malformed

@@ -59,7 +59,7 @@ fn named(
         (nameAt (now (s .entry)) at) ⌝ }
 {
     let t = asm_text::read_word(s, at);
-    if asm_words::word_number(t.spelled) != 0 {
+    if !asm_words::is_free(asm_words::find_word(t.spelled)) {
         return Answer::Malformed;
     }
     let v = asm_text::look_up(source, places, keys, values, s, at, t.key);

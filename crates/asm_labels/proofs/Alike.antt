@@ -13,6 +13,8 @@ use Rattle.asm_expr.specs.Grammar.{Expr, number, name, binary}
 use Rattle.asm_expr.specs.Meaning.{valueOf}
 use Rattle.asm_line.specs.declared.Statement.{Statement}
 use Rattle.asm_line.specs.declared.Reading.{Reading}
+use Rattle.asm_words.specs.declared.Valued.{Valued}
+use Rattle.asm_words.specs.declared.Valued.the-variants as val
 use Rattle.asm_line.specs.Statement.{withValue}
 use Rattle.asm_line.specs.Line.{lineOf}
 use Rattle.asm_line.proofs.Alike as line
@@ -85,11 +87,6 @@ onto-self (Equal v) = λ z e. e
 onto-self (Space v) = λ z e. e
 onto-self Stop = tt
 
-onto-cond : (b : Bool) (x y x′ y′ : Statement) → Onto (layoutOf x) (layoutOf x′) → Onto (layoutOf y) (layoutOf y′)
-    → Onto (layoutOf (cond b x y)) (layoutOf (cond b x′ y′))
-onto-cond true x y x′ y′ f g = f
-onto-cond false x y x′ y′ f g = g
-
 -- ---- readings
 
 abbrev Laid : Statement → Statement → Type 0
@@ -99,17 +96,16 @@ abbrev pub AlikeLines : Reading → Reading → Type 0
 AlikeLines r s = line.AlikeLines Up Laid r s
 
 -- a statement with a value
-value-onto : (m : ℕ) (v w : Value) → Up v w → Onto (layoutOf (withValue m v)) (layoutOf (withValue m w))
+value-onto : (m : Valued) (v w : Value) → Up v w → Onto (layoutOf (withValue m v)) (layoutOf (withValue m w))
 unfolding withValue layoutOf
-value-onto m v w u =
-    onto-cond (ltb m 2) _ _ _ _ refl
-    (onto-cond (ltb m 10) _ _ _ _ refl
-    (onto-cond (ltb m 30) _ _ _ _ refl
-    (onto-cond (ltb m 31) _ _ _ _ refl
-    (onto-cond (ltb m 43) _ _ _ _ u
-    (onto-cond (ltb m 44) _ _ _ _ u
-    (onto-cond (ltb m 45) _ _ _ _ u
-    (onto-cond (ltb m 46) _ _ _ _ refl refl)))))))
+value-onto val.Org v w u = u
+value-onto val.Bss v w u = u
+value-onto val.Byte v w u = refl
+value-onto val.Word v w u = refl
+value-onto val.Bl v w u = refl
+value-onto (val.Branch c) v w u = refl
+value-onto val.SetPri v w u = refl
+value-onto val.Svc v w u = refl
 
 laid : line.Related Up Laid
 unfolding layoutOf
@@ -117,6 +113,7 @@ laid =
     record {
       itself = λ x. onto-self (layoutOf x);
       of-one = value-onto;
+      of-equate = λ v w u. u;
       of-constant = λ op b d v w h. refl;
       of-counts = λ c t u v w g h. refl;
       of-byte = λ op plain d v w h. refl;

@@ -11,7 +11,7 @@ use lib.ListN.{drop}
 use Rattle.lines.specs.Lines.{linesOf}
 use Rattle.asm_value.specs.declared.Value.{Value}
 use Rattle.asm_value.specs.declared.Value.the-variants.{Known}
-use Rattle.asm_text.specs.Text.{word}
+use Rattle.asm_text.specs.Text.{ascii, word}
 use Rattle.asm_line.specs.declared.Statement.{Statement}
 use Rattle.asm_line.specs.declared.Statement.the-variants.{MovImm}
 use Rattle.asm_line.specs.declared.Reading.{Reading}
@@ -60,15 +60,15 @@ NamesPlaced = (s : List ℕ) → verdictOf s .refusal ≡ 0 → AllValued (names
 
 -- ---- an example that meets the premise
 
--- three lines: ORG #256, L MOVH L,R0 and END
+-- three lines
 abbrev pub sample : List ℕ
 sample =
-    32 ∷ 79 ∷ 82 ∷ 71 ∷ 32 ∷ 35 ∷ 50 ∷ 53 ∷ 54 ∷ 10 ∷
-    76 ∷ 32 ∷ 77 ∷ 79 ∷ 86 ∷ 72 ∷ 32 ∷ 76 ∷ 44 ∷ 82 ∷ 48 ∷ 10 ∷
-    32 ∷ 69 ∷ 78 ∷ 68 ∷ []
+    ascii " ORG #256\n"
+    ++ ascii "L MOVH L,R0\n"
+    ++ ascii " END"
 
--- L (76) stands at 256 with MOVH, and has that value. [02 §12]
+-- L stands at 256 with MOVH, and has that value. [02 §12]
 abbrev pub Sample : Type 0
 Sample =
-    (givenOf sample ≡ given (76 ∷ []) 256 (MovImm 3 false (Known (pos 256)) 0) ∷ [])
+    (givenOf sample ≡ given (ascii "L") 256 (MovImm 3 false (Known (pos 256)) 0) ∷ [])
     × AllValued (namesOf sample) (givenOf sample)

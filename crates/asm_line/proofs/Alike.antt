@@ -1,14 +1,18 @@
 -- A line read with other values for its names: it fits the language or does not, has a name or not, and ends, at the same places;
 -- and where what it reads is related value by value, so are its statements. Assumes nothing.
 use mathlib.Core.Path.{_≡_, refl, subst}
-use mathlib.Core.Bool.{Bool, true, false, cond, _&&_, not}
+use mathlib.Core.Bool.{Bool, true, false, cond, not}
 use mathlib.Core.List.{List}
-use Prim.Native.Nat.{ℕ, _+_, _-_}
-use lib.Dec.{ltb, eqb}
+use Prim.Native.Nat.{ℕ, _+_}
 use lib.ListN.{drop}
 use Rattle.asm_value.specs.declared.Value.{Value}
 use Rattle.asm_text.specs.Text.{byteAt, blank?, letter?, nameByte?, after, word}
-use Rattle.asm_words.specs.Words.{wordNumber}
+use Rattle.asm_words.specs.declared.Word.{Word}
+use Rattle.asm_words.specs.declared.Word.the-variants.{Free, Reserved, Begins}
+use Rattle.asm_words.specs.declared.Keyword.{Keyword}
+use Rattle.asm_words.specs.declared.Keyword.the-variants as key
+use Rattle.asm_words.specs.declared.Valued.{Valued}
+use Rattle.asm_words.specs.Words.{wordOf, free?}
 use Rattle.asm_expr.specs.declared.Answer.{Answer}
 use Rattle.asm_expr.specs.declared.Answer.the-variants.{Parsed, Malformed}
 use Rattle.asm_expr.specs.Grammar.{Expr, Parse, parsed, malformed, factorOf}
@@ -22,9 +26,9 @@ use Rattle.asm_line.specs.declared.Stated.{Stated}
 use Rattle.asm_line.specs.declared.Stated.the-variants.{Fits, Misfit}
 use Rattle.asm_line.specs.declared.Reading.{Reading}
 use Rattle.asm_line.specs.declared.Reading.the-variants.{Line, Fault}
-use Rattle.asm_line.specs.Statement.{having, valued, withValue, oneValue, arithmeticFrom, arithmetic, move, exchange, unary}
-use Rattle.asm_line.specs.Statement.{oneRegister, onRegisters, onFlags, conditional, onControl, load, store}
-use Rattle.asm_line.specs.Statement.{moveByte, loadRelative, storeRelative, onMemory, directiveOf, statementOf}
+use Rattle.asm_line.specs.Statement.{having, valued, withValue, oneValue, equate, arithmeticFrom, arithmetic, move, exchange}
+use Rattle.asm_line.specs.Statement.{unary, oneRegister, onFlags, conditional, load, store, moveByte, loadRelative}
+use Rattle.asm_line.specs.Statement.{storeRelative, statementWith, statementOf}
 use Rattle.asm_line.specs.Line.{ended, statementAt, afterName, lineFrom, lineOf}
 
 -- U relates values, O statements
@@ -32,7 +36,8 @@ module _ (U : Value → Value → Type 0) (O : Statement → Statement → Type 
   -- statements made alike of related values are related
   pub record Related : Type 0 where
     pub itself : (x : Statement) → O x x
-    pub of-one : (m : ℕ) (v w : Value) → U v w → O (withValue m v) (withValue m w)
+    pub of-one : (m : Valued) (v w : Value) → U v w → O (withValue m v) (withValue m w)
+    pub of-equate : (v w : Value) → U v w → O (st.Equ v) (st.Equ w)
     pub of-constant : (op b d : ℕ) (v w : Value) → U v w → O (st.Constant op b v d) (st.Constant op b w d)
     pub of-counts : (c : ℕ) (t u v w : Value) → U t u → U v w → O (st.Cex c t v) (st.Cex c u w)
     pub of-byte : (op : ℕ) (plain : Bool) (d : ℕ) (v w : Value) → U v w → O (st.MovImm op plain v d) (st.MovImm op plain w d)
@@ -100,9 +105,15 @@ module _ (U : Value → Value → Type 0) (O : Statement → Statement → Type 
     unfolding commaValue
     same-comma i = same-cond (comma? s i) _ _ (same-value (after blank? s i + 1))
 
-    one-value : (m i : ℕ) → Alike (oneValue f s m i) (oneValue f′ s m i)
+    one-value : (m : Valued) (i : ℕ) → Alike (oneValue f s m i) (oneValue f′ s m i)
     unfolding oneValue
     one-value m i = alike-valued (valueAt f s i) (valueAt f′ s i) _ _ (same-value i) (λ v w j h. (refl, R .of-one m v w h))
+
+    equate-alike : (named : Bool) (i : ℕ) → Alike (equate f s named i) (equate f′ s named i)
+    unfolding equate
+    equate-alike named i =
+        alike-cond named _ _ _ _
+        (alike-valued (valueAt f s i) (valueAt f′ s i) _ _ (same-value i) (λ v w j h. (refl, R .of-equate v w h))) tt
 
     from-register : (op b i : ℕ) (x : Found) → Alike (arithmeticFrom f s op b i x) (arithmeticFrom f′ s op b i x)
     from-register op b i Missing = alike-valued (valueAt f s i) (valueAt f′ s i) _ _ (same-value i)
@@ -113,23 +124,12 @@ module _ (U : Value → Value → Type 0) (O : Statement → Statement → Type 
     unfolding arithmetic
     arithmetic-alike op i = alike-having (widthAt s i) _ _ (λ b j. from-register op b j (registerAt s j))
 
-    on-registers : (m i : ℕ) → Alike (onRegisters f s m i) (onRegisters f′ s m i)
-    unfolding onRegisters
-    on-registers m i = alike-cond (ltb m 22) _ _ _ _ (arithmetic-alike (m - 10) i)
-        (alike-self (cond (ltb m 23) (move s i) (cond (ltb m 24) (exchange s i)
-        (cond (ltb m 27) (unary s (m - 24) i) (oneRegister s m i)))))
-
     conditional-alike : (i : ℕ) → Alike (conditional f s i) (conditional f′ s i)
     unfolding conditional
     conditional-alike i = alike-having (conditionAt s i) _ _
         (λ c j. alike-valued (commaValue f s j) (commaValue f′ s j) _ _ (same-comma j)
         (λ t u k g. alike-valued (commaValue f s k) (commaValue f′ s k) _ _ (same-comma k)
         (λ v w l h. (refl, R .of-counts c t u v w g h))))
-
-    on-control : (m i : ℕ) → Alike (onControl f s m i) (onControl f′ s m i)
-    unfolding onControl
-    on-control m i = alike-cond (ltb m 31) _ _ _ _ (one-value m i)
-        (alike-cond (ltb m 33) _ _ _ _ (alike-self (onFlags s m i)) (conditional-alike i))
 
     move-byte : (op i : ℕ) → Alike (moveByte f s op i) (moveByte f′ s op i)
     unfolding moveByte
@@ -149,26 +149,31 @@ module _ (U : Value → Value → Type 0) (O : Statement → Statement → Type 
         (λ d l. alike-valued (commaValue f s l) (commaValue f′ s l) _ _ (same-comma l)
         (λ v w n h. (refl, R .of-store b r d v w h)))))
 
-    on-memory : (m i : ℕ) → Alike (onMemory f s m i) (onMemory f′ s m i)
-    unfolding onMemory
-    on-memory m i = alike-cond (ltb m 35) _ _ _ _ (alike-self (load s i))
-        (alike-cond (ltb m 36) _ _ _ _ (alike-self (store s i))
-        (alike-cond (ltb m 40) _ _ _ _ (move-byte (m - 36) i)
-        (alike-cond (ltb m 41) _ _ _ _ (load-relative i) (store-relative i))))
+    with-alike : (named : Bool) (k : Keyword) (i : ℕ) → Alike (statementWith f s named k i) (statementWith f′ s named k i)
+    unfolding statementWith
+    with-alike named (key.Value m) i = one-value m i
+    with-alike named key.Equ i = equate-alike named i
+    with-alike named key.End i = alike-self (Fits st.End i)
+    with-alike named (key.Arithmetic op) i = arithmetic-alike op i
+    with-alike named key.Mov i = alike-self (move s i)
+    with-alike named key.Swap i = alike-self (exchange s i)
+    with-alike named (key.Unary op) i = alike-self (unary s op i)
+    with-alike named key.Swpb i = alike-self (oneRegister s true i)
+    with-alike named key.Sxt i = alike-self (oneRegister s false i)
+    with-alike named key.SetCc i = alike-self (onFlags s true i)
+    with-alike named key.ClrCc i = alike-self (onFlags s false i)
+    with-alike named key.Cex i = conditional-alike i
+    with-alike named key.Ld i = alike-self (load s i)
+    with-alike named key.St i = alike-self (store s i)
+    with-alike named (key.MovImm op) i = move-byte op i
+    with-alike named key.Ldr i = load-relative i
+    with-alike named key.Str i = store-relative i
 
-    directive-alike : (named : Bool) (m i : ℕ) → Alike (directiveOf f s named m i) (directiveOf f′ s named m i)
-    unfolding directiveOf
-    directive-alike named m i = alike-cond (ltb m 47) _ _ _ _
-        (alike-cond (eqb m 43 && not named) _ _ _ _ tt (one-value m i))
-        (alike-self (cond (ltb m 48) (Fits st.End i) Misfit))
-
-    statement-alike : (named : Bool) (m i : ℕ) → Alike (statementOf f s named m i) (statementOf f′ s named m i)
+    statement-alike : (named : Bool) (m : Word) (i : ℕ) → Alike (statementOf f s named m i) (statementOf f′ s named m i)
     unfolding statementOf
-    statement-alike named m i = alike-cond (eqb m 0) _ _ _ _ tt
-        (alike-cond (ltb m 10) _ _ _ _ (one-value m i)
-        (alike-cond (ltb m 29) _ _ _ _ (on-registers m i)
-        (alike-cond (ltb m 34) _ _ _ _ (on-control m i)
-        (alike-cond (ltb m 42) _ _ _ _ (on-memory m i) (directive-alike named m i)))))
+    statement-alike named Free i = tt
+    statement-alike named Reserved i = tt
+    statement-alike named (Begins k) i = with-alike named k i
 
     alike-ended : (named : Bool) (q : ℕ) (x y : Stated) → Alike x y → AlikeLines (ended s named q x) (ended s named q y)
     alike-ended named q Misfit Misfit e = tt
@@ -182,7 +187,7 @@ module _ (U : Value → Value → Type 0) (O : Statement → Statement → Type 
         → AlikeLines (ended s named q (statementAt f s named i)) (ended s named q (statementAt f′ s named i))
     unfolding statementAt
     alike-statement named q i =
-        let m = wordNumber (word (drop i s)) in
+        let m = wordOf (word (drop i s)) in
         let k = after nameByte? s i in
         alike-ended named q (statementOf f s named m k) (statementOf f′ s named m k) (statement-alike named m k)
 
@@ -196,7 +201,7 @@ module _ (U : Value → Value → Type 0) (O : Statement → Statement → Type 
     alike-from : (q : ℕ) → AlikeLines (lineFrom f s q) (lineFrom f′ s q)
     unfolding lineFrom
     alike-from q = alike-lines-cond (over? s q) _ _ _ _ (nothing-alike false q)
-        (alike-lines-cond (not (eqb (wordNumber (word (drop q s))) 0)) _ _ _ _ (alike-statement false q q)
+        (alike-lines-cond (not (free? (wordOf (word (drop q s))))) _ _ _ _ (alike-statement false q q)
         (alike-lines-cond (letter? (byteAt s q)) _ _ _ _ (alike-after q (after blank? s (after nameByte? s q))) tt))
 
     pub line-related : AlikeLines (lineOf f s) (lineOf f′ s)

@@ -19,6 +19,7 @@ any-related =
     record {
       itself = λ x. tt;
       of-one = λ m v w h. tt;
+      of-equate = λ v w h. tt;
       of-constant = λ op b d v w h. tt;
       of-counts = λ c t u v w g h. tt;
       of-byte = λ op plain d v w h. tt;

@@ -15,7 +15,14 @@ use Rattle.isa.specs.declared.Encoded.the-variants as encoded
 use Rattle.isa.specs.Encode.{encodeOf, whenFits}
 use Rattle.asm_value.specs.declared.Value.{Value}
 use Rattle.asm_text.specs.Text.{byteAt, blank?, letter?, nameByte?, after, word}
-use Rattle.asm_words.specs.Words.{wordNumber, registerOf, conditionOf, flagsOf}
+use Rattle.asm_words.specs.declared.Word.{Word}
+use Rattle.asm_words.specs.declared.Word.the-variants.{Free, Reserved, Begins}
+use Rattle.asm_words.specs.declared.Keyword.{Keyword}
+use Rattle.asm_words.specs.declared.Keyword.the-variants as key
+use Rattle.asm_words.specs.declared.Valued.{Valued}
+use Rattle.asm_words.specs.declared.Valued.the-variants as val
+use Rattle.asm_words.specs.Words.{wordOf, free?, registerOf, conditionOf, flagsOf}
+use Rattle.asm_words.proofs.Laws.{valued-within?, key-within?, within?, word-within}
 use Rattle.asm_expr.specs.declared.Answer.{Answer}
 use Rattle.asm_expr.specs.declared.Answer.the-variants.{Parsed, Malformed}
 use Rattle.asm_operands.specs.declared.Found.{Found}
@@ -30,9 +37,9 @@ use Rattle.asm_line.specs.declared.Stated.{Stated}
 use Rattle.asm_line.specs.declared.Stated.the-variants.{Fits, Misfit}
 use Rattle.asm_line.specs.declared.Reading.{Reading}
 use Rattle.asm_line.specs.declared.Reading.the-variants.{Line, Fault}
-use Rattle.asm_line.specs.Statement.{having, valued, addressed, withValue, oneValue, arithmeticFrom, arithmetic, move}
-use Rattle.asm_line.specs.Statement.{exchange, unary, oneRegister, onRegisters, onFlags, conditional, onControl, load, store}
-use Rattle.asm_line.specs.Statement.{moveByte, loadRelative, storeRelative, onMemory, directiveOf, statementOf}
+use Rattle.asm_line.specs.Statement.{having, valued, addressed, withValue, oneValue, equate, arithmeticFrom, arithmetic, move}
+use Rattle.asm_line.specs.Statement.{exchange, unary, oneRegister, onFlags, conditional, load, store, moveByte}
+use Rattle.asm_line.specs.Statement.{loadRelative, storeRelative, statementWith, statementOf}
 use Rattle.asm_line.specs.Line.{ended, statementAt, afterName, lineFrom, lineOf}
 
 -- a word, not a refusal
@@ -161,24 +168,24 @@ worded false w h = absurd (false≢true h)
 
 -- ---- the statements, in the order of their definitions
 module _ (look : List ℕ → Value) (s : List ℕ) where
-  lawful-cond : (b : Bool) (x y : Statement) → (b ≡ true → Lawful x) → (b ≡ false → Lawful y) → Lawful (cond b x y)
-  lawful-cond true x y f g = f refl
-  lawful-cond false x y f g = g refl
-
-  with-value : (m : ℕ) (v : Value) → Lawful (withValue m v)
+  with-value : (m : Valued) (v : Value) → valued-within? m ≡ true → Lawful (withValue m v)
   unfolding withValue
-  with-value m v = lawful-cond (ltb m 2) _ _ (λ q. tt)
-      (λ q. lawful-cond (ltb m 10) _ _ (λ q. let h = ltb-true m 10 q in omega arith)
-      (λ q. lawful-cond (ltb m 30) _ _ (λ q. tt)
-      (λ q. lawful-cond (ltb m 31) _ _ (λ q. tt)
-      (λ q. lawful-cond (ltb m 43) _ _ (λ q. tt)
-      (λ q. lawful-cond (ltb m 44) _ _ (λ q. tt)
-      (λ q. lawful-cond (ltb m 45) _ _ (λ q. tt)
-      (λ q. lawful-cond (ltb m 46) _ _ (λ q. tt) (λ q. tt))))))))
+  with-value val.Org v h = tt
+  with-value val.Bss v h = tt
+  with-value val.Byte v h = tt
+  with-value val.Word v h = tt
+  with-value val.Bl v h = tt
+  with-value (val.Branch c) v h = ltb-true c 8 h
+  with-value val.SetPri v h = tt
+  with-value val.Svc v h = tt
 
-  one-value : (m i : ℕ) → Holds (oneValue look s m i)
+  one-value : (m : Valued) (i : ℕ) → valued-within? m ≡ true → Holds (oneValue look s m i)
   unfolding oneValue
-  one-value m i = holds-valued (valueAt look s i) _ (λ v j. with-value m v)
+  one-value m i h = holds-valued (valueAt look s i) _ (λ v j. with-value m v h)
+
+  equate-holds : (named : Bool) (i : ℕ) → Holds (equate look s named i)
+  unfolding equate
+  equate-holds named i = holds-cond named _ _ (λ q. holds-valued (valueAt look s i) _ (λ v j. tt)) (λ q. tt)
 
   from-register : (op w i : ℕ) (f : Found) → op < 12 → w < 2 → Below 8 f → Holds (arithmeticFrom look s op w i f)
   unfolding encodeOf
@@ -216,35 +223,22 @@ module _ (look : List ℕ → Value) (s : List ℕ) where
   one-of true x y f g = f
   one-of false x y f g = g
 
-  one-register : (m i : ℕ) → Holds (oneRegister s m i)
+  one-register : (swapped : Bool) (i : ℕ) → Holds (oneRegister s swapped i)
   unfolding oneRegister encodeOf
-  one-register m i = holds-having 8 (registerAt s i) _ (register-below s i)
-      (λ d j e. one-of (ltb m 28) (instr.Swpb d 0) (instr.Sxt d 0) (worded (ltb d 8 && ltb 0 2) _ (rw (lt-ltb d 8 e)))
+  one-register swapped i = holds-having 8 (registerAt s i) _ (register-below s i)
+      (λ d j e. one-of swapped (instr.Swpb d 0) (instr.Sxt d 0) (worded (ltb d 8 && ltb 0 2) _ (rw (lt-ltb d 8 e)))
       (worded (ltb d 8 && ltb 0 2) _ (rw (lt-ltb d 8 e))))
 
-  on-registers : (m i : ℕ) → Holds (onRegisters look s m i)
-  unfolding onRegisters
-  on-registers m i = holds-cond (ltb m 22) _ _ (λ q. let h = ltb-true m 22 q in arithmetic-holds (m - 10) i (omega arith))
-      (λ q. holds-cond (ltb m 23) _ _ (λ q. move-holds i)
-      (λ q. holds-cond (ltb m 24) _ _ (λ q. exchange-holds i)
-      (λ q. holds-cond (ltb m 27) _ _ (λ q. let h = ltb-true m 27 q in unary-holds (m - 24) i (omega arith))
-      (λ q. one-register m i))))
-
-  on-flags : (m i : ℕ) → Holds (onFlags s m i)
+  on-flags : (set : Bool) (i : ℕ) → Holds (onFlags s set i)
   unfolding onFlags encodeOf
-  on-flags m i = holds-having 32 (flagsAt s i) _ (flags-below s i)
-      (λ f j e. one-of (ltb m 32) (instr.SetCc f) (instr.ClrCc f) (worded (ltb f 32) _ (lt-ltb f 32 e))
+  on-flags set i = holds-having 32 (flagsAt s i) _ (flags-below s i)
+      (λ f j e. one-of set (instr.SetCc f) (instr.ClrCc f) (worded (ltb f 32) _ (lt-ltb f 32 e))
       (worded (ltb f 32) _ (lt-ltb f 32 e)))
 
   conditional-holds : (i : ℕ) → Holds (conditional look s i)
   unfolding conditional
   conditional-holds i = holds-having 16 (conditionAt s i) _ (condition-below s i)
       (λ c j e. holds-valued (commaValue look s j) _ (λ t k. holds-valued (commaValue look s k) _ (λ f l. e)))
-
-  on-control : (m i : ℕ) → Holds (onControl look s m i)
-  unfolding onControl
-  on-control m i = holds-cond (ltb m 31) _ _ (λ q. one-value m i)
-      (λ q. holds-cond (ltb m 33) _ _ (λ q. on-flags m i) (λ q. conditional-holds i))
 
   load-holds : (i : ℕ) → Holds (load s i)
   unfolding load encodeOf
@@ -281,26 +275,31 @@ module _ (look : List ℕ → Value) (s : List ℕ) where
       (λ r k h. holds-having 8 (commaRegister s k) _ (comma-register-below s k)
       (λ d l e. holds-valued (commaValue look s l) _ (λ v n. (b, h, e)))))
 
-  on-memory : (m i : ℕ) → Holds (onMemory look s m i)
-  unfolding onMemory
-  on-memory m i = holds-cond (ltb m 35) _ _ (λ q. load-holds i)
-      (λ q. holds-cond (ltb m 36) _ _ (λ q. store-holds i)
-      (λ q. holds-cond (ltb m 40) _ _ (λ q. let h = ltb-true m 40 q in move-byte (m - 36) i (omega arith))
-      (λ q. holds-cond (ltb m 41) _ _ (λ q. load-relative i) (λ q. store-relative i))))
+  with-holds : (named : Bool) (k : Keyword) (i : ℕ) → key-within? k ≡ true → Holds (statementWith look s named k i)
+  unfolding statementWith
+  with-holds named (key.Value m) i h = one-value m i h
+  with-holds named key.Equ i h = equate-holds named i
+  with-holds named key.End i h = tt
+  with-holds named (key.Arithmetic op) i h = arithmetic-holds op i (ltb-true op 12 h)
+  with-holds named key.Mov i h = move-holds i
+  with-holds named key.Swap i h = exchange-holds i
+  with-holds named (key.Unary op) i h = unary-holds op i (ltb-true op 3 h)
+  with-holds named key.Swpb i h = one-register true i
+  with-holds named key.Sxt i h = one-register false i
+  with-holds named key.SetCc i h = on-flags true i
+  with-holds named key.ClrCc i h = on-flags false i
+  with-holds named key.Cex i h = conditional-holds i
+  with-holds named key.Ld i h = load-holds i
+  with-holds named key.St i h = store-holds i
+  with-holds named (key.MovImm op) i h = move-byte op i (ltb-true op 4 h)
+  with-holds named key.Ldr i h = load-relative i
+  with-holds named key.Str i h = store-relative i
 
-  directive-holds : (named : Bool) (m i : ℕ) → Holds (directiveOf look s named m i)
-  unfolding directiveOf
-  directive-holds named m i = holds-cond (ltb m 47) _ _
-      (λ q. holds-cond (eqb m 43 && not named) _ _ (λ q. tt) (λ q. one-value m i))
-      (λ q. holds-cond (ltb m 48) _ _ (λ q. tt) (λ q. tt))
-
-  statement-holds : (named : Bool) (m i : ℕ) → Holds (statementOf look s named m i)
+  statement-holds : (named : Bool) (m : Word) (i : ℕ) → within? m ≡ true → Holds (statementOf look s named m i)
   unfolding statementOf
-  statement-holds named m i = holds-cond (eqb m 0) _ _ (λ q. tt)
-      (λ q. holds-cond (ltb m 10) _ _ (λ q. one-value m i)
-      (λ q. holds-cond (ltb m 29) _ _ (λ q. on-registers m i)
-      (λ q. holds-cond (ltb m 34) _ _ (λ q. on-control m i)
-      (λ q. holds-cond (ltb m 42) _ _ (λ q. on-memory m i) (λ q. directive-holds named m i)))))
+  statement-holds named Free i h = tt
+  statement-holds named Reserved i h = tt
+  statement-holds named (Begins k) i h = with-holds named k i h
 
   -- ---- a line
   line-cond : (b : Bool) (x y : Reading) → (b ≡ true → LawfulLine x) → (b ≡ false → LawfulLine y) → LawfulLine (cond b x y)
@@ -314,9 +313,9 @@ module _ (look : List ℕ → Value) (s : List ℕ) where
   statement-lawful : (named : Bool) (name i : ℕ) → LawfulLine (ended s named name (statementAt look s named i))
   unfolding statementAt
   statement-lawful named name i =
-      let m = wordNumber (word (drop i s)) in
+      let m = wordOf (word (drop i s)) in
       let k = after nameByte? s i in
-      ended-lawful named name (statementOf look s named m k) (statement-holds named m k)
+      ended-lawful named name (statementOf look s named m k) (statement-holds named m k (word-within (word (drop i s))))
 
   after-lawful : (name i : ℕ) → LawfulLine (afterName look s name i)
   unfolding afterName
@@ -325,7 +324,7 @@ module _ (look : List ℕ → Value) (s : List ℕ) where
   from-lawful : (q : ℕ) → LawfulLine (lineFrom look s q)
   unfolding lineFrom
   from-lawful q = line-cond (over? s q) _ _ (λ z. tt)
-      (λ z. line-cond (not (eqb (wordNumber (word (drop q s))) 0)) _ _ (λ z. statement-lawful false q q)
+      (λ z. line-cond (not (free? (wordOf (word (drop q s))))) _ _ (λ z. statement-lawful false q q)
       (λ z. line-cond (letter? (byteAt s q)) _ _ (λ z. after-lawful q (after blank? s (after nameByte? s q))) (λ z. tt)))
 
   pub line-lawful : LawfulLine (lineOf look s)

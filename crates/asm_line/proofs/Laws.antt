@@ -4,10 +4,10 @@ use mathlib.Core.Bool.{Bool, true, false}
 use mathlib.Core.List.{List}
 use Prim.Native.Nat.{ℕ}
 use lib.ListN.{drop}
-use borrow.Author.Tests.{eq-eqb, ne-eqb}
 use Rattle.asm_value.specs.declared.Value.{Value}
 use Rattle.asm_text.specs.Text.{byteAt, blank?, letter?, nameByte?, after, word}
-use Rattle.asm_words.specs.Words.{wordNumber}
+use Rattle.asm_words.specs.Words.{wordOf, free?}
+use Rattle.asm_words.specs.declared.Word.{Word}
 use Rattle.asm_operands.specs.Operands.{over?}
 use Rattle.asm_line.specs.declared.Statement.{Statement}
 use Rattle.asm_line.specs.declared.Statement.the-variants.{Nothing}
@@ -26,11 +26,12 @@ module _ (s : List ℕ) (named : Bool) (name : ℕ) (x : Statement) (i : ℕ) wh
   end-no h = rw h
 
 -- ---- a statement whose word stands at i
-pub statement-there : (look : List ℕ → Value) (s : List ℕ) (named : Bool) (i m j : ℕ) (x : Stated) → m ≡ wordNumber (word (drop i s))
+pub statement-there : (look : List ℕ → Value) (s : List ℕ) (named : Bool) (i : ℕ) (m : Word) (j : ℕ) (x : Stated)
+    → m ≡ wordOf (word (drop i s))
     → j ≡ after nameByte? s i → x ≡ statementOf look s named m j → x ≡ statementAt look s named i
 unfolding statementAt
 statement-there look s named i m j x em ej ex =
-    ex ∙ ap (λ k. statementOf look s named k j) em ∙ ap (statementOf look s named (wordNumber (word (drop i s)))) ej
+    ex ∙ ap (λ k. statementOf look s named k j) em ∙ ap (statementOf look s named (wordOf (word (drop i s)))) ej
 
 -- ---- a line from its first byte on that is no blank
 module _ (look : List ℕ → Value) (s : List ℕ) (q : ℕ) where
@@ -46,16 +47,16 @@ module _ (look : List ℕ → Value) (s : List ℕ) (q : ℕ) where
   unfolding lineFrom
   line-empty h = rw h
 
-  module _ (h : over? s q ≡ false) (m : ℕ) (e : m ≡ wordNumber (word (drop q s))) where
-    pub line-word : (m ≡ 0 → ⊥) → ended s false q (statementAt look s false q) ≡ lineFrom look s q
+  module _ (h : over? s q ≡ false) (m : Bool) (e : m ≡ free? (wordOf (word (drop q s)))) where
+    pub line-word : m ≡ false → ended s false q (statementAt look s false q) ≡ lineFrom look s q
     unfolding lineFrom
-    line-word k = rw (h, ne-eqb (wordNumber (word (drop q s))) 0 (λ z. k (e ∙ z)))
+    line-word k = rw (h, sym e ∙ k)
 
-    pub line-name : m ≡ 0 → letter? (byteAt s q) ≡ true
+    pub line-name : m ≡ true → letter? (byteAt s q) ≡ true
         → afterName look s q (after blank? s (after nameByte? s q)) ≡ lineFrom look s q
     unfolding lineFrom
-    line-name k l = rw (h, eq-eqb (wordNumber (word (drop q s))) 0 (sym e ∙ k), l)
+    line-name k l = rw (h, sym e ∙ k, l)
 
-    pub line-none : m ≡ 0 → letter? (byteAt s q) ≡ false → Fault ≡ lineFrom look s q
+    pub line-none : m ≡ true → letter? (byteAt s q) ≡ false → Fault ≡ lineFrom look s q
     unfolding lineFrom
-    line-none k l = rw (h, eq-eqb (wordNumber (word (drop q s))) 0 (sym e ∙ k), l)
+    line-none k l = rw (h, sym e ∙ k, l)

@@ -3,11 +3,10 @@
 use mathlib.Core.Bool.{Bool, true, false, cond, not}
 use mathlib.Core.List.{List}
 use Prim.Native.Nat.{ℕ}
-use lib.Dec.{eqb}
 use lib.ListN.{drop}
 use Rattle.asm_value.specs.declared.Value.{Value}
 use Rattle.asm_text.specs.Text.{byteAt, blank?, letter?, nameByte?, after, word}
-use Rattle.asm_words.specs.Words.{wordNumber}
+use Rattle.asm_words.specs.Words.{wordOf, free?}
 use Rattle.asm_line.specs.declared.Statement.the-variants.{Nothing}
 use Rattle.asm_line.specs.declared.Stated.{Stated}
 use Rattle.asm_line.specs.declared.Stated.the-variants.{Fits, Misfit}
@@ -23,7 +22,7 @@ ended s named name (Fits x i) = cond (over? s (after blank? s i)) (Line named na
 
 -- a statement whose word stands at i
 unfoldable pub statementAt : (List ℕ → Value) → List ℕ → Bool → ℕ → Stated
-statementAt look s named i = statementOf look s named (wordNumber (word (drop i s))) (after nameByte? s i)
+statementAt look s named i = statementOf look s named (wordOf (word (drop i s))) (after nameByte? s i)
 
 -- what follows a name at q that ends before i
 unfoldable pub afterName : (List ℕ → Value) → List ℕ → (q i : ℕ) → Reading
@@ -33,7 +32,7 @@ afterName look s q i = cond (over? s i) (Line true q Nothing) (ended s true q (s
 unfoldable pub lineFrom : (List ℕ → Value) → List ℕ → ℕ → Reading
 lineFrom look s q =
     cond (over? s q) (Line false q Nothing)
-    (cond (not (eqb (wordNumber (word (drop q s))) 0)) (ended s false q (statementAt look s false q))
+    (cond (not (free? (wordOf (word (drop q s))))) (ended s false q (statementAt look s false q))
     (cond (letter? (byteAt s q)) (afterName look s q (after blank? s (after nameByte? s q)))
     Fault))
 

@@ -1,11 +1,16 @@
--- The statements, by the number of their word and the shape of their operands; i is the place after the word. V is a
+-- The statements, by the word that begins them and the shape of their operands; i is the place after the word. V is a
 -- value, R a register; [.B .W] may stand behind the word. Assumes nothing.
-use mathlib.Core.Bool.{Bool, true, false, cond, _&&_, not}
+use mathlib.Core.Bool.{Bool, true, false, cond}
 use mathlib.Core.List.{List}
-use Prim.Native.Nat.{ℕ, _+_, _-_}
-use lib.Dec.{ltb, eqb}
+use Prim.Native.Nat.{ℕ}
 use Rattle.isa.specs.declared.Instr.the-variants as instr
 use Rattle.asm_value.specs.declared.Value.{Value}
+use Rattle.asm_words.specs.declared.Word as words
+use Rattle.asm_words.specs.declared.Word.the-variants.{Free, Reserved, Begins}
+use Rattle.asm_words.specs.declared.Keyword.{Keyword}
+use Rattle.asm_words.specs.declared.Keyword.the-variants as key
+use Rattle.asm_words.specs.declared.Valued.{Valued}
+use Rattle.asm_words.specs.declared.Valued.the-variants as val
 use Rattle.asm_expr.specs.declared.Answer.{Answer}
 use Rattle.asm_expr.specs.declared.Answer.the-variants.{Parsed, Malformed}
 use Rattle.asm_operands.specs.declared.Found.{Found}
@@ -35,21 +40,23 @@ addressed (Of prpo dec inc r i) g = g prpo dec inc r i
 
 -- ---- V
 
--- BL, BEQ to BRA, SETPRI, SVC, ORG, EQU, BSS, BYTE, WORD, by the word's number. [02 §12]
-unfoldable pub withValue : ℕ → Value → Statement
-withValue m v =
-    cond (ltb m 2) (Bl v)
-    (cond (ltb m 10) (Branch (m - 2) v)
-    (cond (ltb m 30) (SetPri v)
-    (cond (ltb m 31) (Svc v)
-    (cond (ltb m 43) (Org v)
-    (cond (ltb m 44) (Equ v)
-    (cond (ltb m 45) (Bss v)
-    (cond (ltb m 46) (Byte v)
-    (Word v))))))))
+-- what each word of one value makes of it. [02 §12]
+unfoldable pub withValue : Valued → Value → Statement
+withValue val.Org v = Org v
+withValue val.Bss v = Bss v
+withValue val.Byte v = Byte v
+withValue val.Word v = Word v
+withValue val.Bl v = Bl v
+withValue (val.Branch c) v = Branch c v
+withValue val.SetPri v = SetPri v
+withValue val.Svc v = Svc v
 
-unfoldable pub oneValue : (List ℕ → Value) → List ℕ → ℕ → ℕ → Stated
+unfoldable pub oneValue : (List ℕ → Value) → List ℕ → Valued → ℕ → Stated
 oneValue look s m i = valued (valueAt look s i) (λ v j. Fits (withValue m v) j)
+
+-- name EQU V: it needs a name. [02 §12]
+unfoldable pub equate : (List ℕ → Value) → List ℕ → (named : Bool) → ℕ → Stated
+equate look s named i = cond named (valued (valueAt look s i) (λ v j. Fits (Equ v) j)) Misfit
 
 -- ---- registers
 
@@ -78,35 +85,21 @@ unfoldable pub unary : List ℕ → (op i : ℕ) → Stated
 unary s op i = having (widthAt s i) (λ w j. having (registerAt s j) (λ d k. Fits (Fixed (instr.Unary op w d)) k))
 
 -- SWPB R, SXT R. [02 §12]
-unfoldable pub oneRegister : List ℕ → (m i : ℕ) → Stated
-oneRegister s m i = having (registerAt s i) (λ d j. Fits (Fixed (cond (ltb m 28) (instr.Swpb d 0) (instr.Sxt d 0))) j)
-
-unfoldable pub onRegisters : (List ℕ → Value) → List ℕ → (m i : ℕ) → Stated
-onRegisters look s m i =
-    cond (ltb m 22) (arithmetic look s (m - 10) i)
-    (cond (ltb m 23) (move s i)
-    (cond (ltb m 24) (exchange s i)
-    (cond (ltb m 27) (unary s (m - 24) i)
-    (oneRegister s m i))))
+unfoldable pub oneRegister : List ℕ → (swapped : Bool) → ℕ → Stated
+oneRegister s swapped i =
+    having (registerAt s i) (λ d j. Fits (Fixed (cond swapped (instr.Swpb d 0) (instr.Sxt d 0))) j)
 
 -- ---- flags and conditions
 
 -- SETCC, CLRCC and one to five of V S N Z C. [02 §12]
-unfoldable pub onFlags : List ℕ → (m i : ℕ) → Stated
-onFlags s m i = having (flagsAt s i) (λ f j. Fits (Fixed (cond (ltb m 32) (instr.SetCc f) (instr.ClrCc f))) j)
+unfoldable pub onFlags : List ℕ → (set : Bool) → ℕ → Stated
+onFlags s set i = having (flagsAt s i) (λ f j. Fits (Fixed (cond set (instr.SetCc f) (instr.ClrCc f))) j)
 
 -- CEX condition,V,V. [02 §12]
 unfoldable pub conditional : (List ℕ → Value) → List ℕ → ℕ → Stated
 conditional look s i =
     having (conditionAt s i) (λ c j. valued (commaValue look s j) (λ t k. valued (commaValue look s k) (λ f l.
     Fits (Cex c t f) l)))
-
--- SETPRI V, SVC V, SETCC, CLRCC, CEX
-unfoldable pub onControl : (List ℕ → Value) → List ℕ → (m i : ℕ) → Stated
-onControl look s m i =
-    cond (ltb m 31) (oneValue look s m i)
-    (cond (ltb m 33) (onFlags s m i)
-    (conditional look s i))
 
 -- ---- memory
 
@@ -139,37 +132,30 @@ storeRelative look s i =
     having (widthAt s i) (λ w j. having (registerAt s j) (λ r k. having (commaRegister s k) (λ d l.
     valued (commaValue look s l) (λ v n. Fits (Str v w r d) n))))
 
-unfoldable pub onMemory : (List ℕ → Value) → List ℕ → (m i : ℕ) → Stated
-onMemory look s m i =
-    cond (ltb m 35) (load s i)
-    (cond (ltb m 36) (store s i)
-    (cond (ltb m 40) (moveByte look s (m - 36) i)
-    (cond (ltb m 41) (loadRelative look s i)
-    (storeRelative look s i))))
-
--- ---- directives
-
--- ORG V, name EQU V, BSS V, BYTE V, WORD V, END; EQU needs a name. A register, a condition and a reserved word are no
--- statement's. [02 §12]
-unfoldable pub directiveOf : (List ℕ → Value) → List ℕ → (named : Bool) → (m i : ℕ) → Stated
-directiveOf look s named m i =
-    cond (ltb m 47) (cond (eqb m 43 && not named) Misfit (oneValue look s m i))
-    (cond (ltb m 48) (Fits End i)
-    Misfit)
-
 -- ---- all of them
 
--- the statement of the word with number m. [02 §12]
-unfoldable pub statementOf : (List ℕ → Value) → List ℕ → (named : Bool) → (m i : ℕ) → Stated
-statementOf look s named m i =
-    -- no word of the language
-    cond (eqb m 0) Misfit
-    -- BL to BRA
-    (cond (ltb m 10) (oneValue look s m i)
-    -- ADD to SXT
-    (cond (ltb m 29) (onRegisters look s m i)
-    -- SETPRI to CEX
-    (cond (ltb m 34) (onControl look s m i)
-    -- LD to STR
-    (cond (ltb m 42) (onMemory look s m i)
-    (directiveOf look s named m i)))))
+-- the statement that a keyword begins. [02 §12]
+unfoldable pub statementWith : (List ℕ → Value) → List ℕ → (named : Bool) → Keyword → ℕ → Stated
+statementWith look s named (key.Value m) i = oneValue look s m i
+statementWith look s named key.Equ i = equate look s named i
+statementWith look s named key.End i = Fits End i
+statementWith look s named (key.Arithmetic op) i = arithmetic look s op i
+statementWith look s named key.Mov i = move s i
+statementWith look s named key.Swap i = exchange s i
+statementWith look s named (key.Unary op) i = unary s op i
+statementWith look s named key.Swpb i = oneRegister s true i
+statementWith look s named key.Sxt i = oneRegister s false i
+statementWith look s named key.SetCc i = onFlags s true i
+statementWith look s named key.ClrCc i = onFlags s false i
+statementWith look s named key.Cex i = conditional look s i
+statementWith look s named key.Ld i = load s i
+statementWith look s named key.St i = store s i
+statementWith look s named (key.MovImm op) i = moveByte look s op i
+statementWith look s named key.Ldr i = loadRelative look s i
+statementWith look s named key.Str i = storeRelative look s i
+
+-- the statement of a word: a register, a condition, a reserved word and a name begin none. [02 §12]
+unfoldable pub statementOf : (List ℕ → Value) → List ℕ → (named : Bool) → words.Word → ℕ → Stated
+statementOf look s named Free i = Misfit
+statementOf look s named Reserved i = Misfit
+statementOf look s named (Begins k) i = statementWith look s named k i

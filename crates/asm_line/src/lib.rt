@@ -5,19 +5,21 @@ use asm_expr::Answer;
 use asm_operands::Address;
 use asm_operands::Found;
 use asm_value::Value;
+use asm_words::Keyword;
+use asm_words::Valued;
+use asm_words::Word;
 use isa::Instr;
 ghost use mathlib.Core.Path.{_≡_};
 ghost use mathlib.Core.List.{List};
-ghost use Prim.Native.Nat.{ℕ, _≤_};
+ghost use Prim.Native.Nat.{ℕ};
 ghost use Rattle.asm_text.specs.Text.{lookUpAt};
 ghost use Rattle.asm_operands.specs.declared.Found.the-variants.{Missing};
 ghost use Rattle.asm_operands.specs.Operands.{registerAt};
-ghost use Rattle.asm_line.specs.Statement.{withValue, oneValue, arithmeticFrom};
-ghost use Rattle.asm_line.specs.Statement.{arithmetic, move, exchange, unary};
-ghost use Rattle.asm_line.specs.Statement.{oneRegister, onRegisters, onFlags};
-ghost use Rattle.asm_line.specs.Statement.{conditional, onControl, load, store};
-ghost use Rattle.asm_line.specs.Statement.{moveByte, loadRelative, storeRelative};
-ghost use Rattle.asm_line.specs.Statement.{onMemory, directiveOf, statementOf};
+ghost use Rattle.asm_line.specs.Statement.{withValue, oneValue, equate};
+ghost use Rattle.asm_line.specs.Statement.{arithmeticFrom, arithmetic, move, exchange};
+ghost use Rattle.asm_line.specs.Statement.{unary, oneRegister, onFlags, conditional};
+ghost use Rattle.asm_line.specs.Statement.{load, store, moveByte, loadRelative};
+ghost use Rattle.asm_line.specs.Statement.{storeRelative, statementWith, statementOf};
 ghost use Rattle.asm_line.specs.Line.{ended, statementAt, afterName, lineFrom, lineOf};
 
 // A statement with its values.
@@ -96,38 +98,20 @@ pub enum Reading {
     Fault,
 }
 
-// The statement of one value, by its word's number.
-fn with_value(m: u8, v: Value) -> Statement
+// The statement that a word of one value makes of it.
+fn with_value(m: Valued, v: Value) -> Statement
     ensures { λ r. ⌜ r ≡ withValue m v ⌝ }
 {
-    if m < 2 {
-        return Statement::Bl(v);
+    match m {
+        Valued::Org => Statement::Org(v),
+        Valued::Bss => Statement::Bss(v),
+        Valued::Byte => Statement::Byte(v),
+        Valued::Word => Statement::Word(v),
+        Valued::Bl => Statement::Bl(v),
+        Valued::Branch(cond) => Statement::Branch { cond, target: v },
+        Valued::SetPri => Statement::SetPri(v),
+        Valued::Svc => Statement::Svc(v),
     }
-    if m < 10 {
-        return Statement::Branch {
-            cond: m - 2,
-            target: v,
-        };
-    }
-    if m < 30 {
-        return Statement::SetPri(v);
-    }
-    if m < 31 {
-        return Statement::Svc(v);
-    }
-    if m < 43 {
-        return Statement::Org(v);
-    }
-    if m < 44 {
-        return Statement::Equ(v);
-    }
-    if m < 45 {
-        return Statement::Bss(v);
-    }
-    if m < 46 {
-        return Statement::Byte(v);
-    }
-    Statement::Word(v)
 }
 
 // A statement of one value.
@@ -137,7 +121,7 @@ fn one_value(
     keys: &[u32],
     values: &[i32],
     line: &[u8],
-    m: u8,
+    m: Valued,
     at: usize,
 ) -> Stated
     ensures { λ r. ⌜ r ≡ oneValue
@@ -150,6 +134,31 @@ fn one_value(
         return Stated::Misfit;
     };
     Stated::Fits(with_value(m, v), next)
+}
+
+// EQU: it needs a name.
+fn read_equate(
+    source: &[u8],
+    places: &[usize],
+    keys: &[u32],
+    values: &[i32],
+    line: &[u8],
+    named: bool,
+    at: usize,
+) -> Stated
+    ensures { λ r. ⌜ r ≡ equate
+        (lookUpAt (now (source .entry)) (now (places .entry))
+        (now (keys .entry)) (now (values .entry)))
+        (now (line .entry)) named at ⌝ }
+{
+    if !named {
+        return Stated::Misfit;
+    }
+    let a = asm_expr::factor(source, places, keys, values, line, at, 16);
+    let Answer::Parsed(v, next) = a else {
+        return Stated::Misfit;
+    };
+    Stated::Fits(Statement::Equ(v), next)
 }
 
 // ADD to BIS of a value.
@@ -292,62 +301,31 @@ fn read_unary(line: &[u8], op: u8, at: usize) -> Stated
 }
 
 // SWPB and SXT.
-fn one_register(line: &[u8], m: u8, at: usize) -> Stated
-    ensures { λ r. ⌜ r ≡ oneRegister (now (line .entry)) m at ⌝ }
+fn one_register(line: &[u8], swapped: bool, at: usize) -> Stated
+    ensures { λ r. ⌜ r ≡ oneRegister (now (line .entry)) swapped at ⌝ }
 {
     let d = asm_operands::read_register(line, at);
     let Found::At(dst, next) = d else {
         return Stated::Misfit;
     };
-    if m < 28 {
+    if swapped {
         return Stated::Fits(Statement::Fixed(Instr::Swpb { dst, ignored: 0 }), next);
     }
     Stated::Fits(Statement::Fixed(Instr::Sxt { dst, ignored: 0 }), next)
 }
 
 // SETCC and CLRCC.
-fn on_flags(line: &[u8], m: u8, at: usize) -> Stated
-    ensures { λ r. ⌜ r ≡ onFlags (now (line .entry)) m at ⌝ }
+fn on_flags(line: &[u8], set: bool, at: usize) -> Stated
+    ensures { λ r. ⌜ r ≡ onFlags (now (line .entry)) set at ⌝ }
 {
     let f = asm_operands::read_flags(line, at);
     let Found::At(flags, next) = f else {
         return Stated::Misfit;
     };
-    if m < 32 {
+    if set {
         return Stated::Fits(Statement::Fixed(Instr::SetCc { flags }), next);
     }
     Stated::Fits(Statement::Fixed(Instr::ClrCc { flags }), next)
-}
-
-// ADD to SXT.
-fn on_registers(
-    source: &[u8],
-    places: &[usize],
-    keys: &[u32],
-    values: &[i32],
-    line: &[u8],
-    m: u8,
-    at: usize,
-) -> Stated
-    requires { ⌜ 10 ≤ m ⌝ }
-    ensures { λ r. ⌜ r ≡ onRegisters
-        (lookUpAt (now (source .entry)) (now (places .entry))
-        (now (keys .entry)) (now (values .entry)))
-        (now (line .entry)) m at ⌝ }
-{
-    if m < 22 {
-        return read_arithmetic(source, places, keys, values, line, m - 10, at);
-    }
-    if m < 23 {
-        return read_move(line, at);
-    }
-    if m < 24 {
-        return read_exchange(line, at);
-    }
-    if m < 27 {
-        return read_unary(line, m - 24, at);
-    }
-    one_register(line, m, at)
 }
 
 // CEX.
@@ -382,30 +360,6 @@ fn read_conditional(
         false_count,
     };
     Stated::Fits(x, next)
-}
-
-// SETPRI, SVC, SETCC, CLRCC, CEX.
-fn on_control(
-    source: &[u8],
-    places: &[usize],
-    keys: &[u32],
-    values: &[i32],
-    line: &[u8],
-    m: u8,
-    at: usize,
-) -> Stated
-    ensures { λ r. ⌜ r ≡ onControl
-        (lookUpAt (now (source .entry)) (now (places .entry))
-        (now (keys .entry)) (now (values .entry)))
-        (now (line .entry)) m at ⌝ }
-{
-    if m < 31 {
-        return one_value(source, places, keys, values, line, m, at);
-    }
-    if m < 33 {
-        return on_flags(line, m, at);
-    }
-    read_conditional(source, places, keys, values, line, at)
 }
 
 // LD.
@@ -574,66 +528,44 @@ fn store_relative(
     Stated::Fits(Statement::Str { off, wb, src, dst }, next)
 }
 
-// LD to STR.
-fn on_memory(
-    source: &[u8],
-    places: &[usize],
-    keys: &[u32],
-    values: &[i32],
-    line: &[u8],
-    m: u8,
-    at: usize,
-) -> Stated
-    requires { ⌜ 34 ≤ m ⌝ }
-    ensures { λ r. ⌜ r ≡ onMemory
-        (lookUpAt (now (source .entry)) (now (places .entry))
-        (now (keys .entry)) (now (values .entry)))
-        (now (line .entry)) m at ⌝ }
-{
-    if m < 35 {
-        return read_load(line, at);
-    }
-    if m < 36 {
-        return read_store(line, at);
-    }
-    if m < 40 {
-        return move_byte(source, places, keys, values, line, m - 36, at);
-    }
-    if m < 41 {
-        return load_relative(source, places, keys, values, line, at);
-    }
-    store_relative(source, places, keys, values, line, at)
-}
-
-// ORG, EQU, BSS, BYTE, WORD, END; no other word from 42 on is a statement's.
-fn directive(
+// The statement that a keyword begins.
+fn keyword_statement(
     source: &[u8],
     places: &[usize],
     keys: &[u32],
     values: &[i32],
     line: &[u8],
     named: bool,
-    m: u8,
+    k: Keyword,
     at: usize,
 ) -> Stated
-    ensures { λ r. ⌜ r ≡ directiveOf
+    ensures { λ r. ⌜ r ≡ statementWith
         (lookUpAt (now (source .entry)) (now (places .entry))
         (now (keys .entry)) (now (values .entry)))
-        (now (line .entry)) named m at ⌝ }
+        (now (line .entry)) named k at ⌝ }
 {
-    if m < 47 {
-        if (m == 43) & !named {
-            return Stated::Misfit;
-        }
-        return one_value(source, places, keys, values, line, m, at);
+    match k {
+        Keyword::Value(m) => one_value(source, places, keys, values, line, m, at),
+        Keyword::Equ => read_equate(source, places, keys, values, line, named, at),
+        Keyword::End => Stated::Fits(Statement::End, at),
+        Keyword::Arithmetic(op) => read_arithmetic(source, places, keys, values, line, op, at),
+        Keyword::Mov => read_move(line, at),
+        Keyword::Swap => read_exchange(line, at),
+        Keyword::Unary(op) => read_unary(line, op, at),
+        Keyword::Swpb => one_register(line, true, at),
+        Keyword::Sxt => one_register(line, false, at),
+        Keyword::SetCc => on_flags(line, true, at),
+        Keyword::ClrCc => on_flags(line, false, at),
+        Keyword::Cex => read_conditional(source, places, keys, values, line, at),
+        Keyword::Ld => read_load(line, at),
+        Keyword::St => read_store(line, at),
+        Keyword::MovImm(op) => move_byte(source, places, keys, values, line, op, at),
+        Keyword::Ldr => load_relative(source, places, keys, values, line, at),
+        Keyword::Str => store_relative(source, places, keys, values, line, at),
     }
-    if m < 48 {
-        return Stated::Fits(Statement::End, at);
-    }
-    Stated::Misfit
 }
 
-// The statement of the word with number m.
+// The statement of a word.
 fn read_statement(
     source: &[u8],
     places: &[usize],
@@ -641,30 +573,19 @@ fn read_statement(
     values: &[i32],
     line: &[u8],
     named: bool,
-    m: u8,
+    w: Word,
     at: usize,
 ) -> Stated
     ensures { λ r. ⌜ r ≡ statementOf
         (lookUpAt (now (source .entry)) (now (places .entry))
         (now (keys .entry)) (now (values .entry)))
-        (now (line .entry)) named m at ⌝ }
+        (now (line .entry)) named w at ⌝ }
 {
-    if m == 0 {
-        return Stated::Misfit;
+    match w {
+        Word::Free => Stated::Misfit,
+        Word::Reserved => Stated::Misfit,
+        Word::Begins(k) => { keyword_statement(source, places, keys, values, line, named, k, at) }
     }
-    if m < 10 {
-        return one_value(source, places, keys, values, line, m, at);
-    }
-    if m < 29 {
-        return on_registers(source, places, keys, values, line, m, at);
-    }
-    if m < 34 {
-        return on_control(source, places, keys, values, line, m, at);
-    }
-    if m < 42 {
-        return on_memory(source, places, keys, values, line, m, at);
-    }
-    directive(source, places, keys, values, line, named, m, at)
 }
 
 // A line with its statement, if it is over after it.
@@ -707,8 +628,8 @@ fn after_name(
         };
     }
     let t = asm_text::read_word(line, at);
-    let m = asm_words::word_number(t.spelled);
-    let x = read_statement(source, places, keys, values, line, true, m, t.next);
+    let w = asm_words::find_word(t.spelled);
+    let x = read_statement(source, places, keys, values, line, true, w, t.next);
     end_line(line, true, name, x)
 }
 
@@ -735,10 +656,10 @@ pub fn read_line(
         };
     }
     let t = asm_text::read_word(line, q);
-    let m = asm_words::word_number(t.spelled);
+    let w = asm_words::find_word(t.spelled);
     let next = t.next;
-    if m != 0 {
-        let x = read_statement(source, places, keys, values, line, false, m, next);
+    if !asm_words::is_free(w) {
+        let x = read_statement(source, places, keys, values, line, false, w, next);
         return end_line(line, false, q, x);
     }
     if asm_text::is_letter(asm_text::byte_at(line, q)) {

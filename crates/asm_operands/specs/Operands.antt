@@ -3,6 +3,7 @@
 use mathlib.Core.Bool.{Bool, true, false, cond, _||_, _&&_, not}
 use mathlib.Core.List.{List}
 use Prim.Native.Nat.{ℕ, _+_}
+use Prim.Native.Char.{code}
 use lib.Dec.{ltb, leb, eqb}
 use lib.ListN.{length, drop}
 use Rattle.asm_value.specs.declared.Value.{Value}
@@ -17,9 +18,9 @@ use Rattle.asm_operands.specs.declared.Found.the-variants.{At, Missing}
 use Rattle.asm_operands.specs.declared.Address.{Address}
 use Rattle.asm_operands.specs.declared.Address.the-variants.{Of, NoAddress}
 
--- the line is over at i: its bytes end there, or a comment begins, ; (59). [02 §12]
+-- the line is over at i: its bytes end there, or a comment begins. [02 §12]
 unfoldable pub over? : List ℕ → ℕ → Bool
-over? s i = leb (length s) i || eqb (byteAt s i) 59
+over? s i = leb (length s) i || eqb (byteAt s i) (code ";")
 
 -- what a word is that stands at i, after blanks: its number among those below the limit, and the place after it
 unfoldable pub wordBelow : ℕ → (List ℕ → ℕ) → List ℕ → ℕ → Found
@@ -40,14 +41,13 @@ conditionAt s i = wordBelow 16 conditionOf s i
 unfoldable pub flagsAt : List ℕ → ℕ → Found
 flagsAt s i = wordBelow 32 flagsOf s i
 
--- .B is 1, .W and nothing 0, right behind the word, and no letter or digit behind it; . is byte 46, B 66, W 87. [02
--- §12]
+-- .B is 1, .W and nothing 0, right behind the word, and no letter or digit behind it. [02 §12]
 unfoldable pub widthAt : List ℕ → ℕ → Found
 widthAt s i =
-    cond (not (eqb (byteAt s i) 46)) (At 0 i)
+    cond (not (eqb (byteAt s i) (code "."))) (At 0 i)
     (cond (nameByte? (byteAt s (i + 2))) Missing
-    (cond (eqb (byteAt s (i + 1)) 66) (At 1 (i + 2))
-    (cond (eqb (byteAt s (i + 1)) 87) (At 0 (i + 2))
+    (cond (eqb (byteAt s (i + 1)) (code "B")) (At 1 (i + 2))
+    (cond (eqb (byteAt s (i + 1)) (code "W")) (At 0 (i + 2))
     Missing)))
 
 -- a value: a number, a name, or an expression in brackets, 16 deep at most. [02 §12]
@@ -64,9 +64,9 @@ nameless? (parsed e i) = not (named? e)
 unfoldable pub number? : List ℕ → ℕ → Bool
 number? s i = nameless? (factorOf 16 s i)
 
--- a comma at i, byte 44, and what follows it
+-- a comma at i, and what follows it
 unfoldable pub comma? : List ℕ → ℕ → Bool
-comma? s i = eqb (byteAt s (after blank? s i)) 44
+comma? s i = eqb (byteAt s (after blank? s i)) (code ",")
 
 unfoldable pub commaRegister : List ℕ → ℕ → Found
 commaRegister s i = cond (comma? s i) (registerAt s (after blank? s i + 1)) Missing
@@ -83,15 +83,15 @@ changedBefore dec inc (At r i) = Of 1 dec inc r i
 unfoldable pub changedAfter : List ℕ → Found → Address
 changedAfter s Missing = NoAddress
 changedAfter s (At r i) =
-    cond (eqb (byteAt s (after blank? s i)) 43) (Of 0 0 1 r (after blank? s i + 1))
-    (cond (eqb (byteAt s (after blank? s i)) 45) (Of 0 1 0 r (after blank? s i + 1))
+    cond (eqb (byteAt s (after blank? s i)) (code "+")) (Of 0 0 1 r (after blank? s i + 1))
+    (cond (eqb (byteAt s (after blank? s i)) (code "-")) (Of 0 1 0 r (after blank? s i + 1))
     (Of 0 0 0 r i))
 
--- the address of LD and ST: R, +R, -R, R+ or R-; + is byte 43, - 45. [02 §12; 003 6.1.2]
+-- the address of LD and ST: R, +R, -R, R+ or R-. [02 §12; 003 6.1.2]
 unfoldable pub addressAt : List ℕ → ℕ → Address
 addressAt s i =
-    cond (eqb (byteAt s (after blank? s i)) 43) (changedBefore 0 1 (registerAt s (after blank? s i + 1)))
-    (cond (eqb (byteAt s (after blank? s i)) 45) (changedBefore 1 0 (registerAt s (after blank? s i + 1)))
+    cond (eqb (byteAt s (after blank? s i)) (code "+")) (changedBefore 0 1 (registerAt s (after blank? s i + 1)))
+    (cond (eqb (byteAt s (after blank? s i)) (code "-")) (changedBefore 1 0 (registerAt s (after blank? s i + 1)))
     (changedAfter s (registerAt s i)))
 
 unfoldable pub commaAddress : List ℕ → ℕ → Address

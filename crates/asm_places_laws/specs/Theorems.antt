@@ -10,6 +10,7 @@ use lib.ListN.{length, drop, getD}
 use lib.Seq.{sets}
 use mir.Val.{boolByte}
 use Rattle.lines.specs.Lines.{linesOf}
+use Rattle.asm_text.specs.Text.{ascii}
 use Rattle.asm_value.specs.declared.Value.{Value}
 use Rattle.asm_line.specs.Line.{lineOf}
 use Rattle.asm_write.specs.Written.{layoutOf, bytesOf}
@@ -146,18 +147,18 @@ SameNames = (s : List ℕ) → namedAll (listedOf s) ≡ givenAll (givenOf s)
 
 -- ---- an example that meets the premises
 
--- nine lines: N EQU #-2, ORG $0100, L MOVL N,R0, BYTE #7 ; c, B BSS #3, X, BRA L, END and JUNK
+-- nine lines
 abbrev pub sample : List ℕ
 sample =
-    78 ∷ 32 ∷ 69 ∷ 81 ∷ 85 ∷ 32 ∷ 35 ∷ 45 ∷ 50 ∷ 10 ∷
-    32 ∷ 79 ∷ 82 ∷ 71 ∷ 32 ∷ 36 ∷ 48 ∷ 49 ∷ 48 ∷ 48 ∷ 10 ∷
-    76 ∷ 32 ∷ 77 ∷ 79 ∷ 86 ∷ 76 ∷ 32 ∷ 78 ∷ 44 ∷ 82 ∷ 48 ∷ 10 ∷
-    32 ∷ 66 ∷ 89 ∷ 84 ∷ 69 ∷ 32 ∷ 35 ∷ 55 ∷ 32 ∷ 59 ∷ 32 ∷ 99 ∷ 10 ∷
-    66 ∷ 32 ∷ 66 ∷ 83 ∷ 83 ∷ 32 ∷ 35 ∷ 51 ∷ 10 ∷
-    88 ∷ 10 ∷
-    32 ∷ 66 ∷ 82 ∷ 65 ∷ 32 ∷ 76 ∷ 10 ∷
-    32 ∷ 69 ∷ 78 ∷ 68 ∷ 10 ∷
-    74 ∷ 85 ∷ 78 ∷ 75 ∷ []
+    ascii "N EQU #-2\n"
+    ++ ascii " ORG $0100\n"
+    ++ ascii "L MOVL N,R0\n"
+    ++ ascii " BYTE #7 ; c\n"
+    ++ ascii "B BSS #3\n"
+    ++ ascii "X\n"
+    ++ ascii " BRA L\n"
+    ++ ascii " END\n"
+    ++ ascii "JUNK"
 
 -- and the eight records
 abbrev pub sampleRecords : List ℕ

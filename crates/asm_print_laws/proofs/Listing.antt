@@ -13,14 +13,15 @@ use Rattle.lines.specs.Lines.{linesOf}
 use Rattle.lines.proofs.Laws.{Plain, AllPlain, lines-text}
 use Rattle.asm_value.specs.declared.Value.{Value}
 use Rattle.asm_value.specs.declared.Value.the-variants.{Known}
-use Rattle.asm_text.specs.Text.{nameByte?, spelled, spelledFrom, lookUp}
-use Rattle.asm_words.specs.Words.{numberIn, words, wordNumber, directives, mnemonics, registers, conditionWords, emulated}
+use Rattle.asm_text.specs.Text.{ascii, lookUp}
+use Rattle.asm_words.specs.declared.Keyword.the-variants as key
+use Rattle.asm_words.specs.declared.Valued.the-variants as val
 use Rattle.asm_fits.specs.declared.Fit.{Fit}
 use Rattle.asm_fits.specs.declared.Fit.the-variants.{Number}
 use Rattle.asm_line.specs.declared.Statement.{Statement}
 use Rattle.asm_line.specs.declared.Statement.the-variants.{Org, End}
 use Rattle.asm_line.specs.declared.Reading.the-variants.{Line}
-use Rattle.asm_line.specs.Statement.{withValue, directiveOf, statementOf}
+use Rattle.asm_line.specs.Statement.{withValue, statementWith, statementOf}
 use Rattle.asm_line.specs.Line.{lineOf}
 use Rattle.asm_write.specs.declared.Layout.{Layout}
 use Rattle.asm_write.specs.declared.Layout.the-variants.{Bytes}
@@ -32,29 +33,25 @@ use Rattle.asm_sweeps.specs.Uses.{placeAfter, usesFrom}
 use Rattle.asm_image.specs.Image.{placedFrom, imageOf}
 use Rattle.asm_print.specs.Print.{hexText, originText}
 use Rattle.asm_print_laws.specs.Theorems.{listingOf, wordBytes, Words}
-use Rattle.asm_print_laws.proofs.Pieces.{Spells, org-spells}
+use Rattle.asm_print_laws.proofs.Pieces.{mnemonics}
 use Rattle.asm_print_laws.proofs.Statements.{one-hex, line-read}
 use Rattle.asm_print_laws.proofs.Lines.{hex-plain}
 use Rattle.asm_print_laws.proofs.Formats.{text-says, text-plain}
 
 -- ---- the first line and the last
 abbrev pub ending : List ℕ
-ending = 69 ∷ 78 ∷ 68 ∷ []
+ending = ascii "END"
 
 pub origin-reads : (look : List ℕ → Value) (p : ℕ) → p < 65536 → lineOf look (originText p) ≡ Line false 0 (Org (Known (pos p)))
-unfolding originText statementOf directiveOf withValue
+unfolding originText statementOf statementWith withValue
 origin-reads look p h =
-    line-read look (79 ∷ 82 ∷ 71 ∷ []) (32 ∷ hexText 4 p) 42 (Org (Known (pos p))) org-spells (omega arith) (omega arith)
-    (λ s i b. one-hex look s i 42 p h b)
-
-end-spells : Spells wordNumber ending 47
-unfolding nameByte? wordNumber words directives mnemonics registers conditionWords emulated numberIn spelled spelledFrom
-end-spells = record { names = tt; is = refl; first = omega arith }
+    line-read look (ascii "ORG") (32 ∷ hexText 4 p) (key.Value val.Org) (Org (Known (pos p))) (mnemonics .org) (omega arith)
+    (λ s i b. one-hex look s i val.Org p h b)
 
 pub end-reads : (look : List ℕ → Value) → lineOf look ending ≡ Line false 0 End
-unfolding statementOf directiveOf
+unfolding statementOf statementWith
 end-reads look =
-    line-read look ending [] 47 End end-spells (omega arith) (omega arith) (λ s i b. record { place = i; is = refl; here = b })
+    line-read look ending [] key.End End (mnemonics .end) (omega arith) (λ s i b. record { place = i; is = refl; here = b })
 
 -- ---- the lines
 listing-plain : (p : ℕ) (ws : List ℕ) → Words ws → AllPlain (listingOf p ws)

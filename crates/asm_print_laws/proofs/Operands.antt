@@ -12,7 +12,7 @@ use borrow.Author.Tests.{lt-ltb, ne-eqb, le-leb}
 use Rattle.asm_value.specs.declared.Value.{Value}
 use Rattle.asm_value.specs.declared.Value.the-variants.{Known}
 use Rattle.asm_value.specs.Value.{fitted, withSign}
-use Rattle.asm_text.specs.Text.{byteAt, blank?, letter?, nameByte?, digit?, after, numeral, word, spelled, spelledFrom}
+use Rattle.asm_text.specs.Text.{byteAt, blank?, letter?, nameByte?, digit?, after, numeral, word, same}
 use Rattle.asm_text.proofs.Laws.{after-stop}
 use Rattle.asm_expr.specs.declared.Answer.{Answer}
 use Rattle.asm_expr.specs.declared.Answer.the-variants.{Parsed}
@@ -26,7 +26,7 @@ use Rattle.asm_operands.specs.Operands.{commaRegister, commaValue, changedBefor
 use Rattle.asm_operands.specs.declared.Address.{Address}
 use Rattle.asm_operands.specs.declared.Address.the-variants.{Of}
 use Rattle.text.specs.Text.{hexOf, decimalOf}
-use Rattle.asm_words.specs.Words.{registerNumber, registerOf, conditionOf, flagsOf}
+use Rattle.asm_words.specs.Words.{meaning, registers, registerOf, conditionOf, flagsOf}
 use Rattle.asm_print.specs.Print.{conditionText, registerText, numberText, hexText, flagsText, addressText, idle?, sizeMark}
 use Rattle.asm_print_laws.proofs.Here.{Ends, low-name, low-digit, word-all, numeral-all, first-of, first-all, here-past}
 use Rattle.asm_print_laws.proofs.Here.{here-one, here-byte, here-end, here-after, Begins, begins, begins-blank}
@@ -234,7 +234,7 @@ module _ (s : List ℕ) (i : ℕ) (t : List ℕ) (e : Ends t) where
 
 -- no register stands where a number does
 pub register-none : (s : List ℕ) (i : ℕ) (z : ℤ) (t : List ℕ) → drop i s ≡ 32 ∷ (numberText z ++ t) → registerAt s i ≡ Missing
-unfolding registerAt wordBelow numberText registerOf registerNumber spelled spelledFrom nameByte? blank? word
+unfolding registerAt wordBelow numberText registerOf registers meaning same nameByte? blank? word
 register-none s i (pos n) t h =
     let b = begins-blank s i (35 ∷ (decimalOf 1 n ++ t)) h refl in
     rw b

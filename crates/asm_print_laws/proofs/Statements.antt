@@ -1,10 +1,10 @@
 -- Each shape of statement read from what stands behind its word, and the line that it makes. Assumes nothing.
 use mathlib.Core.Path.{_≡_, refl, sym, ap, _∙_}
-use mathlib.Core.Bool.{true, false, cond, false≢true}
+use mathlib.Core.Bool.{Bool, true, false, cond, false≢true}
 use mathlib.Core.List.{List, [], _∷_, _++_, append-nil, append-assoc}
 use Prim.Native.Nat.{ℕ, suc, _+_, _<_}
 use native.Mathlib.Omega.{arith}
-use lib.Dec.{ltb, eqb}
+use lib.Dec.{eqb}
 use lib.IntN.{ℤ, pos}
 use lib.ListN.{length, drop}
 use lib.Signed.{mag}
@@ -15,7 +15,10 @@ use Rattle.asm_value.specs.declared.Value.{Value}
 use Rattle.asm_value.specs.declared.Value.the-variants.{Known}
 use Rattle.asm_text.specs.Text.{byteAt, blank?, nameByte?, after, word}
 use Rattle.asm_text.proofs.Laws.{after-stop, byte-in}
-use Rattle.asm_words.specs.Words.{wordNumber}
+use Rattle.asm_words.specs.Words.{wordOf, free?}
+use Rattle.asm_words.specs.declared.Word.the-variants.{Begins}
+use Rattle.asm_words.specs.declared.Keyword.{Keyword}
+use Rattle.asm_words.specs.declared.Valued.{Valued}
 use Rattle.asm_line.specs.declared.Statement.{Statement}
 use Rattle.asm_line.specs.declared.Statement.the-variants.{Fixed, Constant, Cex, MovImm, Ldr, Str}
 use Rattle.asm_line.specs.declared.Stated.{Stated}
@@ -51,13 +54,14 @@ last-number look s i z h b =
 
 module _ (look : List ℕ → Value) (s : List ℕ) (i : ℕ) where
   -- ---- V
-  pub one-hex : (m n : ℕ) → n < 65536 → drop i s ≡ 32 ∷ hexText 4 n → StatedAs s (oneValue look s m i) (withValue m (Known (pos n)))
+  pub one-hex : (m : Valued) (n : ℕ) → n < 65536 → drop i s ≡ 32 ∷ hexText 4 n
+      → StatedAs s (oneValue look s m i) (withValue m (Known (pos n)))
   unfolding oneValue
   one-hex m n h b =
       let v = first-hex look s i [] (omega arith) 3 n h h (b ∙ ap (λ (l : List ℕ). 32 ∷ l) (sym (append-nil (hexText 4 n)))) in
       record { place = v .place; is = rw (v .is); here = v .here }
 
-  pub one-number : (m n : ℕ) → n < 99 → drop i s ≡ 32 ∷ numberText (pos n)
+  pub one-number : (m : Valued) (n : ℕ) → n < 99 → drop i s ≡ 32 ∷ numberText (pos n)
       → StatedAs s (oneValue look s m i) (withValue m (Known (pos n)))
   unfolding oneValue
   one-number m n h b =
@@ -116,18 +120,18 @@ module _ (look : List ℕ → Value) (s : List ℕ) (i : ℕ) where
       let d = sole-register (w .place) dst hd (w .here) in
       record { place = d .place; is = rw (w .is, d .is); here = d .here }
 
-  pub of-register : (m dst : ℕ) → dst < 8 → drop i s ≡ 32 ∷ registerText dst
-      → StatedAs s (oneRegister s m i) (Fixed (cond (ltb m 28) (instr.Swpb dst 0) (instr.Sxt dst 0)))
+  pub of-register : (swapped : Bool) (dst : ℕ) → dst < 8 → drop i s ≡ 32 ∷ registerText dst
+      → StatedAs s (oneRegister s swapped i) (Fixed (cond swapped (instr.Swpb dst 0) (instr.Sxt dst 0)))
   unfolding oneRegister
-  of-register m dst hd b =
+  of-register swapped dst hd b =
       let d = sole-register i dst hd b in
       record { place = d .place; is = rw (d .is); here = d .here }
 
   -- ---- flags and conditions
-  pub of-flags : (m f : ℕ) → f < 31 → drop i s ≡ 32 ∷ flagsText (suc f)
-      → StatedAs s (onFlags s m i) (Fixed (cond (ltb m 32) (instr.SetCc (suc f)) (instr.ClrCc (suc f))))
+  pub of-flags : (set : Bool) (f : ℕ) → f < 31 → drop i s ≡ 32 ∷ flagsText (suc f)
+      → StatedAs s (onFlags s set i) (Fixed (cond set (instr.SetCc (suc f)) (instr.ClrCc (suc f))))
   unfolding onFlags
-  of-flags m f h b =
+  of-flags set f h b =
       let d = first-flags s i [] (omega arith) f h (b ∙ ap (λ (l : List ℕ). 32 ∷ l) (sym (append-nil (flagsText (suc f))))) in
       record { place = d .place; is = rw (d .is); here = d .here }
 
@@ -228,16 +232,16 @@ not-over s h n =
     rw (lt-leb (length s) 0 (byte-in s 0 h), ne-eqb (byteAt s 0) 59 (λ q. false≢true (sym (ap nameByte? q) ∙ n)))
 
 -- a word of the language, and what its statement is read from
-pub line-read : (look : List ℕ → Value) (l t : List ℕ) (m : ℕ) (x : Statement) → Spells wordNumber l m → 0 < m → Ends t
-    → ((s : List ℕ) (i : ℕ) → drop i s ≡ t → StatedAs s (statementOf look s false m i) x) → lineOf look (l ++ t) ≡ Line false 0 x
-unfolding lineOf lineFrom statementAt
-line-read look l t m x h k e f =
+pub line-read : (look : List ℕ → Value) (l t : List ℕ) (k : Keyword) (x : Statement) → Spells wordOf l (Begins k) → Ends t
+    → ((s : List ℕ) (i : ℕ) → drop i s ≡ t → StatedAs s (statementOf look s false (Begins k) i) x) → lineOf look (l ++ t) ≡ Line false 0 x
+unfolding lineOf lineFrom statementAt free?
+line-read look l t k x h e f =
     let s = l ++ t in
     let o = h .first in
     let c : byteAt s 0 ≡ byteAt l 0 = first-of l t (omega arith) in
     let a : after blank? s 0 ≡ 0 = after-stop blank? s 0 (ap blank? c ∙ solid (byteAt l 0) (omega arith)) in
     let b : over? s 0 ≡ false = not-over s (omega arith) (ap nameByte? c ∙ first-all nameByte? l (h .names) (omega arith)) in
-    let w : wordNumber (word s) ≡ m = ap wordNumber (word-all l t (h .names) e) ∙ h .is in
+    let w : wordOf (word s) ≡ Begins k = ap wordOf (word-all l t (h .names) e) ∙ h .is in
     let n : after nameByte? s 0 ≡ 0 + length l = here-after s 0 nameByte? l t refl (h .names) (low-name (byteAt t 0) e) in
     let g = f s (after nameByte? s 0) (ap (λ (j : ℕ). drop j s) n ∙ here-past s 0 l t refl) in
-    rw (a, b, w, ne-eqb m 0 (λ q. omega arith), g .is, over-end s (g .place) (g .here))
+    rw (a, b, w, g .is, over-end s (g .place) (g .here))

@@ -7,6 +7,7 @@ use lib.ListN.{length}
 use lib.Seq.{sets}
 use Rattle.lines.specs.Lines as lines
 use Rattle.asm_value.specs.declared.Value.{Value}
+use Rattle.asm_text.specs.Text.{ascii}
 use Rattle.asm_fits.specs.declared.Fit.the-variants.{Number}
 use Rattle.asm_line.specs.declared.Statement.{Statement}
 use Rattle.asm_line.specs.declared.Reading.the-variants.{Line}
@@ -33,7 +34,7 @@ TextSays = (look : List ℕ → Value) (p w : ℕ) → w < 65536 → Says look p
 
 -- the texts of words that stand one after the other from p on, a line each, and END. [call text]
 unfoldable pub listingOf : (p : ℕ) (ws : List ℕ) → List (List ℕ)
-listingOf p [] = (69 ∷ 78 ∷ 68 ∷ []) ∷ []
+listingOf p [] = ascii "END" ∷ []
 listingOf p (w ∷ ws) = textAt p w ∷ listingOf (p + 2) ws
 
 -- a source: ORG and the place, the words' texts, END; LF ends each line. [call text]

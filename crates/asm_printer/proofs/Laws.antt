@@ -8,11 +8,9 @@ use lib.ListN.{length, length-append}
 use lib.Seq.{sets}
 use borrow.Author.Tests.{lt-ltb, le-ltb, eq-eqb, ne-eqb}
 use Rattle.word.specs.Offset.{signedOf}
-use Rattle.asm_words.specs.Words.{mnemonics}
 use Rattle.stores.proofs.Laws.{sets-then}
-use Rattle.asm_print.specs.Print.{lettersOf, spellingIn, mnemonicText, registerSpelling, registerText, addressText, hexText, withComma}
-use Rattle.asm_print.specs.Print.{sizeMark, phrase, wordText, targetOf}
-use Rattle.asm_spellings.specs.Spellings.{Long, Short, addressSpelling}
+use Rattle.asm_print.specs.Print.{registerText, addressText, hexText, withComma, sizeMark, phrase, wordText, targetOf}
+use Rattle.asm_spellings.specs.Spellings.{lettersOf, Mnemonic, Long, Short, registerSpelling, addressSpelling}
 use Rattle.asm_spellings.proofs.Laws.{register-short, address-short}
 use Rattle.asm_printer.specs.Parts.{behind, operandsText}
 
@@ -44,10 +42,9 @@ pub of-address : (a p d i r : ℕ) → a ≡ addressSpelling p d i r → p < 2 �
 of-address a p d i r e hp hd hi hr = rw e (address-short p d i r hp hd hi hr)
 
 -- ---- statements
-pub statement-parts : (q m wb a b c : ℕ) → q ≡ spellingIn mnemonics m
-    → lettersOf 6 q ++ (sizeMark wb ++ (32 ∷ operandsText a b c)) ≡ phrase m wb (operandsText a b c)
-unfolding phrase mnemonicText
-statement-parts q m wb a b c e = rw e
+-- with the letters of a mnemonic
+pub with-mnemonic : (q : ℕ) (l : List ℕ) (wb : ℕ) (s t : List ℕ) → Mnemonic q l → s ≡ phrase (lettersOf 6 q) wb t → s ≡ phrase l wb t
+with-mnemonic q l wb s t e h = h ∙ ap (λ (m : List ℕ). phrase m wb t) e
 
 pub word-parts : (a w : ℕ) → Long a (hexText 4 w) → lettersOf 6 0x574F5244 ++ (sizeMark 0 ++ (32 ∷ operandsText a 0 0)) ≡ wordText w
 unfolding wordText lettersOf

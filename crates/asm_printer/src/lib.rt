@@ -11,9 +11,11 @@ ghost use lib.Seq.{sets};
 ghost use Rattle.word.specs.Offset.{signedOf};
 ghost use Rattle.isa.specs.declared.Instr.the-variants.{Alu, Ld, St, MovImm};
 ghost use Rattle.isa.specs.Decode.{unaryOf, controlOf, miscOf, memoryOf, relativeOf};
-ghost use Rattle.asm_print.specs.Print.{lettersOf, conditionText, registerText, numberText};
+ghost use Rattle.asm_text.specs.Text.{ascii};
+ghost use Rattle.asm_print.specs.Print.{conditionText, registerText, numberText};
 ghost use Rattle.asm_print.specs.Print.{flagsText, idle?, withComma, sizeMark, phrase, wordText};
 ghost use Rattle.asm_print.specs.Print.{targetOf, branchText, textAt};
+ghost use Rattle.asm_spellings.specs.Spellings.{lettersOf};
 ghost use Rattle.asm_printer.specs.Parts.{behind, operandsText, partsText, Prints};
 ghost use Rattle.asm_printer.specs.Call.{textCallOf};
 use asm_spellings::address;
@@ -26,6 +28,37 @@ use asm_spellings::hex_word;
 use asm_spellings::offset;
 use asm_spellings::register;
 
+// The mnemonics that have no field of their own, and WORD, as spellings.
+const BL: u64 = 0x424C;
+
+const MOV: u64 = 0x4D4F56;
+
+const SWAP: u64 = 0x53574150;
+
+const SWPB: u64 = 0x53575042;
+
+const SXT: u64 = 0x535854;
+
+const SETPRI: u64 = 0x534554505249;
+
+const SVC: u64 = 0x535643;
+
+const SETCC: u64 = 0x5345544343;
+
+const CLRCC: u64 = 0x434C524343;
+
+const CEX: u64 = 0x434558;
+
+const LD: u64 = 0x4C44;
+
+const ST: u64 = 0x5354;
+
+const LDR: u64 = 0x4C4452;
+
+const STR: u64 = 0x535452;
+
+const WORD: u64 = 0x574F5244;
+
 // A statement in parts: the spellings of its mnemonic and operands, 0 for no operand, and whether
 // it is a byte form.
 pub struct Parts {
@@ -36,12 +69,11 @@ pub struct Parts {
     pub third: u64,
 }
 
-// A statement of operation m.
-fn statement(m: u16, wb: u16, first: u64, second: u64, third: u64) -> Parts
-    requires { ⌜ m < 42 ⌝ }
-    ensures { λ r. ⌜ partsText r ≡ phrase m wb (operandsText first second third) ⌝ }
+// A statement.
+fn statement(mnemonic: u64, wb: u16, first: u64, second: u64, third: u64) -> Parts
+    ensures { λ r. ⌜ partsText r
+        ≡ phrase (lettersOf 6 mnemonic) wb (operandsText first second third) ⌝ }
 {
-    let mnemonic = asm_spellings::mnemonic(m);
     Parts {
         mnemonic,
         wb,
@@ -57,7 +89,7 @@ fn word(w: u16) -> Parts
 {
     let first = hex_word(w);
     Parts {
-        mnemonic: 0x574F5244,
+        mnemonic: WORD,
         wb: 0,
         first,
         second: 0,
@@ -79,65 +111,67 @@ fn target(place: u16, half: u32, o: u16) -> u16
 }
 
 // A branch by its target; at an odd place a word.
-fn branch(m: u16, place: u16, w: u16, half: u32, o: u16) -> Parts
-    requires { ⌜ (m < 42) × (half ≤ 4096) × (o < half + half) ⌝ }
-    ensures { λ r. ⌜ partsText r ≡ branchText m place w (signedOf half o) ⌝ }
+fn branch(q: u64, place: u16, w: u16, half: u32, o: u16) -> Parts
+    requires { ⌜ (half ≤ 4096) × (o < half + half) ⌝ }
+    ensures { λ r. ⌜ partsText r ≡ branchText (lettersOf 6 q) place w (signedOf half o) ⌝ }
 {
     if place % 2 == 0 {
         let first = hex_word(target(place, half, o));
-        return statement(m, 0, first, 0, 0);
+        return statement(q, 0, first, 0, 0);
     }
     word(w)
 }
 
 // One register.
-fn of_register(m: u16, wb: u16, d: u16) -> Parts
-    requires { ⌜ (m < 42) × (d < 8) ⌝ }
-    ensures { λ r. ⌜ partsText r ≡ phrase m wb (registerText d) ⌝ }
+fn of_register(q: u64, wb: u16, d: u16) -> Parts
+    requires { ⌜ d < 8 ⌝ }
+    ensures { λ r. ⌜ partsText r ≡ phrase (lettersOf 6 q) wb (registerText d) ⌝ }
 {
     let first = register(d);
-    statement(m, wb, first, 0, 0)
+    statement(q, wb, first, 0, 0)
 }
 
 // Two registers.
-fn of_registers(m: u16, wb: u16, s: u16, d: u16) -> Parts
-    requires { ⌜ (m < 42) × (s < 8) × (d < 8) ⌝ }
-    ensures { λ r. ⌜ partsText r ≡ phrase m wb (withComma (registerText s) (registerText d)) ⌝ }
+fn of_registers(q: u64, wb: u16, s: u16, d: u16) -> Parts
+    requires { ⌜ (s < 8) × (d < 8) ⌝ }
+    ensures { λ r. ⌜ partsText r
+        ≡ phrase (lettersOf 6 q) wb (withComma (registerText s) (registerText d)) ⌝ }
 {
     let first = register(s);
     let second = register(d);
-    statement(m, wb, first, second, 0)
+    statement(q, wb, first, second, 0)
 }
 
 // A number.
-fn of_number(m: u16, n: u16) -> Parts
-    requires { ⌜ (m < 42) × (n < 16) ⌝ }
-    ensures { λ r. ⌜ partsText r ≡ phrase m 0 (numberText (pos n)) ⌝ }
+fn of_number(q: u64, n: u16) -> Parts
+    requires { ⌜ n < 16 ⌝ }
+    ensures { λ r. ⌜ partsText r ≡ phrase (lettersOf 6 q) 0 (numberText (pos n)) ⌝ }
 {
     let first = count(n);
-    statement(m, 0, first, 0, 0)
+    statement(q, 0, first, 0, 0)
 }
 
 // Flags, if there are any.
-fn of_flags(m: u16, f: u16, w: u16) -> Parts
-    requires { ⌜ (m < 42) × (f < 32) ⌝ }
-    ensures { λ r. ⌜ partsText r ≡ cond (eqb f 0) (wordText w) (phrase m 0 (flagsText f)) ⌝ }
+fn of_flags(q: u64, f: u16, w: u16) -> Parts
+    requires { ⌜ f < 32 ⌝ }
+    ensures { λ r. ⌜ partsText r
+        ≡ cond (eqb f 0) (wordText w) (phrase (lettersOf 6 q) 0 (flagsText f)) ⌝ }
 {
     if f == 0 {
         return word(w);
     }
     let first = flags(f);
-    statement(m, 0, first, 0, 0)
+    statement(q, 0, first, 0, 0)
 }
 
 // SWPB and SXT, unless the ignored bit is set.
-fn unless_ignored(m: u16, w: u16) -> Parts
-    requires { ⌜ m < 42 ⌝ }
+fn unless_ignored(q: u64, w: u16) -> Parts
     ensures { λ r. ⌜ partsText r
-        ≡ cond (eqb (w / 64 % 2) 0) (phrase m 0 (registerText (w % 8))) (wordText w) ⌝ }
+        ≡ cond (eqb (w / 64 % 2) 0) (phrase (lettersOf 6 q) 0 (registerText (w % 8)))
+        (wordText w) ⌝ }
 {
     if w / 64 % 2 == 0 {
-        return of_register(m, 0, w % 8);
+        return of_register(q, 0, w % 8);
     }
     word(w)
 }
@@ -146,10 +180,11 @@ fn unless_ignored(m: u16, w: u16) -> Parts
 fn swap(w: u16) -> Parts
     ensures { λ r. ⌜ partsText r
         ≡ cond (eqb (w / 64 % 2) 0)
-        (phrase 23 0 (withComma (registerText (w / 8 % 8)) (registerText (w % 8)))) (wordText w) ⌝ }
+        (phrase (ascii "SWAP") 0 (withComma (registerText (w / 8 % 8)) (registerText (w % 8))))
+        (wordText w) ⌝ }
 {
     if w / 64 % 2 == 0 {
-        return of_registers(23, 0, w / 8 % 8, w % 8);
+        return of_registers(SWAP, 0, w / 8 % 8, w % 8);
     }
     word(w)
 }
@@ -160,13 +195,13 @@ fn alu(w: u16) -> Parts
     ensures { λ r. ⌜ Prints r w
         (Alu (w / 256 % 16) (w / 128 % 2) (w / 64 % 2) (w / 8 % 8) (w % 8)) ⌝ }
 {
-    let m = 10 + w / 256 % 16;
+    let q = asm_spellings::operation_name(w / 256 % 16);
     if w / 128 % 2 == 0 {
-        return of_registers(m, w / 64 % 2, w / 8 % 8, w % 8);
+        return of_registers(q, w / 64 % 2, w / 8 % 8, w % 8);
     }
     let first = constant(w / 8 % 8);
     let second = register(w % 8);
-    statement(m, w / 64 % 2, first, second, 0)
+    statement(q, w / 64 % 2, first, second, 0)
 }
 
 // SRA, RRC, COMP, SWPB, SXT.
@@ -175,13 +210,14 @@ fn unary(w: u16) -> Parts
 {
     let op = w / 8 % 8;
     if op < 3 {
-        return of_register(24 + op, w / 64 % 2, w % 8);
+        let q = asm_spellings::unary_name(op);
+        return of_register(q, w / 64 % 2, w % 8);
     }
     if op < 4 {
-        return unless_ignored(27, w);
+        return unless_ignored(SWPB, w);
     }
     if op < 5 {
-        return unless_ignored(28, w);
+        return unless_ignored(SXT, w);
     }
     word(w)
 }
@@ -191,21 +227,21 @@ fn control(w: u16) -> Parts
     ensures { λ r. ⌜ Prints r w (controlOf w) ⌝ }
 {
     if w < 0x4D88 {
-        return of_number(29, w % 8);
+        return of_number(SETPRI, w % 8);
     }
     if w < 0x4DA0 {
         return word(w);
     }
     if w < 0x4DB0 {
-        return of_number(30, w % 16);
+        return of_number(SVC, w % 16);
     }
     if w < 0x4DC0 {
         return word(w);
     }
     if w < 0x4DE0 {
-        return of_flags(31, w % 32, w);
+        return of_flags(SETCC, w % 32, w);
     }
-    of_flags(32, w % 32, w)
+    of_flags(CLRCC, w % 32, w)
 }
 
 // MOV, SWAP, one register, control.
@@ -213,7 +249,7 @@ fn misc(w: u16) -> Parts
     ensures { λ r. ⌜ Prints r w (miscOf w) ⌝ }
 {
     if w < 0x4C80 {
-        return of_registers(22, w / 64 % 2, w / 8 % 8, w % 8);
+        return of_registers(MOV, w / 64 % 2, w / 8 % 8, w % 8);
     }
     if w < 0x4D00 {
         return swap(w);
@@ -229,13 +265,13 @@ fn misc(w: u16) -> Parts
 
 // CEX.
 fn conditional(w: u16) -> Parts
-    ensures { λ r. ⌜ partsText r ≡ phrase 33 0 (withComma (conditionText (w / 64 % 16))
+    ensures { λ r. ⌜ partsText r ≡ phrase (ascii "CEX") 0 (withComma (conditionText (w / 64 % 16))
         (withComma (numberText (pos (w / 8 % 8))) (numberText (pos (w % 8))))) ⌝ }
 {
     let first = condition(w / 64 % 16);
     let second = count(w / 8 % 8);
     let third = count(w % 8);
-    statement(33, 0, first, second, third)
+    statement(CEX, 0, first, second, third)
 }
 
 // Whether an adjustment moves nothing and is not plain.
@@ -256,7 +292,7 @@ fn load(w: u16) -> Parts
     }
     let first = address(w / 512 % 2, w / 256 % 2, w / 128 % 2, w / 8 % 8);
     let second = register(w % 8);
-    statement(34, w / 64 % 2, first, second, 0)
+    statement(LD, w / 64 % 2, first, second, 0)
 }
 
 // ST.
@@ -269,7 +305,7 @@ fn store(w: u16) -> Parts
     }
     let first = register(w / 8 % 8);
     let second = address(w / 512 % 2, w / 256 % 2, w / 128 % 2, w % 8);
-    statement(35, w / 64 % 2, first, second, 0)
+    statement(ST, w / 64 % 2, first, second, 0)
 }
 
 // CEX, LD, ST.
@@ -292,9 +328,10 @@ fn memory(w: u16) -> Parts
 fn move_byte(w: u16) -> Parts
     ensures { λ r. ⌜ Prints r w (MovImm (w / 2048 % 4) (w / 8 % 256) (w % 8)) ⌝ }
 {
+    let q = asm_spellings::move_name(w / 2048 % 4);
     let first = hex_byte(w / 8 % 256);
     let second = register(w % 8);
-    statement(36 + w / 2048 % 4, 0, first, second, 0)
+    statement(q, 0, first, second, 0)
 }
 
 // LDR, STR.
@@ -305,9 +342,9 @@ fn relative(w: u16) -> Parts
     let first = register(w / 8 % 8);
     let other = register(w % 8);
     if w < 0xC000 {
-        return statement(40, w / 64 % 2, first, way, other);
+        return statement(LDR, w / 64 % 2, first, way, other);
     }
-    statement(41, w / 64 % 2, first, other, way)
+    statement(STR, w / 64 % 2, first, other, way)
 }
 
 // The parts of a word's text at a place.
@@ -315,10 +352,11 @@ pub fn parts_of(place: u16, w: u16) -> Parts
     ensures { λ r. ⌜ partsText r ≡ textAt place w ⌝ }
 {
     if w < 0x2000 {
-        return branch(1, place, w, 4096, w % 8192);
+        return branch(BL, place, w, 4096, w % 8192);
     }
     if w < 0x4000 {
-        return branch(2 + w / 1024 % 8, place, w, 512, w % 1024);
+        let q = asm_spellings::branch_name(w / 1024 % 8);
+        return branch(q, place, w, 512, w % 1024);
     }
     if w < 0x4C00 {
         return alu(w);

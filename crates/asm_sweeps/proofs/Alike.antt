@@ -8,6 +8,8 @@ use Rattle.asm_value.specs.declared.Value.{Value}
 use Rattle.asm_line.specs.declared.Statement.{Statement}
 use Rattle.asm_line.specs.declared.Reading.{Reading}
 use Rattle.asm_line.specs.declared.Reading.the-variants.{Line, Fault}
+use Rattle.asm_words.specs.declared.Valued.{Valued}
+use Rattle.asm_words.specs.declared.Valued.the-variants as val
 use Rattle.asm_line.specs.Statement.{withValue}
 use Rattle.asm_line.specs.Line.{lineOf}
 use Rattle.asm_line.proofs.Alike.{Related, AlikeLines, line-related}
@@ -21,23 +23,17 @@ AnyValues v w = Unit
 abbrev Stops : Statement → Statement → Type 0
 Stops x y = stops? (layoutOf x) ≡ stops? (layoutOf y)
 
-either-on : (b : Bool) (x y : Statement) → stops? (layoutOf x) ≡ false → stops? (layoutOf y) ≡ false
-    → stops? (layoutOf (cond b x y)) ≡ false
-either-on true x y h k = h
-either-on false x y h k = k
-
 -- a statement of one value is not END
-value-on : (m : ℕ) (v : Value) → stops? (layoutOf (withValue m v)) ≡ false
+value-on : (m : Valued) (v : Value) → stops? (layoutOf (withValue m v)) ≡ false
 unfolding withValue layoutOf
-value-on m v =
-    either-on (ltb m 2) _ _ refl
-    (either-on (ltb m 10) _ _ refl
-    (either-on (ltb m 30) _ _ refl
-    (either-on (ltb m 31) _ _ refl
-    (either-on (ltb m 43) _ _ refl
-    (either-on (ltb m 44) _ _ refl
-    (either-on (ltb m 45) _ _ refl
-    (either-on (ltb m 46) _ _ refl refl)))))))
+value-on val.Org v = refl
+value-on val.Bss v = refl
+value-on val.Byte v = refl
+value-on val.Word v = refl
+value-on val.Bl v = refl
+value-on (val.Branch c) v = refl
+value-on val.SetPri v = refl
+value-on val.Svc v = refl
 
 stops-related : Related AnyValues Stops
 unfolding layoutOf
@@ -45,6 +41,7 @@ stops-related =
     record {
       itself = λ x. refl;
       of-one = λ m v w h. value-on m v ∙ sym (value-on m w);
+      of-equate = λ v w h. refl;
       of-constant = λ op b d v w h. refl;
       of-counts = λ c t u v w g h. refl;
       of-byte = λ op plain d v w h. refl;

@@ -9,7 +9,7 @@ use lib.ListN.{length, drop}
 use Rattle.asm_value.specs.declared.Value.{Value}
 use Rattle.asm_text.specs.Text.{byteAt, blank?, letter?, nameByte?, after, word}
 use Rattle.asm_text.proofs.Laws.{kind-in}
-use Rattle.asm_words.specs.Words.{wordNumber}
+use Rattle.asm_words.specs.Words.{wordOf, free?}
 use Rattle.asm_operands.specs.Operands.{over?}
 use Rattle.asm_line.specs.declared.Statement.{Statement}
 use Rattle.asm_line.specs.declared.Statement.the-variants.{Nothing}
@@ -45,7 +45,7 @@ module _ (s : List ℕ) where
   unfolding lineFrom afterName
   line-in look q =
       either (over? s q) (Line false q Nothing) _ (λ e. unnamed)
-      (λ e. either (not (eqb (wordNumber (word (drop q s))) 0)) (ended s false q (statementAt look s false q)) _
+      (λ e. either (not (free? (wordOf (word (drop q s))))) (ended s false q (statementAt look s false q)) _
       (λ e. ended-in false q unnamed (statementAt look s false q))
       (λ e. either (letter? (byteAt s q)) (afterName look s q (after blank? s (after nameByte? s q))) Fault
       (λ k. let h : q < length s = kind-in letter? letter-zero s q k in

@@ -2,11 +2,18 @@
 use mathlib.Core.Bool.{Bool, true, false, cond, _&&_, _||_, not}
 use mathlib.Core.List.{List, [], _∷_, map}
 use Prim.Native.Nat.{ℕ, zero, suc, _+_, _-_, _*_, _%_, _^_, min}
+use Prim.Native.Char.{code}
+use Prim.Native.String.{String, [] as none, _∷_ as _then_}
 use lib.Dec.{ltb, leb, eqb}
 use lib.ListN.{getD, drop}
 use lib.IntN.{ℤ}
 use Rattle.asm_value.specs.declared.Value.{Value}
 use Rattle.asm_value.specs.declared.Value.the-variants.{Known, Unknown}
+
+-- the bytes of a text that is written in letters: each character's code
+abbrev pub ascii : String → List ℕ
+ascii none = []
+ascii (c then s) = code c ∷ ascii s
 
 -- the byte at i; 0 past the end
 abbrev pub byteAt : List ℕ → ℕ → ℕ
@@ -14,19 +21,22 @@ byteAt s i = getD s i 0
 
 -- a blank or a tab. [02 §12]
 unfoldable pub blank? : ℕ → Bool
-blank? b = eqb b 32 || eqb b 9
+blank? b = eqb b (code " ") || eqb b (code "\t")
 
 -- A to Z. [02 §12]
 unfoldable pub letter? : ℕ → Bool
-letter? b = leb 65 b && leb b 90
+letter? b = leb (code "A") b && leb b (code "Z")
 
 -- A to Z, 0 to 9. [02 §12]
 unfoldable pub nameByte? : ℕ → Bool
-nameByte? b = leb 65 b && leb b 90 || leb 48 b && leb b 57
+nameByte? b = leb (code "A") b && leb b (code "Z") || leb (code "0") b && leb b (code "9")
 
 -- 0 to 9 and A to F say 0 to 15; any other byte 16, which is a digit of no base
 unfoldable pub digitOf : ℕ → ℕ
-digitOf b = cond (leb 48 b && leb b 57) (b - 48) (cond (leb 65 b && leb b 70) (b - 55) 16)
+digitOf b =
+    cond (leb (code "0") b && leb b (code "9")) (b - code "0")
+    (cond (leb (code "A") b && leb b (code "F")) (b - (code "A" - 10))
+    16)
 
 -- a digit of the base
 unfoldable pub digit? : ℕ → ℕ → Bool

@@ -16,16 +16,16 @@ use Rattle.lines.specs.Lines.{linesOf}
 use Rattle.asm_value.specs.declared.Value.{Value}
 use Rattle.asm_value.specs.declared.Value.the-variants as v
 use Rattle.asm_value.specs.Value.{fitted, applied, joined}
-use Rattle.asm_text.specs.Text.{blank?, letter?, nameByte?, digitOf, digit?, span, after, numeral, word, same, spelled, spelledFrom, lookUp}
-use Rattle.asm_words.specs.Words.{numberIn, words, wordNumber, directives, mnemonics, registers, conditionWords, emulated}
-use Rattle.asm_words.specs.Words.{registerNumber, registerOf}
+use Rattle.asm_text.specs.Text.{blank?, letter?, nameByte?, digitOf, digit?, span, after, numeral, word, same, lookUp}
+use Rattle.asm_words.specs.Words.{meaning, branches, operations, unaries, moves, valuedWords, otherWords, keywords, registers}
+use Rattle.asm_words.specs.Words.{conditions, emulated, words, wordOf, free?, registerOf}
 use Rattle.asm_expr.specs.Grammar.{named?, digitsAt, nameAt, plainAt, closed, plus?, times?, chain, partsOf, factorWith, factorOf}
 use Rattle.asm_expr.specs.Meaning.{valueOf, answerOf}
 use Rattle.asm_operands.specs.Operands.{over?, wordBelow, registerAt, widthAt, valueAt, nameless?, number?, comma?, commaRegister}
 use Rattle.asm_fits.specs.Fits.{residueOf, withinOf, fitOf, wayOf, stepsOf}
 use Rattle.word.proofs.Laws.{bool-cases}
 use Rattle.asm_line.specs.declared.Statement.the-variants.{Org, End, Branch, MovImm}
-use Rattle.asm_line.specs.Statement.{withValue, oneValue, moveByte, onMemory, directiveOf, statementOf}
+use Rattle.asm_line.specs.Statement.{withValue, oneValue, equate, moveByte, statementWith, statementOf}
 use Rattle.asm_line.specs.Line.{statementAt, afterName, lineFrom, lineOf}
 use Rattle.asm_write.specs.Written.{numberOf, layoutOf, misplaced?, usedOf, onward, nextOf, placeValue, nameValue}
 use Rattle.asm_sweeps.specs.Form.{formFrom}
@@ -38,22 +38,22 @@ use Rattle.asm_theorems.proofs.Accepted.{refusal-accepted}
 use Rattle.asm_theorems.proofs.Decoded.{words-decode}
 
 no-fault : verdictOf sample ≡ verdict 0 0
-unfolding fitted applied joined blank? letter? nameByte? digitOf digit? span after numeral word same spelled spelledFrom lookUp numberIn
-    words wordNumber directives mnemonics registers conditionWords emulated registerNumber registerOf digitsAt nameAt plainAt closed
-    named? plus? times? chain partsOf factorWith factorOf valueOf answerOf over? wordBelow registerAt widthAt valueAt nameless? number?
-    comma? commaRegister residueOf withinOf fitOf wayOf stepsOf withValue oneValue moveByte onMemory directiveOf statementOf statementAt
-    afterName lineFrom lineOf numberOf layoutOf misplaced? usedOf onward nextOf placeValue nameValue formFrom firstOf namedOf tableFrom
-    placeAfter usesFrom leastOf verdictFor verdictOf linesOf encodeOf
+unfolding fitted applied joined blank? letter? nameByte? digitOf digit? span after numeral word same lookUp meaning branches operations
+    unaries moves valuedWords otherWords keywords registers conditions emulated words wordOf free? registerOf digitsAt nameAt plainAt
+    closed named? plus? times? chain partsOf factorWith factorOf valueOf answerOf over? wordBelow registerAt widthAt valueAt nameless?
+    number? comma? commaRegister residueOf withinOf fitOf wayOf stepsOf withValue oneValue equate moveByte statementWith statementOf
+    statementAt afterName lineFrom lineOf numberOf layoutOf misplaced? usedOf onward nextOf placeValue nameValue formFrom firstOf namedOf
+    tableFrom placeAfter usesFrom leastOf verdictFor verdictOf linesOf encodeOf
 no-fault = refl
 
 placed-are : placedOf (namesOf sample) sample
     ≡ placing 0 (Org (v.Known (pos 256))) ∷ placing 256 (MovImm 3 false (v.Known (pos 256)) 0)
     ∷ placing 258 (Branch 7 (v.Known (pos 256))) ∷ placing 260 End ∷ []
-unfolding fitted applied joined blank? letter? nameByte? digitOf digit? span after numeral word same spelled spelledFrom lookUp numberIn
-    words wordNumber directives mnemonics registers conditionWords emulated registerNumber registerOf digitsAt nameAt plainAt closed
-    named? plus? times? chain partsOf factorWith factorOf valueOf answerOf over? wordBelow registerAt widthAt valueAt nameless? number?
-    comma? commaRegister withValue oneValue moveByte onMemory directiveOf statementOf statementAt
-    afterName lineFrom lineOf layoutOf onward nextOf placeValue nameValue firstOf namedOf tableFrom placeAfter placedFrom linesOf
+unfolding fitted applied joined blank? letter? nameByte? digitOf digit? span after numeral word same lookUp meaning branches operations
+    unaries moves valuedWords otherWords keywords registers conditions emulated words wordOf free? registerOf digitsAt nameAt plainAt
+    closed named? plus? times? chain partsOf factorWith factorOf valueOf answerOf over? wordBelow registerAt widthAt valueAt nameless?
+    number? comma? commaRegister withValue oneValue equate moveByte statementWith statementOf statementAt afterName lineFrom lineOf
+    layoutOf onward nextOf placeValue nameValue firstOf namedOf tableFrom placeAfter placedFrom linesOf
 placed-are = refl
 
 -- ---- the two words

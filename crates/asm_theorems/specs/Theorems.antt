@@ -14,6 +14,7 @@ use Rattle.isa.specs.declared.Instr.the-variants as i
 use Rattle.isa.specs.declared.Encoded.the-variants as e
 use Rattle.isa.specs.Decode.{decodeOf}
 use Rattle.isa.specs.Encode.{encodeOf}
+use Rattle.asm_text.specs.Text.{ascii}
 use Rattle.asm_value.specs.declared.Value.{Value}
 use Rattle.asm_value.specs.declared.Value.the-variants.{Known}
 use Rattle.asm_fits.specs.declared.Fit.{Fit}
@@ -179,13 +180,13 @@ NeverRefused =
 
 -- ---- an example that meets the premises
 
--- four lines: ORG #256, L MOVH L,R0, BRA L and END
+-- four lines
 abbrev pub sample : List ℕ
 sample =
-    32 ∷ 79 ∷ 82 ∷ 71 ∷ 32 ∷ 35 ∷ 50 ∷ 53 ∷ 54 ∷ 10 ∷
-    76 ∷ 32 ∷ 77 ∷ 79 ∷ 86 ∷ 72 ∷ 32 ∷ 76 ∷ 44 ∷ 82 ∷ 48 ∷ 10 ∷
-    32 ∷ 66 ∷ 82 ∷ 65 ∷ 32 ∷ 76 ∷ 10 ∷
-    32 ∷ 69 ∷ 78 ∷ 68 ∷ []
+    ascii " ORG #256\n"
+    ++ ascii "L MOVH L,R0\n"
+    ++ ascii " BRA L\n"
+    ++ ascii " END"
 
 -- With any memory of 65,536 bytes, MOVH stands at 256 and takes L's higher byte, BRA stands at 258 and leads two words
 -- back. [02 §12]

@@ -1,6 +1,7 @@
 -- What an expression's parts come to: a number in 32 signed bits, or the reason why there is none. Assumes nothing.
 use mathlib.Core.Bool.{Bool, cond}
 use Prim.Native.Nat.{ℕ, zero, suc, _/_, _^_}
+use Prim.Native.Char.{code}
 use lib.Dec.{ltb, eqb}
 use lib.IntN.{ℤ, pos, negsuc, negℤ, _+ℤ_, _-ℤ_, _*ℤ_}
 use lib.Signed.{mag}
@@ -28,12 +29,12 @@ quotient x (pos zero) = Outside
 quotient x (pos (suc n)) = fitted (towardsZero x (pos (suc n)))
 quotient x (negsuc n) = fitted (towardsZero x (negsuc n))
 
--- + is byte 43, - 45, * 42, / 47. [02 §12]
+-- by the byte of the operator. [02 §12]
 unfoldable pub applied : ℕ → ℤ → ℤ → Value
 applied op x y =
-    cond (eqb op 43) (fitted (x +ℤ y))
-    (cond (eqb op 45) (fitted (x -ℤ y))
-    (cond (eqb op 42) (fitted (x *ℤ y))
+    cond (eqb op (code "+")) (fitted (x +ℤ y))
+    (cond (eqb op (code "-")) (fitted (x -ℤ y))
+    (cond (eqb op (code "*")) (fitted (x *ℤ y))
     (quotient x y)))
 
 -- an unknown name in either part decides, then a value outside 32 bits: "18, then 19". [02 §12]

@@ -1,15 +1,63 @@
-// Words of the language, looked up by their spelling as a number: an operation, a directive, a
-// register, a condition, or flags. A word's row is its spelling times 256, and then what the word
-// stands for.
+// Words of the language: what a word begins, the number of a register or a condition, flags. A word
+// is looked up by its spelling as one number, its bytes in base 256; a row of a table is that
+// number times 256, and then what the word stands for, by number.
 ghost use mathlib.Core.Path.{_≡_};
-ghost use Prim.Native.Nat.{ℕ, _≤_, _<_};
-ghost use mathlib.Core.List.{List};
+ghost use Prim.Native.Nat.{_≤_, _<_};
 ghost use lib.ListN.{drop};
 ghost use Rattle.asm_text.specs.Text.{word};
-ghost use Rattle.asm_words.specs.Words.{numberIn, words, registerNumber};
-ghost use Rattle.asm_words.specs.Words.{conditions, addFlag, flagsOf};
+ghost use Rattle.asm_words.specs.Rows.{numberIn, Says};
+ghost use Rattle.asm_words.specs.Words.{wordOf, free?, registerOf, conditionOf};
+ghost use Rattle.asm_words.specs.Words.{flagOf, withBit, flagsOf};
 
-// All words, in groups by the remainder of the spelling divided by 61.
+// What begins a statement of one value: a branch by its condition field, and others.
+pub enum Valued {
+    Org,
+    Bss,
+    Byte,
+    Word,
+    Bl,
+    Branch(u8),
+    SetPri,
+    Svc,
+}
+
+// What begins a statement.
+pub enum Keyword {
+    // one value follows
+    Value(Valued),
+    // a value follows, and a name stands before
+    Equ,
+    End,
+    // ADD to BIS by their operation field
+    Arithmetic(u8),
+    Mov,
+    Swap,
+    // SRA, RRC, COMP by their operation field
+    Unary(u8),
+    Swpb,
+    Sxt,
+    SetCc,
+    ClrCc,
+    Cex,
+    Ld,
+    St,
+    // MOVL, MOVLZ, MOVLS, MOVH by their operation field
+    MovImm(u8),
+    Ldr,
+    Str,
+}
+
+// What a word is.
+pub enum Word {
+    // no word of the language: it may be a name
+    Free,
+    // a register, a condition or an emulated mnemonic: no name, and no statement's
+    Reserved,
+    Begins(Keyword),
+}
+
+// All words, in groups by the remainder of the spelling divided by 61; the number is the place in
+// WORDS.
 const ROWS: [u64; 107] = [
     // R5
     0x523530,
@@ -293,6 +341,59 @@ const STARTS: [usize; 62] = [
     107,
 ];
 
+// What a row of ROWS says, by its number.
+const WORDS: [Word; 49] = [
+    Word::Free,
+    Word::Begins(Keyword::Value(Valued::Bl)),
+    Word::Begins(Keyword::Value(Valued::Branch(0))),
+    Word::Begins(Keyword::Value(Valued::Branch(1))),
+    Word::Begins(Keyword::Value(Valued::Branch(2))),
+    Word::Begins(Keyword::Value(Valued::Branch(3))),
+    Word::Begins(Keyword::Value(Valued::Branch(4))),
+    Word::Begins(Keyword::Value(Valued::Branch(5))),
+    Word::Begins(Keyword::Value(Valued::Branch(6))),
+    Word::Begins(Keyword::Value(Valued::Branch(7))),
+    Word::Begins(Keyword::Arithmetic(0)),
+    Word::Begins(Keyword::Arithmetic(1)),
+    Word::Begins(Keyword::Arithmetic(2)),
+    Word::Begins(Keyword::Arithmetic(3)),
+    Word::Begins(Keyword::Arithmetic(4)),
+    Word::Begins(Keyword::Arithmetic(5)),
+    Word::Begins(Keyword::Arithmetic(6)),
+    Word::Begins(Keyword::Arithmetic(7)),
+    Word::Begins(Keyword::Arithmetic(8)),
+    Word::Begins(Keyword::Arithmetic(9)),
+    Word::Begins(Keyword::Arithmetic(10)),
+    Word::Begins(Keyword::Arithmetic(11)),
+    Word::Begins(Keyword::Mov),
+    Word::Begins(Keyword::Swap),
+    Word::Begins(Keyword::Unary(0)),
+    Word::Begins(Keyword::Unary(1)),
+    Word::Begins(Keyword::Unary(2)),
+    Word::Begins(Keyword::Swpb),
+    Word::Begins(Keyword::Sxt),
+    Word::Begins(Keyword::Value(Valued::SetPri)),
+    Word::Begins(Keyword::Value(Valued::Svc)),
+    Word::Begins(Keyword::SetCc),
+    Word::Begins(Keyword::ClrCc),
+    Word::Begins(Keyword::Cex),
+    Word::Begins(Keyword::Ld),
+    Word::Begins(Keyword::St),
+    Word::Begins(Keyword::MovImm(0)),
+    Word::Begins(Keyword::MovImm(1)),
+    Word::Begins(Keyword::MovImm(2)),
+    Word::Begins(Keyword::MovImm(3)),
+    Word::Begins(Keyword::Ldr),
+    Word::Begins(Keyword::Str),
+    Word::Begins(Keyword::Value(Valued::Org)),
+    Word::Begins(Keyword::Equ),
+    Word::Begins(Keyword::Value(Valued::Bss)),
+    Word::Begins(Keyword::Value(Valued::Byte)),
+    Word::Begins(Keyword::Value(Valued::Word)),
+    Word::Begins(Keyword::End),
+    Word::Reserved,
+];
+
 // The conditions of CEX.
 const CONDITIONS: [u64; 18] = [
     0x455100,
@@ -330,68 +431,91 @@ fn row_number(rows: &[u64], none: u8, p: u64) -> u8
     none
 }
 
-// The number of a word: 1 to 41 an operation, 42 to 47 a directive, 48 any other word of the
-// language, 0 none.
-pub fn word_number(p: u64) -> u8
-    ensures { λ r. ⌜ r ≡ numberIn 0 words p ⌝ }
+// What the word is that p spells.
+pub fn find_word(p: u64) -> Word
+    ensures { λ r. ⌜ Says wordOf p r ⌝ }
 {
     let h = (p % 61) as usize;
     let from = STARTS[h];
     let to = STARTS[h + 1];
     let rows = ROWS;
-    row_number(&rows[from..to], 0, p)
+    let n = row_number(&rows[from..to], 0, p) as usize;
+    let words = WORDS;
+    words[n]
 }
 
-// The number of a register, 0 to 7; 8 for any other word.
-pub fn register_number(p: u64) -> u8
-    ensures { λ r. ⌜ r ≡ registerNumber p ⌝ }
+// Whether a word may be a name.
+pub fn is_free(w: Word) -> bool
+    ensures { λ r. ⌜ r ≡ free? w ⌝ }
 {
+    match w {
+        Word::Free => true,
+        Word::Reserved => false,
+        Word::Begins(_) => false,
+    }
+}
+
+// The number of the register that p spells, 0 to 7; 8 for any other word.
+pub fn register_number(p: u64) -> u8
+    ensures { λ r. ⌜ Says registerOf p r ⌝ }
+{
+    // R0 to R7
     if (0x5230 <= p) & (p <= 0x5237) {
         return (p - 0x5230) as u8;
     }
+    // BP
     if p == 0x4250 {
         return 4;
     }
+    // LR
     if p == 0x4C52 {
         return 5;
     }
+    // SP
     if p == 0x5350 {
         return 6;
     }
+    // PC
     if p == 0x5043 {
         return 7;
     }
     8
 }
 
-// The code of a condition, 0 to 15; 16 for any other word.
+// The code of the condition that p spells, 0 to 15; 16 for any other word.
 pub fn condition_number(p: u64) -> u8
-    ensures { λ r. ⌜ r ≡ numberIn 16 conditions p ⌝ }
+    ensures { λ r. ⌜ Says conditionOf p r ⌝ }
 {
     let rows = CONDITIONS;
     row_number(&rows, 16, p)
 }
 
-// Flags with a bit more, unless they have it.
+// The bit of a flag's letter, or 0.
+fn flag_bit(b: u8) -> u8
+    ensures { λ r. ⌜ r ≡ flagOf b ⌝ }
+{
+    match b {
+        b'V' => 16,
+        b'S' => 8,
+        b'N' => 4,
+        b'Z' => 2,
+        b'C' => 1,
+        _ => 0,
+    }
+}
+
+// Flags with the bit of one letter more, unless they have it.
 fn add_flag(f: u8, b: u8) -> u8
     requires { ⌜ f < 32 ⌝ }
-    ensures { λ r. ⌜ r ≡ addFlag f b ⌝ }
+    ensures { λ r. ⌜ r ≡ withBit f (flagOf b) ⌝ }
     ensures { λ r. ⌜ r ≤ 32 ⌝ }
 {
-    if b == b'V' {
-        return if f / 16 % 2 == 0 { f + 16 } else { 32 };
+    let bit = flag_bit(b);
+    if bit == 0 {
+        return 32;
     }
-    if b == b'S' {
-        return if f / 8 % 2 == 0 { f + 8 } else { 32 };
-    }
-    if b == b'N' {
-        return if f / 4 % 2 == 0 { f + 4 } else { 32 };
-    }
-    if b == b'Z' {
-        return if f / 2 % 2 == 0 { f + 2 } else { 32 };
-    }
-    if b == b'C' {
-        return if f % 2 == 0 { f + 1 } else { 32 };
+    if f / bit % 2 == 0 {
+        return f + bit;
     }
     32
 }

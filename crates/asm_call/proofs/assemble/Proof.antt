@@ -1,3 +1,5 @@
+-- The sweeps are called in the order of the definition, and the first that finds a fault decides the reply; where none does, the
+-- image's equation is the memory's. Each way out is one law of the call over what the sweeps' contracts say.
 use Rattle.asm_call.proofs.Laws.{verdict-found, image-found, call-refused, call-accepted}
 use lib.Seq.{length-take-le}
 use Rattle.asm_call.specs.Call.{Assembled}

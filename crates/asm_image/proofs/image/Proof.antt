@@ -1,3 +1,5 @@
+-- The loop keeps that the image of the lines from here on, in the memory as it is now, is the image of the whole source in the memory
+-- as it came. A line's bytes are stored by one step of that equation, and END or the end of the source leaves nothing to store.
 use Rattle.asm_image.proofs.Laws.{store-end, store-more, image-last}
 use Rattle.asm_image.specs.Image.{placedFrom, placedOf, imageOf}
 use Rattle.asm_text.specs.Text.{lookUpAt}

@@ -1,8 +1,7 @@
 use mathlib.Core.Bool.{true}
 use mathlib.Core.Path.{sym, ap, _∙_}
 use lib.ListN.{drop}
-use Rattle.asm_text.specs.Text.{word, lookUpAt}
-use Rattle.asm_words.proofs.Laws.{number-of}
+use Rattle.asm_text.specs.Text.{lookUpAt}
 use Rattle.asm_line.specs.Line.{ended}
 use Rattle.asm_line.proofs.Laws.{statement-there, name-alone, name-statement}
 use borrow.Author.Needs.{needs}
@@ -27,10 +26,8 @@ returns-2 c =
     let a = c10 .args in
     let s = a .line .now in
     let f = lookUpAt (a .source .now) (a .places .now) (a .keys .now) (a .values .now) in
-    let w = word (drop (a .at) s) in
-    let e = number-of w (c3 .read-word .result .spelled) (c2 .word-number .result) (c3 .read-word .ensures .1 .0)
-    (c2 .word-number .ensures) in
-    let x = statement-there f s true (a .at) (c2 .word-number .result) (c3 .read-word .result .next) (c .before .read-statement .result) e
+    let e = c2 .find-word .ensures (drop (a .at) s) (c3 .read-word .ensures .1 .0) in
+    let x = statement-there f s true (a .at) (c2 .find-word .result) (c3 .read-word .result .next) (c .before .read-statement .result) e
     (c3 .read-word .ensures .0) (c .before .read-statement .ensures) in
     c .end-line .ensures ∙ ap (ended s true (a .name)) x
     ∙ name-statement f s (a .name) (a .at) (sym (c5 .is-over .ensures) ∙ c4 .if1 .left)

@@ -1,5 +1,4 @@
 use mathlib.Core.Path.{sym, _∙_}
-use borrow.Author.Tests.{lt-ltb, le-ltb}
 use Rattle.asm_line.specs.Statement.{onFlags}
 use borrow.Author.Needs.{needs}
 use Rattle.asm_line.proofs.on_flags.Statement.{statement}
@@ -14,10 +13,9 @@ unfolding onFlags
 returns-2 c =
     let c2 = c .before .before in
     let c4 = c2 .before .before in
-    let c6 = c4 .before .before in
     rw (
       sym (c4 .read-flags .ensures) ∙ c2 .f .given .1,
-      lt-ltb (c6 .args .m) 32 (c .if1 .taken),
+      c .if1 .taken,
     )
 
 returns-3 : tie.Need-returns-3
@@ -25,10 +23,9 @@ unfolding onFlags
 returns-3 c =
     let c2 = c .before .before in
     let c4 = c2 .before .before in
-    let c6 = c4 .before .before in
     rw (
       sym (c4 .read-flags .ensures) ∙ c2 .f .given .1,
-      le-ltb (c6 .args .m) 32 (c .if1 .left),
+      c .if1 .left,
     )
 
 pub on-flags-spec : {M : Type 1} → statement M

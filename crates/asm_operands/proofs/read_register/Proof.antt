@@ -1,7 +1,5 @@
 use lib.ListN.{drop}
-use Rattle.asm_text.specs.Text.{word}
 use Rattle.asm_words.specs.Words.{registerOf}
-use Rattle.asm_words.proofs.Laws.{register-of}
 use Rattle.asm_operands.specs.Operands.{registerAt}
 use Rattle.asm_operands.proofs.Laws.{below-yes, below-no}
 use borrow.Author.Needs.{needs}
@@ -17,8 +15,7 @@ returns c =
     let a = c5 .args in
     let s = a .line .now in
     let q = c3 .skip-blanks .result in
-    let e = register-of (word (drop q s)) (c2 .read-word .result .spelled) (c .before .register-number .result)
-    (c2 .read-word .ensures .1 .0) (c .before .register-number .ensures) in
+    let e = c .before .register-number .ensures (drop q s) (c2 .read-word .ensures .1 .0) in
     below-yes 8 registerOf s (a .at) q (c .before .register-number .result) (c3 .skip-blanks .ensures) e
     (c2 .read-word .result .next) (c .if1 .taken) (c2 .read-word .ensures .0)
 
@@ -31,8 +28,7 @@ returns-2 c =
     let a = c5 .args in
     let s = a .line .now in
     let q = c3 .skip-blanks .result in
-    let e = register-of (word (drop q s)) (c2 .read-word .result .spelled) (c .before .register-number .result)
-    (c2 .read-word .ensures .1 .0) (c .before .register-number .ensures) in
+    let e = c .before .register-number .ensures (drop q s) (c2 .read-word .ensures .1 .0) in
     below-no 8 registerOf s (a .at) q (c .before .register-number .result) (c3 .skip-blanks .ensures) e (c .if1 .left)
 
 pub read-register-spec : {M : Type 1} → statement M

@@ -2,18 +2,20 @@ use Prim.Native.Nat.{_/_, _%_}
 use mathlib.Core.Path.{sym, ap, _∙_}
 use native.Mathlib.Omega.{arith}
 use borrow.Author.Needs.{needs}
+use Rattle.asm_text.specs.Text.{ascii}
 use Rattle.asm_print.specs.Print.{phrase, textFor}
 use Rattle.asm_printer.proofs.Laws.{two-operands, of-register, of-address}
+use Rattle.asm_spellings.specs.Spellings.{lettersOf}
 use Rattle.asm_printer.proofs.load.Statement.{statement}
 use Rattle.asm_printer.proofs.load.Tie as tie
 
 returns : tie.Need-returns
-unfolding textFor
+unfolding textFor lettersOf
 returns c =
     λ p. rw (sym (c .before .before .idle .ensures) ∙ c .before .if1 .taken) (c .word .ensures)
 
 returns-2 : tie.Need-returns-2
-unfolding textFor
+unfolding textFor lettersOf
 returns-2 c =
     λ p.
     let w = c .before .before .before .before .before .args .w in
@@ -21,7 +23,7 @@ returns-2 c =
     (omega arith) (omega arith) (omega arith) (omega arith) in
     let d = of-register _ (w % 8) (c .before .register .ensures .0) (omega arith) in
     rw (sym (c .before .before .before .before .idle .ensures) ∙ c .before .before .before .if1 .left)
-    (c .statement .ensures ∙ ap (phrase 34 (w / 64 % 2)) (two-operands _ _ _ _ (a .long) d))
+    (c .statement .ensures ∙ ap (phrase (ascii "LD") (w / 64 % 2)) (two-operands _ _ _ _ (a .long) d))
 
 pub load-spec : {M : Type 1} → statement M
 load-spec =

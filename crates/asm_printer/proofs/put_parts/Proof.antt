@@ -1,6 +1,7 @@
 use native.Mathlib.Omega.{arith}
 use borrow.Author.Needs.{needs}
-use Rattle.asm_print.specs.Print.{lettersOf, sizeMark}
+use Rattle.asm_print.specs.Print.{sizeMark}
+use Rattle.asm_spellings.specs.Spellings.{lettersOf}
 use Rattle.asm_printer.specs.Parts.{behind, operandsText, partsText}
 use Rattle.asm_printer.proofs.Laws.{five-puts}
 use Rattle.asm_printer.proofs.put_parts.Statement.{statement}

@@ -1,3 +1,5 @@
+-- The loop keeps that the table of the lines from here on, over the names given so far, is the table of the whole source, and that the
+-- slices hold those names. A line is one step of that equation; END or the end of the source leaves the table as it is.
 use Rattle.asm_sweeps.proofs.Names.{apart-of, holds-as}
 use Rattle.asm_sweeps.proofs.Laws.{collect-end, collect-more, table-last, table-start, holds-start}
 use Rattle.asm_sweeps.specs.Places.{tableFrom, tableOf}

@@ -1,3 +1,5 @@
+-- The loop keeps that the verdict on the lines from here on is the verdict on the whole source. A faulty line and END decide it, and the
+-- end of the source without END is the line after the last.
 use Rattle.asm_sweeps.proofs.Laws.{form-fault, form-end, form-more, form-last}
 use Rattle.asm_sweeps.specs.Form.{formFrom, formOf}
 use Rattle.lines.specs.Lines.{linesOf}

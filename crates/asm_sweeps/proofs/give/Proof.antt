@@ -1,3 +1,5 @@
+-- A name that is known already and the 1,025th leave the table and note the line; any other is put behind the names given, and the slices
+-- hold one name more. Each way out is one law of the table over the callees' equations.
 use mir.Val.{toZ, ofZ}
 use mir.Syntax.{w32}
 use Rattle.asm_sweeps.proofs.Names.{note-line, note-count, holds-as, give-known, give-full, give-new, holds-new}

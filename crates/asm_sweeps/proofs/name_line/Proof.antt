@@ -1,3 +1,5 @@
+-- What a line does to the table is decided by its reading: a fault, a line without a name, a name with a statement. Each way out is the
+-- law of its case, and the names that the slices hold are kept on all of them.
 use Rattle.asm_sweeps.proofs.Names.{line-word, name-within}
 use Rattle.asm_sweeps.proofs.Laws.{name-fault, end-fault, name-none, name-some, end-line, holds-on, line-on, named-in}
 use Prim.Native.Nat.{_+_}

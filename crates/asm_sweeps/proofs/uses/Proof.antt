@@ -1,3 +1,5 @@
+-- The loop keeps that the tally of the lines from here on is the tally of the whole source. A line is one step of that equation; END or
+-- the end of the source leaves the tally as it is.
 use Rattle.asm_sweeps.proofs.Laws.{use-all-end, use-all-more, uses-last}
 use Rattle.asm_sweeps.specs.Uses.{usesFrom, usesOf}
 use Rattle.asm_sweeps.specs.declared.Tally.{Tally}

@@ -7,7 +7,7 @@ use borrow.Author.Tests.{eq-eqb, ne-eqb, not-true, not-false}
 use borrow.Author.Needs.{needs}
 use Rattle.asm_text.specs.Text.{byteAt, nameByte?, word}
 use Rattle.asm_text.proofs.Laws.{kind-in, name-zero}
-use Rattle.asm_words.specs.Words.{addFlag, flagsFrom, flagsOf}
+use Rattle.asm_words.specs.Words.{flagOf, withBit, flagsFrom, flagsOf}
 use Rattle.asm_words.proofs.Laws.{flags-stop, flags-fail, flags-more}
 use Rattle.asm_words.proofs.flags_number.Statement.{statement}
 use Rattle.asm_words.proofs.flags_number.Tie as tie
@@ -61,7 +61,7 @@ returns-3 c =
     let b = c4 .byte-at .ensures in
     let h : nameByte? (byteAt s i) ≡ true = sym (rw b at (c3 .is-name-byte .ensures)) ∙ not-false _ (c2 .if1 .left) in
     let w = word (drop (c7 .args .at) s) in
-    let g : addFlag (c5 .loop .f) (byteAt s i) ≡ 32 = sym (rw b at (c .before .add-flag .ensures .0)) ∙ c .if3 .taken in
+    let g : withBit (c5 .loop .f) (flagOf (byteAt s i)) ≡ 32 = sym (rw b at (c .before .add-flag .ensures .0)) ∙ c .if3 .taken in
     let e : flagsFrom 0 w ≡ 32 = sym (c5 .loop .inv .1) ∙ flags-fail s i (c5 .loop .f) h g in
     rw e
 

@@ -3,7 +3,7 @@ use Prim.Native.Nat.{_-_, _≤_}
 use native.Mathlib.Omega.{arith}
 use borrow.Author.Needs.{needs}
 use lib.ListN.{length, drop}
-use Rattle.asm_words.specs.Words.{numberIn}
+use Rattle.asm_words.specs.Rows.{numberIn}
 use Rattle.asm_words.proofs.Laws.{number-hit, number-miss, number-end}
 use Rattle.asm_words.proofs.row_number.Statement.{statement}
 use Rattle.asm_words.proofs.row_number.Tie as tie

@@ -1,0 +1,41 @@
+use mathlib.Core.Path.{sym, ap, _∙_}
+use Prim.Native.Nat.{_+_, _%_, _<_}
+use native.Mathlib.Omega.{arith}
+use lib.ListN.{getD}
+use Rattle.asm_words.specs.declared.Word.the-variants.{Free}
+use Rattle.asm_words.proofs.Laws.{table, starts, group, kinds, start-fits, start-step, start-le, number-placed, word-is}
+use borrow.Author.Needs.{needs}
+use Rattle.asm_words.proofs.find_word.Statement.{statement}
+use Rattle.asm_words.proofs.find_word.Tie as tie
+
+mul-row-number : tie.Need-mul-row-number
+unfolding starts
+mul-row-number c = start-fits (c .args .p % 61)
+
+sub-row-number : tie.Need-sub-row-number
+unfolding starts
+sub-row-number c = start-step (c .args .p % 61) (omega arith)
+
+part-row-number-start : tie.Need-part-row-number-start
+unfolding starts
+part-row-number-start c = start-step (c .before .args .p % 61) (omega arith)
+
+part-row-number-end : tie.Need-part-row-number-end
+unfolding starts
+part-row-number-end c = start-le (c .before .args .p % 61 + 1)
+
+array-copy-out-result : tie.Need-array-copy-out-result
+unfolding group starts table
+array-copy-out-result c = rw (c .row-number .ensures) (number-placed (c .before .before .before .args .p))
+
+returns : tie.Need-returns
+unfolding group starts table kinds
+returns c = λ t e.
+    ap (λ n. getD kinds n Free) (c .before .row-number .ensures) ∙ word-is (c .before .before .before .before .args .p) t e
+
+pub find-word-spec : {M : Type 1} → statement M
+find-word-spec =
+    tie.close
+    (tie.spec (λ c. search needs) (λ c. search needs) (λ c. search needs) (λ c. search needs) (λ c. search needs) mul-row-number
+    sub-row-number part-row-number-start part-row-number-end (λ c κs. search needs) (λ c. search needs)
+    (λ c. search needs) array-copy-out-result returns)

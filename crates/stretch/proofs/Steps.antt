@@ -21,7 +21,7 @@ use Rattle.machine.specs.declared.Access.{Access}
 use Rattle.machine.specs.declared.Access.the-variants as asks
 use Rattle.machine.specs.declared.Act.the-variants as act
 use Rattle.machine.specs.State.{Core, State, coreOf, pc, wrap}
-use Rattle.machine.specs.Memory.{wordAt, commit}
+use Rattle.machine.specs.Memory.{byteAt, wordNumber, firstByte, wordAt, commit}
 use Rattle.machine.specs.Cex.{skips?, lowered, loadedCex}
 use Rattle.machine.specs.Events.{Event}
 use Rattle.machine.specs.Devices.{deliver}
@@ -38,6 +38,7 @@ use Rattle.machine_laws.proofs.Runs.{run-zero, run-turn}
 use Rattle.machine_laws.proofs.Uneventful.{uneventful-none, uneventful-one, uneventful-append}
 use Rattle.machine_laws.proofs.Vectors.{BelowVectors, load-below, store-below, above-kept}
 use Rattle.entry.proofs.Lines.{line-no-lines, line-isnt}
+use Rattle.stretch_registers.specs.Effected.{leftAlone}
 use Rattle.stretch_memory.specs.Ordinary.{aligned?, inside?, ordinary?}
 use Rattle.stretch_memory.specs.Served.{running, carriedOut, Untouched, Served, Taken}
 use Rattle.stretch_memory.proofs.Laws.{ordinary-granted}
@@ -177,6 +178,11 @@ module _ (regs m regs₁ m₁ : List ℕ) (psw cex w x y psw₁ cex₁ r : ℕ) 
         (λ n. v .1 before l n ∙ ap (λ (p : Plan). carriedOut p l n m) (sym (plan-is l n q))),
         (λ n. ap (λ (p : Plan). uneventful? (p .act)) (plan-is l n q) ∙ granted-uneventful before (e .core) (e .access) m (v .6)),
       )
+
+-- a word fetched by its word address n
+pub fetched : (m : List ℕ) (a : ℕ) {n w : ℕ} → n ≡ wordNumber a → w ≡ byteAt m (firstByte n) + 256 * byteAt m (firstByte n + 1) →
+    w ≡ wordAt m a
+fetched m a e h = h ∙ ap (λ (k : ℕ). byteAt m (firstByte k) + 256 * byteAt m (firstByte k + 1)) e
 
 -- R7 is there after it
 served-eight :
@@ -365,7 +371,7 @@ module _ (regs₀ m₀ : List ℕ) (psw₀ x₀ : ℕ) (regs m regs₁ m₁ : Li
     (g : Stepping p regs psw cex m regs₁ psw₁ cex₁ m₁ r) where
   -- the loop goes on
   pub walked-on :
-      r < 1048576 →
+      r < leftAlone →
       Awake regs₁ psw₁ × (r % 2 ≡ 0) × ((cex₁ % 64 ≡ 0) ⊎ (n ≤ 1)) × Walked regs₀ psw₀ x₀ m₀ (set regs₁ 7 (r % 65536)) psw₁ cex₁ m₁ (j + 1)
   walked-on h =
       ⊎-elim
@@ -380,8 +386,8 @@ module _ (regs₀ m₀ : List ℕ) (psw₀ x₀ : ℕ) (regs m regs₁ m₁ : Li
 
   -- or ends
   pub walked-stop :
-      (regs₂ : List ℕ) (s : ℕ) → (r ≡ 1048576 → (s ≡ 0) × (regs₂ ≡ set regs₁ 7 ((getD regs₁ 7 0 + 65534) % 65536))) →
-      ((r ≡ 1048576 → ⊥) → (s ≡ 1) × (regs₂ ≡ set regs₁ 7 (r % 65536))) →
+      (regs₂ : List ℕ) (s : ℕ) → (r ≡ leftAlone → (s ≡ 0) × (regs₂ ≡ set regs₁ 7 ((getD regs₁ 7 0 + 65534) % 65536))) →
+      ((r ≡ leftAlone → ⊥) → (s ≡ 1) × (regs₂ ≡ set regs₁ 7 (r % 65536))) →
       Walked regs₀ psw₀ x₀ m₀ regs₂ psw₁ cex₁ m₁ (j + s) × Awake regs₂ psw₁
   walked-stop regs₂ s k o =
       ⊎-elim

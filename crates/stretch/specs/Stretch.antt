@@ -1,6 +1,6 @@
 -- A stretch of uneventful steps in which no event is due and no line waits above the priority.
 -- Assumes nothing.
-use Prim.Native.Nat.{ℕ, _+_, _%_, _<_, _≤_}
+use Prim.Native.Nat.{ℕ, _+_, _*_, _%_, _<_, _≤_}
 use mathlib.Core.Bool.{true, false}
 use mathlib.Core.List.{List}
 use mathlib.Core.Logic.{_⊎_}
@@ -15,6 +15,7 @@ use Rattle.machine.specs.Entry.{best, above}
 use Rattle.machine.specs.Step.{planOf, finished}
 use Rattle.machine.specs.Run.{ran, runOf}
 use Rattle.machine.specs.Uneventful.{uneventful?, Uneventful}
+use Rattle.stretch_registers.specs.Effected.{leftAlone, odd}
 use Rattle.stretch_memory.specs.Served.{running, Untouched}
 
 -- No event is due in the steps from a up to b. [01 One step, in order, 1]
@@ -66,16 +67,16 @@ abbrev pub Stepped :
 Stepped pc regs psw x m regs′ psw′ cex′ m′ r =
     ((l c : ℕ) → skips? c ≡ false → lowered c ≡ x →
     OneStep l (set regs 7 (pc % 65536)) psw c m (set regs′ 7 (r % 65536)) psw′ cex′ m′)
-    × (r < 1048576 → r % 2 ≡ 0)
+    × (r < leftAlone → r % 2 ≡ 0)
     × Awake regs′ psw′
-    × (r < 4194304)
+    × (r < 2 * odd)
     × (x % 64 ≡ 0 → cex′ % 64 ≡ 0)
 
 abbrev pub Stepping :
     (pc : ℕ) (regs : List ℕ) (psw x : ℕ) (m regs′ : List ℕ) (psw′ cex′ : ℕ) → List ℕ → (r : ℕ) → Type 0
 Stepping pc regs psw x m regs′ psw′ cex′ m′ r =
-    ((r ≡ 1048576) × Untouched (set regs 7 ((pc % 65536 + 2) % 65536)) psw x m regs′ psw′ cex′ m′)
-    ⊎ ((r ≡ 1048576 → ⊥) × Stepped pc regs psw x m regs′ psw′ cex′ m′ r)
+    ((r ≡ leftAlone) × Untouched (set regs 7 ((pc % 65536 + 2) % 65536)) psw x m regs′ psw′ cex′ m′)
+    ⊎ ((r ≡ leftAlone → ⊥) × Stepped pc regs psw x m regs′ psw′ cex′ m′ r)
 
 -- Some steps, the first from any CEX state that has x for its lowered one, or none.
 abbrev pub Walked :

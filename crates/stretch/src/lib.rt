@@ -11,27 +11,20 @@ ghost use mathlib.Core.Path.{_≡_};
 ghost use Prim.Native.Nat.{ℕ, _%_, _+_, _-_, _<_, _≤_};
 ghost use lib.ListN.{length, getD, set};
 ghost use Rattle.word.specs.Psw.{current};
-ghost use Rattle.machine.specs.Memory.{wordAt};
 ghost use Rattle.machine.specs.Cex.{skips?, lowered};
 ghost use Rattle.machine.specs.Events.{Event};
 ghost use Rattle.stretch_memory.specs.Served.{running};
 ghost use Rattle.stretch_words.specs.Ready.{constants};
 ghost use Rattle.stretch.specs.Stretch.{Undisturbed, Awake, Fetching, NoneAbove};
 ghost use Rattle.stretch.specs.Stretch.{Passes, Goes, Stepping, Walked};
+use machine::ByteAddr;
 use machine::Lines;
+use stretch_registers::LEFT_ALONE;
 use stretch_registers::reg;
 use stretch_registers::set_reg;
 
-// The word at an even address.
-fn fetch(mem: &[u8], i: usize) -> usize
-    requires { ⌜ (length (now mem) ≡ 65536) × (i < 65536) × (i % 2 ≡ 0) ⌝ }
-    ensures { λ r. ⌜ (r ≡ wordAt (now (mem .entry)) i) × (r < 65536) ⌝ }
-{
-    mem[i] as usize + 256 * mem[i + 1] as usize
-}
-
-// One step from PC `pc`, the CEX count lowered already: the next PC, or 1,048,576 where its word is
-// for the general way; then nothing has changed but R7.
+// One step from PC `pc`, the CEX count lowered already: the next PC, or LEFT_ALONE where its word
+// is for the general way; then nothing has changed but R7.
 fn take_step(
     regs: &mut [u16; 8],
     mem: &mut [u8],
@@ -46,10 +39,11 @@ fn take_step(
         (now (regs .entry)) (now (psw .entry)) (now (cex .entry)) (now (mem .entry))
         (now (regs .exit)) (now (psw .exit)) (now (cex .exit)) (now (mem .exit)) r ⌝ }
 {
-    let i = pc % 65536;
-    let w = fetch(mem, i);
-    set_reg(regs, 7, ((i + 2) % 65536) as u16);
-    stretch_words::take_word(regs, mem, k, psw, cex, i + 2, w)
+    let at = memory::word_of(ByteAddr((pc % 65536) as u16));
+    let w = memory::read_word(mem, at) as usize;
+    let past = memory::byte_of(at).0 as usize + 2;
+    set_reg(regs, 7, (past % 65536) as u16);
+    stretch_words::take_word(regs, mem, k, psw, cex, past, w)
 }
 
 // The PSW and the CEX state after some steps, and how many are left of those that might be taken.
@@ -87,8 +81,8 @@ fn take_steps(regs: &mut [u16; 8], mem: &mut [u8], psw: u16, cex: u16, n: u32) -
     let mut left = n;
     while 0 < left {
         let r = take_step(regs, mem, &k, &mut p, &mut x, pc);
-        if 1048576 <= r {
-            if r == 1048576 {
+        if LEFT_ALONE <= r {
+            if r == LEFT_ALONE {
                 step_back(regs);
                 return Progress {
                     psw: p,
@@ -114,8 +108,8 @@ fn take_steps(regs: &mut [u16; 8], mem: &mut [u8], psw: u16, cex: u16, n: u32) -
     }
 }
 
-// How the CEX state bears on the next step: itself with the count lowered, and how many steps may be
-// taken from there: none where its block skips the next instruction, one where it covers it, all
+// How the CEX state bears on the next step: itself with the count lowered, and how many steps may
+// be taken from there: none where its block skips the next instruction, one where it covers it, all
 // where no block is open.
 struct Ahead {
     cex: u16,
@@ -175,7 +169,7 @@ fn control(regs: &mut [u16; 8], mem: &[u8], psw: u16, cex: u16, lines: Lines, le
     if pc % 2 == 1 {
         return none;
     }
-    let w = fetch(mem, pc as usize) as u16;
+    let w = memory::read_word(mem, memory::word_of(ByteAddr(pc)));
     let next = std::num::wrapping_add_u16(pc, 2);
     if w / 1024 == 20 {
         let n = (w / 64 % 16) as u8;

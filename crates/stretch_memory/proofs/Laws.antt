@@ -131,11 +131,23 @@ module _ (l k : List ℕ) (p x prpo dec inc wb i : ℕ) {a b at : ℕ} (h : (mov
 
 -- ---- LDR and STR
 
-pub relative-address : (a n : ℕ) → a < 65536 → n < 128 → (a + (n + 64) % 128 + 65472) % 65536 ≡ moved a (signedOf 64 n)
-relative-address a n ha hn =
-    bool-cases (ltb n 64)
-    (λ e. let g = ltb-true n 64 e in rw e (omega arith))
-    (λ e. let g = ltb-false n 64 e in rw e (omega arith))
+-- an offset that counts from -64 is added and 64 is subtracted
+pub relative-address : (a n : ℕ) {s r : ℕ} → a < 65536 → n < 128 → r < 65536 → s ≡ (a + (n + 64) % 128) % 65536 → (r + 64) % 65536 ≡ s →
+    r ≡ moved a (signedOf 64 n)
+relative-address a n {s} {r} ha hn hr es er =
+    undone s r hr er ∙ ap (λ (k : ℕ). (k + 65472) % 65536) es ∙ joined a ((n + 64) % 128) ∙ from
+  where
+    undone : (s r : ℕ) → r < 65536 → (r + 64) % 65536 ≡ s → r ≡ (s + 65472) % 65536
+    undone s r h e = omega arith
+
+    joined : (a k : ℕ) → ((a + k) % 65536 + 65472) % 65536 ≡ (a + k + 65472) % 65536
+    joined a k = omega arith
+
+    from : (a + (n + 64) % 128 + 65472) % 65536 ≡ moved a (signedOf 64 n)
+    from =
+        bool-cases (ltb n 64)
+        (λ e. let g = ltb-true n 64 e in rw e (omega arith))
+        (λ e. let g = ltb-false n 64 e in rw e (omega arith))
 
 module _ (l : List ℕ) (p x wb i : ℕ) (off : ℤ) {a at : ℕ} (ha : a ≡ getD l i 0) (ht : at ≡ moved a off) where
   from-base : at ≡ moved (getD l i 0) off

@@ -1,7 +1,7 @@
--- One instruction, with the memory it reads and writes. Its answer r is as in Effected: 1,048,576 where it was left
+-- One instruction, with the memory it reads and writes. Its answer r is as in Effected: leftAlone where it was left
 -- alone, else the next PC in its low sixteen bits.
 -- Assumes nothing.
-use Prim.Native.Nat.{ℕ, _+_, _%_, _<_}
+use Prim.Native.Nat.{ℕ, _+_, _*_, _%_, _<_}
 use mathlib.Core.Bool.{true, false}
 use mathlib.Core.List.{List}
 use mathlib.Core.Logic.{_⊎_}
@@ -11,7 +11,7 @@ use Rattle.isa.specs.declared.Instr.{Instr}
 use Rattle.machine.specs.State.{Core, State, coreOf}
 use Rattle.machine.specs.Effect.{effectOf}
 use Rattle.machine.specs.Step.{Plan, executed, perform, closed}
-use Rattle.stretch_registers.specs.Effected.{Keeps}
+use Rattle.stretch_registers.specs.Effected.{leftAlone, odd, Keeps}
 use Rattle.stretch_memory.specs.Ordinary.{ordinary?}
 
 -- a machine that is not halted, with the lines l, the count n and the memory m. [01 State and memory]
@@ -26,13 +26,13 @@ carriedOut p l n m = closed (perform (p .act) (p .core) l m) n m
 abbrev pub Served :
     Instr → (regs : List ℕ) (psw cex : ℕ) (m regs′ : List ℕ) (psw′ cex′ : ℕ) → List ℕ → (r : ℕ) → Type 0
 Served x regs psw cex m regs′ psw′ cex′ m′ r =
-    (r ≡ 1048576 → ⊥)
+    (r ≡ leftAlone → ⊥)
     × ((b : Core) (l n : ℕ) →
     running (set regs′ 7 (r % 65536)) psw′ cex′ l (n + 1) m′
     ≡ carriedOut (executed b (effectOf (coreOf regs psw cex) x) m) l n m)
-    × (r < 1048576 → r % 2 ≡ 0)
+    × (r < leftAlone → r % 2 ≡ 0)
     × Keeps psw psw′
-    × (r < 4194304)
+    × (r < 2 * odd)
     × (cex % 64 ≡ 0 → cex′ % 64 ≡ 0)
     × (ordinary? (effectOf (coreOf regs psw cex) x .access) ≡ true)
 
@@ -42,4 +42,4 @@ Untouched regs psw cex m regs′ psw′ cex′ m′ = (regs′ ≡ regs) × (psw
 abbrev pub Taken :
     Instr → (regs : List ℕ) (psw cex : ℕ) (m regs′ : List ℕ) (psw′ cex′ : ℕ) → List ℕ → (r : ℕ) → Type 0
 Taken x regs psw cex m regs′ psw′ cex′ m′ r =
-    ((r ≡ 1048576) × Untouched regs psw cex m regs′ psw′ cex′ m′) ⊎ Served x regs psw cex m regs′ psw′ cex′ m′ r
+    ((r ≡ leftAlone) × Untouched regs psw cex m regs′ psw′ cex′ m′) ⊎ Served x regs psw cex m regs′ psw′ cex′ m′ r

@@ -1,5 +1,5 @@
 // Loads and stores of a stretch. Each function takes the word w, PC being past it (`pc`), and
-// answers pc, or 1,048,576 and has left all alone. Left alone are an odd word access, a store to
+// answers pc, or LEFT_ALONE and has left all alone. Left alone are an odd word access, a store to
 // the device bytes or to the vectors, a load into R7, and an adjustment of R7.
 ghost use mathlib.Core.Bool.{true, false, cond};
 ghost use mathlib.Core.Path.{_≡_};
@@ -16,6 +16,7 @@ ghost use Rattle.stretch_registers.specs.Effected.{Past};
 ghost use Rattle.stretch_memory.specs.Ordinary.{aligned?, inside?, storable?};
 ghost use Rattle.stretch_memory.specs.Served.{Taken};
 use machine::ByteAddr;
+use stretch_registers::LEFT_ALONE;
 use stretch_registers::reg;
 use stretch_registers::set_reg;
 
@@ -99,16 +100,16 @@ pub fn load_indexed(
     let src = w / 8 % 8;
     let dst = w % 8;
     if dst == 7 {
-        return 1048576;
+        return LEFT_ALONE;
     }
     if (dec != inc) & (src == 7) {
-        return 1048576;
+        return LEFT_ALONE;
     }
     let a = reg(regs, src);
     let b = operands::adjusted_by(a, dec, inc, wb);
     let at = operands::address(prpo, a, b);
     if !aligned(wb == 1, at) {
-        return 1048576;
+        return LEFT_ALONE;
     }
     adjust(regs, src, dec, inc, b);
     load(regs, mem, wb == 1, at, dst);
@@ -133,25 +134,25 @@ pub fn store_indexed(
 {
     let dst = w % 8;
     if (dec != inc) & (dst == 7) {
-        return 1048576;
+        return LEFT_ALONE;
     }
     let value = reg(regs, w / 8 % 8);
     let a = reg(regs, dst);
     let b = operands::adjusted_by(a, dec, inc, wb);
     let at = operands::address(prpo, a, b);
     if !store(mem, wb == 1, at, value) {
-        return 1048576;
+        return LEFT_ALONE;
     }
     adjust(regs, dst, dec, inc, b);
     pc
 }
 
-// The address of LDR and STR, by the signed offset in bits 13 to 7.
+// The address of LDR and STR, by the signed offset in bits 13 to 7, which counts from -64.
 fn relative(base: u16, w: usize) -> u16
     ensures { λ r. ⌜ r ≡ moved base (signedOf 64 (w / 128 % 128)) ⌝ }
 {
-    let off = (w / 128 % 128 + 64) % 128;
-    ((base as usize + off + 65472) % 65536) as u16
+    let off = ((w / 128 % 128 + 64) % 128) as u16;
+    std::num::wrapping_sub_u16(std::num::wrapping_add_u16(base, off), 64)
 }
 
 // 8000 to BFFF: LDR, its width known.
@@ -164,12 +165,12 @@ pub fn load_relative(regs: &mut [u16; 8], mem: &mut [u8], pc: usize, w: usize, w
 {
     let dst = w % 8;
     if dst == 7 {
-        return 1048576;
+        return LEFT_ALONE;
     }
     let base = reg(regs, w / 8 % 8);
     let from = relative(base, w);
     if !aligned(wb == 1, from) {
-        return 1048576;
+        return LEFT_ALONE;
     }
     load(regs, mem, wb == 1, from, dst);
     pc
@@ -186,7 +187,7 @@ pub fn store_relative(regs: &[u16; 8], mem: &mut [u8], pc: usize, w: usize, wb: 
     let at = relative(reg(regs, w % 8), w);
     let v = reg(regs, w / 8 % 8);
     if !store(mem, wb == 1, at, v) {
-        return 1048576;
+        return LEFT_ALONE;
     }
     pc
 }

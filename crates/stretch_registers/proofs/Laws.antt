@@ -1,6 +1,6 @@
 -- What an instruction that touches registers, flags and the CEX state alone leaves. l is the registers, p the PSW and x the CEX
 -- state before it; pc is PC past it. Assumes nothing.
-use Prim.Native.Nat.{ℕ, _+_, _-_, _*_, _/_, _%_, _<_, _≤_}
+use Prim.Native.Nat.{ℕ, suc, _+_, _-_, _*_, _/_, _%_, _<_, _≤_}
 use mathlib.Core.Bool.{Bool, true, false, cond}
 use mathlib.Core.List.{List}
 use mathlib.Core.Logic.{inl, inr, ⊎-elim}
@@ -8,11 +8,15 @@ use mathlib.Core.Path.{_≡_, refl, sym, ap, _∙_}
 use native.Mathlib.Nat.{mod-eq-of-lt}
 use native.Mathlib.Omega.{arith}
 use borrow.Author.Tests.{ne-eqb, lt-ltb, le-ltb, ltb-true, ltb-false}
+use mir.Syntax.{w16}
+use mir.Val.{toZ, ofZ}
+use mir.ValLaws.{toZ-ofZ}
 use lib.Bits.{bitAnd, bitOr, or-shr, or-mod, or-lt, or-zero-r, and-shr, and-mod, and-lt, and-mask}
 use lib.Dec.{eqb, ltb}
-use lib.IntN.{ℤ}
+use lib.IntN.{ℤ, pos, negsuc}
 use lib.ListN.{getD, set}
 use lib.Seq.{getD-set-other, set-getD}
+use lib.Signed.{mag}
 use Rattle.word.proofs.Laws.{bool-cases}
 use Rattle.word.specs.Psw.{current}
 use Rattle.alu.specs.declared.Op.{Op}
@@ -25,7 +29,7 @@ use Rattle.isa.specs.declared.Instr.the-variants as i
 use Rattle.isa.specs.Decode.{unaryOf}
 use Rattle.machine.specs.State.{Core, coreOf, moved, doubled, withPsw, put}
 use Rattle.machine.specs.Effect.{effectOf, plainly, operated, unaryOp, immediateOf, takenOf, setFlags, clearFlags}
-use Rattle.stretch_registers.specs.Effected.{Past, Keeps, Done, Tried, Computes, outcome}
+use Rattle.stretch_registers.specs.Effected.{leftAlone, odd, Past, Keeps, Done, Tried, Computes, outcome}
 
 -- a write to another register leaves PC
 pub pc-set : (l : List ℕ) (i v : ℕ) → i < 7 → getD (set l i v) 7 0 ≡ getD l 7 0
@@ -125,7 +129,7 @@ module _ (l : List ℕ) (p x pc : ℕ) (h : Past pc l) where
   -- R7 written by MOV of a word
   pub moves-to-pc :
       (wb src d : ℕ) {v r y : ℕ} → false ≡ eqb wb 1 → d ≡ 7 → v < 65536 → v ≡ getD l src 0 →
-      (r % 65536 ≡ v) × (r ≡ 1048576 → ⊥) × (r < 1048576 → r % 2 ≡ 0) × (r < 4194304) × (y ≡ 0) →
+      (r % 65536 ≡ v) × (r ≡ leftAlone → ⊥) × (r < leftAlone → r % 2 ≡ 0) × (r < 2 * odd) × (y ≡ 0) →
       Done (i.Mov wb src d) l p x l p y r
   unfolding effectOf widthOf
   moves-to-pc wb src d {v} {r} {y} eb ed hv ev q =
@@ -226,62 +230,45 @@ module _ (l : List ℕ) (p x pc f : ℕ) (h : Past pc l) (hf : f < 32) (hs : f /
 
 -- ---- branches
 
--- the offset with the bits n, doubled and added to a: from half on, as if half + half were taken from n
-target : (half a n : ℕ) → half ≤ 4096 → n < half + half →
-    moved a (doubled (signedOf half n)) ≡ (a + 2 * n + cond (ltb n half) 0 (65536 - 4 * half)) % 65536
-target half a n hh hn =
-    bool-cases (ltb n half)
-    (λ e. rw e (omega arith))
-    (λ e. rw e (let g = ltb-false n half e in omega arith))
+-- an even PC stays even
+even-moved : (a : ℕ) (z : ℤ) → a % 2 ≡ 0 → moved a (doubled z) % 2 ≡ 0
+even-moved a (pos n) h = omega arith
+even-moved a (negsuc n) h = omega arith
 
 module _ (l : List ℕ) (p x pc : ℕ) (h : Past pc l) where
-  -- r is the target of a branch at PC pc by the offset z
-  pub jumps : (n : ℕ) (z : ℤ) {y r : ℕ} → takenOf n p ≡ true → r % 65536 ≡ moved (getD l 7 0) (doubled z) → r % 2 ≡ 0 → r < 1048576
-      → y ≡ 0 →
-      Done (i.Branch n z) l p x l p y r
+  -- r is the target at PC pc by the offset z
+  module _ (z : ℤ) {y r : ℕ} (e : r ≡ moved (pc % 65536) (doubled z)) (lt : r < 65536) (ey : y ≡ 0) where
+    aimed : r % 65536 ≡ moved (getD l 7 0) (doubled z)
+    aimed = mod-eq-of-lt lt ∙ e ∙ ap (λ (a : ℕ). moved a (doubled z)) (h .0)
+
+    even : r % 2 ≡ 0
+    even = let b = h .1 in ap (λ (n : ℕ). n % 2) e ∙ even-moved (pc % 65536) z (omega arith)
+
+    pub jumps : (n : ℕ) → takenOf n p ≡ true → Done (i.Branch n z) l p x l p y r
+    unfolding effectOf
+    jumps n t = ((λ q. omega arith), rw (t, aimed, ey) refl, (λ q. even), (refl, refl), omega arith, (λ q. rw ey refl))
+
+    pub links : {k : List ℕ} → k ≡ set l 5 (pc % 65536) → Done (i.Bl z) l p x k p y r
+    unfolding effectOf
+    links {k} ek =
+        let f : getD (set l 5 (getD l 7 0)) 7 0 ≡ getD l 7 0 = pc-set l 5 (getD l 7 0) (omega arith) in
+        ((λ q. omega arith), rw (f, ek, h .0, aimed, ey) refl, (λ q. even), (refl, refl), omega arith, (λ q. rw ey refl))
+
+  pub stays : (z : ℤ) (n : ℕ) → takenOf n p ≡ false → Done (i.Branch n z) l p x l p x pc
   unfolding effectOf
-  jumps n z {y} {r} t e even lt ey = ((λ q. omega arith), rw (t, e, ey) refl, (λ q. even), (refl, refl), omega arith, (λ q. rw ey refl))
+  stays z n t = plain-done (i.Branch n z) l p x pc h l p (rw t refl) refl (refl, refl)
 
-  pub stays : (n : ℕ) (z : ℤ) {y r : ℕ} → takenOf n p ≡ false → r ≡ pc → y ≡ x → Done (i.Branch n z) l p x l p y r
-  unfolding effectOf
-  stays n z {y} {r} t e ey = rw (e, ey) (plain-done (i.Branch n z) l p x pc h l p (rw t refl) refl (refl, refl))
+-- an offset of so many bits is near
+pub near : (half n : ℕ) → half ≤ 4096 → n < half + half → mag (signedOf half n) < 4096
+near half n hh hn =
+    bool-cases (ltb n half)
+    (λ e. let g = ltb-true n half e in rw e (omega arith))
+    (λ e. let g = ltb-false n half e in rw e (omega arith))
 
-  pub links : (z : ℤ) {k : List ℕ} {y r : ℕ} → k ≡ set l 5 (pc % 65536) → r % 65536 ≡ moved (getD l 7 0) (doubled z) → r % 2 ≡ 0 →
-      r < 1048576 → y ≡ 0 → Done (i.Bl z) l p x k p y r
-  unfolding effectOf
-  links z {k} {y} {r} ek e even lt ey =
-      let f : getD (set l 5 (getD l 7 0)) 7 0 ≡ getD l 7 0 = pc-set l 5 (getD l 7 0) (omega arith) in
-      ((λ q. omega arith), rw (f, ek, h .0, e, ey) refl, (λ q. even), (refl, refl), omega arith, (λ q. rw ey refl))
-
--- what the code of a branch and of BL answers
-pub branch-target : (a pc w n s : ℕ) → pc % 65536 ≡ a → n < 8 → s < 2 → w / 512 ≡ 16 + n * 2 + s →
-    (pc + 2 * w + (49152 - 2048 * n - 2048 * s)) % 65536 ≡ moved a (doubled (signedOf 512 (w % 1024)))
-branch-target a pc w n s h hn hs e =
-    let x = w % 1024 in
-    let ex : w ≡ 1024 * (8 + n) + x = omega arith in
-    let es : s ≡ x / 512 = omega arith in
-    let sum : pc + 2 * w + (49152 - 2048 * n - 2048 * s) ≡ pc + (2 * x + (65536 - 2048 * s)) = aim x ex in
-    ap (λ (m : ℕ). m % 65536) sum
-    ∙ wrapped pc a (2 * x + (65536 - 2048 * s)) h
-    ∙ sides x es (omega arith)
-  where
-    aim : (x : ℕ) → w ≡ 1024 * (8 + n) + x → pc + 2 * w + (49152 - 2048 * n - 2048 * s) ≡ pc + (2 * x + (65536 - 2048 * s))
-    aim x ex = omega arith
-
-    wrapped : (pc a y : ℕ) → pc % 65536 ≡ a → (pc + y) % 65536 ≡ (a + y) % 65536
-    wrapped pc a y h = omega arith
-
-    sides : (x : ℕ) → s ≡ x / 512 → x < 1024 →
-        (a + (2 * x + (65536 - 2048 * s))) % 65536 ≡ moved a (doubled (signedOf 512 x))
-    sides x es hx =
-        rw (target 512 a x (omega arith) hx)
-        (bool-cases (ltb x 512)
-        (λ b. let g = ltb-true x 512 b in rw b (let z : s ≡ 0 = omega arith in rw z (omega arith)))
-        (λ b. let g = ltb-false x 512 b in rw b (let z : s ≡ 1 = omega arith in rw z (omega arith))))
-
-pub link-target : (a pc w k : ℕ) → pc % 65536 ≡ a → w < 8192 → k ≡ cond (ltb w 4096) 0 49152 →
-    (pc + 2 * w + k) % 65536 ≡ moved a (doubled (signedOf 4096 (w % 8192)))
-link-target a pc w k h hw e =
-    let m : w % 8192 ≡ w = mod-eq-of-lt hw in
-    rw (m, target 4096 a w (omega arith) (omega arith), e)
-    (bool-cases (ltb w 4096) (λ b. rw b (omega arith)) (λ b. rw b (omega arith)))
+-- it goes to a callee as it is
+pub handed : (half n : ℕ) {z : ℤ} → half ≤ 4096 → n < half + half → z ≡ signedOf half n → toZ w16 (ofZ w16 z) ≡ signedOf half n
+handed half n {z} hh hn ez =
+    rw ez
+    (bool-cases (ltb n half)
+    (λ e. let g = ltb-true n half e in rw e (toZ-ofZ w16 (pos n) (record { sfits = omega arith })))
+    (λ e. let g = ltb-false n half e in rw e (toZ-ofZ w16 (negsuc (half + half - suc n)) (record { sfits = omega arith }))))

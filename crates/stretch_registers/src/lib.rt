@@ -1,20 +1,28 @@
 // Instructions that touch registers, flags and the CEX state alone. Each function takes the word w,
 // PC being past it (`pc`, as it stands in R7 but not yet wrapped), and answers the next PC, or
-// 1,048,576 and has left all alone: then the step is done in the general way. A MOV of an odd
-// number to PC answers 2,097,152 more than that number. R7 is written by BL, branches and MOV
-// alone; SLP and the priority stay.
+// LEFT_ALONE and has left all alone: then the step is done in the general way. A MOV of an odd
+// number to PC answers ODD more than that number. R7 is written by BL, branches and MOV alone; SLP
+// and the priority stay.
 ghost use mathlib.Core.Bool.{true, false};
 ghost use mathlib.Core.List.{List};
 ghost use mathlib.Core.Path.{_≡_};
 ghost use Prim.Native.Nat.{ℕ, _+_, _*_, _/_, _%_, _<_, _≤_};
 ghost use lib.Dec.{eqb};
 ghost use lib.ListN.{getD, set};
+ghost use lib.Signed.{mag};
 ghost use Rattle.isa.specs.declared.Instr.the-variants as Instr;
 ghost use Rattle.isa.specs.Decode.{unaryOf, controlOf};
-ghost use Rattle.machine.specs.Effect.{takenOf};
+ghost use Rattle.machine.specs.State.{moved, doubled};
 ghost use Rattle.word.specs.Offset.{signedOf};
-ghost use Rattle.stretch_registers.specs.Effected.{Past, Done, Tried, Computes, outcome};
+ghost use Rattle.stretch_registers.specs.Effected.{leftAlone, odd, Past, Done, Tried};
+ghost use Rattle.stretch_registers.specs.Effected.{Computes, outcome};
 use alu::Op;
+
+// What is no PC, and says that a word was left alone; and how far above a PC its answer is where it
+// may be odd.
+pub const LEFT_ALONE: usize = 1048576;
+
+const ODD: usize = 2097152;
 
 // A register's value, and a register written.
 pub fn reg(regs: &[u16; 8], i: usize) -> u16
@@ -46,7 +54,7 @@ pub fn compute(
 {
     let dst = w % 8;
     if dst == 7 {
-        return 1048576;
+        return LEFT_ALONE;
     }
     let o = alu::alu(op, byte, reg(regs, dst), s, *psw);
     set_reg(regs, dst, o.value);
@@ -74,12 +82,12 @@ pub fn test(
 
 // MOV of v to PC: the new PC, odd or not.
 fn move_to_pc(cex: &mut u16, v: u16) -> usize
-    ensures { λ r. ⌜ (r % 65536 ≡ v) × (r ≡ 1048576 → ⊥) × (r < 1048576 → r % 2 ≡ 0)
-        × (r < 4194304) × (now (cex .exit) ≡ 0) ⌝ }
+    ensures { λ r. ⌜ (r % 65536 ≡ v) × (r ≡ leftAlone → ⊥) × (r < leftAlone → r % 2 ≡ 0)
+        × (r < 2 * odd) × (now (cex .exit) ≡ 0) ⌝ }
 {
     *cex = 0;
     if v % 2 == 1 {
-        return 2097152 + v as usize;
+        return ODD + v as usize;
     }
     v as usize
 }
@@ -94,7 +102,7 @@ pub fn move_word(regs: &mut [u16; 8], cex: &mut u16, pc: usize, w: usize, byte: 
     let dst = w % 8;
     if dst == 7 {
         if byte {
-            return 1048576;
+            return LEFT_ALONE;
         }
         return move_to_pc(cex, v);
     }
@@ -112,10 +120,10 @@ pub fn swap_word(regs: &mut [u16; 8], pc: usize, w: usize) -> usize
     let src = w / 8 % 8;
     let dst = w % 8;
     if src == 7 {
-        return 1048576;
+        return LEFT_ALONE;
     }
     if dst == 7 {
-        return 1048576;
+        return LEFT_ALONE;
     }
     let s = reg(regs, src);
     let d = reg(regs, dst);
@@ -137,7 +145,7 @@ pub fn single_word(regs: &mut [u16; 8], psw: &mut u16, pc: usize, w: usize) -> u
         2 => compute(regs, psw, pc, w, Op::Comp, byte, 0),
         3 => compute(regs, psw, pc, w, Op::Swpb, false, 0),
         4 => compute(regs, psw, pc, w, Op::Sxt, false, 0),
-        _ => 1048576,
+        _ => LEFT_ALONE,
     }
 }
 
@@ -148,7 +156,7 @@ pub fn flags_word(psw: &mut u16, pc: usize, w: usize) -> usize
         regs (now (psw .entry)) cex regs (now (psw .exit)) cex r) ⌝ }
 {
     if w / 8 % 2 == 1 {
-        return 1048576;
+        return LEFT_ALONE;
     }
     let f = (w % 32) as u16;
     if w < 0x4DE0 {
@@ -167,7 +175,7 @@ pub fn immediate_word(regs: &mut [u16; 8], pc: usize, w: usize) -> usize
 {
     let dst = w % 8;
     if dst == 7 {
-        return 1048576;
+        return LEFT_ALONE;
     }
     let op = (w / 2048 % 4) as u8;
     let v = operands::immediate(op, (w / 8 % 256) as u8, reg(regs, dst));
@@ -175,29 +183,32 @@ pub fn immediate_word(regs: &mut [u16; 8], pc: usize, w: usize) -> usize
     pc
 }
 
-// A branch, taken or not. k makes its offset, a part of w, count from 0.
-pub fn branch(cex: &mut u16, pc: usize, w: usize, taken: bool, k: usize) -> usize
-    requires { ⌜ (pc < 65540) × (w < 65536) × (k < 65536) ⌝ }
-    ensures { λ r. ⌜ (taken ≡ true → (r ≡ pc + 2 * w + k) × (now (cex .exit) ≡ 0)) ⌝ }
-    ensures { λ r. ⌜ (taken ≡ false → (r ≡ pc) × (now (cex .exit) ≡ now (cex .entry))) ⌝ }
+// PC and a signed word offset, doubled.
+pub fn target(pc: usize, off: i16) -> usize
+    requires { ⌜ mag off < 4096 ⌝ }
+    ensures { λ r. ⌜ (r ≡ moved (pc % 65536) (doubled off)) × (r < 65536) ⌝ }
 {
-    if taken {
-        *cex = 0;
-        return pc + 2 * w + k;
+    operands::branch_target((pc % 65536) as u16, off) as usize
+}
+
+// The signed word offset of a branch; `row` is w / 512.
+pub fn offset(w: usize, row: usize) -> i16
+    requires { ⌜ w / 512 ≡ row ⌝ }
+    ensures { λ r. ⌜ r ≡ signedOf 512 (w % 1024) ⌝ }
+{
+    if row % 2 == 0 {
+        return (w % 512) as i16;
     }
-    pc
+    !((511 - w % 512) as i16)
 }
 
 // 0000 to 1FFF: BL.
 pub fn link_word(regs: &mut [u16; 8], cex: &mut u16, pc: usize, w: usize) -> usize
-    requires { ⌜ Past pc (now regs) × (w < 0x2000) ⌝ }
+    requires { ⌜ Past pc (now regs) ⌝ }
     ensures { λ r. ⌜ ((psw : ℕ) → Done (Instr.Bl (signedOf 4096 (w % 8192)))
         (now (regs .entry)) psw (now (cex .entry)) (now (regs .exit)) psw (now (cex .exit)) r) ⌝ }
 {
     set_reg(regs, 5, (pc % 65536) as u16);
     *cex = 0;
-    if w < 4096 {
-        return pc + 2 * w;
-    }
-    pc + 2 * w + 49152
+    target(pc, word::signed(4096, (w % 8192) as u16))
 }

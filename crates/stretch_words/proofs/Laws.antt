@@ -17,8 +17,8 @@ use Rattle.isa.specs.declared.Instr.{Instr}
 use Rattle.isa.specs.declared.Instr.the-variants as i
 use Rattle.isa.specs.Decode.{unaryOf, controlOf, decodeOf}
 use Rattle.machine.specs.Effect.{effectOf, constantOf, binaryOp, flagsOnly?, takenOf}
-use Rattle.stretch_registers.specs.Effected.{Past, Tried, Computes, outcome}
-use Rattle.stretch_registers.proofs.Laws.{computes-tried, tests-done, jumps, stays, branch-target}
+use Rattle.stretch_registers.specs.Effected.{Past, Done, Tried, Computes, outcome}
+use Rattle.stretch_registers.proofs.Laws.{computes-tried, tests-done}
 use Rattle.stretch_memory.specs.Served.{Taken}
 use Rattle.stretch_memory.proofs.Laws.{tried-taken}
 use Rattle.stretch_words.specs.Ready.{constants}
@@ -51,28 +51,33 @@ step n k h f = omega arith
 
 -- ---- operations
 
-module _ (w n rc wb : ℕ) (hn : n < 12) (hr : rc < 2) (hw : wb < 2) (h : w / 64 ≡ 256 + n * 4 + rc * 2 + wb) where
-  decode-operation : decodeOf w ≡ i.Alu n rc wb (w / 8 % 8) (w % 8)
+module _ (w row : ℕ) (h : w / 64 ≡ row) (lo : 0x100 ≤ row) (hi : row < 0x130) where
+  decode-operation : decodeOf w ≡ i.Alu (row / 4 % 16) (row / 2 % 2) (row % 2) (w / 8 % 8) (w % 8)
   unfolding decodeOf
   decode-operation =
-      let a : w / 256 % 16 ≡ n = omega arith in
-      let b : w / 128 % 2 ≡ rc = omega arith in
-      let c : w / 64 % 2 ≡ wb = omega arith in
+      let a : w / 256 % 16 ≡ row / 4 % 16 = omega arith in
+      let b : w / 128 % 2 ≡ row / 2 % 2 = omega arith in
+      let c : w / 64 % 2 ≡ row % 2 = omega arith in
       simp (le-ltb w 0x2000 (omega arith), le-ltb w 0x4000 (omega arith), lt-ltb w 0x4C00 (omega arith), a, b, c)
 
-  module _ (l m : List ℕ) (p x pc : ℕ) (past : Past pc l) (b : Op) (byte : Bool) {s : ℕ} (hb : binaryOp n ≡ b) (ht : eqb wb 1 ≡ byte)
-      (hs : s ≡ cond (eqb rc 1) (constantOf (w / 8 % 8)) (getD l (w / 8 % 8) 0)) where
-    pub computing : {k : List ℕ} {q r : ℕ} → flagsOnly? n ≡ false → Computes b byte s w pc l p k q r → Taken (decodeOf w) l p x m k q x m r
+  module _ (l m : List ℕ) (p x pc : ℕ) (past : Past pc l) (b : Op) (byte : Bool) {s : ℕ} (hb : binaryOp (row / 4 % 16) ≡ b)
+      (ht : eqb (row % 2) 1 ≡ byte) (hs : s ≡ cond (eqb (row / 2 % 2) 1) (constantOf (w / 8 % 8)) (getD l (w / 8 % 8) 0)) where
+    abbrev meant : Instr
+    meant = i.Alu (row / 4 % 16) (row / 2 % 2) (row % 2) (w / 8 % 8) (w % 8)
+
+    pub computing : {k : List ℕ} {q r : ℕ} → flagsOnly? (row / 4 % 16) ≡ false → Computes b byte s w pc l p k q r →
+        Taken (decodeOf w) l p x m k q x m r
     unfolding effectOf
     computing {k} {q} {r} f t =
-        means (i.Alu n rc wb (w / 8 % 8) (w % 8)) w l m k p x q x r decode-operation
-        (computes-tried (i.Alu n rc wb (w / 8 % 8) (w % 8)) l p x pc past b byte s w k q r (rw (f, hb, ht, sym hs) refl) t)
+        means meant w l m k p x q x r decode-operation
+        (computes-tried meant l p x pc past b byte s w k q r (rw (f, hb, ht, sym hs) refl) t)
 
-    pub testing : {q r : ℕ} → flagsOnly? n ≡ true → (r ≡ pc) × (q ≡ outcome b byte s w l p .psw) → Taken (decodeOf w) l p x m l q x m r
+    pub testing : {q r : ℕ} → flagsOnly? (row / 4 % 16) ≡ true → (r ≡ pc) × (q ≡ outcome b byte s w l p .psw) →
+        Taken (decodeOf w) l p x m l q x m r
     unfolding effectOf
     testing {q} {r} f t =
-        means (i.Alu n rc wb (w / 8 % 8) (w % 8)) w l m l p x q x r decode-operation
-        (inr (tests-done (i.Alu n rc wb (w / 8 % 8) (w % 8)) l p x pc past b byte s w q r (rw (f, hb, ht, sym hs) refl) t))
+        means meant w l m l p x q x r decode-operation
+        (inr (tests-done meant l p x pc past b byte s w q r (rw (f, hb, ht, sym hs) refl) t))
 
 -- ---- MOV to CLRCC
 
@@ -133,14 +138,14 @@ module _ (w : ℕ) where
 
   -- ---- LD, ST, and what is above
 
-  pub decode-load : (a d c b : ℕ) → a < 2 → d < 2 → c < 2 → b < 2 → w / 64 ≡ 352 + a * 8 + d * 4 + c * 2 + b
-      → decodeOf w ≡ i.Ld a d c b (w / 8 % 8) (w % 8)
+  pub decode-load : (row : ℕ) → w / 64 ≡ row → 0x160 ≤ row → row < 0x170 →
+      decodeOf w ≡ i.Ld (row / 8 % 2) (row / 4 % 2) (row / 2 % 2) (row % 2) (w / 8 % 8) (w % 8)
   unfolding decodeOf
-  decode-load a d c b ha hd hc hb h =
-      let e : w / 512 % 2 ≡ a = omega arith in
-      let f : w / 256 % 2 ≡ d = omega arith in
-      let g : w / 128 % 2 ≡ c = omega arith in
-      let j : w / 64 % 2 ≡ b = omega arith in
+  decode-load row h lo hi =
+      let e : w / 512 % 2 ≡ row / 8 % 2 = omega arith in
+      let f : w / 256 % 2 ≡ row / 4 % 2 = omega arith in
+      let g : w / 128 % 2 ≡ row / 2 % 2 = omega arith in
+      let j : w / 64 % 2 ≡ row % 2 = omega arith in
       simp (
         le-ltb w 0x2000 (omega arith),
         le-ltb w 0x4000 (omega arith),
@@ -156,14 +161,14 @@ module _ (w : ℕ) where
         j,
       )
 
-  pub decode-store : (a d c b : ℕ) → a < 2 → d < 2 → c < 2 → b < 2 → w / 64 ≡ 368 + a * 8 + d * 4 + c * 2 + b
-      → decodeOf w ≡ i.St a d c b (w / 8 % 8) (w % 8)
+  pub decode-store : (row : ℕ) → w / 64 ≡ row → 0x170 ≤ row → row < 0x180 →
+      decodeOf w ≡ i.St (row / 8 % 2) (row / 4 % 2) (row / 2 % 2) (row % 2) (w / 8 % 8) (w % 8)
   unfolding decodeOf
-  decode-store a d c b ha hd hc hb h =
-      let e : w / 512 % 2 ≡ a = omega arith in
-      let f : w / 256 % 2 ≡ d = omega arith in
-      let g : w / 128 % 2 ≡ c = omega arith in
-      let j : w / 64 % 2 ≡ b = omega arith in
+  decode-store row h lo hi =
+      let e : w / 512 % 2 ≡ row / 8 % 2 = omega arith in
+      let f : w / 256 % 2 ≡ row / 4 % 2 = omega arith in
+      let g : w / 128 % 2 ≡ row / 2 % 2 = omega arith in
+      let j : w / 64 % 2 ≡ row % 2 = omega arith in
       simp (
         le-ltb w 0x2000 (omega arith),
         le-ltb w 0x4000 (omega arith),
@@ -231,25 +236,11 @@ module _ (w : ℕ) where
   unfolding decodeOf
   decode-link h = simp (lt-ltb w 0x2000 h)
 
-  -- branch n, whose offset is below 512 words or, with s, not
-  pub branches : (n s : ℕ) (l m : List ℕ) (p x pc : ℕ) {y r : ℕ} {t : Bool} → n < 8 → s < 2 → w / 512 ≡ 16 + n * 2 + s → w < 65536 →
-      Past pc l → t ≡ takenOf n p →
-      (t ≡ true → (r ≡ pc + 2 * w + (49152 - 2048 * n - 2048 * s)) × (y ≡ 0)) × (t ≡ false → (r ≡ pc) × (y ≡ x)) →
-      Taken (decodeOf w) l p x m l p y m r
-  branches n s l m p x pc {y} {r} {t} hn hs h hw past et f =
-      let e : w / 1024 % 8 ≡ n = omega arith in
-      let d : decodeOf w ≡ i.Branch n (signedOf 512 (w % 1024)) =
-      decode-branch (omega arith) (omega arith) ∙ ap (λ (j : ℕ). i.Branch j (signedOf 512 (w % 1024))) e in
-      let even = past .1 in
-      let bound = past .2 in
-      means (i.Branch n (signedOf 512 (w % 1024))) w l m l p x p y r d
-      (inr (bool-cases t
-      (λ g.
-      let q = f .0 g in
-      let eq = q .0 in
-      jumps l p x pc past n _ (sym et ∙ g) (ap (λ (j : ℕ). j % 65536) eq ∙ branch-target (getD l 7 0) pc w n s (past .0) hn hs h)
-      (omega arith) (omega arith) (q .1))
-      (λ g. stays l p x pc past n _ (sym et ∙ g) (f .1 g .0) (f .1 g .1))))
+  -- a branch by its row
+  pub branches : (row : ℕ) (l m : List ℕ) (p x : ℕ) {y r : ℕ} → w / 512 ≡ row → 16 ≤ row → row < 32 →
+      Done (i.Branch (w / 1024 % 8) (signedOf 512 (w % 1024))) l p x l p y r → Taken (decodeOf w) l p x m l p y m r
+  branches row l m p x {y} {r} e lo hi d =
+      means (i.Branch (w / 1024 % 8) (signedOf 512 (w % 1024))) w l m l p x p y r (decode-branch (omega arith) (omega arith)) (inr d)
 
 -- below 3E00 with no branch: BL
 abbrev Unbranched : ℕ → Type 0

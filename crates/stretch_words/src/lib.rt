@@ -1,73 +1,136 @@
-// Words by their leading bits: each is done by the function that knows its operation and width, or
-// left alone. `k` holds the constants that a source field can name. take_word has the first rows; a
-// word with none goes on to logic_word, and so on up the file. No row here is one of two values:
-// all rows together become one table.
+// Words by their leading bits: each is done by the function of its format, or left alone. `k` has
+// the constants that a source field can name. take_word has the first rows; a word with none goes
+// on to logic_word, and so on up the file. A row is the word's leading bits as a number, and hands
+// that number on: what it says of operation, operand and width is then known where the row is
+// compiled, and all rows together become one table.
+ghost use mathlib.Core.Bool.{cond};
+ghost use mathlib.Core.List.{List};
 ghost use mathlib.Core.Path.{_≡_};
 ghost use Prim.Native.Nat.{ℕ, _/_, _%_, _<_, _≤_};
+ghost use lib.Dec.{eqb};
 ghost use lib.ListN.{length, getD};
 ghost use Rattle.isa.specs.Decode.{decodeOf};
 ghost use Rattle.machine.specs.Effect.{constantOf};
+ghost use Rattle.stretch_registers.specs.Effected.{Past};
 ghost use Rattle.stretch_memory.specs.Served.{Taken};
 ghost use Rattle.stretch_words.specs.Ready.{Ready, constants};
-use alu::Op;
 use stretch_memory::load_indexed;
 use stretch_memory::load_relative;
 use stretch_memory::store_indexed;
 use stretch_memory::store_relative;
-use stretch_registers::branch;
+use stretch_registers::LEFT_ALONE;
 use stretch_registers::compute;
+use stretch_registers::offset;
 use stretch_registers::reg;
+use stretch_registers::target;
 use stretch_registers::test;
 
 // The operand of an operation's word: the register, or the constant, of bits 5 to 3.
-fn register_of(regs: &[u16; 8], w: usize) -> u16
-    ensures { λ r. ⌜ r ≡ getD (now (regs .entry)) (w / 8 % 8) 0 ⌝ }
+fn operand(regs: &[u16; 8], k: &[u16; 8], w: usize, row: usize) -> u16
+    requires { ⌜ now k ≡ constants ⌝ }
+    ensures { λ r. ⌜ r ≡ cond (eqb (row / 2 % 2) 1) (constantOf (w / 8 % 8))
+        (getD (now (regs .entry)) (w / 8 % 8) 0) ⌝ }
 {
+    if row / 2 % 2 == 1 {
+        return reg(k, w / 8 % 8);
+    }
     reg(regs, w / 8 % 8)
 }
 
-fn constant_of(k: &[u16; 8], w: usize) -> u16
-    requires { ⌜ now k ≡ constants ⌝ }
-    ensures { λ r. ⌜ r ≡ constantOf (w / 8 % 8) ⌝ }
+// 4000 to 4BFF: ADD to BIS. `row` is w / 64.
+fn operation(
+    regs: &mut [u16; 8],
+    k: &[u16; 8],
+    psw: &mut u16,
+    pc: usize,
+    w: usize,
+    row: usize,
+) -> usize
+    requires { ⌜ Past pc (now regs) × (now k ≡ constants) × (w / 64 ≡ row)
+        × (0x100 ≤ row) × (row < 0x130) ⌝ }
+    ensures { λ r. ⌜ ((m : List ℕ) (cex : ℕ) → Taken (decodeOf w)
+        (now (regs .entry)) (now (psw .entry)) cex m
+        (now (regs .exit)) (now (psw .exit)) cex m r) ⌝ }
 {
-    reg(k, w / 8 % 8)
+    let n = (row / 4 % 16) as u8;
+    let byte = row % 2 == 1;
+    let s = operand(regs, k, w, row);
+    let op = operands::binary(n);
+    if (n == 5) | (n == 9) {
+        return test(regs, psw, pc, w, op, byte, s);
+    }
+    compute(regs, psw, pc, w, op, byte, s)
+}
+
+// 5800 to 5BFF: LD; 5C00 to 5FFF: ST. `row` is w / 64: PRPO, DEC, INC and the width are its last
+// four bits.
+fn load_row(regs: &mut [u16; 8], mem: &mut [u8], pc: usize, w: usize, row: usize) -> usize
+    requires { ⌜ (length (now mem) ≡ 65536) × Past pc (now regs) × (w / 64 ≡ row)
+        × (0x160 ≤ row) × (row < 0x170) ⌝ }
+    ensures { λ r. ⌜ ((psw cex : ℕ) → Taken (decodeOf w)
+        (now (regs .entry)) psw cex (now (mem .entry))
+        (now (regs .exit)) psw cex (now (mem .exit)) r) ⌝ }
+{
+    let prpo = (row / 8 % 2) as u8;
+    let dec = (row / 4 % 2) as u8;
+    let inc = (row / 2 % 2) as u8;
+    load_indexed(regs, mem, pc, w, prpo, dec, inc, (row % 2) as u8)
+}
+
+fn store_row(regs: &mut [u16; 8], mem: &mut [u8], pc: usize, w: usize, row: usize) -> usize
+    requires { ⌜ (length (now mem) ≡ 65536) × Past pc (now regs) × (w / 64 ≡ row)
+        × (0x170 ≤ row) × (row < 0x180) ⌝ }
+    ensures { λ r. ⌜ ((psw cex : ℕ) → Taken (decodeOf w)
+        (now (regs .entry)) psw cex (now (mem .entry))
+        (now (regs .exit)) psw cex (now (mem .exit)) r) ⌝ }
+{
+    let prpo = (row / 8 % 2) as u8;
+    let dec = (row / 4 % 2) as u8;
+    let inc = (row / 2 % 2) as u8;
+    store_indexed(regs, mem, pc, w, prpo, dec, inc, (row % 2) as u8)
+}
+
+// 2000 to 3FFF: a branch. `row` is w / 512: where it is a number, condition and sign are known.
+fn branch_row(regs: &[u16; 8], psw: &u16, cex: &mut u16, pc: usize, w: usize, row: usize) -> usize
+    requires { ⌜ Past pc (now regs) × (w / 512 ≡ row) × (16 ≤ row) × (row < 32) ⌝ }
+    ensures { λ r. ⌜ ((m : List ℕ) → Taken (decodeOf w)
+        (now (regs .entry)) (now (psw .entry)) (now (cex .entry)) m
+        (now (regs .entry)) (now (psw .entry)) (now (cex .exit)) m r) ⌝ }
+{
+    if !operands::taken((row / 2 % 8) as u8, *psw) {
+        return pc;
+    }
+    *cex = 0;
+    target(pc, offset(w, row))
 }
 
 // 2000 to 3FFF: the branches, by the sign of their offset too; BRA backwards, which closes a loop,
 // first. 0000 to 1FFF: BL.
-fn jump_word(
-    regs: &mut [u16; 8],
-    mem: &[u8],
-    k: &[u16; 8],
-    psw: &u16,
-    cex: &mut u16,
-    pc: usize,
-    w: usize,
-) -> usize
-    requires { ⌜ Ready pc w (now regs) (now mem) (now k) × (w < 0x4000) ⌝ }
-    ensures { λ r. ⌜ Taken (decodeOf w)
-        (now (regs .entry)) (now (psw .entry)) (now (cex .entry)) (now (mem .entry))
-        (now (regs .exit)) (now (psw .entry)) (now (cex .exit)) (now (mem .entry)) r ⌝ }
+fn jump_word(regs: &mut [u16; 8], psw: &u16, cex: &mut u16, pc: usize, w: usize) -> usize
+    requires { ⌜ Past pc (now regs) × (w < 0x4000) ⌝ }
+    ensures { λ r. ⌜ ((m : List ℕ) → Taken (decodeOf w)
+        (now (regs .entry)) (now (psw .entry)) (now (cex .entry)) m
+        (now (regs .exit)) (now (psw .entry)) (now (cex .exit)) m r) ⌝ }
 {
     if 0x3E00 <= w {
-        return branch(cex, pc, w, true, 32768);
+        return branch_row(regs, psw, cex, pc, w, 31);
     }
     match w / 512 {
-        16 => branch(cex, pc, w, operands::taken(0, *psw), 49152),
-        17 => branch(cex, pc, w, operands::taken(0, *psw), 47104),
-        18 => branch(cex, pc, w, operands::taken(1, *psw), 47104),
-        19 => branch(cex, pc, w, operands::taken(1, *psw), 45056),
-        20 => branch(cex, pc, w, operands::taken(2, *psw), 45056),
-        21 => branch(cex, pc, w, operands::taken(2, *psw), 43008),
-        22 => branch(cex, pc, w, operands::taken(3, *psw), 43008),
-        23 => branch(cex, pc, w, operands::taken(3, *psw), 40960),
-        24 => branch(cex, pc, w, operands::taken(4, *psw), 40960),
-        25 => branch(cex, pc, w, operands::taken(4, *psw), 38912),
-        26 => branch(cex, pc, w, operands::taken(5, *psw), 38912),
-        27 => branch(cex, pc, w, operands::taken(5, *psw), 36864),
-        28 => branch(cex, pc, w, operands::taken(6, *psw), 36864),
-        29 => branch(cex, pc, w, operands::taken(6, *psw), 34816),
-        30 => branch(cex, pc, w, true, 34816),
+        16 => branch_row(regs, psw, cex, pc, w, 16),
+        17 => branch_row(regs, psw, cex, pc, w, 17),
+        18 => branch_row(regs, psw, cex, pc, w, 18),
+        19 => branch_row(regs, psw, cex, pc, w, 19),
+        20 => branch_row(regs, psw, cex, pc, w, 20),
+        21 => branch_row(regs, psw, cex, pc, w, 21),
+        22 => branch_row(regs, psw, cex, pc, w, 22),
+        23 => branch_row(regs, psw, cex, pc, w, 23),
+        24 => branch_row(regs, psw, cex, pc, w, 24),
+        25 => branch_row(regs, psw, cex, pc, w, 25),
+        26 => branch_row(regs, psw, cex, pc, w, 26),
+        27 => branch_row(regs, psw, cex, pc, w, 27),
+        28 => branch_row(regs, psw, cex, pc, w, 28),
+        29 => branch_row(regs, psw, cex, pc, w, 29),
+        30 => branch_row(regs, psw, cex, pc, w, 30),
         _ => stretch_registers::link_word(regs, cex, pc, w),
     }
 }
@@ -100,7 +163,7 @@ fn single_word(regs: &mut [u16; 8], mem: &[u8], psw: &mut u16, pc: usize, w: usi
         (now (regs .exit)) (now (psw .exit)) cex (now (mem .entry)) r) ⌝ }
 {
     if (w < 0x4C80) | (0x4D80 <= w) {
-        return 1048576;
+        return LEFT_ALONE;
     }
     if w < 0x4D00 {
         return stretch_registers::swap_word(regs, pc, w);
@@ -125,7 +188,7 @@ fn far_word(
         (now (regs .exit)) (now (psw .exit)) (now (cex .exit)) (now (mem .exit)) r ⌝ }
 {
     if w < 0x4000 {
-        return jump_word(regs, mem, k, psw, cex, pc, w);
+        return jump_word(regs, psw, cex, pc, w);
     }
     if 0x8000 <= w {
         return relative_word(regs, mem, pc, w);
@@ -136,67 +199,7 @@ fn far_word(
     single_word(regs, mem, psw, pc, w)
 }
 
-// ST: PRPO, DEC, INC and the width by bits 9 to 6.
-fn store_word(
-    regs: &mut [u16; 8],
-    mem: &mut [u8],
-    k: &[u16; 8],
-    psw: &mut u16,
-    cex: &mut u16,
-    pc: usize,
-    w: usize,
-) -> usize
-    requires { ⌜ Ready pc w (now regs) (now mem) (now k) ⌝ }
-    ensures { λ r. ⌜ Taken (decodeOf w)
-        (now (regs .entry)) (now (psw .entry)) (now (cex .entry)) (now (mem .entry))
-        (now (regs .exit)) (now (psw .exit)) (now (cex .exit)) (now (mem .exit)) r ⌝ }
-{
-    match w / 64 {
-        0x170 => store_indexed(regs, mem, pc, w, 0, 0, 0, 0),
-        0x171 => store_indexed(regs, mem, pc, w, 0, 0, 0, 1),
-        0x172 => store_indexed(regs, mem, pc, w, 0, 0, 1, 0),
-        0x173 => store_indexed(regs, mem, pc, w, 0, 0, 1, 1),
-        0x174 => store_indexed(regs, mem, pc, w, 0, 1, 0, 0),
-        0x175 => store_indexed(regs, mem, pc, w, 0, 1, 0, 1),
-        0x17A => store_indexed(regs, mem, pc, w, 1, 0, 1, 0),
-        0x17B => store_indexed(regs, mem, pc, w, 1, 0, 1, 1),
-        0x17C => store_indexed(regs, mem, pc, w, 1, 1, 0, 0),
-        0x17D => store_indexed(regs, mem, pc, w, 1, 1, 0, 1),
-        _ => far_word(regs, mem, k, psw, cex, pc, w),
-    }
-}
-
-// LD, likewise.
-fn load_word(
-    regs: &mut [u16; 8],
-    mem: &mut [u8],
-    k: &[u16; 8],
-    psw: &mut u16,
-    cex: &mut u16,
-    pc: usize,
-    w: usize,
-) -> usize
-    requires { ⌜ Ready pc w (now regs) (now mem) (now k) ⌝ }
-    ensures { λ r. ⌜ Taken (decodeOf w)
-        (now (regs .entry)) (now (psw .entry)) (now (cex .entry)) (now (mem .entry))
-        (now (regs .exit)) (now (psw .exit)) (now (cex .exit)) (now (mem .exit)) r ⌝ }
-{
-    match w / 64 {
-        0x160 => load_indexed(regs, mem, pc, w, 0, 0, 0, 0),
-        0x161 => load_indexed(regs, mem, pc, w, 0, 0, 0, 1),
-        0x162 => load_indexed(regs, mem, pc, w, 0, 0, 1, 0),
-        0x163 => load_indexed(regs, mem, pc, w, 0, 0, 1, 1),
-        0x164 => load_indexed(regs, mem, pc, w, 0, 1, 0, 0),
-        0x165 => load_indexed(regs, mem, pc, w, 0, 1, 0, 1),
-        0x16A => load_indexed(regs, mem, pc, w, 1, 0, 1, 0),
-        0x16B => load_indexed(regs, mem, pc, w, 1, 0, 1, 1),
-        0x16C => load_indexed(regs, mem, pc, w, 1, 1, 0, 0),
-        0x16D => load_indexed(regs, mem, pc, w, 1, 1, 0, 1),
-        _ => store_word(regs, mem, k, psw, cex, pc, w),
-    }
-}
-
-// MOV, SETCC and CLRCC.
+// MOV, SETCC and CLRCC; LD and ST by their last four leading bits.
 fn move_word(
     regs: &mut [u16; 8],
     mem: &mut [u8],
@@ -215,7 +218,27 @@ fn move_word(
         0x130 => stretch_registers::move_word(regs, cex, pc, w, false),
         0x131 => stretch_registers::move_word(regs, cex, pc, w, true),
         0x137 => stretch_registers::flags_word(psw, pc, w),
-        _ => load_word(regs, mem, k, psw, cex, pc, w),
+        0x160 => load_row(regs, mem, pc, w, 0x160),
+        0x161 => load_row(regs, mem, pc, w, 0x161),
+        0x162 => load_row(regs, mem, pc, w, 0x162),
+        0x163 => load_row(regs, mem, pc, w, 0x163),
+        0x164 => load_row(regs, mem, pc, w, 0x164),
+        0x165 => load_row(regs, mem, pc, w, 0x165),
+        0x16A => load_row(regs, mem, pc, w, 0x16A),
+        0x16B => load_row(regs, mem, pc, w, 0x16B),
+        0x16C => load_row(regs, mem, pc, w, 0x16C),
+        0x16D => load_row(regs, mem, pc, w, 0x16D),
+        0x170 => store_row(regs, mem, pc, w, 0x170),
+        0x171 => store_row(regs, mem, pc, w, 0x171),
+        0x172 => store_row(regs, mem, pc, w, 0x172),
+        0x173 => store_row(regs, mem, pc, w, 0x173),
+        0x174 => store_row(regs, mem, pc, w, 0x174),
+        0x175 => store_row(regs, mem, pc, w, 0x175),
+        0x17A => store_row(regs, mem, pc, w, 0x17A),
+        0x17B => store_row(regs, mem, pc, w, 0x17B),
+        0x17C => store_row(regs, mem, pc, w, 0x17C),
+        0x17D => store_row(regs, mem, pc, w, 0x17D),
+        _ => far_word(regs, mem, k, psw, cex, pc, w),
     }
 }
 
@@ -235,30 +258,30 @@ fn logic_word(
         (now (regs .exit)) (now (psw .exit)) (now (cex .exit)) (now (mem .exit)) r ⌝ }
 {
     match w / 64 {
-        0x118 => compute(regs, psw, pc, w, Op::Xor, false, register_of(regs, w)),
-        0x119 => compute(regs, psw, pc, w, Op::Xor, true, register_of(regs, w)),
-        0x11A => compute(regs, psw, pc, w, Op::Xor, false, constant_of(k, w)),
-        0x11B => compute(regs, psw, pc, w, Op::Xor, true, constant_of(k, w)),
-        0x11C => compute(regs, psw, pc, w, Op::And, false, register_of(regs, w)),
-        0x11D => compute(regs, psw, pc, w, Op::And, true, register_of(regs, w)),
-        0x11E => compute(regs, psw, pc, w, Op::And, false, constant_of(k, w)),
-        0x11F => compute(regs, psw, pc, w, Op::And, true, constant_of(k, w)),
-        0x120 => compute(regs, psw, pc, w, Op::Or, false, register_of(regs, w)),
-        0x121 => compute(regs, psw, pc, w, Op::Or, true, register_of(regs, w)),
-        0x122 => compute(regs, psw, pc, w, Op::Or, false, constant_of(k, w)),
-        0x123 => compute(regs, psw, pc, w, Op::Or, true, constant_of(k, w)),
-        0x124 => test(regs, psw, pc, w, Op::Bit, false, register_of(regs, w)),
-        0x125 => test(regs, psw, pc, w, Op::Bit, true, register_of(regs, w)),
-        0x126 => test(regs, psw, pc, w, Op::Bit, false, constant_of(k, w)),
-        0x127 => test(regs, psw, pc, w, Op::Bit, true, constant_of(k, w)),
-        0x128 => compute(regs, psw, pc, w, Op::Bic, false, register_of(regs, w)),
-        0x129 => compute(regs, psw, pc, w, Op::Bic, true, register_of(regs, w)),
-        0x12A => compute(regs, psw, pc, w, Op::Bic, false, constant_of(k, w)),
-        0x12B => compute(regs, psw, pc, w, Op::Bic, true, constant_of(k, w)),
-        0x12C => compute(regs, psw, pc, w, Op::Bis, false, register_of(regs, w)),
-        0x12D => compute(regs, psw, pc, w, Op::Bis, true, register_of(regs, w)),
-        0x12E => compute(regs, psw, pc, w, Op::Bis, false, constant_of(k, w)),
-        0x12F => compute(regs, psw, pc, w, Op::Bis, true, constant_of(k, w)),
+        0x118 => operation(regs, k, psw, pc, w, 0x118),
+        0x119 => operation(regs, k, psw, pc, w, 0x119),
+        0x11A => operation(regs, k, psw, pc, w, 0x11A),
+        0x11B => operation(regs, k, psw, pc, w, 0x11B),
+        0x11C => operation(regs, k, psw, pc, w, 0x11C),
+        0x11D => operation(regs, k, psw, pc, w, 0x11D),
+        0x11E => operation(regs, k, psw, pc, w, 0x11E),
+        0x11F => operation(regs, k, psw, pc, w, 0x11F),
+        0x120 => operation(regs, k, psw, pc, w, 0x120),
+        0x121 => operation(regs, k, psw, pc, w, 0x121),
+        0x122 => operation(regs, k, psw, pc, w, 0x122),
+        0x123 => operation(regs, k, psw, pc, w, 0x123),
+        0x124 => operation(regs, k, psw, pc, w, 0x124),
+        0x125 => operation(regs, k, psw, pc, w, 0x125),
+        0x126 => operation(regs, k, psw, pc, w, 0x126),
+        0x127 => operation(regs, k, psw, pc, w, 0x127),
+        0x128 => operation(regs, k, psw, pc, w, 0x128),
+        0x129 => operation(regs, k, psw, pc, w, 0x129),
+        0x12A => operation(regs, k, psw, pc, w, 0x12A),
+        0x12B => operation(regs, k, psw, pc, w, 0x12B),
+        0x12C => operation(regs, k, psw, pc, w, 0x12C),
+        0x12D => operation(regs, k, psw, pc, w, 0x12D),
+        0x12E => operation(regs, k, psw, pc, w, 0x12E),
+        0x12F => operation(regs, k, psw, pc, w, 0x12F),
         _ => move_word(regs, mem, k, psw, cex, pc, w),
     }
 }
@@ -279,30 +302,30 @@ pub fn take_word(
         (now (regs .exit)) (now (psw .exit)) (now (cex .exit)) (now (mem .exit)) r ⌝ }
 {
     match w / 64 {
-        0x100 => compute(regs, psw, pc, w, Op::Add, false, register_of(regs, w)),
-        0x101 => compute(regs, psw, pc, w, Op::Add, true, register_of(regs, w)),
-        0x102 => compute(regs, psw, pc, w, Op::Add, false, constant_of(k, w)),
-        0x103 => compute(regs, psw, pc, w, Op::Add, true, constant_of(k, w)),
-        0x104 => compute(regs, psw, pc, w, Op::Addc, false, register_of(regs, w)),
-        0x105 => compute(regs, psw, pc, w, Op::Addc, true, register_of(regs, w)),
-        0x106 => compute(regs, psw, pc, w, Op::Addc, false, constant_of(k, w)),
-        0x107 => compute(regs, psw, pc, w, Op::Addc, true, constant_of(k, w)),
-        0x108 => compute(regs, psw, pc, w, Op::Sub, false, register_of(regs, w)),
-        0x109 => compute(regs, psw, pc, w, Op::Sub, true, register_of(regs, w)),
-        0x10A => compute(regs, psw, pc, w, Op::Sub, false, constant_of(k, w)),
-        0x10B => compute(regs, psw, pc, w, Op::Sub, true, constant_of(k, w)),
-        0x10C => compute(regs, psw, pc, w, Op::Subc, false, register_of(regs, w)),
-        0x10D => compute(regs, psw, pc, w, Op::Subc, true, register_of(regs, w)),
-        0x10E => compute(regs, psw, pc, w, Op::Subc, false, constant_of(k, w)),
-        0x10F => compute(regs, psw, pc, w, Op::Subc, true, constant_of(k, w)),
-        0x110 => compute(regs, psw, pc, w, Op::Dadd, false, register_of(regs, w)),
-        0x111 => compute(regs, psw, pc, w, Op::Dadd, true, register_of(regs, w)),
-        0x112 => compute(regs, psw, pc, w, Op::Dadd, false, constant_of(k, w)),
-        0x113 => compute(regs, psw, pc, w, Op::Dadd, true, constant_of(k, w)),
-        0x114 => test(regs, psw, pc, w, Op::Cmp, false, register_of(regs, w)),
-        0x115 => test(regs, psw, pc, w, Op::Cmp, true, register_of(regs, w)),
-        0x116 => test(regs, psw, pc, w, Op::Cmp, false, constant_of(k, w)),
-        0x117 => test(regs, psw, pc, w, Op::Cmp, true, constant_of(k, w)),
+        0x100 => operation(regs, k, psw, pc, w, 0x100),
+        0x101 => operation(regs, k, psw, pc, w, 0x101),
+        0x102 => operation(regs, k, psw, pc, w, 0x102),
+        0x103 => operation(regs, k, psw, pc, w, 0x103),
+        0x104 => operation(regs, k, psw, pc, w, 0x104),
+        0x105 => operation(regs, k, psw, pc, w, 0x105),
+        0x106 => operation(regs, k, psw, pc, w, 0x106),
+        0x107 => operation(regs, k, psw, pc, w, 0x107),
+        0x108 => operation(regs, k, psw, pc, w, 0x108),
+        0x109 => operation(regs, k, psw, pc, w, 0x109),
+        0x10A => operation(regs, k, psw, pc, w, 0x10A),
+        0x10B => operation(regs, k, psw, pc, w, 0x10B),
+        0x10C => operation(regs, k, psw, pc, w, 0x10C),
+        0x10D => operation(regs, k, psw, pc, w, 0x10D),
+        0x10E => operation(regs, k, psw, pc, w, 0x10E),
+        0x10F => operation(regs, k, psw, pc, w, 0x10F),
+        0x110 => operation(regs, k, psw, pc, w, 0x110),
+        0x111 => operation(regs, k, psw, pc, w, 0x111),
+        0x112 => operation(regs, k, psw, pc, w, 0x112),
+        0x113 => operation(regs, k, psw, pc, w, 0x113),
+        0x114 => operation(regs, k, psw, pc, w, 0x114),
+        0x115 => operation(regs, k, psw, pc, w, 0x115),
+        0x116 => operation(regs, k, psw, pc, w, 0x116),
+        0x117 => operation(regs, k, psw, pc, w, 0x117),
         _ => logic_word(regs, mem, k, psw, cex, pc, w),
     }
 }

@@ -10,7 +10,7 @@ use lib.ListN.{set}
 use borrow.Author.Tests.{eqb-true, ltb-false, not-false}
 use Rattle.machine.specs.Memory.{wordAt}
 use Rattle.stretch.specs.Stretch.{Goes}
-use Rattle.stretch.proofs.Steps.{goes-none, goes-one, open-none, cex-loaded, priority-lowered, awake-set, awake-lowered}
+use Rattle.stretch.proofs.Steps.{goes-none, goes-one, open-none, fetched, cex-loaded, priority-lowered, awake-set, awake-lowered}
 use borrow.Author.Needs.{needs}
 use Rattle.stretch.proofs.control.Statement.{statement}
 use Rattle.stretch.proofs.control.Tie as tie
@@ -37,13 +37,12 @@ returns c =
     let t = c .before .before .before .before in
     (none t, (omega arith, (λ e. absurd (false≢true e)), t .pre .1))
 
-fetch-requires : tie.Need-fetch-requires
-fetch-requires c κs = (omega arith, omega arith, even (c .before .reg .result) (c .if1 .left))
-
 returns-2 : tie.Need-returns-2
 returns-2 c =
-    let f = c .before .before .before .before .before .fetch in
-    let i = c .before .before .before .before .before .before in
+    let r = c .before .before .before .before .before in
+    let f = r .read-word in
+    let n = r .before .word-of in
+    let i = r .before .before in
     let g = i .before .reg in
     let t = i .before .before .before .before in
     let a = t .args in
@@ -55,26 +54,29 @@ returns-2 c =
       goes-one (a .lines) l m (a .psw) (a .cex) (set l 7 (v .result)) m (a .psw) (x .result)
           (cex-loaded (a .lines) l m (a .psw) (a .cex) (f .result) (v .result) (x .result)
           (ap (λ (n : ℕ). n % 2) (sym (g .ensures)) ∙ even (g .result) (i .if1 .left)) (t .pre .1 .0)
-          (open-none (a .cex) (t .pre .2) .0) (f .ensures .0 ∙ ap (wordAt m) (g .ensures)) (c .before .before .before .if2 .taken)
+          (open-none (a .cex) (t .pre .2) .0) (fetched m (g .result) (n .ensures .0) (f .ensures) ∙ ap (wordAt m) (g .ensures))
+          (c .before .before .before .if2 .taken)
           (v .ensures ∙ ap (λ (n : ℕ). (n + 2) % 65536) (g .ensures)) (x .ensures)),
       (omega (arith, t .pre .3), (λ e. omega (arith, t .pre .3)), awake-set l (a .psw) (v .result) (t .pre .1)),
     )
 
 returns-3 : tie.Need-returns-3
 returns-3 c =
-    let t = c .before .before .before .before .before .before .before .before in
+    let t = c .before .before .before .before .before .before .before .before .before in
     (none t, (omega arith, (λ e. absurd (false≢true e)), t .pre .1))
 
 returns-4 : tie.Need-returns-4
 returns-4 c =
-    let t = c .before .before .before .before .before .before .before .before .before .before in
+    let t = c .before .before .before .before .before .before .before .before .before .before .before in
     (none t, (omega arith, (λ e. absurd (false≢true e)), t .pre .1))
 
 returns-5 : tie.Need-returns-5
 returns-5 c =
     let q = c .before .before .before .before .current-priority in
-    let f = c .before .before .before .before .before .before .before .before .fetch in
-    let i = c .before .before .before .before .before .before .before .before .before in
+    let r = c .before .before .before .before .before .before .before .before in
+    let f = r .read-word in
+    let n = r .before .word-of in
+    let i = r .before .before in
     let g = i .before .reg in
     let t = i .before .before .before .before in
     let a = t .args in
@@ -91,7 +93,8 @@ returns-5 c =
       goes-one (a .lines) l m (a .psw) (a .cex) (set l 7 (v .result)) m (p .result) (a .cex)
           (priority-lowered (a .lines) l m (a .psw) (a .cex) (f .result) (v .result) (a .cex) (p .result)
           (ap (λ (n : ℕ). n % 2) (sym (g .ensures)) ∙ even (g .result) (i .if1 .left)) (t .pre .1 .0)
-          (o .0) (f .ensures .0 ∙ ap (wordAt m) (g .ensures)) (c .before .before .before .before .before .if3 .left)
+          (o .0) (fetched m (g .result) (n .ensures .0) (f .ensures) ∙ ap (wordAt m) (g .ensures))
+          (c .before .before .before .before .before .if3 .left)
           (eqb-true _ _ (not-false _ (tests .0)))
           (subst (λ (n : ℕ). f .result % 8 ≤ n) (q .ensures .0) level)
           (v .ensures ∙ ap (λ (n : ℕ). (n + 2) % 65536) (g .ensures)) (sym (o .1)) (p .ensures)),
@@ -105,6 +108,6 @@ returns-5 c =
 pub control-spec : {M : Type 1} → statement M
 control-spec =
     tie.close
-    (tie.spec (λ c κs. search needs) returns (λ c. search needs) fetch-requires (λ c. search needs) (λ c κs. search needs)
-    (λ c. search needs) (λ c. search needs) (λ c. search needs) (λ c κs. search needs) (λ c κs. search needs) (λ c. search needs) returns-2
-    returns-3 (λ c κs. search needs) returns-4 (λ c κs. search needs) (λ c κs. search needs) (λ c. search needs) returns-5)
+    (tie.spec (λ c κs. search needs) returns (λ c κs. search needs) (λ c κs. search needs) (λ c κs. search needs) (λ c. search needs)
+    (λ c. search needs) (λ c. search needs) (λ c κs. search needs) (λ c κs. search needs) (λ c. search needs) returns-2 returns-3
+    (λ c κs. search needs) returns-4 (λ c κs. search needs) (λ c κs. search needs) (λ c. search needs) returns-5)

@@ -1,35 +1,61 @@
-use Rattle.stretch.proofs.Steps.{step-taken}
+-- The word at PC is fetched and PC is past it; then the word is taken. Assumes nothing.
+use Rattle.stretch.proofs.Steps.{fetched, step-taken}
 use lib.Seq.{getD-set-same}
 use lib.ListN.{getD}
 use mathlib.Core.List.{List}
-use Prim.Native.Nat.{ℕ}
-use mathlib.Core.Path.{refl, sym, ap, _∙_}
+use Prim.Native.Nat.{ℕ, _+_, _*_, _/_, _%_}
+use mathlib.Core.Path.{_≡_, sym, ap, _∙_}
 use denote.Ref.{now}
 use native.Mathlib.Omega.{arith}
 use borrow.Author.Needs.{needs}
 use Rattle.stretch.proofs.take_step.Statement.{statement}
 use Rattle.stretch.proofs.take_step.Tie as tie
 
+-- the first byte of the word at an even PC
+first-byte : (p a b : ℕ) → p % 2 ≡ 0 → a ≡ p % 65536 / 2 → b ≡ 2 * a → b ≡ p % 65536
+first-byte p a b e ea eb = omega arith
+
+-- the places before R7 is written
+start : tie.After-set-reg → tie.Start
+start c = search
+
+found : tie.After-set-reg → tie.After-word-of
+found c = search
+
+read : tie.After-set-reg → tie.After-read-word
+read c = search
+
+begun : tie.After-set-reg → tie.After-byte-of
+begun c = search
+
+first : (c : tie.After-set-reg) → begun c .byte-of .result .0 ≡ start c .args .pc % 65536
+unfolding start found begun
+first c = first-byte (start c .args .pc) _ _ (start c .pre .2) (found c .word-of .ensures .0) (begun c .byte-of .ensures)
+
 take-word-requires : tie.Need-take-word-requires
+unfolding start begun
 take-word-requires c κs =
-    let s = c .before .before .before .before in
-    let t = s .before .before .before .before .before in
-    let l = now (t .args .regs) in
-    let e = ap (λ (k : List ℕ). getD k 7 0) (s .set-reg .ensures) ∙ getD-set-same l 7 _ 0 (t .pre .3 .1) in
-    let even = t .pre .2 in
-    ((sym e, omega arith, omega arith), s .before .before .fetch .ensures .1, omega arith, t .pre .1)
+    let r : tie.After-set-reg = search in
+    let s = start r in
+    let even = s .pre .2 in
+    let at = first r in
+    let size = s .pre .0 in
+    let e = ap (λ (k : List ℕ). getD k 7 0) (r .set-reg .ensures) ∙ getD-set-same (now (s .args .regs)) 7 _ 0 (s .pre .3 .1) in
+    ((sym e, omega arith, omega arith), omega arith, omega arith, s .pre .1)
 
 returns : tie.Need-returns
+unfolding start found read begun
 returns c =
-    let w = c .before .before in
-    let s = w .before .before .before .before .before in
-    let t = s .before .before .before .before .before in
-    let a = t .args in
-    step-taken (a .pc) _ _ (now (a .cex)) (now (a .psw)) _ _ _ (now (a .regs)) (now (a .mem)) _ _ (t .pre .3) (t .pre .2)
-    (s .before .before .fetch .ensures .0) refl (rw (s .set-reg .ensures) at (w .take-word .ensures))
+    let t : tie.After-take-word = search in
+    let r : tie.After-set-reg = search in
+    let s = start r in
+    let a = s .args in
+    step-taken (a .pc) _ _ (now (a .cex)) (now (a .psw)) _ _ _ (now (a .regs)) (now (a .mem)) _ _ (s .pre .3) (s .pre .2)
+    (fetched (now (a .mem)) (a .pc % 65536) (found r .word-of .ensures .0) (read r .read-word .ensures))
+    (ap (λ (n : ℕ). (n + 2) % 65536) (first r)) (rw (r .set-reg .ensures) at (t .take-word .ensures))
 
 pub take-step-spec : {M : Type 1} → statement M
 take-step-spec =
     tie.close
-    (tie.spec (λ c κs. search needs) (λ c. search needs) (λ c. search needs) (λ c κs. search needs) (λ c. search needs) take-word-requires
-    (λ c. search needs) returns)
+    (tie.spec (λ c. search needs) (λ c κs. search needs) (λ c κs. search needs) (λ c. search needs) (λ c κs. search needs)
+    (λ c. search needs) (λ c. search needs) (λ c. search needs) (λ c κs. search needs) take-word-requires (λ c. search needs) returns)

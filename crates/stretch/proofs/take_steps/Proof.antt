@@ -1,5 +1,6 @@
 use Rattle.stretch.proofs.Steps.{awake-set, long, walked-start, walked-on, walked-stop, stays-shut}
 use Rattle.stretch.specs.Stretch.{Awake, Walked}
+use Rattle.stretch_registers.specs.Effected.{leftAlone}
 use Rattle.stretch_words.specs.Ready.{constants}
 use lib.ListN.{length, set}
 use mathlib.Core.Logic.{_⊎_}
@@ -17,7 +18,7 @@ Inv-loop regs₀ mem₀ psw cex n k p₀ x₀ pc₀ left₀ regs mem p x pc left
     × (k ≡ constants)
     × Awake regs p
     × (pc % 2 ≡ 0)
-    × (pc < 1048576)
+    × (pc < leftAlone)
     × ((x % 64 ≡ 0) ⊎ (n ≤ 1))
     × Walked regs₀ psw cex mem₀ (set regs 7 (pc % 65536)) p x mem (n - left)
     × (cex % 64 ≡ 0 → x % 64 ≡ 0)

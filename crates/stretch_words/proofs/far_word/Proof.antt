@@ -4,6 +4,9 @@ use borrow.Author.Needs.{needs}
 use Rattle.stretch_words.proofs.far_word.Statement.{statement}
 use Rattle.stretch_words.proofs.far_word.Tie as tie
 
+returns : tie.Need-returns
+returns c = c .jump-word .ensures _
+
 returns-2 : tie.Need-returns-2
 returns-2 c = c .before .before .relative-word .ensures _ _
 
@@ -21,5 +24,5 @@ returns-4 c = c .single-word .ensures _
 pub far-word-spec : {M : Type 1} → statement M
 far-word-spec =
     tie.close
-    (tie.spec (λ c κs. search needs) (λ c. search needs) (λ c. search needs) (λ c κs. search needs) (λ c. search needs) returns-2
+    (tie.spec (λ c κs. search needs) returns (λ c κs. search needs) (λ c. search needs) returns-2
     (λ c κs. search needs) returns-3 (λ c κs. search needs) (λ c. search needs) returns-4)

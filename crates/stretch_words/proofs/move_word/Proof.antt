@@ -34,5 +34,22 @@ returns-3 c =
 pub move-word-spec : {M : Type 1} → statement M
 move-word-spec =
     tie.close
-    (tie.spec (λ c κs. search needs) (λ c κs. search needs) (λ c κs. search needs) (λ c κs. search needs) returns returns-2 returns-3
-    (λ c. search needs) (λ c. search needs))
+    (tie.spec (λ c κs. search needs) (λ c κs. search needs) (λ c κs. search needs) (λ c κs. search needs) (λ c κs. search needs)
+    (λ c κs. search needs) (λ c κs. search needs) (λ c κs. search needs) (λ c κs. search needs) (λ c κs. search needs)
+    (λ c κs. search needs) (λ c κs. search needs) (λ c κs. search needs) (λ c κs. search needs) (λ c κs. search needs)
+    (λ c κs. search needs) (λ c κs. search needs) (λ c κs. search needs) (λ c κs. search needs) (λ c κs. search needs)
+    (λ c κs. search needs) (λ c κs. search needs) (λ c κs. search needs) (λ c κs. search needs) returns returns-2 returns-3
+    (λ c. search needs) (λ c. c .before .before .load-row .ensures _ _) (λ c. search needs)
+    (λ c. c .before .before .load-row2 .ensures _ _) (λ c. search needs) (λ c. c .before .before .load-row3 .ensures _ _)
+    (λ c. search needs) (λ c. c .before .before .load-row4 .ensures _ _) (λ c. search needs)
+    (λ c. c .before .before .load-row5 .ensures _ _) (λ c. search needs) (λ c. c .before .before .load-row6 .ensures _ _)
+    (λ c. search needs) (λ c. c .before .before .load-row7 .ensures _ _) (λ c. search needs)
+    (λ c. c .before .before .load-row8 .ensures _ _) (λ c. search needs) (λ c. c .before .before .load-row9 .ensures _ _)
+    (λ c. search needs) (λ c. c .before .before .load-row10 .ensures _ _) (λ c. search needs)
+    (λ c. c .before .before .store-row .ensures _ _) (λ c. search needs) (λ c. c .before .before .store-row2 .ensures _ _)
+    (λ c. search needs) (λ c. c .before .before .store-row3 .ensures _ _) (λ c. search needs)
+    (λ c. c .before .before .store-row4 .ensures _ _) (λ c. search needs) (λ c. c .before .before .store-row5 .ensures _ _)
+    (λ c. search needs) (λ c. c .before .before .store-row6 .ensures _ _) (λ c. search needs)
+    (λ c. c .before .before .store-row7 .ensures _ _) (λ c. search needs) (λ c. c .before .before .store-row8 .ensures _ _)
+    (λ c. search needs) (λ c. c .before .before .store-row9 .ensures _ _) (λ c. search needs)
+    (λ c. c .before .before .store-row10 .ensures _ _) (λ c. search needs) (λ c. search needs))

@@ -1,0 +1,36 @@
+use denote.Ref.{now}
+use mathlib.Core.Path.{refl, sym}
+use Rattle.stretch_words.proofs.Laws.{computing, testing}
+use borrow.Author.Needs.{needs}
+use Rattle.stretch_words.proofs.operation.Statement.{statement}
+use Rattle.stretch_words.proofs.operation.Tie as tie
+
+returns : tie.Need-returns
+returns c =
+    let s : tie.Start = search in
+    let o : tie.After-operand = search in
+    let b : tie.After-binary = search in
+    let t : tie.Then1 = search in
+    let a = s .args in
+    let (past, _, e, lo, hi) = s .pre in
+    λ m cex.
+    testing (a .w) (a .row) e lo hi (now (a .regs)) m (now (a .psw)) cex (a .pc) past _ _ (sym (b .binary .ensures)) refl
+    (o .operand .ensures) (t .if1 .taken) (c .test .ensures)
+
+returns-2 : tie.Need-returns-2
+returns-2 c =
+    let s : tie.Start = search in
+    let o : tie.After-operand = search in
+    let b : tie.After-binary = search in
+    let t : tie.Else1 = search in
+    let a = s .args in
+    let (past, _, e, lo, hi) = s .pre in
+    λ m cex.
+    computing (a .w) (a .row) e lo hi (now (a .regs)) m (now (a .psw)) cex (a .pc) past _ _ (sym (b .binary .ensures)) refl
+    (o .operand .ensures) (t .if1 .left) (c .compute .ensures)
+
+pub operation-spec : {M : Type 1} → statement M
+operation-spec =
+    tie.close
+    (tie.spec (λ c. search needs) (λ c κs. search needs) (λ c κs. search needs) (λ c κs. search needs) returns (λ c κs. search needs)
+    returns-2)

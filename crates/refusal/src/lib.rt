@@ -152,6 +152,30 @@ fn has_twins(events: &[u8]) -> bool
     false
 }
 
+// Are all records fit, each of a later step than the one before it? Then the list breaks no rule.
+fn rising(events: &[u8]) -> bool
+    ensures { λ x. ⌜ (x ≡ true
+        → (eventsFitBelow (now (events .entry)) (eventCount (now (events .entry))) ≡ true)
+        × (inOrderBelow (now (events .entry)) (eventCount (now (events .entry))) ≡ true)
+        × (twinsBelow (now (events .entry)) (eventCount (now (events .entry))) ≡ false)) ⌝ }
+{
+    let n = events.len() / 8;
+    let mut k: usize = 0;
+    let mut least: u64 = 0;
+    while k < n {
+        if !event_fits(events, k) {
+            return false;
+        }
+        let step = step_at(events, k) as u64;
+        if step < least {
+            return false;
+        }
+        least = step + 1;
+        k += 1;
+    }
+    true
+}
+
 // The step count of a record, 0 where the record ends before it does.
 fn count_of(r: &[u8]) -> u32
     ensures { λ x. ⌜ x ≡ cond (ltb (length (now (r .entry))) 26) 0 (fourAt (now (r .entry)) 22) ⌝ }
@@ -185,6 +209,9 @@ pub fn verdict(memory: &[u8], state: &[u8], events: &[u8], n: u64) -> Verdict
     }
     if !events_fit(events.len()) {
         return Verdict::EventsLength;
+    }
+    if rising(events) {
+        return Verdict::Accepted;
     }
     let count = events.len() / 8;
     let ordered = records_in_order(events);

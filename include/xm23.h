@@ -491,9 +491,9 @@ uint64_t xm23_next(uint32_t operation, uint32_t word);
  * record, record_len in-out: its state record, XM23_RECORD_SIZE bytes.
  * events, events_len in: event records, in the order of their steps, at most one of a device on a step; those of one
  *                    step are applied in list order. No bytes are an empty list. Each call judges the whole list,
- *                    about 30 host instructions a record: a host that advances in slices lends the whole list once,
- *                    and then the records whose step is not below the record's count, which is the same call
- *                    (crates/passed_over).
+ *                    about 12 host instructions a record, up to 42 where two are of one step: a host that advances in
+ *                    slices lends the whole list once, and then the records whose step is not below the record's count,
+ *                    which is the same call (crates/passed_over).
  * log, log_len       in-out: room for log records, a multiple of XM23_LOG_SIZE bytes, 0 among them. Bytes past the
  *                    last record stay.
  * deepest            out: how deep this run went, 0 to the steps done. Frames are counted from 0 at its start: an

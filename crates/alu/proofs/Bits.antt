@@ -1,18 +1,18 @@
 -- The one bit that BIC clears and BIS sets, for every width w: which it is, that no other changes, and that none does where
 -- the operand names no bit of the width (document 02, section 5). Assumes nothing.
-use mathlib.Core.Path.{_≡_, sym, ap, ap₂, _∙_}
+use mathlib.Core.Path.{_≡_, sym, ap, _∙_}
 use mathlib.Core.Bool.{Bool, true, false}
 use mathlib.Core.Logic.{⊎-elim}
 use Prim.Native.Nat.{ℕ, _+_, _-_, _*_, _/_, _%_, _^_, _≤_, _<_}
 use native.Mathlib.Nat.{mod-lt, mod-eq-of-lt, one-mul, add-comm, add-mul, mul-assoc, lt-of-lt-of-le}
 use native.Mathlib.Omega.{arith}
 use lib.Dec.{lit<}
-use lib.Bits.{bitAnd, bitOr, or-step, or-block, or-zero-r, and-block, and-mask}
+use lib.Bits.{bitAnd, bitOr, or-zero-r, and-block, and-mask}
 use lib.Pow.{pow-pos, pow-lt, pow-mono, pow-add, shl-exact, shr-shr, shr-mod, split, field, mod-mod-pow, ones-lt, ones-split}
 use borrow.Author.Tests.{le-ltb, lt-ltb}
 use Rattle.word.specs.Width.{bit, low, withLow, turned}
 use Rattle.word.specs.Psw.{putBit}
-use Rattle.word.proofs.Laws.{order, low-lt}
+use Rattle.word.proofs.Laws.{order, low-lt, or-bit}
 use Rattle.alu.specs.declared.Op.the-variants.{Bic, Bis}
 use Rattle.alu.specs.Alu.{aluOf, maskOf}
 
@@ -46,15 +46,6 @@ pub mask-zero : (s : ℕ) {w n k : ℕ} → n ≡ low w s → k ≡ w → k ≤ 
 mask-zero s {w} e f h = (sym (mask-none w s (omega arith)), pow-pos w)
 
 -- ---- a mask of one bit puts that bit
-
-odd : (q : ℕ) → bitOr q 1 ≡ q / 2 * 2 + 1
-odd q = or-step q 1 ∙ rw (or-zero-r (q / 2)) (omega arith)
-
-or-bit : (k x : ℕ) → bitOr x (2 ^ k) ≡ putBit k x true
-or-bit k x =
-    ap₂ bitOr (sym (split x k)) (omega arith)
-    ∙ or-block k (x / 2 ^ k) 1 (x % 2 ^ k) 0 (mod-lt x (pow-pos k)) (pow-pos k)
-    ∙ rw (odd (x / 2 ^ k), or-zero-r (x % 2 ^ k), shr-shr x k 1) (rw (pow-add 2 k 1) (omega arith))
 
 -- j ones above the place k, and k ones below it
 and-bit : (k j x : ℕ) → x < 2 ^ (j + (k + 1)) → bitAnd x ((2 ^ j - 1) * 2 ^ (k + 1) + (2 ^ k - 1)) ≡ putBit k x false

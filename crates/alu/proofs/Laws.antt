@@ -1,4 +1,5 @@
--- What the arithmetic means, for every width w, and what an instruction leaves as it was. Assumes nothing.
+-- What the arithmetic means, for every width w, and what an instruction leaves as it was: a sum lies below twice 2 ^ w, so its remainder
+-- and its carry tell it whole; each flag put into the PSW leaves the bits above it and SLP. Assumes nothing.
 use mathlib.Core.Path.{_≡_, refl, sym, ap, _∙_}
 use mathlib.Core.Bool.{Bool, false, not}
 use mathlib.Core.Logic.{_⊎_, inl, inr, ⊎-elim}

@@ -1,4 +1,5 @@
--- Bytes copied one by one; the parts of a journal's record. Assumes nothing.
+-- Bytes copied one by one: what is still to be copied, over what is copied, is at each turn what the whole part writes. A part of a record
+-- is a part of the journal, 64 bytes a place; and a record copied out is one step of `backOf`. Assumes nothing.
 use Prim.Native.Nat.{ℕ, zero, suc, _+_, _-_, _*_, _%_, _<_, _≤_}
 use native.Mathlib.Nat.{add-zero}
 use native.Mathlib.Omega.{arith}

@@ -1,6 +1,7 @@
--- Nine blocks of sixteen bytes, one replaced; and what a step adds to what is found. Assumes nothing.
+-- What is found is nine blocks of sixteen bytes, one for each kind: a store of sixteen bytes at a block's place replaces that block alone,
+-- and byte 8 of a block says whether its kind was found, so that what was told first of a kind stays. Assumes nothing.
 use Prim.Native.Nat.{ℕ, zero, suc, _+_, _*_, _/_, _%_, _^_, _<_}
-use native.Mathlib.Nat.{add-suc, zero-add, suc-add, add-comm, mul-comm, mul-assoc, add-mul-mod-self-right}
+use native.Mathlib.Nat.{add-comm, mul-comm, mul-assoc, add-mul-mod-self-right}
 use native.Mathlib.Omega.{arith}
 use mathlib.Core.Bool.{Bool, true, false, cond, not}
 use mathlib.Core.List.{List, [], _∷_, _++_, append-nil}
@@ -8,7 +9,7 @@ use mathlib.Core.Path.{_≡_, refl, sym, ap, _∙_}
 use lib.Dec.{eqb}
 use lib.ListN.{length, getD, set, drop, drop-of-length-le, length-set}
 use lib.Seq.{sets, sets-eq, set-getD}
-use Rattle.stores.proofs.Laws.{sets-before}
+use Rattle.stores.proofs.Laws.{sets-before, sets-past}
 use Rattle.word.specs.Width.{bit}
 use Rattle.machine_laws.proofs.Cases.{bool-cases}
 use Rattle.soundness.specs.Findings.{Kind, Handler, Finding, nothing}
@@ -17,17 +18,6 @@ use Rattle.soundness.specs.Judge.{fourBytes, findingBytes, findingsBytes}
 use Rattle.soundness.proofs.Blocks.{joined, Sixteen, joined-at, blocks, block-sixteen, blocks-sixteen, joined-blocks}
 
 -- ---- a block replaced
-
-set-past : (a b : List ℕ) (i v : ℕ) → set (a ++ b) (length a + i) v ≡ a ++ set b i v
-set-past [] b i v = rw (zero-add i) refl
-set-past (x ∷ a) b i v = rw (suc-add (length a) i) (ap (λ l. x ∷ l) (set-past a b i v))
-
-sets-past : (a b : List ℕ) (i : ℕ) (vs : List ℕ) → sets (a ++ b) (length a + i) vs ≡ a ++ sets b i vs
-sets-past a b i [] = refl
-sets-past a b i (v ∷ vs) =
-    ap (λ l. sets l (suc (length a + i)) vs) (set-past a b i v)
-    ∙ ap (λ n. sets (a ++ set b i v) n vs) (sym (add-suc (length a) i))
-    ∙ sets-past a (set b i v) (suc i) vs
 
 sets-whole : (a b x : List ℕ) → length a ≡ length x → sets (a ++ b) 0 x ≡ x ++ b
 sets-whole a b x e =

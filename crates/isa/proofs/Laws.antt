@@ -1,4 +1,5 @@
--- What holds of every decoded word: each field lies in its format's bounds, so a register is below 8. Assumes nothing.
+-- What holds of every decoded word: each field lies in its format's bounds, so a register is below 8. A field is a remainder of the word,
+-- and the limits that the word has passed when it is decoded bound the number of its operation. Assumes nothing.
 use Prim.Native.Nat.{ℕ, _+_, _/_, _%_, _<_, _≤_}
 use native.Mathlib.Omega.{arith}
 use borrow.Author.Tests.{ltb-true, ltb-false}

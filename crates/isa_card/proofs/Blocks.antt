@@ -1,4 +1,5 @@
--- The blocks of an operation are its rows: the next word and the number of words go by them. Assumes nothing.
+-- The blocks of an operation are its rows: the next word and the number of words go by them. A row of another operation is passed over,
+-- for any rows that follow each other up to #FFFF; which blocks an operation then has is computed for all of them. Assumes nothing.
 use Prim.Native.Nat.{ℕ, zero, suc, _+_, _-_, _<_, _≤_}
 use mathlib.Core.Path.{_≡_, refl, sym, ap, subst, _∙_}
 use mathlib.Core.Bool.{Bool, true, false, cond, _&&_}

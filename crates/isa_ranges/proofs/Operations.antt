@@ -1,4 +1,5 @@
--- An operation is told by its number. Assumes nothing.
+-- An operation is told by its number: in the list of all operations each stands at its own number, so operations of one number are the
+-- same, and those of two numbers are not. Assumes nothing.
 use Prim.Native.Nat.{ℕ}
 use mathlib.Core.Path.{_≡_, refl, sym, ap, _∙_}
 use mathlib.Core.Bool.{true, not}

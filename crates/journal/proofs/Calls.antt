@@ -1,4 +1,5 @@
--- Going back by steps, and what the two calls have settled and leave, accepted or refused. Assumes nothing.
+-- Going back by steps, and what the two calls have settled and leave, accepted or refused. A verdict is a row of tests, each of which
+-- refuses; so an accepted call has met none of them, and a refused one leaves all as it was. Assumes nothing.
 use Prim.Native.Nat.{ℕ, suc, _≤_}
 use native.Mathlib.Omega.{arith}
 use mathlib.Core.Bool.{true, false, cond, not}

@@ -1,4 +1,5 @@
--- A step's record, copied out into the memory that the step left, gives the state before the step. Assumes nothing.
+-- A step's record, copied out into the memory that the step left, gives the state before the step: a step writes device bytes and the
+-- eight bytes at its address alone, and the record holds what these were before the step's events. Assumes nothing.
 use Prim.Native.Nat.{ℕ, zero, suc, _+_, _*_, _<_, _≤_}
 use native.Mathlib.Nat.{add-suc, suc-add}
 use native.Mathlib.Omega.{arith}

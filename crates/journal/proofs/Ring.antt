@@ -1,4 +1,5 @@
--- The ring: what keeping a record writes and leaves, and the places behind the next one. Assumes nothing.
+-- The ring: what keeping a record writes and leaves, and the places behind the next one. Two places share no byte, so a record kept leaves
+-- every other; and fewer places back than there are, the ring does not come round to the same place. Assumes nothing.
 use Prim.Native.Nat.{ℕ, suc, _+_, _-_, _*_, _/_, _%_, _<_, _≤_, min}
 use native.Mathlib.Nat.{min-le-left}
 use native.Mathlib.Omega.{arith}

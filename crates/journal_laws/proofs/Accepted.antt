@@ -15,16 +15,12 @@ use Rattle.machine.specs.Record.{twoAt, fourAt, stateIn, recordOf}
 use Rattle.machine.specs.Refusal.{Rule, rulesOf, firstBroken, recordFits, verdictOf}
 use Rattle.machine_laws.specs.Bounds.{Each, Tidy}
 use Rattle.machine_laws.proofs.Cases.{is-eq, is-lt, not-lt, and-both}
-use Rattle.machine_laws.proofs.Records.{record-read}
+use Rattle.machine_laws.proofs.Records.{record-read, start-count}
 use Rattle.journal_laws.specs.On.{LawfulEvents}
 
 none-broken : (xs : List Rule) → Each (λ (x : Rule). x .broken ≡ false) xs → firstBroken xs ≡ Accepted
 none-broken [] e = refl
 none-broken (x ∷ xs) e = ap (λ b. cond b (x .verdict) (firstBroken xs)) (e .0) ∙ none-broken xs (e .1)
-
-count-in : (r memory : List ℕ) → stateIn r memory .count ≡ fourAt r 22
-unfolding stateIn
-count-in r memory = refl
 
 psw-in : (r memory : List ℕ) → stateIn r memory .core .psw ≡ twoAt r 16
 unfolding stateIn
@@ -36,7 +32,7 @@ cex-in r memory = refl
 
 module _ (s : State) (t : Tidy s) (fits : s .count ≤ 4294967295) where
   count-is : fourAt (recordOf s) 22 ≡ s .count
-  count-is = sym (count-in (recordOf s) (s .mem)) ∙ ap (λ u. u .count) (record-read s t fits)
+  count-is = sym (start-count (recordOf s) (s .mem)) ∙ ap (λ u. u .count) (record-read s t fits)
 
   psw-is : twoAt (recordOf s) 16 ≡ s .core .psw
   psw-is = sym (psw-in (recordOf s) (s .mem)) ∙ ap (λ u. u .core .psw) (record-read s t fits)

@@ -1,13 +1,13 @@
--- One record of the journal, filled part by part, and put into the ring. Assumes nothing.
+-- One record of the journal, filled part by part, and put into the ring: its parts lie side by side, so stores one behind the other are its
+-- bytes. A byte from before the events is a device byte that was kept, or else memory's own. Assumes nothing.
 use Prim.Native.Nat.{ℕ, zero, suc, _+_, _-_, _*_, _/_, _%_, _^_, _<_, _≤_}
-use native.Mathlib.Nat.{add-zero}
 use native.Mathlib.Omega.{arith}
 use mathlib.Core.Bool.{Bool, true, false, cond, _&&_}
 use mathlib.Core.List.{List, [], _∷_, _++_, append-assoc, append-nil}
 use mathlib.Core.Logic.{_≢_}
 use mathlib.Core.Path.{_≡_, refl, sym, ap, subst, _∙_}
 use lib.Dec.{leb}
-use lib.ListN.{length, take, drop, set, drop-of-length-le, length-append}
+use lib.ListN.{length, take, drop, drop-of-length-le, length-append}
 use lib.Seq.{sets, sets-eq, drop-cons, getD-take, take-at, drop-drop}
 use Rattle.machine.specs.State.{State, wrap}
 use Rattle.machine.specs.Memory.{byteAt, even, lowByte, highByte}
@@ -144,25 +144,6 @@ part-is b (suc n) k h l =
 -- the device bytes are the first sixteen
 pub sixteen : (b d m : List ℕ) → Before b d m → d ≡ bytesFrom b 0 16
 sixteen b d m w = w .devices ∙ part-is b 16 0 (let h = w .size in omega arith) (omega arith)
-
--- ---- bytes copied one by one
-
-abbrev pub copied : (j : List ℕ) (o : ℕ) (e : List ℕ) (i : ℕ) → List ℕ
-copied j o e i = sets j (o + i) (drop i e)
-
-pub copied-start : (j : List ℕ) (o : ℕ) (e : List ℕ) → copied j o e 0 ≡ sets j o e
-copied-start j o e = ap (λ k. sets j k e) (add-zero o)
-
-pub copied-turn : (j : List ℕ) (o : ℕ) (e : List ℕ) (i : ℕ) → i < length e
-    → copied (set j (o + i) (byteAt e i)) o e (i + 1) ≡ copied j o e i
-copied-turn j o e i h =
-    let x : o + (i + 1) ≡ suc (o + i) = omega arith in
-    let y : i + 1 ≡ suc i = omega arith in
-    (λ k. sets (set j (o + i) (byteAt e i)) (x k) (drop (y k) e))
-    ∙ sym (ap (λ l. sets j (o + i) l) (drop-cons e i 0 h))
-
-pub copied-end : (j : List ℕ) (o : ℕ) (e : List ℕ) (i : ℕ) → length e ≤ i → copied j o e i ≡ j
-copied-end j o e i h = ap (λ l. sets j (o + i) l) (drop-of-length-le e h)
 
 -- ---- the record filled
 

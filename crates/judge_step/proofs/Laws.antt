@@ -1,4 +1,5 @@
--- What code looks at of a step is what the step shows. Assumes nothing.
+-- What code looks at of a step is what the step shows: each of its tests is the definition's, over the numbers in which frames, marks and
+-- machine are held, and a byte read amiss is looked for only in a step of the application. Assumes nothing.
 use Prim.Native.Nat.{ℕ, zero, suc, _+_, _-_, _*_, _%_, _<_}
 use native.Mathlib.Nat.{mod-eq-of-lt}
 use native.Mathlib.Omega.{arith}

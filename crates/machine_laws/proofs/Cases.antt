@@ -1,4 +1,5 @@
--- A test's value as a fact about its numbers, a fact as the test's value, and proofs by cases. Assumes nothing.
+-- A test's value as a fact about its numbers, a fact as the test's value, and proofs by cases. Each is the library's law of that test,
+-- with the numbers left to be inferred, so that a proof by cases names the fact alone. Assumes nothing.
 pub use Rattle.word.proofs.Laws.{bool-cases}
 use Prim.Native.Nat.{ℕ, _<_, _≤_}
 use mathlib.Core.Bool.{Bool, true, false, _&&_, false≢true}

@@ -1,4 +1,5 @@
--- Memory after a list of writes, byte by byte and word by word. Assumes nothing.
+-- Memory after a list of writes, byte by byte and word by word: a byte is the last value that was written to it, or what it was (`over`),
+-- and each law goes down the list of writes by that. Assumes nothing.
 use Prim.Native.Nat.{ℕ, zero, suc, _+_, _*_, _<_}
 use mathlib.Core.Bool.{true, false, cond, _||_, true≢false, false≢true}
 use mathlib.Core.List.{List, [], _∷_, _++_}

@@ -1,4 +1,5 @@
--- A plan by the seven points of a step: what holds in each of its cases holds of it. Assumes nothing.
+-- A plan by the seven points of a step: what holds in each of its cases holds of it. The points are tests in a row, so in each case the
+-- tests before it were not met, and the plan is the one that the definition names there. Assumes nothing.
 use Prim.Native.Nat.{ℕ, _%_}
 use mathlib.Core.Bool.{true, false, cond}
 use mathlib.Core.List.{List}

@@ -1,4 +1,5 @@
--- The state record both ways, and what an accepted run has settled. Assumes nothing.
+-- The state record both ways, and what an accepted run has settled. A number of two or four bytes comes back from its bytes; an accepted
+-- record has zeros where the state has nothing to say, so reading it and writing it again loses no byte. Assumes nothing.
 use Prim.Native.Nat.{ℕ, zero, suc, _+_, _*_, _/_, _%_, _-_, _^_, _<_, _≤_}
 use native.Mathlib.Nat.{add-zero, add-suc}
 use native.Mathlib.Omega.{arith}

@@ -1,4 +1,5 @@
--- The run, one step more and after a halt. Assumes nothing.
+-- The run, one step more and after a halt. A run of one step more is the run and a step, which a halted machine does not take; so a halted
+-- machine stays as it is, and a run that is not halted has done all its steps. Assumes nothing.
 use Prim.Native.Nat.{ℕ, zero, suc, _+_, _≤_}
 use native.Mathlib.Nat.{add-suc, add-zero}
 use native.Mathlib.Numerals.{add-one}

@@ -1,4 +1,5 @@
--- What every step keeps: the bounds of core, lines and memory; and what it adds to the count. Assumes nothing.
+-- What every step keeps: the bounds of core, lines and memory; and what it adds to the count. The events, the plan and its performance each
+-- keep the bounds, act by act, since what they leave is cut to its bits; a run keeps them step by step. Assumes nothing.
 use Prim.Native.Nat.{ℕ, zero, suc, _+_, _*_, _/_, _%_, _-_, _^_, _<_, _≤_}
 use mathlib.Core.Bool.{Bool, true, false, cond, not, _&&_, _||_, false≢true}
 use mathlib.Core.List.{List, [], _∷_, _++_}

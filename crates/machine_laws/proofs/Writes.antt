@@ -1,4 +1,5 @@
--- Which bytes events and steps can write. Assumes nothing.
+-- Which bytes events and steps can write: an event its device's registers, a step what its act pushes, loads or stores, and device
+-- registers. Each list of writes names its places, and a byte at none of them stays as it was. Assumes nothing.
 use Prim.Native.Nat.{ℕ, _+_, _-_, _%_, _<_, _≤_}
 use mathlib.Core.Bool.{Bool, true, false, cond, _||_, false≢true}
 use mathlib.Core.List.{List, [], _∷_, _++_}

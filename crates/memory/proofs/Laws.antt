@@ -2,7 +2,7 @@
 -- Assumes nothing.
 use mathlib.Core.Path.{_≡_, refl, sym, ap, _∙_}
 use mathlib.Core.Bool.{true, false, and-false}
-use mathlib.Core.List.{List, [], _∷_, _++_}
+use mathlib.Core.List.{List}
 use Prim.Native.Nat.{ℕ, _+_, _-_, _*_, _/_, _%_, _≤_, _<_}
 use native.Mathlib.Omega.{arith}
 use lib.Bits.{bitAnd, bitOr, and-block, and-high, and-mask, or-block, or-shifted}
@@ -11,8 +11,9 @@ use lib.ListN.{set}
 use borrow.Author.Tests.{lt-ltb, le-ltb, eq-eqb, ne-eqb}
 use Rattle.word.specs.Psw.{putBit, bitOf}
 use Rattle.word.proofs.Laws.{bit-back}
-use Rattle.machine.specs.Memory.{firstByte, byteAt, even, lowByte, highByte, Write, commit, valueAt}
+use Rattle.machine.specs.Memory.{firstByte, byteAt, even, lowByte, highByte, commit, valueAt}
 use Rattle.machine.specs.Devices.{clearedStatus, storedStatus, loadWrites, byteWrites, storeWrites}
+use Rattle.machine_laws.proofs.Memory.{commit-append}
 
 -- ---- status bytes, as the code works them
 
@@ -89,11 +90,6 @@ pub load-word :
 load-word m l w b a e f s = s ∙ ap (λ (x : ℕ). commit (loadWrites true m x) m) (f ∙ ap firstByte e)
 
 -- ---- stores
-
-pub commit-append : (ws vs : List Write) (m : List ℕ) → commit (ws ++ vs) m ≡ commit vs (commit ws m)
-unfolding commit
-commit-append [] vs m = refl
-commit-append (w ∷ ws) vs m = commit-append ws vs (set m (w .addr) (w .value))
 
 module _ (m : List ℕ) (a v : ℕ) where
   pub store-status : (t : ℕ) → a < 16 → a % 2 ≡ 0 → t ≡ storedStatus (byteAt m a) v → set m a t ≡ commit (byteWrites m a v) m

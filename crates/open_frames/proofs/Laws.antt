@@ -1,4 +1,5 @@
--- Frames held, read from their places. Assumes nothing.
+-- Frames held, read from their places: frame i is its row of 14 numbers, its step and its two vectors at place i. So one frame more is
+-- stores at place n, which leave the places below it, and one less is the same places with a smaller count. Assumes nothing.
 use Prim.Native.Nat.{ℕ, zero, suc, _+_, _-_, _*_, _<_, _≤_}
 use native.Mathlib.Numerals.{add-one}
 use native.Mathlib.Omega.{arith}

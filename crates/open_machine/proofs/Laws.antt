@@ -1,4 +1,5 @@
--- An advance from its parts: turned back, or run; and the step count in a machine's own record. Assumes nothing.
+-- An advance from its parts: turned back, or run; and the step count in a machine's own record. The number tested is that of the verdict
+-- on the machine's record, so it is 0 exactly where the definition runs, from the machine's own state. Assumes nothing.
 use Prim.Native.Nat.{ℕ, suc, _+_, _*_, _<_, _≤_, _^_}
 use mathlib.Core.Bool.{Bool, true, false, cond, not}
 use mathlib.Core.List.{List}

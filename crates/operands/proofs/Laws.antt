@@ -1,4 +1,5 @@
--- Tables read past their end, and addresses moved by a signed distance. Assumes nothing.
+-- Tables read past their end, and addresses moved by a signed distance. A distance below zero is taken off as its magnitude and then one
+-- more, any other is added, and both wrap at 65,536 as `moved` has it. Assumes nothing.
 use mathlib.Core.Path.{_≡_, refl, ap, _∙_}
 use mathlib.Core.Bool.{Bool, true, false}
 use mathlib.Core.List.{List, [], _∷_, _++_}

@@ -1,4 +1,5 @@
--- The log's parts: what is shown, a record's bytes, and the device bytes kept and put back. Assumes nothing.
+-- The log's parts: what is shown, a record's bytes, and the device bytes kept and put back. A store shows its byte where that lies in the
+-- data register of an enabled output device; bytes are copied one by one, so what is copied is a beginning. Assumes nothing.
 use Prim.Native.Nat.{ℕ, _+_, _/_, _%_, _<_, _≤_}
 use native.Mathlib.Nat.{div-div-eq-div-mul, min-eq-left}
 use native.Mathlib.Numerals.{add-one, unary-clauses}
@@ -10,6 +11,7 @@ use mathlib.Core.Path.{_≡_, refl, sym, ap, _∙_}
 use lib.Dec.{eqb, ltb}
 use lib.ListN.{length, set, take, getD, length-take}
 use lib.Seq.{sets, take-suc, take-suc-set, take-all}
+use borrow.Author.Tests.{not-true}
 use Rattle.machine.specs.declared.Act.the-variants as act
 use Rattle.machine.specs.declared.ByteAddr.{ByteAddr}
 use Rattle.machine.specs.State.{State}
@@ -95,17 +97,8 @@ record-bytes log i n d v =
 
 -- ---- the device bytes
 
--- a test turned round
-pub is-not : (b : Bool) → not b ≡ true → b ≡ false
-is-not true h = absurd (false≢true h)
-is-not false h = refl
-
-pub is-so : (b : Bool) → not b ≡ false → b ≡ true
-is-so true h = refl
-is-so false h = absurd (true≢false h)
-
 pub not-both {ℓ} : {R : Type ℓ} (b : Bool) → b ≡ true → not b ≡ true → R
-not-both b h k = absurd (true≢false (sym h ∙ is-not b k))
+not-both b h k = absurd (true≢false (sym h ∙ not-true b k))
 
 -- one byte more copied out, and all of them
 pub keep-more : (m kept : List ℕ) (i : ℕ) → i < length kept → i < length m → take i kept ≡ take i m

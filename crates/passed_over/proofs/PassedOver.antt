@@ -1,4 +1,5 @@
--- A run depends on its due events alone, so that passed-over events can be left out of a call's list. Assumes nothing.
+-- A run depends on its due events alone, so that passed-over events can be left out of a call's list: the count only rises, so an event
+-- whose step lies behind the start's count is due at no step, and both lists deliver the same at every step. Assumes nothing.
 use Prim.Native.Nat.{ℕ, zero, suc, _+_, _≤_}
 use native.Mathlib.Omega.{arith}
 use mathlib.Core.Bool.{true, false, cond}
@@ -6,22 +7,22 @@ use mathlib.Core.List.{List, _++_}
 use mathlib.Core.Path.{_≡_, refl, sym, ap, subst, _∙_}
 use lib.Dec.{ltb}
 use lib.ListN.{length}
-use Rattle.machine.specs.declared.Verdict.the-variants.{Accepted}
 use Rattle.machine.specs.declared.Depth.{Depth}
 use Rattle.machine.specs.State.{State}
-use Rattle.machine.specs.Record.{fourAt, stateIn}
+use Rattle.machine.specs.Record.{stateIn}
 use Rattle.machine.specs.Events.{Event, eventsOf}
 use Rattle.machine.specs.Devices.{deliver}
 use Rattle.machine.specs.Step.{planOf, finished, stepOf}
 use Rattle.machine.specs.Run.{Run, ran, further, runOf}
 use Rattle.machine.specs.Log.{loggedOf, loggedNext}
 use Rattle.machine.specs.Logged.{Logged, logged, over?, onward, runLogged}
-use Rattle.machine.specs.Depth.{depthAfter, depthFrom, deepestFrom, callDeepest}
-use Rattle.machine.specs.Refusal.{callVerdict, accepted?}
-use Rattle.machine.specs.Call.{roomOf, closing, runOn}
+use Rattle.machine.specs.Depth.{depthAfter, depthFrom}
+use Rattle.machine.specs.Call.{roomOf, closing}
+use Rattle.machine_laws.proofs.Records.{start-count}
 use Rattle.machine_laws.proofs.Steps.{run-count}
 use Rattle.run_laws.proofs.Room.{logged-run}
 use Rattle.run_laws.proofs.Calls.{accepted-call}
+use Rattle.run_laws.proofs.Depth.{accepted-deepest}
 use Rattle.passed_over.specs.PassedOver.{PassedOver, lessFirst, SameFrom, DueAlone, PassedOverDoNothing}
 use Rattle.passed_over.proofs.Shorter.{deliver-less}
 use Rattle.passed_over.proofs.Accepted.{shorter-accepted}
@@ -79,23 +80,12 @@ due-alone ev ev′ s same room n = (run-same ev ev′ s same n, logged-same ev e
 
 -- ---- the call
 
-count-is : (r memory : List ℕ) → stateIn r memory .count ≡ fourAt r 22
-unfolding stateIn
-count-is r memory = refl
-
 module _ (memory r events : List ℕ) (k : ℕ) (P : PassedOver r events k) where
   -- no record left out is due
   same-from : SameFrom (stateIn r memory .count) (eventsOf (lessFirst k events)) (eventsOf events)
   same-from t h =
       deliver-less events k (t .count) t (P .within)
-      (λ i l e. let p = P .early i l in omega (arith, h, p, e, count-is r memory))
-
-deepest-is : (memory r events log : List ℕ) (n number : ℕ) → callVerdict memory r events log n ≡ Accepted
-    → callDeepest memory r events log n number
-    ≡ deepestFrom (eventsOf events) (stateIn r memory) (runOn memory r events log n .steps)
-unfolding callDeepest
-deepest-is memory r events log n number e =
-    ap (λ v. cond (accepted? v) (deepestFrom (eventsOf events) (stateIn r memory) (runOn memory r events log n .steps)) number) e
+      (λ i l e. let p = P .early i l in omega (arith, h, p, e, start-count r memory))
 
 pub passed-over-do-nothing : PassedOverDoNothing
 passed-over-do-nothing memory r events log n number k ok P =
@@ -107,7 +97,7 @@ passed-over-do-nothing memory r events log n number k ok P =
     record {
       accepted = fine;
       call = accepted-call memory r less log n fine ∙ ap (closing log) run ∙ sym (accepted-call memory r events log n ok);
-      deepest = deepest-is memory r less log n number fine
+      deepest = accepted-deepest memory r less log n number fine
           ∙ (λ i. depth-same (eventsOf less) (eventsOf events) s same (record { opened = 0; deepest = 0 }) (run i .steps) i .deepest)
-          ∙ sym (deepest-is memory r events log n number ok);
+          ∙ sym (accepted-deepest memory r events log n number ok);
     }

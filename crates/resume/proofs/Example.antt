@@ -1,4 +1,5 @@
--- The run meets the premises of resumption and of the bound on depth, and both runs end in the same core. Assumes nothing.
+-- The run meets the premises of resumption and of the bound on depth, and both runs end in the same core. Each premise is read off the rows
+-- of the run, which are computed from the bytes that each step reads. Assumes nothing.
 use Prim.Native.Nat.{ℕ, _+_, _*_, _<_}
 use mathlib.Core.Bool.{Bool, false, _&&_, true≢false}
 use mathlib.Core.List.{List, [], _∷_}

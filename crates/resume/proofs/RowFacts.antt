@@ -1,4 +1,5 @@
--- What a row of a run says of the premises, and how facts of each number below n are written down. Assumes nothing.
+-- What a row of a run says of the premises, and how facts of each number below n are written down. A row has the step's state, act and
+-- frames as equations, so that a premise at that step is a test of known things. Assumes nothing.
 use Prim.Native.Nat.{ℕ, zero, suc, _+_, _<_, _≤_}
 use mathlib.Core.Bool.{Bool, true, false, _&&_, true≢false}
 use mathlib.Core.List.{List, [], _∷_}

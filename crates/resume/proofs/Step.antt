@@ -1,4 +1,5 @@
--- One step of the application beside the run with no events: an instruction, or a return. Assumes nothing.
+-- One step of the application beside the run with no events: an instruction, or a return. Both have the same core, and the same bytes
+-- wherever the step reads; so they plan the same act, and leave the same but for bytes that were different before. Assumes nothing.
 use Prim.Native.Nat.{ℕ, zero, suc, _+_, _<_, _≤_}
 use mathlib.Core.Bool.{Bool, false}
 use mathlib.Core.List.{List, [], _∷_}

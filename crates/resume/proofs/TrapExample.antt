@@ -1,4 +1,5 @@
--- The run with traps meets the premises of resumption, and both runs end in the same core, computed. Assumes nothing.
+-- The run with traps meets the premises of resumption, and both runs end in the same core, computed. The premises are read off the rows; a
+-- trap's frame is the application's own, of which nothing is asked, until a device is chained onto it. Assumes nothing.
 use mathlib.Core.Bool.{false}
 use mathlib.Core.List.{[], _∷_}
 use mathlib.Core.Path.{_≡_, refl, sym, ap, _∙_}

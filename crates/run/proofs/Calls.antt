@@ -1,4 +1,5 @@
--- The run call from its parts: refused, or run. Assumes nothing.
+-- The run call from its parts: refused, or run. The number that the code tests is the verdict's, so it is 0 exactly where the call is
+-- accepted; the run is then the definition's, from the state that the record holds. Assumes nothing.
 use Prim.Native.Nat.{ℕ, _≤_}
 use mathlib.Core.Bool.{cond}
 use mathlib.Core.List.{List}

@@ -1,4 +1,5 @@
--- The run call with a journal from its parts: refused, or run. Assumes nothing.
+-- The run call with a journal from its parts: refused, or run. The run call's own verdict comes first, then whether the journal fits; the
+-- number that the code tests is 0 exactly where both have passed. Assumes nothing.
 use Prim.Native.Nat.{ℕ, _≤_}
 use native.Mathlib.Omega.{arith}
 use mathlib.Core.Bool.{Bool, true, false, cond}

@@ -1,4 +1,5 @@
--- The depth of a run: over slices, over a stretch that is uneventful, in one step more, and in a run with a log. Assumes nothing.
+-- The depth of a run: over slices, over a stretch that is uneventful, in one step more, and in a run with a log. It is carried from act to
+-- act, so each law goes by the steps; an uneventful act leaves it. Assumes nothing.
 use Prim.Native.Nat.{ℕ, zero, suc, _+_, _-_, _≤_}
 use native.Mathlib.Nat.{add-suc, add-zero}
 use native.Mathlib.Numerals.{add-one}

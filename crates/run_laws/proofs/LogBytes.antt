@@ -1,4 +1,5 @@
--- The log as bytes: eight a record, from the start, the rest as it was. Assumes nothing.
+-- The log as bytes: eight a record, from the start, the rest as it was. Records stored one behind the other are one run of stores, and what
+-- lies behind a run of stores is not touched. Assumes nothing.
 use Prim.Native.Nat.{ℕ, zero, suc, _+_, _-_, _*_, _<_, _≤_}
 use native.Mathlib.Omega.{arith}
 use mathlib.Core.List.{List, [], _∷_, _++_}

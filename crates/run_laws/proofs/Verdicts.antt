@@ -1,4 +1,5 @@
--- The verdict on a run call: that on its start, and then the log's length. Assumes nothing.
+-- The verdict on a run call: that on its start, and then the log's length. The call's rules are the start's and one more behind them, and
+-- the first rule that is broken decides. Assumes nothing.
 use Prim.Native.Nat.{ℕ, _+_, _%_, _≤_}
 use native.Mathlib.Omega.{arith}
 use mathlib.Core.Bool.{false, cond, not}

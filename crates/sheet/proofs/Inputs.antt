@@ -1,4 +1,5 @@
--- An input from its parts, and what an accepted one has settled. Assumes nothing.
+-- An input from its parts, and what an accepted one has settled. The parts lie at fixed places, so the lengths that the verdict has judged
+-- say that each part is whole, and the run of the parts is the run of the input. Assumes nothing.
 use Prim.Native.Nat.{ℕ, _+_, _-_, _≤_}
 use mathlib.Core.Path.{_≡_, sym, ap, _∙_}
 use mathlib.Core.Bool.{true, cond}
@@ -6,7 +7,7 @@ use mathlib.Core.List.{List}
 use mathlib.Core.Logic.{_≢_}
 use native.Mathlib.Omega.{arith}
 use lib.Dec.{ltb}
-use lib.ListN.{length, take, drop, length-take, length-drop}
+use lib.ListN.{length, take, drop, length-drop}
 use lib.Seq.{take-all}
 use Rattle.machine.specs.declared.Depth.{Depth}
 use Rattle.machine.specs.declared.Machine.{Machine}
@@ -81,9 +82,6 @@ ready b e =
     record { size = ge-of (q .0); rules = passed (memoryIn b) (recordIn b) (eventsIn b) (stepsIn b) (q .1) }
 
 -- ---- the needs of a run
-
-pub part-length : (b : List ℕ) (from n : ℕ) → from + n ≤ length b → length (take n (drop from b)) ≡ n
-part-length b from n h = simp (length-take, length-drop) (omega arith)
 
 pub run-ready : (b : List ℕ) (m : Machine) {r e : List ℕ} {n : ℕ} → Ready b
     → n ≡ stepsIn b

@@ -1,4 +1,5 @@
--- A run in slices over a short log, as its loop goes. Assumes nothing.
+-- A run in slices over a short log, as its loop goes. After j steps the state is that of the run of j; a slice that stopped for room goes
+-- on from there, and one that did not ends where the one run ends. Assumes nothing.
 use Prim.Native.Nat.{ℕ, _+_, _-_, _≤_}
 use native.Mathlib.Omega.{arith}
 use mathlib.Core.Bool.{true, false}

@@ -1,4 +1,5 @@
--- The four edited runs, judged by computing: each kind, step and detail is found. Assumes nothing.
+-- The four edited runs, judged by computing: each kind, step and detail is found. The rows of the entry are the same with any handler and
+-- are given once, over its first word; those after it are computed for each edit. Assumes nothing.
 use Prim.Native.Nat.{ℕ}
 use mathlib.Core.Bool.{Bool, true, false, cond}
 use mathlib.Core.List.{List, [], _∷_, _++_}

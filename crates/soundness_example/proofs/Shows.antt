@@ -1,4 +1,5 @@
--- What a step of a run shows, from its row. Assumes nothing.
+-- What a step of a run shows, from its row. The row has state, act and frames as equations, so that each of the seven tests of the step is
+-- computed, and what is found of a kind is told by the first step whose test is met. Assumes nothing.
 use Prim.Native.Nat.{ℕ, suc, _+_}
 use native.Mathlib.Omega.{arith}
 use mathlib.Core.Bool.{Bool, true, false, not, _||_, false≢true}

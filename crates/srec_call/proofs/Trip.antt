@@ -1,4 +1,5 @@
--- Loading what was written, of the calls. Assumes nothing.
+-- Loading what was written, of the calls. An accepted write call leaves the span's text and behind it the old bytes; the reply's length
+-- cuts off the text, and the text of a span loads back into the span (srec_trip). Assumes nothing.
 use Prim.Native.Nat.{ℕ, suc, _+_, _*_, _/_, _%_, _≤_, _<_}
 use mathlib.Core.Path.{_≡_, refl, sym, ap, _∙_, subst}
 use mathlib.Core.Bool.{Bool, true, false, cond, false≢true}

@@ -1,13 +1,14 @@
--- What the loops of judging and loading keep. Assumes nothing.
+-- What the loops of judging and loading keep. The lines from a place on are the line there and the lines from the next place on; so what
+-- the lines that are left make of what is held is, turn by turn, what all lines make of what was lent. Assumes nothing.
 use Prim.Native.Nat.{ℕ, zero, suc, _+_, _-_, _*_, _≤_, _<_}
 use mathlib.Core.Path.{_≡_, refl, sym, ap, _∙_, subst}
-use mathlib.Core.Bool.{Bool, true, false, _&&_}
+use mathlib.Core.Bool.{Bool, true, false, cond, _&&_, false≢true}
 use mathlib.Core.List.{List, [], _∷_}
 use native.Mathlib.Numerals.{add-one}
 use native.Mathlib.Omega.{arith}
 use lib.Dec.{eqb, ltb, leb}
 use lib.ListN.{length, getD, take, drop, set, length-drop, drop-of-length-le}
-use lib.Seq.{sets, drop-cons, getD-drop, getD-take, length-take-le}
+use lib.Seq.{sets, drop-cons, drop-nil, getD-drop, getD-take, length-take-le}
 use borrow.Author.Tests.{eq-eqb, ne-eqb}
 use Rattle.lines.specs.Lines.{linesOf, none, LineAt}
 use Rattle.lines.proofs.Laws.{lines-end, lines-none}
@@ -114,48 +115,50 @@ module _ (t : List ℕ) (at stop next : ℕ) (here : LineAt t at stop next) wher
 
 -- ---- a line's shape and fault, test by test
 
+-- all tests of a list, and then e
+abbrev pub every : List Bool → Bool → Bool
+every [] e = e
+every (t ∷ ts) e = t && every ts e
+
+abbrev test? : ℕ → List Bool → Bool
+test? k [] = true
+test? zero (t ∷ ts) = t
+test? (suc k) (t ∷ ts) = test? k ts
+
+-- test k is met, so those after it decide; test k is not, and all before it were
+pub met : (k : ℕ) (ts : List Bool) (e : Bool) {x : Bool} → x ≡ every (drop k ts) e → test? k ts ≡ true → x ≡ every (drop (suc k) ts) e
+met k [] e h q = h ∙ ap (λ u. every u e) (drop-nil k)
+met zero (t ∷ ts) e h q = h ∙ ap (λ b. b && every ts e) q
+met (suc k) (t ∷ ts) e h q = met k ts e h q
+
+pub missed : (k : ℕ) (ts : List Bool) (e : Bool) {x : Bool} → x ≡ every (drop k ts) e → test? k ts ≡ false → false ≡ x
+missed k [] e h q = absurd (false≢true (sym q))
+missed zero (t ∷ ts) e h q = sym (h ∙ ap (λ b. b && every ts e) q)
+missed (suc k) (t ∷ ts) e h q = missed k ts e h q
+
+-- the tests of every line, and what is asked of an S9
+abbrev pub tests : List ℕ → List Bool
+tests l =
+    leb 4 (length l) ∷ eqb (getD l 0 0) 83 ∷ known (kindOf l) ∷ allDigits (drop 2 l) ∷ eqb (length l) (4 + 2 * countOf l)
+    ∷ leb 3 (countOf l)
+    ∷ []
+
+abbrev pub ending : Bool → List ℕ → Bool
+ending last l = cond (eqb (kindOf l) 57) (eqb (countOf l) 3 && last) true
+
 module _ (last : Bool) (l : List ℕ) where
-  pub shape-short : leb 4 (length l) ≡ false → false ≡ shapedOf last l
+  pub shape-tests : shapedOf last l ≡ every (tests l) (ending last l)
   unfolding shapedOf
-  shape-short a = rw a
+  shape-tests = refl
 
-  module _ (long : leb 4 (length l) ≡ true) where
-    pub shape-letter : eqb (getD l 0 0) 83 ≡ false → false ≡ shapedOf last l
-    unfolding shapedOf
-    shape-letter a = rw (long, a)
+  pub shape-data : {x : Bool} → x ≡ ending last l → eqb (kindOf l) 57 ≡ false → true ≡ x
+  shape-data h a = rw (h, a)
 
-    module _ (letter : eqb (getD l 0 0) 83 ≡ true) where
-      pub shape-kind : known (kindOf l) ≡ false → false ≡ shapedOf last l
-      unfolding shapedOf
-      shape-kind a = rw (long, letter, a)
+  pub shape-long : {x : Bool} → x ≡ ending last l → eqb (kindOf l) 57 ≡ true → eqb (countOf l) 3 ≡ false → false ≡ x
+  shape-long h a b = rw (h, a, b)
 
-      module _ (kind : known (kindOf l) ≡ true) where
-        pub shape-digits : allDigits (drop 2 l) ≡ false → false ≡ shapedOf last l
-        unfolding shapedOf
-        shape-digits a = rw (long, letter, kind, a)
-
-        module _ (digits : allDigits (drop 2 l) ≡ true) where
-          pub shape-count : eqb (length l) (4 + 2 * countOf l) ≡ false → false ≡ shapedOf last l
-          unfolding shapedOf
-          shape-count a = rw (long, letter, kind, digits, a)
-
-          module _ (count : eqb (length l) (4 + 2 * countOf l) ≡ true) where
-            pub shape-room : leb 3 (countOf l) ≡ false → false ≡ shapedOf last l
-            unfolding shapedOf
-            shape-room a = rw (long, letter, kind, digits, count, a)
-
-            module _ (room : leb 3 (countOf l) ≡ true) where
-              pub shape-data : eqb (kindOf l) 57 ≡ false → true ≡ shapedOf last l
-              unfolding shapedOf
-              shape-data a = rw (long, letter, kind, digits, count, room, a)
-
-              pub shape-long : eqb (kindOf l) 57 ≡ true → eqb (countOf l) 3 ≡ false → false ≡ shapedOf last l
-              unfolding shapedOf
-              shape-long a b = rw (long, letter, kind, digits, count, room, a, b)
-
-              pub shape-last : eqb (kindOf l) 57 ≡ true → eqb (countOf l) 3 ≡ true → last ≡ shapedOf last l
-              unfolding shapedOf
-              shape-last a b = rw (long, letter, kind, digits, count, room, a, b)
+  pub shape-last : {x : Bool} → x ≡ ending last l → eqb (kindOf l) 57 ≡ true → eqb (countOf l) 3 ≡ true → last ≡ x
+  shape-last h a b = rw (h, a, b)
 
   pub fault-shape : shapedOf last l ≡ false → Form ≡ faultOf last l
   unfolding faultOf

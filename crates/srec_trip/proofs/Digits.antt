@@ -1,4 +1,5 @@
--- Digits written and read back. Assumes nothing.
+-- Digits written and read back. A digit below ten is written as 0 to 9, any other as A to F, and each of these is read as its value; so the
+-- two digits of a byte are read as the byte, and the digits of a list as the list. Assumes nothing.
 use Prim.Native.Nat.{ℕ, zero, suc, _+_, _-_, _*_, _/_, _%_, _≤_, _<_}
 use mathlib.Core.Path.{_≡_, refl, ap, _∙_}
 use mathlib.Core.Bool.{true, false}

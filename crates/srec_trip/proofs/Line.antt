@@ -1,4 +1,5 @@
--- A line written and read back. Assumes nothing.
+-- A line written and read back. Its digits are those of its bytes, so count, address and data are read as they were written; the checksum
+-- completes their sum to 255, so the line has no fault. Assumes nothing.
 use Prim.Native.Nat.{ℕ, _+_, _-_, _*_, _/_, _%_, _≤_, _<_}
 use mathlib.Core.Path.{_≡_, refl}
 use mathlib.Core.Bool.{Bool, true, false, cond, _&&_}

@@ -5,8 +5,8 @@ use mathlib.Core.Path.{_≡_, refl, sym, ap, _∙_}
 use mathlib.Core.List.{List, [], _∷_, _++_}
 use native.Mathlib.Omega.{arith}
 use lib.Dec.{ltb}
-use lib.ListN.{length, getD, take, drop, set, length-drop, length-set}
-use lib.Seq.{sets, length-sets, length-take-le, take-add, drop-drop, getD-drop, getD-take, getD-set-same, getD-set-other}
+use lib.ListN.{length, getD, take, drop, length-drop}
+use lib.Seq.{sets, length-sets, length-take-le, take-add, drop-drop, getD-drop, getD-take}
 use borrow.Author.Tests.{ltb-true, ltb-false}
 use Rattle.word.proofs.Laws.{bool-cases}
 use Rattle.lines.specs.Lines.{linesOf, none}
@@ -15,7 +15,7 @@ use Rattle.srec.specs.declared.Refusal.the-variants.{Accepted}
 use Rattle.srec.specs.Record.{isAccepted}
 use Rattle.srec.specs.Load.{verdict, verdictFrom, verdictOf, storedOf, memoryAfter, pcAt, pcAfter}
 use Rattle.srec.specs.Write.{lineOf, dataLines, spanLines, spanText}
-use Rattle.stores.proofs.Laws.{sets-append}
+use Rattle.stores.proofs.Laws.{sets-append, sets-below, sets-above, sets-in}
 use Rattle.srec.proofs.Laws.{verdict-end, verdict-more}
 use Rattle.srec_trip.specs.Trip.{Bytes, Restored}
 use Rattle.srec_trip.proofs.Digits.{bytes-take, bytes-drop}
@@ -47,27 +47,6 @@ span-split m m′ a n h =
     let e : min n 16 ≡ n = omega arith in
     let f : n - 16 ≡ 0 = omega arith in
     rw (e, f))
-
--- a run of stores, byte by byte
-sets-below : (vs m : List ℕ) (i j : ℕ) → j < i → getD (sets m i vs) j 0 ≡ getD m j 0
-sets-below [] m i j h = refl
-sets-below (v ∷ vs) m i j h =
-    sets-below vs (set m i v) (suc i) j (omega arith) ∙ getD-set-other m i j v 0 (λ (e : j ≡ i). omega arith)
-
-sets-above : (vs m : List ℕ) (i j : ℕ) → i + length vs ≤ j → getD (sets m i vs) j 0 ≡ getD m j 0
-sets-above [] m i j h = refl
-sets-above (v ∷ vs) m i j h =
-    sets-above vs (set m i v) (suc i) j (omega arith) ∙ getD-set-other m i j v 0 (λ (e : j ≡ i). omega arith)
-
-sets-in : (vs m : List ℕ) (i k : ℕ) → k < length vs → i + length vs ≤ length m → getD (sets m i vs) (i + k) 0 ≡ getD vs k 0
-sets-in [] m i k h g = let z : ⊥ = omega arith in absurd z
-sets-in (v ∷ vs) m i zero h g =
-    let e : i + 0 ≡ i = omega arith in
-    rw e (sets-below vs (set m i v) (suc i) i (omega arith) ∙ getD-set-same m i v 0 (omega arith))
-sets-in (v ∷ vs) m i (suc k) h g =
-    let e : i + suc k ≡ suc i + k = omega arith in
-    let l : suc i + length vs ≤ length (set m i v) = simp length-set (omega arith) in
-    rw e (sets-in vs (set m i v) (suc i) k (omega arith) l)
 
 module _ (m : List ℕ) (long : length m ≡ 65536) (bytes : Bytes m) where
   -- k lines are as many as n bytes need, and a span that is not empty ends in memory

@@ -1,12 +1,13 @@
--- What the loops of writing keep, and a line from its parts. Assumes nothing.
+-- What the loops of writing keep, and a line from its parts. What is written and what is still to be written behind it are, turn by turn,
+-- the whole text; stores one behind the other are one store of what they hold. Assumes nothing.
 use Prim.Native.Nat.{ℕ, suc, _+_, _-_, _*_, _/_, _%_, _≤_, _<_, min}
 use mathlib.Core.Path.{_≡_, refl, sym, ap, _∙_}
 use mathlib.Core.List.{List, [], _∷_, _++_, append-assoc}
 use native.Mathlib.Numerals.{add-one}
 use native.Mathlib.Omega.{arith}
 use lib.Dec.{ltb}
-use lib.ListN.{length, getD, take, drop, set, length-append, length-drop, drop-of-length-le}
-use lib.Seq.{sets, drop-cons, length-take-le}
+use lib.ListN.{length, getD, take, drop, set, length-append, drop-of-length-le}
+use lib.Seq.{sets, drop-cons}
 use borrow.Author.Tests.{ltb-true, ltb-false}
 use Rattle.word.proofs.Laws.{bool-cases}
 use Rattle.text.specs.Text.{glyph}
@@ -135,9 +136,6 @@ unfolding sumOf
 check-of x y z p q ds ep eq =
     let e : p + q ≡ x + (y + (z + sumOf ds)) = omega arith in
     ap (λ (n : ℕ). 255 - n % 256) e
-
-pub part-length : (m : List ℕ) (a s : ℕ) → a + s ≤ length m → length (take s (drop a m)) ≡ s
-part-length m a s h = length-take-le s (drop a m) (simp length-drop (omega arith))
 
 -- ---- the place in the text
 

@@ -1,4 +1,5 @@
--- The figure turn by turn, and what is known of a call that is not refused. Assumes nothing.
+-- The figure turn by turn, and what is known of a call that is not refused. The dearest of a level goes device by device, the sum level by
+-- level; uses that were judged to be at most 1,024 keep both far below what a number holds. Assumes nothing.
 use Prim.Native.Nat.{ℕ, zero, suc, _+_, _*_, _<_, _≤_}
 use mathlib.Core.Bool.{Bool, true, false, cond, not, _&&_, _||_, and-false, true≢false}
 use mathlib.Core.List.{List}

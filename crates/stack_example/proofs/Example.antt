@@ -1,4 +1,5 @@
--- The run meets the premises, and after its sixth step SP lies exactly as far below as the figure says. Assumes nothing.
+-- The run meets the premises, and after its sixth step SP lies exactly as far below as the figure says. Each premise is read off the rows
+-- of the run, which are computed, and the figure is computed from its 256 choices. Assumes nothing.
 use Prim.Native.Nat.{ℕ, suc, _%_, _<_, _≤_}
 use mathlib.Core.Bool.{true, false, true≢false}
 use mathlib.Core.List.{List, [], _∷_}

@@ -1,4 +1,5 @@
--- The rows of the run. Each equation is computed by the checker from the bytes that the step reads. Assumes nothing.
+-- The rows of the run. Each equation is computed by the checker from the bytes that the step reads: memory is a list of writes over zeros,
+-- so that a byte is the last one written there. Assumes nothing.
 use mathlib.Core.Bool.{false}
 use mathlib.Core.List.{List, [], _∷_, _++_}
 use mathlib.Core.Path.{_≡_, refl, ap, _∙_}

@@ -1,4 +1,5 @@
--- The largest total over all choices is the sum over the levels of the dearest. Assumes nothing.
+-- The largest total over all choices is the sum over the levels of the dearest. A choice has at most one device of a level, so no total is
+-- above the sum; and the choice of the first of the dearest of each level is allowed and reaches it. Assumes nothing.
 use Prim.Native.Nat.{ℕ, zero, suc, _+_, _*_, _-_, _<_, _≤_}
 use mathlib.Core.Bool.{Bool, true, false, cond, not, _&&_, true≢false, false≢true}
 use mathlib.Core.List.{List, [], _∷_, _++_}

@@ -4,7 +4,7 @@ use Prim.Native.Nat.{ℕ, _+_, _*_, _/_, _%_, _≤_}
 use native.Mathlib.Nat.{div-div-eq-div-mul}
 use native.Mathlib.Numerals.{unary-clauses}
 use native.Mathlib.Omega.{arith}
-use mathlib.Core.Bool.{Bool, true, false, cond, not, true≢false, false≢true}
+use mathlib.Core.Bool.{Bool, true, false, cond}
 use mathlib.Core.List.{List, [], _∷_}
 use mathlib.Core.Path.{_≡_, refl, sym, ap, _∙_}
 use mir.Val.{boolByte}
@@ -13,7 +13,7 @@ use lib.ListN.{length, set}
 use lib.Seq.{sets}
 use Rattle.word.specs.Psw.{bitOf}
 use Rattle.machine.specs.declared.Act.{Act}
-use Rattle.machine.specs.Memory.{byteAt, lowByte, highByte, valueAt}
+use Rattle.machine.specs.Memory.{byteAt, lowByte, highByte}
 use Rattle.machine.specs.Record.{countByte}
 use Rattle.machine_laws.proofs.Cases.{is-eq, not-eq}
 use Rattle.stores.proofs.Laws.{sets-then}
@@ -95,19 +95,6 @@ pub stored-one : (m m′ : List ℕ) (i : ℕ) (x : Entry) (ys : List Entry) →
     → m′ ≡ sets m i (traceBytes ys)
 unfolding traceBytes
 stored-one m m′ i x ys e f = f ∙ ap (λ xs. sets m i (traceBytes xs)) e
-
--- ---- tests turned round, and a word loaded
-
-pub is-not : (b : Bool) → not b ≡ true → b ≡ false
-is-not true h = absurd (false≢true h)
-is-not false h = refl
-
-pub is-so : (b : Bool) → not b ≡ false → b ≡ true
-is-so true h = refl
-is-so false h = absurd (true≢false h)
-
-pub word-value : (m : List ℕ) {r : ℕ} (w a : ℕ) → w ≡ a / 2 → r ≡ byteAt m (2 * w) + 256 * byteAt m (2 * w + 1) → r ≡ valueAt false m a
-word-value m w a e s = s ∙ ap (λ (x : ℕ). byteAt m (2 * x) + 256 * byteAt m (2 * x + 1)) e
 
 -- ---- an event
 

@@ -3,13 +3,14 @@
 use Prim.Native.Nat.{ℕ, zero, suc, _+_, _-_, _*_, _<_, _≤_}
 use native.Mathlib.Numerals.{add-one}
 use native.Mathlib.Omega.{arith}
-use mathlib.Core.Bool.{Bool, true, false, cond, not, _||_, true≢false}
+use mathlib.Core.Bool.{Bool, true, false, cond, not, _||_}
 use mathlib.Core.List.{List, []}
 use mathlib.Core.Logic.{_≢_}
 use mathlib.Core.Path.{_≡_, refl, sym, ap, subst, _∙_}
 use lib.Dec.{eqb, ltb}
 use lib.ListN.{length, length-append}
 use lib.Seq.{sets, length-sets}
+use borrow.Author.Tests.{not-true}
 use Rattle.word.specs.Psw.{bitOf}
 use Rattle.machine.specs.declared.Rest.{Rest}
 use Rattle.machine.specs.State.{State}
@@ -21,6 +22,7 @@ use Rattle.machine.specs.Run.{ran, runOf}
 use Rattle.machine.specs.Uneventful.{Uneventful}
 use Rattle.machine_laws.proofs.Cases.{bool-cases, eq-of, lt-of, ge-of, is-lt, not-lt}
 use Rattle.machine_laws.proofs.Runs.{step-live}
+use Rattle.run_laws.proofs.Room.{neither}
 use Rattle.devices.specs.Cursor.{Ordered}
 use Rattle.devices.proofs.Laws.{stepAt, step-le}
 use Rattle.turn.specs.Due.{Awaits}
@@ -42,14 +44,6 @@ lacks-is room added more h =
     bool-cases (ltb (room - added) more)
     (λ q. let l : room - added < more = lt-of q in let m : room < added + more = omega arith in q ∙ sym (is-lt m))
     (λ q. let l : more ≤ room - added = ge-of q in let m : added + more ≤ room = omega arith in q ∙ sym (not-lt m))
-
-no-part : (a b : Bool) → a || b ≡ false → (a ≡ false) × (b ≡ false)
-no-part true b e = absurd (true≢false e)
-no-part false b e = (refl, e)
-
-flipped : (b : Bool) → not b ≡ true → b ≡ false
-flipped true e = absurd (true≢false (sym e))
-flipped false e = refl
 
 here : (r x y : Bool) → r ≡ x → r ≡ true → x || y ≡ true
 here r x y e q = ap (λ z. z || y) (sym e ∙ q)
@@ -84,10 +78,10 @@ module _ (ks : ℕ) where
 
 pub sparse-of : (ks : ℕ) → sparse? ks ≡ true → Sparse ks
 sparse-of ks h =
-    let p = no-part (bitOf 4 ks) _ (flipped _ h) in
-    let q = no-part (bitOf 7 ks) _ (p .1) in
-    let r = no-part (bitOf 9 ks) _ (q .1) in
-    let s = no-part (bitOf 10 ks) (bitOf 11 ks) (r .1) in
+    let p = neither (bitOf 4 ks) _ (not-true _ h) in
+    let q = neither (bitOf 7 ks) _ (p .1) in
+    let r = neither (bitOf 9 ks) _ (q .1) in
+    let s = neither (bitOf 10 ks) (bitOf 11 ks) (r .1) in
     record { sleep = p .0; skip = q .0; plain = r .0; load = s .0; store = s .1 }
 
 -- ---- no event due

@@ -1,6 +1,6 @@
 -- What the layers above cite of tests, widths, bits and the PSW's fields: each law is over every width or every place.
 -- Assumes nothing.
-use mathlib.Core.Path.{_≡_, refl, sym, ap, _∙_}
+use mathlib.Core.Path.{_≡_, refl, sym, ap, ap₂, _∙_}
 use mathlib.Core.Bool.{Bool, true, false}
 use mathlib.Core.Logic.{_⊎_, inl, inr, ⊎-elim}
 use Prim.Native.Nat.{ℕ, zero, suc, _+_, _-_, _*_, _/_, _%_, _^_, _≤_, _<_}
@@ -8,8 +8,8 @@ use native.Mathlib.Nat.{mod-lt, div-eq-of-lt, add-mul, mul-assoc, mul-comm, div-
 use native.Mathlib.Decide.{decLe}
 use native.Mathlib.Omega.{arith}
 use lib.Dec.{eqb}
-use lib.Bits.{bitAnd, and-mask, mask-lt}
-use lib.Pow.{ones-sub-lt, pow-pos, pow-add, high, low as low-part, field, mod-mod-pow, shr-shr}
+use lib.Bits.{bitAnd, bitOr, and-mask, mask-lt, or-step, or-block, or-zero-r}
+use lib.Pow.{ones-sub-lt, pow-pos, pow-add, high, low as low-part, split, field, mod-mod-pow, shr-shr}
 use Rattle.word.specs.Width.{widthOf, bit, low, withLow, turned}
 use Rattle.word.specs.Psw.{bitOf, putBit, current, previous}
 
@@ -165,3 +165,13 @@ put-current k p b h = ap (λ (x : ℕ). x % 8) (put-above k p b 5 h)
 
 pub put-previous : (k p : ℕ) (b : Bool) → k < 13 → previous (putBit k p b) ≡ previous p
 put-previous k p b h = ap (λ (x : ℕ). x % 8) (put-above k p b 13 h)
+
+-- an or with one bit puts it in
+odd : (q : ℕ) → bitOr q 1 ≡ q / 2 * 2 + 1
+odd q = or-step q 1 ∙ rw (or-zero-r (q / 2)) (omega arith)
+
+pub or-bit : (k p : ℕ) → bitOr p (2 ^ k) ≡ putBit k p true
+or-bit k p =
+    ap₂ bitOr (sym (split p k)) (omega arith)
+    ∙ or-block k (p / 2 ^ k) 1 (p % 2 ^ k) 0 (mod-lt p (pow-pos k)) (pow-pos k)
+    ∙ rw (odd (p / 2 ^ k), or-zero-r (p % 2 ^ k), shr-shr p k 1) (rw (pow-add 2 k 1) (omega arith))

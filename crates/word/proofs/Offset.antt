@@ -1,4 +1,5 @@
--- Numbers with a sign in 16 bits: what the code's casts and `!` give is what the definitions say. Assumes nothing.
+-- Numbers with a sign in 16 bits: what the code's casts and `!` give is what the definitions say. Below zero `!z` is `mag z`, from
+-- zero on `z` is `mag z` itself, and either fits 15 bits. Assumes nothing.
 use mathlib.Core.Path.{_≡_, refl, ap, _∙_}
 use mathlib.Core.Bool.{Bool, true, false}
 use Prim.Native.Nat.{ℕ, suc, _+_, _-_, _<_, _≤_}

@@ -1,4 +1,5 @@
--- Marks after the writes of each act, and the first byte read amiss, as equations over plain lists and numbers. Assumes nothing.
+-- Marks after the writes of each act, and the first byte read amiss, as equations over plain lists and numbers. Marks go down a list of
+-- writes as memory does; the first of two lists is the first of the one, or else of the other. Assumes nothing.
 use Prim.Native.Nat.{ℕ, zero, suc, _+_, _-_, _*_, _/_, _%_, _^_, _<_, _≤_}
 use native.Mathlib.Omega.{arith}
 use mathlib.Core.Bool.{Bool, true, false, cond, _&&_, and-false}

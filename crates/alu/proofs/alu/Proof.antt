@@ -1,4 +1,5 @@
--- `alu::alu` meets its contract. Assumes nothing.
+-- An arm for each operation, in the order of `Op`: the call that the arm makes gives what `aluOf` has for that operation. A logical result
+-- fits the width because both operands, cut to it, do. Assumes nothing.
 use Rattle.alu.specs.Alu.{aluOf}
 use native.Mathlib.Nat.{lt-of-le-of-lt}
 use lib.Bits.{and-lt, and-le-l, or-lt, xor-lt}
@@ -18,29 +19,9 @@ logic-into-requires-3 c κs = xor-lt _ _ _ (c .before .before .before .low-bits 
 logic-into-requires-4 : tie.Need-logic-into-requires-4
 logic-into-requires-4 c κs = lt-of-le-of-lt (and-le-l _ _) (c .before .before .before .low-bits .ensures .1)
 
-returns : tie.Need-returns
-unfolding aluOf
-returns c = simp (c .before .enum-told .given .1, c .add-into .ensures)
-
-returns-2 : tie.Need-returns-2
-unfolding aluOf
-returns-2 c = simp (c .before .enum-told2 .given .1, c .add-into2 .ensures)
-
-returns-3 : tie.Need-returns-3
-unfolding aluOf
-returns-3 c = simp (c .before .enum-told3 .given .1, c .difference-into .ensures)
-
-returns-4 : tie.Need-returns-4
-unfolding aluOf
-returns-4 c = simp (c .before .enum-told4 .given .1, c .subtract-into .ensures)
-
 returns-5 : tie.Need-returns-5
 unfolding aluOf
 returns-5 c = simp (c .before .before .enum-told5 .given .1, c .tested-only .ensures, c .before .difference-into2 .ensures)
-
-returns-6 : tie.Need-returns-6
-unfolding aluOf
-returns-6 c = simp (c .before .enum-told6 .given .1, c .decimal-into .ensures)
 
 returns-7 : tie.Need-returns-7
 unfolding aluOf
@@ -82,10 +63,6 @@ returns-13 c =
     let d = t .before .before .before .before .low-bits .ensures .0 in
     simp (t .before .enum-told13 .given .1, c .shift-into .ensures, c .before .flag .ensures .0, t .top .ensures, d)
 
-returns-14 : tie.Need-returns-14
-unfolding aluOf
-returns-14 c = simp (c .before .enum-told14 .given .1, c .shift-into2 .ensures)
-
 returns-15 : tie.Need-returns-15
 unfolding aluOf
 returns-15 c = simp (c .before .before .enum-told15 .given .1, c .logic-into5 .ensures, c .before .turned-bits .ensures .0)
@@ -93,10 +70,6 @@ returns-15 c = simp (c .before .before .enum-told15 .given .1, c .logic-into5 .e
 returns-16 : tie.Need-returns-16
 unfolding aluOf
 returns-16 c = simp (c .enum-told16 .given .1)
-
-returns-17 : tie.Need-returns-17
-unfolding aluOf
-returns-17 c = simp (c .before .enum-told17 .given .1, c .extend .ensures)
 
 pub alu-spec : {M : Type 1} → statement M
 alu-spec =
@@ -108,5 +81,11 @@ alu-spec =
     (λ c κs. search needs) (λ c. search needs) (λ c κs. search needs) (λ c κs. search needs) (λ c. search needs) (λ c κs. search needs)
     (λ c κs. search needs) (λ c. search needs) (λ c κs. search needs) (λ c κs. search needs) (λ c κs. search needs) (λ c. search needs)
     (λ c κs. search needs) (λ c. search needs) (λ c κs. search needs) (λ c κs. search needs) (λ c. search needs) (λ c. search needs)
-    (λ c. search needs) (λ c. search needs) (λ c κs. search needs) returns returns-2 returns-3 returns-4 returns-5 returns-6 returns-7
-    returns-8 returns-9 returns-10 returns-11 returns-12 returns-13 returns-14 returns-15 returns-16 returns-17)
+    (λ c. search needs) (λ c. search needs) (λ c κs. search needs)
+    (λ c. unfold aluOf in simp (c .before .enum-told .given .1, c .add-into .ensures))
+    (λ c. unfold aluOf in simp (c .before .enum-told2 .given .1, c .add-into2 .ensures))
+    (λ c. unfold aluOf in simp (c .before .enum-told3 .given .1, c .difference-into .ensures))
+    (λ c. unfold aluOf in simp (c .before .enum-told4 .given .1, c .subtract-into .ensures)) returns-5
+    (λ c. unfold aluOf in simp (c .before .enum-told6 .given .1, c .decimal-into .ensures)) returns-7 returns-8 returns-9 returns-10
+    returns-11 returns-12 returns-13 (λ c. unfold aluOf in simp (c .before .enum-told14 .given .1, c .shift-into2 .ensures)) returns-15
+    returns-16 (λ c. unfold aluOf in simp (c .before .enum-told17 .given .1, c .extend .ensures)))

@@ -1,4 +1,5 @@
--- Refused, nothing is touched; accepted, what `go_back` gives is stored. Assumes nothing.
+-- Refused, nothing is touched; accepted, what `go_back` gives is stored. What `go_back` needs, and that the two numbers fit, is what the
+-- verdict has settled (`back-passed`). Assumes nothing.
 use mathlib.Core.Path.{sym, ap, _∙_}
 use native.Mathlib.Omega.{arith}
 use denote.Ref.{now}
@@ -14,7 +15,8 @@ cast-refused c = omega (arith, c .refusal-number .ensures .1)
 
 returns : tie.Need-returns
 returns c =
-    let a = c .before .before .before .before .before .before .before .before .before .before .args in
+    let at-start : tie.Start = search in
+    let a = at-start .args in
     let x = lentAt (now (a .memory)) (now (a .state)) (now (a .journal)) (now (a .kept)) (now (a .place)) in
     let r = c .before .refusal-number .ensures .0 ∙ ap refusalNumber (c .before .before .back-verdict .ensures) in
     let e = refused-answer (a .k) x _ r (c .if1 .taken) in
@@ -22,7 +24,10 @@ returns c =
 
 cast-go-back : tie.Need-cast-go-back
 cast-go-back c =
-    let a = c .before .before .before .before .before .before .before .before .before .before .before .before .args in
+    let at-row-known2 : tie.After-row-known2 = search in
+    let at-row-known : tie.After-row-known = search in
+    let at-start : tie.Start = search in
+    let a = at-start .args in
     let x = lentAt (now (a .memory)) (now (a .state)) (now (a .journal)) (now (a .kept)) (now (a .place)) in
     let r = c .before .before .before .refusal-number .ensures .0
     ∙ ap refusalNumber (c .before .before .before .before .back-verdict .ensures) in
@@ -30,14 +35,14 @@ cast-go-back c =
     omega (
       arith,
       p .few,
-      c .before .before .before .before .before .before .row-known .given,
-      c .before .before .before .before .before
-          .row-known2 .given,
+      at-row-known .row-known .given,
+      at-row-known2 .row-known2 .given,
     )
 
 go-back-requires : tie.Need-go-back-requires
 go-back-requires c κs =
-    let a = c .before .before .before .before .before .before .before .before .before .before .before .before .args in
+    let at-start : tie.Start = search in
+    let a = at-start .args in
     let x = lentAt (now (a .memory)) (now (a .state)) (now (a .journal)) (now (a .kept)) (now (a .place)) in
     let r = c .before .before .before .refusal-number .ensures .0
     ∙ ap refusalNumber (c .before .before .before .before .back-verdict .ensures) in
@@ -46,12 +51,15 @@ go-back-requires c κs =
 
 returns-2 : tie.Need-returns-2
 returns-2 c =
-    let a = c .before .before .before .before .before .before .before .before .before .before .before .before .before .before .before
-    .before .before .args in
+    let at-if1 : tie.Else1 = search in
+    let at-refusal-number : tie.After-refusal-number = search in
+    let at-back-verdict : tie.After-back-verdict = search in
+    let at-start = at-back-verdict .before .before .before .before .before .before .before .before in
+    let a = at-start .args in
     let x = lentAt (now (a .memory)) (now (a .state)) (now (a .journal)) (now (a .kept)) (now (a .place)) in
-    let r = c .before .before .before .before .before .before .before .before .refusal-number .ensures .0
-    ∙ ap refusalNumber (c .before .before .before .before .before .before .before .before .before .back-verdict .ensures) in
-    let e = back-answer (a .k) x (passed-of (a .k) x _ r (c .before .before .before .before .before .before .before .if1 .left)) in
+    let r = at-refusal-number .refusal-number .ensures .0
+    ∙ ap refusalNumber (at-back-verdict .back-verdict .ensures) in
+    let e = back-answer (a .k) x (passed-of (a .k) x _ r (at-if1 .if1 .left)) in
     (sym (ap (λ z. z .reply) e), c .before .before .before .before .go-back .ensures ∙ sym (ap (λ z. z .lent) e))
 
 pub back-call-spec : {M : Type 1} → statement M

@@ -12,16 +12,17 @@ use Rattle.back.proofs.copy_out.Tie as tie
 
 returns : tie.Need-returns
 returns c =
-    let s = c .before .before .before .before .before .before .before .before .before .before .before .before .before .before .before
-    .before in
+    let at-put-bytes : tie.After-put-bytes = search in
+    let at-put-state : tie.After-put-state = search in
+    let s = at-put-state .before .before .before .before .before in
     let j = now (s .args .journal) in
     let o = 64 * s .args .p in
     let a = c .before .before .before .before .two-at .result in
     let e2 = c .before .before .put-bytes2 .ensures in
-    let e1 = c .before .before .before .before .before .before .before .put-bytes .ensures in (
+    let e1 = at-put-bytes .put-bytes .ensures in (
       e2 ∙ ap (λ m. commit (placed a (slice (o + 50) (o + 50 + 8) j)) m) e1
           ∙ memory-copied (now (s .args .memory)) j (s .args .p) a (s .pre .2) (c .before .before .before .before .two-at .ensures),
-      c .before .before .before .before .before .before .before .before .before .before .before .put-state .ensures,
+      at-put-state .put-state .ensures,
     )
 
 pub copy-out-spec : {M : Type 1} → statement M

@@ -23,7 +23,7 @@ loop-holds c = let s = c .before .before in (s .pre .0, omega arith, omega arith
 
 loop-again : tie.Need-loop-again Inv-loop μ-loop
 loop-again c =
-    let s = c .before .before .before .before .before .before in
+    let s : tie.Start Inv-loop μ-loop = search in
     let l = c .before .before .before .loop in
     let b = now (s .args .journal) in
     let t = c .before .before .loop-test .taken in

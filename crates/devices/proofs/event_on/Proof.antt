@@ -13,18 +13,22 @@ returns c =
 
 returns-2 : tie.Need-returns-2
 returns-2 c =
+    let at-if1 : tie.Else1 = search in
+    let at-start : tie.Start = search in
     λ core h k n.
-    let s = c .before .before .before .before .before .before .before .before .before in
-    let ena = c .before .before .before .before .before .before .if1 .left in
+    let s = at-start in
+    let ena = at-if1 .if1 .left in
     let wrote = c .before .before .before .before .receive .ensures k in
     event-raises (now (s .args .mem)) (s .args .device) (s .args .byte) (s .args .lines) core h k n
     ena wrote (c .before .if2 .taken) (c .raise .ensures)
 
 returns-3 : tie.Need-returns-3
 returns-3 c =
+    let at-if1 : tie.Else1 = search in
+    let at-start : tie.Start = search in
     λ core h k n.
-    let s = c .before .before .before .before .before .before .before .before in
-    let ena = c .before .before .before .before .before .if1 .left in
+    let s = at-start in
+    let ena = at-if1 .if1 .left in
     let wrote = c .before .before .before .receive .ensures k in
     event-keeps (now (s .args .mem)) (s .args .device) (s .args .byte) (s .args .lines) core h k n ena wrote (c .if2 .left)
 

@@ -7,14 +7,16 @@ use Rattle.entry.proofs.best_above.Tie as tie
 
 returns : tie.Need-returns
 returns c =
-    let a = c .before .before .before .before .before .args in
+    let at-start : tie.Start = search in
+    let a = at-start .args in
     let b = c .before .before .before .best-line .ensures in
     let q = c .before .priority-of .ensures in
     (line-found (now (a .mem)) (a .lines) (a .level) _ _ (b .0) (c .before .before .if1 .taken) q (c .if2 .taken), b .1)
 
 returns-2 : tie.Need-returns-2
 returns-2 c =
-    let a = c .before .before .before .before .before .args in
+    let at-start : tie.Start = search in
+    let a = at-start .args in
     let q = c .before .priority-of .ensures in
     (line-low (now (a .mem)) (a .lines) (a .level) _ _ (c .before .before .before .best-line .ensures .0) q (c .if2 .left), omega arith)
 

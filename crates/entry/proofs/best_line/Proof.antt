@@ -25,7 +25,8 @@ loop-again c =
 
 loop-again-2 : tie.Need-loop-again-2 Inv-loop μ-loop
 loop-again-2 c =
-    let a = c .before .before .before .before .before .args in
+    let at-start : tie.Start Inv-loop μ-loop = search in
+    let a = at-start .args in
     let l = c .before .before .before .loop in
     let w = sym (c .before .waits .ensures) ∙ c .if1 .left in
     let turn = best-turn (l .d) (a .lines) (a .mem .now) (c .before .before .loop-test .taken) (l .inv .0) in

@@ -10,7 +10,8 @@ use Rattle.entry.proofs.chain.Tie as tie
 returns : tie.Need-returns
 returns c =
     let s = c .before .before .before in
-    let a = s .before .before .before .before .before .before .args in
+    let at-start : tie.Start = search in
+    let a = at-start .args in
     let prev = c .before .before .previous-priority .ensures .0 in
     let flt = c .before .faulted .ensures in λ x.
     let k = coreOf (now (a .regs)) (a .psw) x in

@@ -9,8 +9,10 @@ use Rattle.entry.proofs.push.Tie as tie
 
 returns : tie.Need-returns
 returns c =
-    let a = c .before .before .before .before .before .before .before .args in
-    let to = c .before .before .before .before .before .wrapping-sub-u16 in
+    let at-wrapping-sub-u16 : tie.After-wrapping-sub-u16 = search in
+    let at-start : tie.Start = search in
+    let a = at-start .args in
+    let to = at-wrapping-sub-u16 .wrapping-sub-u16 in
     let e : to .result ≡ down (a .sp) 2 = wrapped-down (to .result) (a .sp) 2 (omega arith) (omega arith) (to .ensures) in
     let w = c .before .before .before .word-of .ensures .0 in
     (e, push-law (now (a .mem)) _ (a .sp) _ _ (a .v) e w (c .before .before .write-word .ensures))

@@ -7,11 +7,14 @@ use Rattle.entry.proofs.push_frame.Tie as tie
 
 returns : tie.Need-returns
 returns c =
-    let b = c .before .before .before .before .before .before .before .before .before .before in
-    let a = b .before .before .before .before .before .before .before .before .before .before .args in
-    let p₁ = b .before .before .before .before .before .push .ensures in
+    let at-push3 : tie.After-push3 = search in
+    let b : tie.After-push2 = search in
+    let at-push = b .before .before .before .before .before in
+    let at-start = at-push .before .before .before .before .before in
+    let a = at-start .args in
+    let p₁ = at-push .push .ensures in
     let p₂ = b .push2 .ensures in
-    let p₃ = c .before .before .before .before .before .before .push3 .ensures in
+    let p₃ = at-push3 .push3 .ensures in
     let p₄ = c .before .before .push4 .ensures in
     frame-law (coreOf (now (a .regs)) (a .psw) (a .cex)) (now (a .mem)) _ _ _ _ _ _ _ _
     (p₁ .0) (p₁ .1) (p₂ .0) (p₂ .1) (p₃ .0) (p₃ .1) (p₄ .0) (p₄ .1)

@@ -16,7 +16,7 @@ returns c =
 returns-2 : tie.Need-returns-2
 returns-2 c =
     let d = c .before .before .before .before in
-    let start = d .before .before .before .before .before .before in
+    let start : tie.Start = search in
     computed (now (start .args .regs)) _ _ _ _ (start .args .wb) _ _
     (d .before .before .before .before .get .ensures) (d .before .before .operand .ensures) (d .before .binary .ensures) (d .alu .ensures)
     (c .before .before .before .if1 .left) _ _ (c .before .put .ensures) (c .asks-nothing2 .ensures)

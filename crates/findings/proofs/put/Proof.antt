@@ -1,5 +1,5 @@
 use borrow.Author.Needs.{needs}
-use Rattle.held_frames.proofs.Laws.{copied, copied-start, copied-turn, copied-end}
+use Rattle.stores.proofs.Laws.{copied, copied-start, copied-turn, copied-end}
 use lib.ListN.{length, length-set}
 use denote.Ref.{now}
 use native.Mathlib.Omega.{arith}

@@ -4,7 +4,7 @@ use native.Mathlib.Omega.{arith}
 use borrow.Author.Needs.{needs}
 use denote.Ref.{now}
 use lib.ListN.{length, length-set}
-use Rattle.held_frames.proofs.Laws.{copied, copied-start, copied-turn, copied-end}
+use Rattle.stores.proofs.Laws.{copied, copied-start, copied-turn, copied-end}
 use Rattle.held_frames.proofs.put_row.Statement.{statement}
 use Rattle.held_frames.proofs.put_row.Tie as tie
 

@@ -1,4 +1,5 @@
--- Eight bytes from the last to the first, each test joined to those after it. Assumes nothing.
+-- Eight bytes from the last to the first, each test joined to those after it: each call tells whether its byte is the frame's, and the
+-- eight joined in this order are the definition's test (`and-law`, eight times). Assumes nothing.
 use Rattle.held_frames.proofs.Laws.{and-law}
 use mathlib.Core.Path.{refl}
 use native.Mathlib.Omega.{arith}

@@ -1,10 +1,12 @@
+-- The number is told to be an operation's; then the word lies before the end of the first block, before that of the second, or past both,
+-- and each of these is a law (Laws, next-first to next-beyond). No sum wraps, since a block ends at #FFFF at the latest. Assumes nothing.
 use mathlib.Core.Path.{_≡_, sym, ap, _∙_}
 use borrow.Author.Tests.{not-true, not-false}
 use native.Mathlib.Omega.{arith}
 use Rattle.isa_card.specs.Words.{nextOf}
 use Rattle.isa_card.proofs.Lists.{next-illegal}
-use Rattle.isa_card.proofs.Blocks.{no-operation, block-small}
-use Rattle.isa_card.proofs.Laws.{next-first, next-past, next-second, next-beyond}
+use Rattle.isa_card.proofs.Blocks.{no-operation, Small}
+use Rattle.isa_card.proofs.Laws.{Known, known-small, next-first, next-past, next-second, next-beyond}
 use borrow.Author.Needs.{needs}
 use Rattle.isa_card.proofs.next_of.Statement.{statement}
 use Rattle.isa_card.proofs.next_of.Tie as tie
@@ -18,56 +20,33 @@ returns c =
 returns-2 : tie.Need-returns-2
 returns-2 c = let a = c .before .before .args in sym (no-operation (a .operation) (a .word) (omega arith) .1)
 
+-- what is known once the block is there
+known : (c : tie.After-block-of) → Known (c .before .before .before .args .operation) (c .block-of .result)
+known c = record { is = c .block-of .ensures; some = omega arith; few = omega arith }
+
+small : (c : tie.After-block-of) → Small (c .block-of .result)
+small c = known-small (c .before .before .before .args .operation) (c .block-of .result) (known c)
+
 add-if3 : tie.Need-add-if3
-add-if3 c =
-    let called = c .before in
-    let o = called .before .before .before .args .operation in
-    let small = block-small o (called .block-of .result) (called .block-of .ensures) (omega arith) (omega arith) in
-    omega (arith, small .0)
+add-if3 c = omega (arith, small (c .before) .0)
 
 returns-3 : tie.Need-returns-3
 returns-3 c =
     let called = c .before .before .before in
-    let a = called .before .before .before .args in
-    next-first (a .operation) (a .word) (c .at-least .result) (called .block-of .result) (called .block-of .ensures)
-    (omega arith) (omega arith) (c .before .if3 .taken) (c .at-least .ensures)
+    next-first _ _ (known called) (called .before .before .before .args .word) (c .at-least .result) (c .before .if3 .taken)
+    (c .at-least .ensures)
 
 returns-4 : tie.Need-returns-4
 returns-4 c =
     let called = c .before .before .before .before in
-    let a = called .before .before .before .args in
-    next-past (a .operation) (a .word) (called .block-of .result) (called .block-of .ensures)
-    (omega arith) (omega arith) (c .before .before .if3 .left)
+    next-past _ _ (known called) (called .before .before .before .args .word) (c .before .before .if3 .left)
     (sym (c .before .is-twice .ensures) ∙ not-true (c .before .is-twice .result) (c .if4 .taken))
-
-add-if5 : tie.Need-add-if5
-add-if5 c =
-    let called = c .before .before .before .before .before in
-    let o = called .before .before .before .args .operation in
-    let small = block-small o (called .block-of .result) (called .block-of .ensures) (omega arith) (omega arith) in
-    omega (arith, small .0)
-
-add-if5-2 : tie.Need-add-if5-2
-add-if5-2 c =
-    let called = c .before .before .before .before .before .before in
-    let o = called .before .before .before .args .operation in
-    let small = block-small o (called .block-of .result) (called .block-of .ensures) (omega arith) (omega arith) in
-    omega (arith, small .0)
-
-add-at-least : tie.Need-add-at-least
-add-at-least c =
-    let called = c .before .before .before .before .before .before .before .before in
-    let o = called .before .before .before .args .operation in
-    let small = block-small o (called .block-of .result) (called .block-of .ensures) (omega arith) (omega arith) in
-    omega (arith, small .0)
 
 returns-5 : tie.Need-returns-5
 returns-5 c =
-    let asked = c .before .before .before .before .before in
-    let called = asked .before .before .before .before in
-    let a = called .before .before .before .args in
-    next-second (a .operation) (a .word) (c .at-least2 .result) (called .block-of .result) (called .block-of .ensures)
-    (omega arith) (omega arith) (asked .before .before .if3 .left)
+    let asked : tie.Else4 = search in
+    let called : tie.After-block-of = search in
+    next-second _ _ (known called) (called .before .before .before .args .word) (c .at-least2 .result) (asked .before .before .if3 .left)
     (sym (asked .before .is-twice .ensures) ∙ not-false (asked .before .is-twice .result) (asked .if4 .left))
     (c .before .before .if5 .taken) (c .at-least2 .ensures)
 
@@ -75,14 +54,14 @@ returns-6 : tie.Need-returns-6
 returns-6 c =
     let asked = c .before .before .before in
     let called = asked .before .before .before .before in
-    let a = called .before .before .before .args in
-    next-beyond (a .operation) (a .word) (called .block-of .result) (called .block-of .ensures)
-    (omega arith) (omega arith) (asked .before .before .if3 .left)
+    next-beyond _ _ (known called) (called .before .before .before .args .word) (asked .before .before .if3 .left)
     (sym (asked .before .is-twice .ensures) ∙ not-false (asked .before .is-twice .result) (asked .if4 .left))
     (c .if5 .left)
 
 pub next-of-spec : {M : Type 1} → statement M
 next-of-spec =
     tie.close
-    (tie.spec returns returns-2 (λ c κs. search needs) add-if3 (λ c κs. search needs) returns-3 (λ c κs. search needs) returns-4 add-if5
-    add-if5-2 add-at-least (λ c κs. search needs) returns-5 returns-6)
+    (tie.spec returns returns-2 (λ c κs. search needs) add-if3 (λ c κs. search needs) returns-3 (λ c κs. search needs) returns-4
+    (λ c. let called : tie.After-block-of = search in omega (arith, small called .0))
+    (λ c. let called : tie.After-block-of = search in omega (arith, small called .0))
+    (λ c. let called : tie.After-block-of = search in omega (arith, small called .0)) (λ c κs. search needs) returns-5 returns-6)

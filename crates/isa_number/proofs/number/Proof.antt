@@ -1,3 +1,5 @@
+-- An arm for each form, in the order of `Instr`: the bytes put together are those that `numberOf` has for that form. A signed offset is
+-- given as its 16 bits, which the cast and the way back leave as they are. Assumes nothing.
 use Prim.Native.Nat.{ℕ}
 use mathlib.Core.Path.{_≡_, _∙_, sym, ap}
 use mir.Syntax.{w16}
@@ -28,62 +30,6 @@ returns-3 c =
     let t : c .before .twos2 .result ≡ bitsOf 0x8000 (x .1 .0) = rw e at (c .before .twos2 .ensures) in
     c .bytes3 .ensures ∙ ap (λ (b : ℕ). bytesOf 2 (x .0) 0 0 0 0 b) t ∙ sym (ap numberOf (c .before .before .before .i2 .given .1))
 
-returns-4 : tie.Need-returns-4
-unfolding numberOf
-returns-4 c = c .bytes4 .ensures ∙ sym (ap numberOf (c .before .before .i3 .given .1))
-
-returns-5 : tie.Need-returns-5
-unfolding numberOf
-returns-5 c = c .bytes5 .ensures ∙ sym (ap numberOf (c .before .before .i4 .given .1))
-
-returns-6 : tie.Need-returns-6
-unfolding numberOf
-returns-6 c = c .bytes6 .ensures ∙ sym (ap numberOf (c .before .before .i5 .given .1))
-
-returns-7 : tie.Need-returns-7
-unfolding numberOf
-returns-7 c = c .bytes7 .ensures ∙ sym (ap numberOf (c .before .before .i6 .given .1))
-
-returns-8 : tie.Need-returns-8
-unfolding numberOf
-returns-8 c = c .bytes8 .ensures ∙ sym (ap numberOf (c .before .before .i7 .given .1))
-
-returns-9 : tie.Need-returns-9
-unfolding numberOf
-returns-9 c = c .bytes9 .ensures ∙ sym (ap numberOf (c .before .before .i8 .given .1))
-
-returns-10 : tie.Need-returns-10
-unfolding numberOf
-returns-10 c = c .bytes10 .ensures ∙ sym (ap numberOf (c .before .before .i9 .given .1))
-
-returns-11 : tie.Need-returns-11
-unfolding numberOf
-returns-11 c = c .bytes11 .ensures ∙ sym (ap numberOf (c .before .before .i10 .given .1))
-
-returns-12 : tie.Need-returns-12
-unfolding numberOf
-returns-12 c = c .bytes12 .ensures ∙ sym (ap numberOf (c .before .before .i11 .given .1))
-
-returns-13 : tie.Need-returns-13
-unfolding numberOf
-returns-13 c = c .bytes13 .ensures ∙ sym (ap numberOf (c .before .before .i12 .given .1))
-
-returns-14 : tie.Need-returns-14
-unfolding numberOf
-returns-14 c = c .bytes14 .ensures ∙ sym (ap numberOf (c .before .before .i13 .given .1))
-
-returns-15 : tie.Need-returns-15
-unfolding numberOf
-returns-15 c = c .bytes15 .ensures ∙ sym (ap numberOf (c .before .before .i14 .given .1))
-
-returns-16 : tie.Need-returns-16
-unfolding numberOf
-returns-16 c = c .bytes16 .ensures ∙ sym (ap numberOf (c .before .before .i15 .given .1))
-
-returns-17 : tie.Need-returns-17
-unfolding numberOf
-returns-17 c = c .bytes17 .ensures ∙ sym (ap numberOf (c .before .before .i16 .given .1))
-
 returns-18 : tie.Need-returns-18
 unfolding numberOf
 returns-18 c =
@@ -112,5 +58,18 @@ number-spec =
     (λ c κs. search needs) (λ c. search needs) (λ c κs. search needs) (λ c. search needs) (λ c κs. search needs) (λ c. search needs)
     (λ c κs. search needs) (λ c. search needs) (λ c. search needs) (λ c κs. search needs) (λ c. search needs) (λ c. search needs)
     (λ c κs. search needs) (λ c. search needs) (λ c κs. search needs) (λ c. search needs) (λ c κs. search needs) (λ c κs. search needs)
-    (λ c. search needs) (λ c κs. search needs) (λ c κs. search needs) returns returns-2 returns-3 returns-4 returns-5 returns-6 returns-7
-    returns-8 returns-9 returns-10 returns-11 returns-12 returns-13 returns-14 returns-15 returns-16 returns-17 returns-18 returns-19)
+    (λ c. search needs) (λ c κs. search needs) (λ c κs. search needs) returns returns-2 returns-3
+    (λ c. unfold numberOf in c .bytes4 .ensures ∙ sym (ap numberOf (c .before .before .i3 .given .1)))
+    (λ c. unfold numberOf in c .bytes5 .ensures ∙ sym (ap numberOf (c .before .before .i4 .given .1)))
+    (λ c. unfold numberOf in c .bytes6 .ensures ∙ sym (ap numberOf (c .before .before .i5 .given .1)))
+    (λ c. unfold numberOf in c .bytes7 .ensures ∙ sym (ap numberOf (c .before .before .i6 .given .1)))
+    (λ c. unfold numberOf in c .bytes8 .ensures ∙ sym (ap numberOf (c .before .before .i7 .given .1)))
+    (λ c. unfold numberOf in c .bytes9 .ensures ∙ sym (ap numberOf (c .before .before .i8 .given .1)))
+    (λ c. unfold numberOf in c .bytes10 .ensures ∙ sym (ap numberOf (c .before .before .i9 .given .1)))
+    (λ c. unfold numberOf in c .bytes11 .ensures ∙ sym (ap numberOf (c .before .before .i10 .given .1)))
+    (λ c. unfold numberOf in c .bytes12 .ensures ∙ sym (ap numberOf (c .before .before .i11 .given .1)))
+    (λ c. unfold numberOf in c .bytes13 .ensures ∙ sym (ap numberOf (c .before .before .i12 .given .1)))
+    (λ c. unfold numberOf in c .bytes14 .ensures ∙ sym (ap numberOf (c .before .before .i13 .given .1)))
+    (λ c. unfold numberOf in c .bytes15 .ensures ∙ sym (ap numberOf (c .before .before .i14 .given .1)))
+    (λ c. unfold numberOf in c .bytes16 .ensures ∙ sym (ap numberOf (c .before .before .i15 .given .1)))
+    (λ c. unfold numberOf in c .bytes17 .ensures ∙ sym (ap numberOf (c .before .before .i16 .given .1))) returns-18 returns-19)

@@ -6,7 +6,7 @@ use Rattle.journal_record.proofs.eight_at.Tie as tie
 
 returns : tie.Need-returns
 returns c b d w =
-    let s = c .before .before .before .before .before .before .before .before in
+    let s : tie.Start = search in
     eight-plain b (s .args .a) d (now (s .args .mem)) w (s .pre .1) (s .pre .2)
 
 pub eight-at-spec : {M : Type 1} → statement M

@@ -21,23 +21,24 @@ write-record-requires c κs =
 
 returns : tie.Need-returns
 returns c b w =
-    let s = c .before .before .before .before .before .before .before .before .before .before .before .before .before .before .before
-    .before .before .before .before .before .before .before .before .before .before .before in
+    let at-put-bytes2 : tie.After-put-bytes2 = search in
+    let at-put-two : tie.After-put-two = search in
+    let at-put-bytes = at-put-two .before .before .before .before in
+    let at-write-record = at-put-bytes .before .before .before .before .before in
+    let at-eight-before = at-write-record .before .before in
+    let s = at-eight-before .before .before .before in
     let e = now (s .args .e) in
     let d = now (s .args .devices) in
     let a = s .args .a in
-    let g = c .before .before .before .before .before .before .before .before .before .before .before .before .before .before .before
-    .before .before .before .before .before .before .before .before .eight-before in
+    let g = at-eight-before .eight-before in
     let l = length-drop 32 e in
     c .before .before .put-bytes3 .ensures
     ∙ ap (λ x. sets x 58 zeros)
-    (c .before .before .before .before .before .before .before .put-bytes2 .ensures
+    (at-put-bytes2 .put-bytes2 .ensures
     ∙ ap (λ x. sets x 50 (g .result))
-    (c .before .before .before .before .before .before .before .before .before .before .before .before .put-two .ensures
+    (at-put-two .put-two .ensures
     ∙ ap (λ x. twoPut x 48 a)
-    (c .before .before .before .before .before .before .before .before .before .before .before .before .before .before .before .before
-    .put-bytes .ensures ∙ ap (λ r. sets (r ++ drop 32 e) 32 d) (c .before .before .before .before .before .before .before .before .before
-    .before .before .before .before .before .before .before .before .before .before .before .before .write-record .ensures b))))
+    (at-put-bytes .put-bytes .ensures ∙ ap (λ r. sets (r ++ drop 32 e) 32 d) (at-write-record .write-record .ensures b))))
     ∙ filled-before (stateOf (s .args .m) b) b d (now (s .args .mem)) (drop 32 e) (g .result) a w (omega (arith, s .pre .0))
     (g .ensures b w)
 

@@ -4,7 +4,7 @@ use native.Mathlib.Omega.{arith}
 use borrow.Author.Needs.{needs}
 use denote.Ref.{now}
 use lib.ListN.{length, length-set}
-use Rattle.journal_record.proofs.Laws.{copied, copied-start, copied-turn, copied-end}
+use Rattle.stores.proofs.Laws.{copied, copied-start, copied-turn, copied-end}
 use Rattle.journal_record.proofs.put_bytes.Statement.{statement}
 use Rattle.journal_record.proofs.put_bytes.Tie as tie
 

@@ -11,7 +11,7 @@ use Rattle.journal_record.proofs.put_record.Tie as tie
 
 returns : tie.Need-returns
 returns c b w =
-    let s = c .before .before .before .before .before .before in
+    let s : tie.Start = search in
     let e = c .before .before .fill .ensures b w in
     let j = now (s .args .journal) in
     let l = ap length e ∙ fields-whole (stateOf (s .args .m) b) b (s .args .a) in

@@ -9,14 +9,14 @@ returns c = crlf-none (c .before .before .args .text .now) (c .before .before .a
 
 returns-2 : tie.Need-returns-2
 returns-2 c =
-    let c3 = c .before .before .before in
-    crlf-last (c3 .args .text .now) (c3 .args .at) (omega arith) (c .if2 .taken) (c .before .if1 .left)
+    let at-start = c .before .before .before in
+    crlf-last (at-start .args .text .now) (at-start .args .at) (omega arith) (c .if2 .taken) (c .before .if1 .left)
 
 returns-3 : tie.Need-returns-3
 returns-3 c =
-    let c2 = c .before .before in
-    let c4 = c2 .before .before in
-    crlf-two (c4 .args .text .now) (c4 .args .at) (omega arith) (c2 .if1 .left)
+    let at-if1 = c .before .before in
+    let at-start = at-if1 .before .before in
+    crlf-two (at-start .args .text .now) (at-start .args .at) (omega arith) (at-if1 .if1 .left)
 
 pub crlf-at-spec : {M : Type 1} → statement M
 crlf-at-spec = tie.close (tie.spec (λ c. search needs) returns (λ c. search needs) returns-2 (λ c. search needs) returns-3)

@@ -1,3 +1,5 @@
+-- The loop's invariant: the lines from `at` on are those from `i` on, with the bytes between in front of the first (`Scanned`). The byte at
+-- `i` is an LF, begins CR LF, or is one byte more of that line; where the text ends the line does. Assumes nothing.
 use Prim.Native.Nat.{_≤_, _-_}
 use mathlib.Core.Path.{sym, _∙_}
 use native.Mathlib.Omega.{arith}
@@ -18,39 +20,41 @@ loop-holds c = (omega arith, omega arith, scan-start (c .before .args .text .now
 
 returns : tie.Need-returns Inv-loop μ-loop
 returns c =
-    let c3 = c .before .before .before in
-    let c5 = c3 .before .before in
-    scan-lf (c5 .args .text .now) _ _ (c3 .loop .inv .0) (omega arith) (c .if1 .taken) (c3 .loop .inv .2)
+    let at-loop = c .before .before .before in
+    let at-start : tie.Start Inv-loop μ-loop = search in
+    scan-lf (at-start .args .text .now) _ _ (at-loop .loop .inv .0) (omega arith) (c .if1 .taken) (at-loop .loop .inv .2)
 
 add-t10 : tie.Need-add-t10 Inv-loop μ-loop
 add-t10 c =
-    let c5 = c .before .before .before .before .before in
-    let c7 = c5 .before .before in
-    let h = scan-crlf (c7 .args .text .now) _ _ (c5 .loop .inv .0) (sym (c .before .crlf-at .ensures) ∙ c .if2 .taken) (c5 .loop .inv .2) in
+    let at-loop : tie.At-loop Inv-loop μ-loop = search in
+    let at-start : tie.Start Inv-loop μ-loop = search in
+    let h = scan-crlf (at-start .args .text .now) _ _ (at-loop .loop .inv .0) (sym (c .before .crlf-at .ensures) ∙ c .if2 .taken)
+    (at-loop .loop .inv .2) in
     search needs
 
 returns-2 : tie.Need-returns-2 Inv-loop μ-loop
 returns-2 c =
-    let c5 = c .before .before .before .before .before in
-    let c7 = c5 .before .before in
-    scan-crlf (c7 .args .text .now) _ _ (c5 .loop .inv .0) (sym (c .before .crlf-at .ensures) ∙ c .if2 .taken) (c5 .loop .inv .2)
+    let at-loop : tie.At-loop Inv-loop μ-loop = search in
+    let at-start : tie.Start Inv-loop μ-loop = search in
+    scan-crlf (at-start .args .text .now) _ _ (at-loop .loop .inv .0) (sym (c .before .crlf-at .ensures) ∙ c .if2 .taken)
+    (at-loop .loop .inv .2)
 
 loop-again : tie.Need-loop-again Inv-loop μ-loop
 loop-again c =
-    let c2 = c .before .before in
-    let c5 = c2 .before .before .before in
-    let c7 = c5 .before .before in
-    let p = c5 in (
+    let at-if1 = c .before .before in
+    let at-loop : tie.At-loop Inv-loop μ-loop = search in
+    let at-start : tie.Start Inv-loop μ-loop = search in
+    let p = at-loop in (
       omega arith,
       omega arith,
-      scan-char (c7 .args .text .now) _ _ (p .loop .inv .0) (omega arith) (c2 .if1 .left)
+      scan-char (at-start .args .text .now) _ _ (p .loop .inv .0) (omega arith) (at-if1 .if1 .left)
           (sym (c .before .crlf-at .ensures) ∙ c .if2 .left) (p .loop .inv .2),
     )
 
 returns-3 : tie.Need-returns-3 Inv-loop μ-loop
 returns-3 c =
-    let c3 = c .before .before .before in
-    scan-end (c3 .args .text .now) _ _ (omega arith) (omega arith) (c .before .loop .inv .2)
+    let at-start = c .before .before .before in
+    scan-end (at-start .args .text .now) _ _ (omega arith) (omega arith) (c .before .loop .inv .2)
 
 pub line-at-spec : {M : Type 1} → statement M
 line-at-spec =

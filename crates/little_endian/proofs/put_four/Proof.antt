@@ -8,8 +8,10 @@ use Rattle.little_endian.proofs.put_four.Tie as tie
 
 returns : tie.Need-returns
 returns c =
-    let a = c .before .before .before .before .before .before .before .before .before .args in
-    let low = c .before .before .before .before .before .before .put-two .ensures in
+    let at-put-two : tie.After-put-two = search in
+    let at-start : tie.Start = search in
+    let a = at-start .args in
+    let low = at-put-two .put-two .ensures in
     c .before .before .put-two2 .ensures ∙ ap (λ (b : List ℕ). twoPut b (a .i + 2) (a .v / 65536)) low
 
 pub put-four-spec : {M : Type 1} → statement M

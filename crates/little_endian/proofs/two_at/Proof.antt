@@ -7,12 +7,6 @@ use Rattle.little_endian.proofs.two_at.Tie as tie
 cast-result : tie.Need-cast-result
 cast-result c = omega (arith, c .shared-slice-known .given (c .before .args .i))
 
-cast-result-2 : tie.Need-cast-result-2
-cast-result-2 c = omega (arith, c .shared-slice-known2 .given (c .before .before .args .i + 1))
-
-mul-result : tie.Need-mul-result
-mul-result c = omega (arith, c .shared-slice-known2 .given (c .before .before .args .i + 1))
-
 add-result-2 : tie.Need-add-result-2
 add-result-2 c =
     let i = c .before .before .args .i in
@@ -21,5 +15,6 @@ add-result-2 c =
 pub two-at-spec : {M : Type 1} → statement M
 two-at-spec =
     tie.close
-    (tie.spec (λ c. search needs) cast-result (λ c. search needs) (λ c. search needs) cast-result-2 mul-result add-result-2
-    (λ c. search needs))
+    (tie.spec (λ c. search needs) cast-result (λ c. search needs) (λ c. search needs)
+    (λ c. omega (arith, c .shared-slice-known2 .given (c .before .before .args .i + 1)))
+    (λ c. omega (arith, c .shared-slice-known2 .given (c .before .before .args .i + 1))) add-result-2 (λ c. search needs))

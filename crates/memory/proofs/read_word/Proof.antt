@@ -11,12 +11,6 @@ use Rattle.memory.proofs.read_word.Tie as tie
 cast-result : tie.Need-cast-result
 cast-result c = omega (arith, c .shared-slice-known2 .given (c .before .before .byte-of .result .0))
 
-cast-result-2 : tie.Need-cast-result-2
-cast-result-2 c = omega (arith, c .shared-slice-known3 .given (c .before .before .before .byte-of .result .0 + 1))
-
-mul-result : tie.Need-mul-result
-mul-result c = omega (arith, c .shared-slice-known3 .given (c .before .before .before .byte-of .result .0 + 1))
-
 add-result-2 : tie.Need-add-result-2
 add-result-2 c =
     let i = c .before .before .before .byte-of .result .0 in
@@ -24,11 +18,13 @@ add-result-2 c =
 
 returns : tie.Need-returns
 returns c =
-    let m = now (c .before .before .before .before .before .args .mem) in
+    let at-start : tie.Start = search in
+    let m = now (at-start .args .mem) in
     ap (λ (i : ℕ). byteAt m i + 256 * byteAt m (i + 1)) (c .before .before .before .byte-of .ensures)
 
 pub read-word-spec : {M : Type 1} → statement M
 read-word-spec =
     tie.close
     (tie.spec (λ c κs. search needs) (λ c. search needs) (λ c. search needs) cast-result (λ c. search needs) (λ c. search needs)
-    cast-result-2 mul-result add-result-2 returns)
+    (λ c. omega (arith, c .shared-slice-known3 .given (c .before .before .before .byte-of .result .0 + 1)))
+    (λ c. omega (arith, c .shared-slice-known3 .given (c .before .before .before .byte-of .result .0 + 1))) add-result-2 returns)

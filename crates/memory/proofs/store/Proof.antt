@@ -10,9 +10,10 @@ returns c = rw (c .before .before .before .before .if1 .taken) (c .before .befor
 
 returns-2 : tie.Need-returns-2
 returns-2 c =
-    let s = c .before .before .before .before .before .before .before in
+    let at-if1 : tie.Else1 = search in
+    let s : tie.Start = search in
     let w = c .before .before .before .word-of .ensures .0 in
-    rw (c .before .before .before .before .before .if1 .left)
+    rw (at-if1 .if1 .left)
     (store-even (now (s .args .mem)) _ (s .args .v) (s .args .a .0) w (c .before .before .store-word .ensures))
 
 pub store-spec : {M : Type 1} → statement M

@@ -8,7 +8,7 @@ use Rattle.memory.proofs.store_byte.Tie as tie
 
 returns-2 : tie.Need-returns-2
 returns-2 c =
-    let s = c .before .before .before .before .before .before .before in
+    let s : tie.Start = search in
     c .before .before .write-byte .ensures
     ∙ store-plain (now (s .args .mem)) (s .args .a .0) (s .args .v) (c .before .before .before .before .if1 .left)
 

@@ -9,18 +9,18 @@ use Rattle.memory.proofs.store_device.Tie as tie
 
 returns : tie.Need-returns
 returns c =
-    let s = c .before .before .before .before .before in
+    let s : tie.Start = search in
     store-status (now (s .args .mem)) (s .args .a .0) (s .args .v) _ (s .pre .1) (c .before .before .if1 .taken) (c .stored-status .ensures)
 
 returns-2 : tie.Need-returns-2
 returns-2 c =
-    let s = c .before .before .before .before .before .before in
+    let s : tie.Start = search in
     store-output (now (s .args .mem)) (s .args .a .0) (s .args .v) _
     (s .pre .1) (c .before .before .before .if1 .left) (c .before .if2 .taken) (c .without-dba .ensures)
 
 returns-3 : tie.Need-returns-3
 returns-3 c =
-    let s = c .before .before .before .before .before in
+    let s : tie.Start = search in
     store-input (now (s .args .mem)) (s .args .a .0) (s .args .v) (s .pre .1) (c .before .before .if1 .left) (c .if2 .left)
 
 pub store-device-spec : {M : Type 1} → statement M

@@ -7,7 +7,7 @@ use Rattle.memory.proofs.touch.Tie as tie
 
 returns : tie.Need-returns
 returns c =
-    let s = c .before .before .before .before .before .before in
+    let s : tie.Start = search in
     let i = c .before .before .before .if1 .taken in
     touch-status (now (s .args .mem)) (s .args .a .0) _ i (c .before .before .if2 .taken) (c .cleared-status .ensures)
 

@@ -18,7 +18,8 @@ use Rattle.open_machine.proofs.advance_by_value.Tie as tie
 
 returns : tie.Need-returns
 returns c =
-    let w = c .before .before .before .before .before .before .before .write-record .ensures _ in
+    let at-write-record : tie.After-write-record = search in
+    let w = at-write-record .write-record .ensures _ in
     let v = c .before .before .call-verdict .ensures in
     let k = c .before .refusal-number .ensures .0 in
     let e = advance-refused _ _ _ _ _ _ _ w v k (c .if1 .taken) in
@@ -35,7 +36,7 @@ cast-run c =
 
 run-requires : tie.Need-run-requires
 run-requires c κs =
-    let a-write = c .before .before .before .before .before .before .before .before .before in
+    let a-write : tie.After-write-record = search in
     let g = a-write .before .before .before .before .before in
     let v = c .before .before .before .before .call-verdict .ensures in
     let k = c .before .before .before .refusal-number .ensures .0 in
@@ -51,14 +52,15 @@ run-requires c κs =
 
 reply-of-requires : tie.Need-reply-of-requires
 reply-of-requires c κs =
-    let a-run = c .before .before .before .before .before in
+    let a-run : tie.After-run = search in
+    let a-verdict : tie.After-call-verdict = search in
+    let a-write = a-verdict .before .before .before .before .before in
+    let at-start = a-write .before .before .before .before .before in
     let r = a-run .run .ensures in
     let i = a-run .before .before .before .if1 .left in
     let k = a-run .before .before .before .before .refusal-number .ensures .0 in
-    let a-verdict = a-run .before .before .before .before .before in
     let v = a-verdict .call-verdict .ensures in
-    let a-write = a-verdict .before .before .before .before .before in
-    let a = a-write .before .before .before .before .before .args in
+    let a = at-start .args in
     let s = stateOf (a .m) (now (a .memory)) in
     let w = a-write .write-record .ensures (now (a .memory)) in (
       subst (λ j. j ≤ 1000000) (sym (r .1 .1 .0)) (few-steps s _ _ _ _ _ _ w v k i),
@@ -67,14 +69,15 @@ reply-of-requires c κs =
 
 returns-2 : tie.Need-returns-2
 returns-2 c =
-    let a-run = c .before .before .before .before .before .before in
+    let a-run : tie.After-run = search in
+    let a-verdict : tie.After-call-verdict = search in
+    let a-write = a-verdict .before .before .before .before .before in
+    let at-start = a-write .before .before .before .before .before in
     let r = a-run .run .ensures in
     let i = a-run .before .before .before .if1 .left in
     let k = a-run .before .before .before .before .refusal-number .ensures .0 in
-    let a-verdict = a-run .before .before .before .before .before in
     let v = a-verdict .call-verdict .ensures in
-    let a-write = a-verdict .before .before .before .before .before in
-    let a = a-write .before .before .before .before .before .args in
+    let a = at-start .args in
     let s = stateOf (a .m) (now (a .memory)) in
     let w = a-write .write-record .ensures (now (a .memory)) in
     let e =

@@ -27,13 +27,14 @@ returns c =
 step-requires : tie.Need-step-requires
 step-requires c κs =
     let f = c .before in
-    let g = f .before .before .before .before .before .before .before .before .before .before in
+    let at-write-record : tie.After-write-record = search in
+    let g : tie.Start = search in
     let a = g .args in
     let p =
-    step-passed (stateOf (a .m) (now (a .memory))) _ _ _ _ (f .before .before .before .before .before .before .write-record .ensures _)
+    step-passed (stateOf (a .m) (now (a .memory))) _ _ _ _ (at-write-record .write-record .ensures _)
     (f .before .before .verdict .ensures) (f .before .refusal-number .ensures .0) (f .if1 .left) in
     let k = LL.owed T.the-type T′.the-laws (g .args .m) _ (g .good .0) .1 .1 .1 .1 .1 .0 .1 in
-    let w = f .before .before .before .before .before .before .write-record .ensures [] in
+    let w = at-write-record .write-record .ensures [] in
     let h = count-fits (stateOf (g .args .m) []) _ _ _ _ p w k in (
       p .memory-size,
       omega arith,
@@ -44,30 +45,32 @@ step-requires c κs =
 
 mul-reply : tie.Need-mul-reply
 mul-reply c =
-    let h = bit-le (c .before .before .before .before .before .step .result .machine .halted) in
+    let at-step : tie.After-step = search in
+    let h = bit-le (at-step .step .result .machine .halted) in
     omega arith
 
 mul-reply-2 : tie.Need-mul-reply-2
 mul-reply-2 c =
-    let a-step = c .before .before .before .before .before in
+    let a-step : tie.After-step = search in
     let s = a-step .before .before .before .before .before .before .before .before .before .before .before .before in
     let h = bit-le (not (s .args .m .halted)) in
     omega arith
 
 add-reply : tie.Need-add-reply
 add-reply c =
-    let a-step = c .before .before .before .before .before in
-    let h = bit-le (a-step .step .result .machine .halted) in
+    let a-step : tie.After-step = search in
     let s = a-step .before .before .before .before .before .before .before .before .before .before .before .before in
+    let h = bit-le (a-step .step .result .machine .halted) in
     let k = bit-le (not (s .args .m .halted)) in
     omega arith
 
 returns-2 : tie.Need-returns-2
 returns-2 c =
-    let r = c .before .before .before .before .before in
-    let f = r .before .before in
-    let v = f .before .before in
-    let a = v .before .before .before .before .before .before .before .before .args in
+    let r : tie.After-step = search in
+    let f : tie.Else1 = search in
+    let v : tie.After-verdict = search in
+    let at-start = v .before .before .before .before .before .before .before .before in
+    let a = at-start .args in
     let e =
     step-ran _ _ _ _ _ (v .before .before .before .before .write-record .ensures _) (v .verdict .ensures)
     (f .before .refusal-number .ensures .0) _ _ (f .if1 .left)

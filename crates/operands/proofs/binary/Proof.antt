@@ -5,50 +5,6 @@ use Rattle.operands.proofs.Laws.{past}
 use Rattle.operands.proofs.binary.Statement.{statement}
 use Rattle.operands.proofs.binary.Tie as tie
 
-returns : tie.Need-returns
-unfolding binaryOp
-returns c = rw (c .match .keys1)
-
-returns-2 : tie.Need-returns-2
-unfolding binaryOp
-returns-2 c = rw (c .match .keys2)
-
-returns-3 : tie.Need-returns-3
-unfolding binaryOp
-returns-3 c = rw (c .match .keys3)
-
-returns-4 : tie.Need-returns-4
-unfolding binaryOp
-returns-4 c = rw (c .match .keys4)
-
-returns-5 : tie.Need-returns-5
-unfolding binaryOp
-returns-5 c = rw (c .match .keys5)
-
-returns-6 : tie.Need-returns-6
-unfolding binaryOp
-returns-6 c = rw (c .match .keys6)
-
-returns-7 : tie.Need-returns-7
-unfolding binaryOp
-returns-7 c = rw (c .match .keys7)
-
-returns-8 : tie.Need-returns-8
-unfolding binaryOp
-returns-8 c = rw (c .match .keys8)
-
-returns-9 : tie.Need-returns-9
-unfolding binaryOp
-returns-9 c = rw (c .match .keys9)
-
-returns-10 : tie.Need-returns-10
-unfolding binaryOp
-returns-10 c = rw (c .match .keys10)
-
-returns-11 : tie.Need-returns-11
-unfolding binaryOp
-returns-11 c = rw (c .match .keys11)
-
 returns-12 : tie.Need-returns-12
 unfolding binaryOp
 returns-12 c = let h = past (c .before .args .op) 11 (c .match .rest) in rw List·getD-eq-default
@@ -56,4 +12,9 @@ returns-12 c = let h = past (c .before .args .op) 11 (c .match .rest) in rw List
 pub binary-spec : {M : Type 1} → statement M
 binary-spec =
     tie.close
-    (tie.spec returns returns-2 returns-3 returns-4 returns-5 returns-6 returns-7 returns-8 returns-9 returns-10 returns-11 returns-12)
+    (tie.spec (λ c. unfold binaryOp in rw (c .match .keys1)) (λ c. unfold binaryOp in rw (c .match .keys2))
+    (λ c. unfold binaryOp in rw (c .match .keys3)) (λ c. unfold binaryOp in rw (c .match .keys4))
+    (λ c. unfold binaryOp in rw (c .match .keys5)) (λ c. unfold binaryOp in rw (c .match .keys6))
+    (λ c. unfold binaryOp in rw (c .match .keys7)) (λ c. unfold binaryOp in rw (c .match .keys8))
+    (λ c. unfold binaryOp in rw (c .match .keys9)) (λ c. unfold binaryOp in rw (c .match .keys10))
+    (λ c. unfold binaryOp in rw (c .match .keys11)) returns-12)

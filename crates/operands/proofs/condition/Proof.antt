@@ -1,4 +1,5 @@
--- `operands::condition` meets its contract. Assumes nothing.
+-- An odd condition is the even one before it turned over; so the condition of half the number, turned over where the number is odd, is
+-- the condition of the number. Assumes nothing.
 use mathlib.Core.Path.{_≡_, refl, sym, ap, _∙_}
 use mathlib.Core.Bool.{Bool, true, false, not, _&&_, _||_, Bool·beq}
 use mathlib.Core.Logic.{⊎-elim}

@@ -8,21 +8,9 @@ use Rattle.operands.proofs.Laws.{past, never}
 use Rattle.operands.proofs.even_condition.Statement.{statement}
 use Rattle.operands.proofs.even_condition.Tie as tie
 
-returns : tie.Need-returns
-unfolding conditionOf
-returns c = rw (c .match .keys1)
-
 returns-2 : tie.Need-returns-2
 unfolding conditionOf
 returns-2 c = rw (c .match .keys2, div-one)
-
-returns-3 : tie.Need-returns-3
-unfolding conditionOf
-returns-3 c = rw (c .match .keys3)
-
-returns-4 : tie.Need-returns-4
-unfolding conditionOf
-returns-4 c = rw (c .match .keys4)
 
 returns-5 : tie.Need-returns-5
 unfolding conditionOf
@@ -36,10 +24,6 @@ returns-7 : tie.Need-returns-7
 unfolding conditionOf
 returns-7 c = rw (c .before .match .keys7, c .at-least2 .ensures)
 
-returns-8 : tie.Need-returns-8
-unfolding conditionOf
-returns-8 c = rw (c .match .keys8)
-
 returns-9 : tie.Need-returns-9
 returns-9 c =
     let h = past (c .before .args .k) 8 (c .match .rest) in
@@ -48,5 +32,6 @@ returns-9 c =
 pub even-condition-spec : {M : Type 1} → statement M
 even-condition-spec =
     tie.close
-    (tie.spec (λ c κs. search needs) (λ c κs. search needs) returns returns-2 returns-3 returns-4 returns-5 returns-6 returns-7 returns-8
-    returns-9)
+    (tie.spec (λ c κs. search needs) (λ c κs. search needs) (λ c. unfold conditionOf in rw (c .match .keys1)) returns-2
+    (λ c. unfold conditionOf in rw (c .match .keys3)) (λ c. unfold conditionOf in rw (c .match .keys4)) returns-5 returns-6 returns-7
+    (λ c. unfold conditionOf in rw (c .match .keys8)) returns-9)

@@ -6,18 +6,6 @@ use Rattle.operands.proofs.Laws.{past}
 use Rattle.operands.proofs.immediate.Statement.{statement}
 use Rattle.operands.proofs.immediate.Tie as tie
 
-returns : tie.Need-returns
-unfolding immediateOf
-returns c = rw (c .match .keys1)
-
-returns-2 : tie.Need-returns-2
-unfolding immediateOf
-returns-2 c = rw (c .match .keys2)
-
-returns-3 : tie.Need-returns-3
-unfolding immediateOf
-returns-3 c = rw (c .match .keys3)
-
 returns-4 : tie.Need-returns-4
 unfolding immediateOf
 returns-4 c = let h = past (c .before .args .op) 3 (c .match .rest) in rw List·getD-eq-default
@@ -25,5 +13,6 @@ returns-4 c = let h = past (c .before .args .op) 3 (c .match .rest) in rw List·
 pub immediate-spec : {M : Type 1} → statement M
 immediate-spec =
     tie.close
-    (tie.spec (λ c. search needs) (λ c. search needs) (λ c. search needs) (λ c. search needs) (λ c. search needs) returns returns-2
-    returns-3 returns-4)
+    (tie.spec (λ c. search needs) (λ c. search needs) (λ c. search needs) (λ c. search needs) (λ c. search needs)
+    (λ c. unfold immediateOf in rw (c .match .keys1)) (λ c. unfold immediateOf in rw (c .match .keys2))
+    (λ c. unfold immediateOf in rw (c .match .keys3)) returns-4)

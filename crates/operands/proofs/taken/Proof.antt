@@ -7,14 +7,6 @@ use Rattle.operands.proofs.Laws.{past}
 use Rattle.operands.proofs.taken.Statement.{statement}
 use Rattle.operands.proofs.taken.Tie as tie
 
-returns : tie.Need-returns
-unfolding takenOf
-returns c = rw (c .match .keys1)
-
-returns-2 : tie.Need-returns-2
-unfolding takenOf
-returns-2 c = rw (c .match .keys2)
-
 returns-3 : tie.Need-returns-3
 unfolding takenOf
 returns-3 c = rw (c .match .keys3, div-one)
@@ -22,10 +14,6 @@ returns-3 c = rw (c .match .keys3, div-one)
 returns-4 : tie.Need-returns-4
 unfolding takenOf
 returns-4 c = rw (c .match .keys4, div-one)
-
-returns-5 : tie.Need-returns-5
-unfolding takenOf
-returns-5 c = rw (c .match .keys5)
 
 returns-6 : tie.Need-returns-6
 unfolding takenOf
@@ -42,4 +30,6 @@ returns-8 c = let h = past (c .before .args .n) 7 (c .match .rest) in rw List·g
 pub taken-spec : {M : Type 1} → statement M
 taken-spec =
     tie.close
-    (tie.spec (λ c κs. search needs) (λ c κs. search needs) returns returns-2 returns-3 returns-4 returns-5 returns-6 returns-7 returns-8)
+    (tie.spec (λ c κs. search needs) (λ c κs. search needs) (λ c. unfold takenOf in rw (c .match .keys1))
+    (λ c. unfold takenOf in rw (c .match .keys2)) returns-3 returns-4 (λ c. unfold takenOf in rw (c .match .keys5)) returns-6 returns-7
+    returns-8)

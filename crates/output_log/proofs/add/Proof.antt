@@ -13,7 +13,7 @@ use Rattle.output_log.proofs.add.Tie as tie
 
 write-record-requires : tie.Need-write-record-requires
 write-record-requires c κs =
-    let s = c .before .before .before .before .before in
+    let s : tie.Start = search in
     let l = ap (λ x. 8 * (s .args .k + length (listed (s .args .step) x))) (c .before .before .x .given .1) in
     omega (arith, l, s .pre)
 
@@ -29,8 +29,10 @@ returns c =
 returns-2 : tie.Need-returns-2
 unfolding logBytes
 returns-2 c =
-    let a = c .before .before .before .before .before .before .before .before .args in
-    let e = sym (ap (listed (a .step)) (c .before .before .before .before .before .x .given .1)) in (
+    let at-x : tie.After-x = search in
+    let at-start : tie.Start = search in
+    let a = at-start .args in
+    let e = sym (ap (listed (a .step)) (at-x .x .given .1)) in (
       ap (λ xs. a .k + length xs) e,
       c .before .before .write-record .ensures ∙ ap (λ xs. sets (now (a .log)) (8 * a .k) (logBytes xs)) e,
     )

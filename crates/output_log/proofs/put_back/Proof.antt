@@ -6,7 +6,8 @@ use denote.Ref.{now}
 use lib.ListN.{length, take}
 use lib.Seq.{sets, length-sets}
 use borrow.Author.Needs.{needs}
-use Rattle.output_log.proofs.Laws.{put-more, put-all, is-not, is-so}
+use borrow.Author.Tests.{not-true, not-false}
+use Rattle.output_log.proofs.Laws.{put-more, put-all}
 use Rattle.output_log.proofs.put_back.Statement.{statement}
 use Rattle.output_log.proofs.put_back.Tie as tie
 
@@ -19,7 +20,7 @@ abbrev μ-loop : tie.MeasureT-loop
 returns : tie.Need-returns Inv-loop μ-loop
 returns c =
     let a = c .before .args in
-    sym (ap (λ b. cond b (sets (now (a .mem)) 0 (now (a .kept))) (now (a .mem))) (is-not (a .wanted) (c .if1 .taken)))
+    sym (ap (λ b. cond b (sets (now (a .mem)) 0 (now (a .kept))) (now (a .mem))) (not-true (a .wanted) (c .if1 .taken)))
 
 slice-write-mem : tie.Need-slice-write-mem Inv-loop μ-loop
 slice-write-mem c =
@@ -48,7 +49,7 @@ returns-2 c =
     let s = c .before .before .before in
     let a = s .args in
     put-all (a .mem .now) (l .mem) (a .kept .now) (l .i) (s .pre .1) (omega (arith, l .inv .0)) (l .inv .1)
-    ∙ sym (ap (λ b. cond b (sets (now (a .mem)) 0 (now (a .kept))) (now (a .mem))) (is-so (a .wanted) (c .before .before .if1 .left)))
+    ∙ sym (ap (λ b. cond b (sets (now (a .mem)) 0 (now (a .kept))) (now (a .mem))) (not-false (a .wanted) (c .before .before .if1 .left)))
 
 pub put-back-spec : {M : Type 1} → statement M
 put-back-spec =

@@ -11,45 +11,13 @@ returns c s e =
     let x = a .given .0 in
     store-even (x .0) (x .1 .0) (x .1 .1 .0) s (c .if1 .taken) ∙ ap (λ x. loggedOf x s) (sym (a .given .1))
 
-returns-2 : tie.Need-returns-2
-returns-2 c s e = ap (λ x. loggedOf x s) (sym (c .enum-told .given .1))
-
-returns-3 : tie.Need-returns-3
-returns-3 c s e = ap (λ x. loggedOf x s) (sym (c .enum-told2 .given .1))
-
-returns-4 : tie.Need-returns-4
-returns-4 c s e = ap (λ x. loggedOf x s) (sym (c .enum-told3 .given .1))
-
-returns-5 : tie.Need-returns-5
-returns-5 c s e = ap (λ x. loggedOf x s) (sym (c .enum-told4 .given .1))
-
-returns-6 : tie.Need-returns-6
-returns-6 c s e = ap (λ x. loggedOf x s) (sym (c .enum-told5 .given .1))
-
-returns-7 : tie.Need-returns-7
-returns-7 c s e = ap (λ x. loggedOf x s) (sym (c .enum-told6 .given .1))
-
-returns-8 : tie.Need-returns-8
-returns-8 c s e = ap (λ x. loggedOf x s) (sym (c .enum-told7 .given .1))
-
-returns-9 : tie.Need-returns-9
-returns-9 c s e = ap (λ x. loggedOf x s) (sym (c .enum-told8 .given .1))
-
-returns-10 : tie.Need-returns-10
-returns-10 c s e = ap (λ x. loggedOf x s) (sym (c .enum-told9 .given .1))
-
-returns-11 : tie.Need-returns-11
-returns-11 c s e = ap (λ x. loggedOf x s) (sym (c .enum-told10 .given .1))
-
-returns-12 : tie.Need-returns-12
-returns-12 c s e = ap (λ x. loggedOf x s) (sym (c .enum-told11 .given .1))
-
 returns-13 : tie.Need-returns-13
 returns-13 c s e =
+    let at-a : tie.After-a = search in
     let o = c .before .odd-byte .ensures in
     let w = c .before .before .word-of .ensures .0 in
     let i = c .before .before .before .if1 .left in
-    let a = c .before .before .before .before .before .before .a in
+    let a = at-a .a in
     let x = a .given .0 in
     c .shown-on .ensures (s .count)
     ∙ (λ t. shownOn (s .count) (sym e t) (w t) (o t))
@@ -61,5 +29,10 @@ shown-by-spec =
     tie.close
     (tie.spec (λ c. search needs) (λ c. search needs) (λ c. search needs) (λ c. search needs) (λ c. search needs) (λ c. search needs)
     (λ c. search needs) (λ c. search needs) (λ c. search needs) (λ c. search needs) (λ c. search needs) (λ c. search needs) returns
-    (λ c κs. search needs) (λ c κs. search needs) (λ c κs. search needs) returns-2 returns-3 returns-4 returns-5 returns-6 returns-7
-    returns-8 returns-9 returns-10 returns-11 returns-12 returns-13)
+    (λ c κs. search needs) (λ c κs. search needs) (λ c κs. search needs) (λ c s e. ap (λ x. loggedOf x s) (sym (c .enum-told .given .1)))
+    (λ c s e. ap (λ x. loggedOf x s) (sym (c .enum-told2 .given .1))) (λ c s e. ap (λ x. loggedOf x s) (sym (c .enum-told3 .given .1)))
+    (λ c s e. ap (λ x. loggedOf x s) (sym (c .enum-told4 .given .1))) (λ c s e. ap (λ x. loggedOf x s) (sym (c .enum-told5 .given .1)))
+    (λ c s e. ap (λ x. loggedOf x s) (sym (c .enum-told6 .given .1))) (λ c s e. ap (λ x. loggedOf x s) (sym (c .enum-told7 .given .1)))
+    (λ c s e. ap (λ x. loggedOf x s) (sym (c .enum-told8 .given .1))) (λ c s e. ap (λ x. loggedOf x s) (sym (c .enum-told9 .given .1)))
+    (λ c s e. ap (λ x. loggedOf x s) (sym (c .enum-told10 .given .1))) (λ c s e. ap (λ x. loggedOf x s) (sym (c .enum-told11 .given .1)))
+    returns-13)

@@ -9,7 +9,8 @@ use Rattle.output_log.proofs.write_record.Tie as tie
 
 returns : tie.Need-returns
 returns c =
-    let a = c .before .before .before .before .before .args in
+    let at-start : tie.Start = search in
+    let a = at-start .args in
     let i = 8 * a .k in
     ap (λ l. set (set (set (set l (i + 4) (a .device)) (i + 5) (a .value)) (i + 6) 0) (i + 7) 0) (c .before .before .put-four .ensures)
     ∙ record-bytes (now (a .log)) i (a .step) (a .device) (a .value)

@@ -12,70 +12,6 @@ use Rattle.probe.proofs.op_of.Tie as tie
 past : {n : ℕ} (k : ℕ) → k ≤ n → (n ≡ k → ⊥) → (n ≡ k + 1 → ⊥) → (n ≡ k + 2 → ⊥) → (n ≡ k + 3 → ⊥) → k + 4 ≤ n
 past k p a b c d = omega arith
 
-returns : tie.Need-returns
-unfolding opOf
-returns c = rw (c .match .keys1)
-
-returns-2 : tie.Need-returns-2
-unfolding opOf
-returns-2 c = rw (c .match .keys2)
-
-returns-3 : tie.Need-returns-3
-unfolding opOf
-returns-3 c = rw (c .match .keys3)
-
-returns-4 : tie.Need-returns-4
-unfolding opOf
-returns-4 c = rw (c .match .keys4)
-
-returns-5 : tie.Need-returns-5
-unfolding opOf
-returns-5 c = rw (c .match .keys5)
-
-returns-6 : tie.Need-returns-6
-unfolding opOf
-returns-6 c = rw (c .match .keys6)
-
-returns-7 : tie.Need-returns-7
-unfolding opOf
-returns-7 c = rw (c .match .keys7)
-
-returns-8 : tie.Need-returns-8
-unfolding opOf
-returns-8 c = rw (c .match .keys8)
-
-returns-9 : tie.Need-returns-9
-unfolding opOf
-returns-9 c = rw (c .match .keys9)
-
-returns-10 : tie.Need-returns-10
-unfolding opOf
-returns-10 c = rw (c .match .keys10)
-
-returns-11 : tie.Need-returns-11
-unfolding opOf
-returns-11 c = rw (c .match .keys11)
-
-returns-12 : tie.Need-returns-12
-unfolding opOf
-returns-12 c = rw (c .match .keys12)
-
-returns-13 : tie.Need-returns-13
-unfolding opOf
-returns-13 c = rw (c .match .keys13)
-
-returns-14 : tie.Need-returns-14
-unfolding opOf
-returns-14 c = rw (c .match .keys14)
-
-returns-15 : tie.Need-returns-15
-unfolding opOf
-returns-15 c = rw (c .match .keys15)
-
-returns-16 : tie.Need-returns-16
-unfolding opOf
-returns-16 c = rw (c .match .keys16)
-
 returns-17 : tie.Need-returns-17
 unfolding opOf
 returns-17 c =
@@ -92,5 +28,9 @@ returns-17 c =
 pub op-of-spec : {M : Type 1} → statement M
 op-of-spec =
     tie.close
-    (tie.spec returns returns-2 returns-3 returns-4 returns-5 returns-6 returns-7 returns-8 returns-9 returns-10 returns-11 returns-12
-    returns-13 returns-14 returns-15 returns-16 returns-17)
+    (tie.spec (λ c. unfold opOf in rw (c .match .keys1)) (λ c. unfold opOf in rw (c .match .keys2))
+    (λ c. unfold opOf in rw (c .match .keys3)) (λ c. unfold opOf in rw (c .match .keys4)) (λ c. unfold opOf in rw (c .match .keys5))
+    (λ c. unfold opOf in rw (c .match .keys6)) (λ c. unfold opOf in rw (c .match .keys7)) (λ c. unfold opOf in rw (c .match .keys8))
+    (λ c. unfold opOf in rw (c .match .keys9)) (λ c. unfold opOf in rw (c .match .keys10)) (λ c. unfold opOf in rw (c .match .keys11))
+    (λ c. unfold opOf in rw (c .match .keys12)) (λ c. unfold opOf in rw (c .match .keys13)) (λ c. unfold opOf in rw (c .match .keys14))
+    (λ c. unfold opOf in rw (c .match .keys15)) (λ c. unfold opOf in rw (c .match .keys16)) returns-17)

@@ -19,12 +19,14 @@ abbrev μ-loop : tie.MeasureT-loop
 
 returns : tie.Need-returns Inv-loop μ-loop
 returns c =
-    let b = now (c .before .before .before .before .before .args .events) in
+    let at-start : tie.Start Inv-loop μ-loop = search in
+    let b = now (at-start .args .events) in
     sym (unfit-below b _ _ (c .before .before .loop-test .taken) (sym (c .before .event-fits .ensures) ∙ not-true _ (c .if1 .taken)))
 
 loop-again : tie.Need-loop-again Inv-loop μ-loop
 loop-again c =
-    let b = now (c .before .before .before .before .before .args .events) in
+    let at-start : tie.Start Inv-loop μ-loop = search in
+    let b = now (at-start .args .events) in
     let k = c .before .before .before .loop .k in
     let e = sym (c .before .event-fits .ensures) ∙ not-false _ (c .if1 .left) in
     (omega arith, rw (add-one k) (fits-next b k (c .before .before .before .loop .inv .1) e))

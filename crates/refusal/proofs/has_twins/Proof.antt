@@ -1,4 +1,5 @@
--- The invariant is `Swept`, of a list in order. Assumes nothing.
+-- The loop's invariant is `Swept`, of a list in order: records of one step stand together, so the marks of the devices seen since the step
+-- began tell whether the record looked at has a twin before it. Assumes nothing.
 use Prim.Native.Nat.{_+_, _-_, _*_, _<_}
 use mathlib.Core.Path.{sym, _∙_}
 use native.Mathlib.Omega.{arith}

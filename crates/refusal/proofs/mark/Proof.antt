@@ -1,7 +1,8 @@
 use mathlib.Core.Path.{ap, _∙_}
 use lib.Bits.{bitOr}
 use borrow.Author.Needs.{needs}
-use Rattle.refusal.proofs.Marks.{one-shifted, or-bit}
+use Rattle.word.proofs.Laws.{or-bit}
+use Rattle.refusal.proofs.Marks.{one-shifted}
 use Rattle.refusal.proofs.mark.Statement.{statement}
 use Rattle.refusal.proofs.mark.Tie as tie
 

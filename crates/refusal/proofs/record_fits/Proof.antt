@@ -1,3 +1,5 @@
+-- Test by test, in the code's order: a test that fails makes the definition's conjunction false, whatever the others are; past all of
+-- them it is the last test. Assumes nothing.
 use Prim.Native.Nat.{_/_, _%_}
 use mathlib.Core.Bool.{_&&_, and-false}
 use mathlib.Core.Path.{ap, sym, _∙_}
@@ -20,8 +22,8 @@ returns c =
 returns-2 : tie.Need-returns-2
 unfolding recordFits
 returns-2 c =
-    let c1 = c .before .before in
-    let r = now (c1 .before .before .before .args .r) in
+    let at-if1 = c .before .before in
+    let r = now (at-if1 .before .before .before .args .r) in
     let e20 = ne-eqb _ _ (c .if2 .taken) in
     rw (e20, and-false (eqb (twoAt r 16 / 512 % 16) 0 && ltb (twoAt r 18) 128))
 
@@ -34,26 +36,26 @@ returns-3 c =
 returns-4 : tie.Need-returns-4
 unfolding recordFits
 returns-4 c =
-    let c3 = c .before .before in
-    let c2 = c3 .before .before in
-    let c1 = c2 .before .before in
-    let e18 = ap (λ v. ltb v 128) (sym (c1 .before .two-at .ensures)) ∙ lt-ltb _ _ (c1 .if1 .left) in
-    let e20 = eq-eqb _ _ (c2 .if2 .left) in
-    let e16 = ap (λ v. eqb (v / 512 % 16) 0) (sym (c3 .before .two-at2 .ensures)) ∙ eq-eqb _ _ (c3 .if3 .left) in
+    let at-if3 = c .before .before in
+    let at-if2 = at-if3 .before .before in
+    let at-if1 : tie.Else1 = search in
+    let e18 = ap (λ v. ltb v 128) (sym (at-if1 .before .two-at .ensures)) ∙ lt-ltb _ _ (at-if1 .if1 .left) in
+    let e20 = eq-eqb _ _ (at-if2 .if2 .left) in
+    let e16 = ap (λ v. eqb (v / 512 % 16) 0) (sym (at-if3 .before .two-at2 .ensures)) ∙ eq-eqb _ _ (at-if3 .if3 .left) in
     let e21 = le-ltb _ _ (c .if4 .taken) in
     rw (e16, e18, e20, e21)
 
 returns-5 : tie.Need-returns-5
 unfolding recordFits
 returns-5 c =
-    let c4 = c .before in
-    let c3 = c4 .before .before in
-    let c2 = c3 .before .before in
-    let c1 = c2 .before .before in
-    let e18 = ap (λ v. ltb v 128) (sym (c1 .before .two-at .ensures)) ∙ lt-ltb _ _ (c1 .if1 .left) in
-    let e20 = eq-eqb _ _ (c2 .if2 .left) in
-    let e16 = ap (λ v. eqb (v / 512 % 16) 0) (sym (c3 .before .two-at2 .ensures)) ∙ eq-eqb _ _ (c3 .if3 .left) in
-    let e21 = lt-ltb _ _ (c4 .if4 .left) in
+    let at-if4 = c .before in
+    let at-if3 = at-if4 .before .before in
+    let at-if2 : tie.Else2 = search in
+    let at-if1 : tie.Else1 = search in
+    let e18 = ap (λ v. ltb v 128) (sym (at-if1 .before .two-at .ensures)) ∙ lt-ltb _ _ (at-if1 .if1 .left) in
+    let e20 = eq-eqb _ _ (at-if2 .if2 .left) in
+    let e16 = ap (λ v. eqb (v / 512 % 16) 0) (sym (at-if3 .before .two-at2 .ensures)) ∙ eq-eqb _ _ (at-if3 .if3 .left) in
+    let e21 = lt-ltb _ _ (at-if4 .if4 .left) in
     rw (e16, e18, e20, e21) (ap (λ v. eqb v 0) (c .two-at3 .ensures))
 
 pub record-fits-spec : {M : Type 1} → statement M

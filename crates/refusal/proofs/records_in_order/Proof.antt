@@ -20,14 +20,16 @@ abbrev μ-loop : tie.MeasureT-loop
 
 returns : tie.Need-returns Inv-loop μ-loop
 returns c =
-    let b = now (c .before .before .before .before .before .args .events) in
+    let at-start : tie.Start Inv-loop μ-loop = search in
+    let b = now (at-start .args .events) in
     let l = c .before .before .before .loop in
     let e = sym (c .before .in-order .ensures) ∙ not-true _ (c .if1 .taken) in
     (omega arith, (rw (add-one (l .k)) (l .inv .1), λ h. rw (add-one (l .k)) (disorder-at b (l .k) e)))
 
 loop-again : tie.Need-loop-again Inv-loop μ-loop
 loop-again c =
-    let b = now (c .before .before .before .before .before .args .events) in
+    let at-start : tie.Start Inv-loop μ-loop = search in
+    let b = now (at-start .args .events) in
     let k = c .before .before .before .loop .k in
     let e = sym (c .before .in-order .ensures) ∙ not-false _ (c .if1 .left) in
     (omega arith, rw (add-one k) (order-next b k (c .before .before .before .loop .inv .1) e))

@@ -75,9 +75,11 @@ passed c =
 
 gone-on-requires : tie.Need-gone-on-requires
 gone-on-requires c κs =
-    let s = c .before .before .before .before .before .before .before .before .before .before .before .before .before in
-    let z = c .before .before .before .before .before .before .at-once .ensures .0 in
-    let e = ap (λ (x : State). x .count) (c .before .before .before .before .before .before .before .before .rest-of .ensures []) in
+    let at-at-once : tie.After-at-once = search in
+    let at-rest-of : tie.After-rest-of = search in
+    let s = at-rest-of .before .before .before .before .before in
+    let z = at-at-once .at-once .ensures .0 in
+    let e = ap (λ (x : State). x .count) (at-rest-of .rest-of .ensures []) in
     (c .before .before .before .stretch .ensures .1, omega (arith, z, e, s .pre .1))
 
 -- a stretch alone
@@ -121,7 +123,7 @@ returns c =
 
 run-kept-requires : tie.Need-run-kept-requires
 run-kept-requires c κs =
-    let i = c .before .before .before .before .before in
+    let i : tie.After-gone-on = search in
     let s = start i in
     let a = s .args in
     let m = c .before .before .before .machine-of in
@@ -137,21 +139,25 @@ run-kept-requires c κs =
 
 after-steps-requires : tie.Need-after-steps-requires
 after-steps-requires c κs =
-    let i = c .before .before .before .before .before .before .before .before .before .before .before in
-    let r = c .before .before .before .before .before .run-kept in
+    let at-run-kept : tie.After-run-kept = search in
+    let i : tie.After-gone-on = search in
+    let r = at-run-kept .run-kept in
     let n = start i .args .n in
     let l : r .result .steps ≤ n - did i = subst (λ k. k ≤ n - did i) (sym (r .ensures .1 .1 .0)) (logged-le _ _ _ _) in
     omega (arith, l, few i, start i .pre .1)
 
 same-length-2 : tie.Need-same-length-2
 same-length-2 c =
-    let i = c .before .before .before .before .before .before .before .before .before .before .before .before in
-    omega (arith, c .before .before .before .before .before .before .run-kept .kept .1 .0, stretch-of i .stretch .kept .1 .0)
+    let at-run-kept : tie.After-run-kept = search in
+    let i : tie.After-gone-on = search in
+    omega (arith, at-run-kept .run-kept .kept .1 .0, stretch-of i .stretch .kept .1 .0)
 
 -- a stretch, and the run that goes on from it
 returns-2 : tie.Need-returns-2
 returns-2 c =
-    let i = c .before .before .before .before .before .before .before .before .before .before .before .before in
+    let at-run-kept : tie.After-run-kept = search in
+    let at-machine-of : tie.After-machine-of = search in
+    let i : tie.After-gone-on = search in
     let s = start i in
     let a = s .args in
     let b = now (a .events) in
@@ -159,12 +165,12 @@ returns-2 c =
     let k = roomOf (now (a .log)) in
     let f = stretch-of i .stretch in
     let j = did i in
-    let m = c .before .before .before .before .before .before .before .before .before .before .machine-of in
+    let m = at-machine-of .machine-of in
     let s₀ = stateOf (a .m) (now (a .memory)) in
     let v = stateOf (m .result) (f .last .1 .0) in
     let p : Passes ev s₀ v j = subst (λ x. Passes ev s₀ x j) (sym (m .ensures (f .last .1 .0))) (passed i) in
     let x = sym (run-on ev s₀ v j p k (a .n) (few i)) in
-    let o = c .before .before .before .before .before .before .run-kept in
+    let o = at-run-kept .run-kept in
     let r = o .ensures in
     let g = r .1 .1 .1 in
     let e = c .after-steps .ensures in (

@@ -1,4 +1,5 @@
--- Refused, nothing is changed; else what the callees need is what the verdict has settled. Assumes nothing.
+-- Refused, nothing is changed; else what the callees need is what the verdict has settled (`Passed`), and the run's answer is the
+-- definition's, whose steps and records are few enough for their bits of the reply (Calls). Assumes nothing.
 use Prim.Native.Nat.{_≤_}
 use mathlib.Core.Path.{ap, sym, subst}
 use native.Mathlib.Omega.{arith}
@@ -44,16 +45,16 @@ run-requires c κs =
 
 write-record-requires : tie.Need-write-record-requires
 write-record-requires c κs =
-    let i = c .before .before .before .before .before .before .before .before .before .before in
+    let i : tie.Else1 = search in
     let p = call-passed _ _ _ _ _ _ _ (i .before .before .call-verdict .ensures) (i .before .refusal-number .ensures .0) (i .if1 .left) in
     p .record-size
 
 reply-of-requires : tie.Need-reply-of-requires
 reply-of-requires c κs =
-    let a = c .before .before .before .before .before .before .before .before in
+    let a : tie.After-run = search in
+    let e = a .before .before .before .before .before in
     let r = a .run .ensures in
     let m = a .before .before .before .read-record in
-    let e = a .before .before .before .before .before in
     let i = e .if1 .left in
     let k = e .before .refusal-number .ensures .0 in
     let v = e .before .before .call-verdict .ensures in (
@@ -63,11 +64,11 @@ reply-of-requires c κs =
 
 returns-2 : tie.Need-returns-2
 returns-2 c =
-    let a = c .before .before .before .before .before .before .before .before .before in
+    let a : tie.After-run = search in
+    let o = a .before .before .before .before .before in
     let r = a .run .ensures in
     let x = r .1 .1 .1 in
     let m = a .before .before .before .read-record in
-    let o = a .before .before .before .before .before in
     let i = o .if1 .left in
     let k = o .before .refusal-number .ensures .0 in
     let v = o .before .before .call-verdict .ensures in

@@ -37,17 +37,20 @@ use Rattle.run.proofs.run_kept.Tie as tie
 
 abbrev Inv-loop : tie.InvT-loop
 Inv-loop memory₀ events from log₀ journal₀ n room lent regs₀ t₀ devices₀ at₀ done₀ added₀ depth₀ ring₀ short₀
-    memory log journal regs t devices at done added depth ring short =
-    (done ≤ n)
-    × (length memory ≡ length memory₀)
-    × (t .count ≡ t₀ .count + done)
-    × Awaits events (at .next) (at .due) (t .count)
-    × Reached (runLogged (eventsOf events) (stateWith regs₀ t₀ memory₀) room done) log₀ (stateWith regs t memory) done added log false
-    × (short ≡ false)
-    × (length devices ≡ 16)
-    × (depth ≡ depthFrom (eventsOf events) (stateWith regs₀ t₀ memory₀) depth₀ done)
-    × (journalWith journal ring ≡ keptOver journal₀ ring₀ (eventsOf events) (stateWith regs₀ t₀ memory₀) done)
-    × Lends journal ring
+    memory log journal regs t devices at done added depth ring short = record {
+      some : done ≤ n;
+      size : length memory ≡ length memory₀;
+      counts : t .count ≡ t₀ .count + done;
+      awaits : Awaits events (at .next) (at .due) (t .count);
+      reached :
+          Reached (runLogged (eventsOf events) (stateWith regs₀ t₀ memory₀) room done) log₀ (stateWith regs t memory) done added log
+          false;
+      whole : short ≡ false;
+      sixteen : length devices ≡ 16;
+      deep : depth ≡ depthFrom (eventsOf events) (stateWith regs₀ t₀ memory₀) depth₀ done;
+      kept : journalWith journal ring ≡ keptOver journal₀ ring₀ (eventsOf events) (stateWith regs₀ t₀ memory₀) done;
+      lends : Lends journal ring;
+    }
 
 abbrev μ-loop : tie.MeasureT-loop
 μ-loop memory₀ events from log₀ journal₀ n room lent regs₀ t₀ devices₀ at₀ done₀ added₀ depth₀ ring₀ short₀
@@ -56,23 +59,23 @@ abbrev μ-loop : tie.MeasureT-loop
 
 loop-holds : tie.Need-loop-holds Inv-loop μ-loop
 loop-holds c =
-    let s = c .before .before .before .before .before .before .before in
+    let s : tie.Start Inv-loop μ-loop = search in
     let e = ap (λ (x : State). x .count) (c .before .rest-of .ensures []) in
-    let begins = subst (Behind _ _) (sym e) (s .pre .4) in (
-      omega arith,
-      refl,
-      omega arith,
-      awaits-from _ _ _ _ _ begins (c .awaiting .ensures),
-      reached-start _ _ _ _,
-      refl,
-      refl,
-      sym (depth-start _ _ _),
-      kept-start _ _ _ _,
-      s .pre .6,
-    )
+    let begins = subst (Behind _ _) (sym e) (s .pre .4) in record {
+      some = omega arith;
+      size = refl;
+      counts = omega arith;
+      awaits = awaits-from _ _ _ _ _ begins (c .awaiting .ensures);
+      reached = reached-start _ _ _ _;
+      whole = refl;
+      sixteen = refl;
+      deep = sym (depth-start _ _ _);
+      kept = kept-start _ _ _ _;
+      lends = s .pre .6;
+    }
 
--- ways back: from the loop to the start, from a turn to the loop, from a plan to its turn, from the end of the step to its plan, from
--- the end of the stretch to that of the step
+-- ways back: from the loop to the start, from a turn to the loop, from a plan to its turn and to what was kept and delivered before it,
+-- from the end of the step to its plan, from the end of the stretch to that of the step
 abbrev start : tie.At-loop Inv-loop μ-loop → tie.Start Inv-loop μ-loop
 start c = c .before .before .before .before .before .before .before .before
 
@@ -82,20 +85,30 @@ loop-of c = c .before .before
 abbrev turn-of : tie.After-plan Inv-loop μ-loop → tie.Then1 Inv-loop μ-loop
 turn-of c = c .before .before .before .before .before .before .before .before .before .before .before .before .before .before
 
+abbrev keep-of : tie.After-plan Inv-loop μ-loop → tie.After-keep Inv-loop μ-loop
+keep-of c = c .before .before .before .before .before .before .before .before .before
+
+abbrev due-of : tie.After-plan Inv-loop μ-loop → tie.After-deliver-due Inv-loop μ-loop
+due-of c = c .before .before .before .before .before .before
+
 abbrev plan-of : tie.After-add Inv-loop μ-loop → tie.After-plan Inv-loop μ-loop
 plan-of c = c .before .before .before .before .before .before
 
 abbrev add-of : tie.After-at Inv-loop μ-loop → tie.After-add Inv-loop μ-loop
 add-of c = c .before .before .before .before .before .before .before .before .before .before .before .before .before .before .before
 
+abbrev kept-of : tie.After-at Inv-loop μ-loop → tie.After-keep-step Inv-loop μ-loop
+kept-of c = c .before .before .before .before .before .before .before .before
+
 abbrev step-of : tie.After-struct-known3 Inv-loop μ-loop → tie.After-at Inv-loop μ-loop
 step-of c = c .before .before .before .before .before .before .before .before .before .before
 
+abbrev once-of : tie.After-struct-known3 Inv-loop μ-loop → tie.After-at-once Inv-loop μ-loop
+once-of c = c .before .before .before .before .before .before .before .before
+
 -- the steps that a stretch did
 abbrev did : tie.After-struct-known3 Inv-loop μ-loop → ℕ
-did c =
-    c .before .before .before .before .before .before .before .before .at-once .result
-    - c .before .before .before .before .stretch .result .left
+did c = once-of c .at-once .result - c .before .before .before .before .stretch .result .left
 
 -- a turn that is begun is of a machine not halted, with steps to do
 on : (c : tie.Then1 Inv-loop μ-loop)
@@ -104,41 +117,42 @@ on : (c : tie.Then1 Inv-loop μ-loop)
 on c = let l = loop-of c in goes-on (l .loop .t .halted) (l .loop .done) (start l .args .n) (c .if1 .taken)
 
 slice-aggregate-keep : tie.Need-slice-aggregate-keep Inv-loop μ-loop
-slice-aggregate-keep c = omega (arith, loop-of (c .before .before .before .before) .loop .inv .6)
+slice-aggregate-keep c = omega (arith, loop-of (c .before .before .before .before) .loop .inv .sixteen)
 
 keep-requires : tie.Need-keep-requires Inv-loop μ-loop
 keep-requires c κs =
     let l = loop-of (c .before .before .before .before) in
-    (omega (arith, start l .pre .0, l .loop .inv .1), omega (arith, l .loop .inv .6))
+    (omega (arith, start l .pre .0, l .loop .inv .size), omega (arith, l .loop .inv .sixteen))
 
 deliver-due-requires : tie.Need-deliver-due-requires Inv-loop μ-loop
 deliver-due-requires c κs =
-    let l = loop-of (c .before .before .before .before .before .before .before) in
+    let at-if1 : tie.Then1 Inv-loop μ-loop = search in
+    let l = loop-of at-if1 in
     let s = start l in
-    (omega (arith, s .pre .0, l .loop .inv .1), l .loop .inv .3, s .pre .2, s .pre .3)
+    (omega (arith, s .pre .0, l .loop .inv .size), l .loop .inv .awaits, s .pre .2, s .pre .3)
 
 plan-requires : tie.Need-plan-requires Inv-loop μ-loop
 plan-requires c κs =
     let i = c .before .before .before .before .before .before .before .before .before .before .before .before .before in
     let l = loop-of i in
-    (omega (arith, start l .pre .0, l .loop .inv .1), ap (λ (x : Rest). x .halted) (c .with-lines .ensures) ∙ on i .0)
+    (omega (arith, start l .pre .0, l .loop .inv .size), ap (λ (x : Rest). x .halted) (c .with-lines .ensures) ∙ on i .0)
 
 shown-by-requires : tie.Need-shown-by-requires Inv-loop μ-loop
 shown-by-requires c κs = plan-requires (c .before .before) (c .before .plan .lifetimes) .0
 
 lacks-room-requires : tie.Need-lacks-room-requires Inv-loop μ-loop
-lacks-room-requires c κs = added-fit _ _ _ _ _ _ _ _ (loop-of (turn-of (c .before .before)) .loop .inv .4)
+lacks-room-requires c κs = added-fit _ _ _ _ _ _ _ _ (loop-of (turn-of (c .before .before)) .loop .inv .reached)
 
 slice-aggregate-put-back : tie.Need-slice-aggregate-put-back Inv-loop μ-loop
 slice-aggregate-put-back c =
-    let p = c .before .before .before .before .before .before .before in
-    let k = p .before .before .before .before .before .before .before .before .before in
+    let p : tie.After-plan Inv-loop μ-loop = search in
+    let k = keep-of p in
     omega (arith, k .keep .ensures .1)
 
 put-back-requires : tie.Need-put-back-requires Inv-loop μ-loop
 put-back-requires c κs =
-    let p = c .before .before .before .before .before .before .before in
-    let k = p .before .before .before .before .before .before .before .before .before in
+    let p : tie.After-plan Inv-loop μ-loop = search in
+    let k = keep-of p in
     (plan-requires (p .before) (p .plan .lifetimes) .0, omega (arith, k .keep .ensures .1))
 
 add-requires : tie.Need-add-requires Inv-loop μ-loop
@@ -148,29 +162,30 @@ add-requires c κs =
     let s = start l in
     let n = l .loop .t .count in
     room-for n (x .shown-by .result) (l .loop .added) (now (s .args .log)) (l .loop .log) _ (c .before .before .lacks-room .ensures n)
-    (c .before .if2 .left) (log-size _ _ _ _ _ _ _ _ (l .loop .inv .4))
+    (c .before .if2 .left) (log-size _ _ _ _ _ _ _ _ (l .loop .inv .reached))
 
 moved-requires : tie.Need-moved-requires Inv-loop μ-loop
 moved-requires c κs =
     let i = turn-of (plan-of (c .before .before)) in
     let l = loop-of i in
     let s = start l in
-    opened-fits _ _ _ _ _ (s .args .n) (l .loop .inv .7) (on i .1) (s .pre .5)
+    opened-fits _ _ _ _ _ (s .args .n) (l .loop .inv .deep) (on i .1) (s .pre .5)
 
 keep-step-requires : tie.Need-keep-step-requires Inv-loop μ-loop
 keep-step-requires c κs =
-    let p = c .before .before .before .before .before .before .before .before .before .before .before .before in
-    (plan-requires (p .before) (p .plan .lifetimes) .0, loop-of (turn-of p) .loop .inv .9)
+    let p : tie.After-plan Inv-loop μ-loop = search in
+    (plan-requires (p .before) (p .plan .lifetimes) .0, loop-of (turn-of p) .loop .inv .lends)
 
 perform-requires : tie.Need-perform-requires Inv-loop μ-loop
 perform-requires c κs =
-    let p = plan-of (c .before .before .before .before .before .before .before .before .before .before .before) in
+    let at-add : tie.After-add Inv-loop μ-loop = search in
+    let p = plan-of at-add in
     let i = turn-of p in
     let l = loop-of i in
     let s = start l in
     let e = ap (λ (x : State). x .count) (l .before .before .rest-of .ensures []) in (
       plan-requires (p .before) (p .plan .lifetimes) .0,
-      omega (arith, on i .1, l .loop .inv .2, s .pre .1, e),
+      omega (arith, on i .1, l .loop .inv .counts, s .pre .1, e),
       p .plan .ensures .1,
     )
 
@@ -180,24 +195,24 @@ stepped : (c : tie.After-at Inv-loop μ-loop)
     let p = plan-of a in
     let l = loop-of (turn-of p) in
     let s = start l .args in
-    let d = p .before .before .before .before .before .before .deliver-due .result in
-    let y = c .before .before .before .before .before .before .before .before in
+    let d = due-of p .deliver-due .result in
+    let y = kept-of c in
     let v = y .before .before .before .before .moved .result in
-    let k = p .before .before .before .before .before .before .before .before .before .keep in
+    let k = keep-of p .keep in
     let q = c .before .before .before .perform in
     Inv-loop (now (s .memory)) (now (s .events)) (s .from) (now (s .log)) (now (s .journal)) (s .n) (length (now (s .log)) / 8)
     (not (eqb (length (now (s .journal))) 0)) (s .m .regs) (l .before .before .rest-of .result) [] (d .at) 0 0 (s .begun) (s .begins) false
     (q .last .1 .0) (a .add .last .0) (y .keep-step .last .0) (q .last .0) (q .result) (k .last .1 .1 .0) (d .at)
     (l .loop .done + 1) (a .add .result) v (y .keep-step .result) (l .loop .short)
 stepped c =
-    let y = c .before .before .before .before .before .before .before .before in
+    let y = kept-of c in
     let a = add-of c in
     let p = plan-of a in
-    let k = p .before .before .before .before .before .before .before .before .before in
+    let k = keep-of p in
     let i = turn-of p in
     let l = loop-of i in
     let s = start l in
-    let d = p .before .before .before .before .before .before .deliver-due in
+    let d = due-of p .deliver-due in
     let w = p .before .with-lines in
     let x = a .before .before .before .before .shown-by in
     let r = a .before .before .before .lacks-room in
@@ -210,47 +225,48 @@ stepped c =
     let n = l .loop .t .count in
     let one : q .result .count ≡ n + 1 = ap (λ (z : State). z .count) (q .ensures) in
     let size = plan-requires (p .before) (p .plan .lifetimes) .0 in
-    let h = l .loop .inv .4 in
+    let h = l .loop .inv .reached in
     let b₀ = now (s .args .journal) in
     let lent = not (eqb (length b₀) 0) in
-    let full = eqb (l .loop .added) (length (now (s .args .log)) / 8) && leb (l .loop .at .due) n in (
-      omega (arith, on i .1),
-      omega (arith, size, s .pre .0),
-      omega (arith, one, l .loop .inv .2),
-      awaits-later b (d .result .at .next) (d .result .at .due) (n + 1) (d .ensures .1) _ (omega (arith, one)),
-      step-taken _ _ _ _ _ _ _ _ _ _ h (on i .0) _ _ (d .ensures .0) _ (w .ensures) _ (p .plan .ensures .0) (x .result) (x .ensures)
-          _ (r .ensures) _ (q .ensures) (j .left) _ (a .add .ensures .0) _ (a .add .ensures .1),
-      l .loop .inv .5,
-      omega (arith, k .keep .ensures .1),
-      step-depth _ _ _ _ _ _ _ _ _ _ h (on i .0) _ _ (d .ensures .0) _ (w .ensures) _ (p .plan .ensures .0) (x .result) (x .ensures)
-          _ (r .ensures) _ _ _ (l .loop .inv .7) (v .ensures),
-      step-kept _ _ _ _ _ _ _ _ _ _ h (on i .0) _ _ (d .ensures .0) _ (w .ensures) _ (p .plan .ensures .0) (x .result) (x .ensures)
-          _ (r .ensures) (of-devices b (s .pre .3)) (omega (arith, s .pre .0, l .loop .inv .1)) b₀ (s .args .begins)
-          lent full (wanted .result) refl (wanted .ensures) _ (k .keep .ensures .0) _ (held .ensures) _ _ (l .loop .inv .8) _
-          (y .keep-step .ensures .0 _ _ (before-kept _ _ (k .keep .ensures .1) size) refl),
-      y .keep-step .ensures .1,
-    )
+    let full = eqb (l .loop .added) (length (now (s .args .log)) / 8) && leb (l .loop .at .due) n in record {
+      some = omega (arith, on i .1);
+      size = omega (arith, size, s .pre .0);
+      counts = omega (arith, one, l .loop .inv .counts);
+      awaits = awaits-later b (d .result .at .next) (d .result .at .due) (n + 1) (d .ensures .1) _ (omega (arith, one));
+      reached = step-taken _ _ _ _ _ _ _ _ _ _ h (on i .0) _ _ (d .ensures .0) _ (w .ensures) _ (p .plan .ensures .0) (x .result)
+          (x .ensures) _ (r .ensures) _ (q .ensures) (j .left) _ (a .add .ensures .0) _ (a .add .ensures .1);
+      whole = l .loop .inv .whole;
+      sixteen = omega (arith, k .keep .ensures .1);
+      deep = step-depth _ _ _ _ _ _ _ _ _ _ h (on i .0) _ _ (d .ensures .0) _ (w .ensures) _ (p .plan .ensures .0) (x .result) (x .ensures)
+          _ (r .ensures) _ _ _ (l .loop .inv .deep) (v .ensures);
+      kept = step-kept _ _ _ _ _ _ _ _ _ _ h (on i .0) _ _ (d .ensures .0) _ (w .ensures) _ (p .plan .ensures .0) (x .result) (x .ensures)
+          _ (r .ensures) (of-devices b (s .pre .3)) (omega (arith, s .pre .0, l .loop .inv .size)) b₀ (s .args .begins)
+          lent full (wanted .result) refl (wanted .ensures) _ (k .keep .ensures .0) _ (held .ensures) _ _ (l .loop .inv .kept) _
+          (y .keep-step .ensures .0 _ _ (before-kept _ _ (k .keep .ensures .1) size) refl);
+      lends = y .keep-step .ensures .1;
+    }
 
 add-done : tie.Need-add-done Inv-loop μ-loop
 add-done c = let i = turn-of (plan-of (add-of c)) in omega (arith, on i .1, start (loop-of i) .pre .1)
 
 sub-at-once : tie.Need-sub-at-once Inv-loop μ-loop
-sub-at-once c = omega (arith, stepped (c .before) .0)
+sub-at-once c = omega (arith, stepped (c .before) .some)
 
 stretch-requires : tie.Need-stretch-requires Inv-loop μ-loop
 stretch-requires c κs =
-    let i = c .before .before .before .before .before in
+    let i : tie.After-at Inv-loop μ-loop = search in
     let s = start (loop-of (turn-of (plan-of (add-of i)))) in
-    omega (arith, stepped i .1, s .pre .0)
+    omega (arith, stepped i .size, s .pre .0)
 
 gone-on-requires : tie.Need-gone-on-requires Inv-loop μ-loop
 gone-on-requires c κs =
-    let i = c .before .before .before .before .before .before .before .before in
+    let at-at-once : tie.After-at-once Inv-loop μ-loop = search in
+    let i : tie.After-at Inv-loop μ-loop = search in
     let h = stepped i in
     let l = loop-of (turn-of (plan-of (add-of i))) in
     let e = ap (λ (x : State). x .count) (l .before .before .rest-of .ensures []) in
-    let u = c .before .before .before .before .before .before .at-once .ensures .0 in
-    (c .before .before .stretch .ensures .1, omega (arith, u, h .0, h .2, start l .pre .1, e))
+    let u = at-at-once .at-once .ensures .0 in
+    (c .before .before .stretch .ensures .1, omega (arith, u, h .some, h .counts, start l .pre .1, e))
 
 sub-done : tie.Need-sub-done Inv-loop μ-loop
 sub-done c = omega (arith, c .before .before .before .before .stretch .ensures .1)
@@ -259,7 +275,7 @@ sub-done c = omega (arith, c .before .before .before .before .stretch .ensures .
 within : (c : tie.After-struct-known3 Inv-loop μ-loop)
     → let l = loop-of (turn-of (plan-of (add-of (step-of c)))) in
     l .loop .done + 1 + did c ≤ start l .args .n
-within c = omega (arith, stepped (step-of c) .0, c .before .before .before .before .before .before .before .before .at-once .ensures .0)
+within c = omega (arith, stepped (step-of c) .some, once-of c .at-once .ensures .0)
 
 add-done-2 : tie.Need-add-done-2 Inv-loop μ-loop
 add-done-2 c = omega (arith, within c, start (loop-of (turn-of (plan-of (add-of (step-of c))))) .pre .1)
@@ -277,8 +293,8 @@ loop-again c =
     let l = loop-of (turn-of p) in
     let s = start l in
     let q = i .before .before .before .perform in
-    let d = p .before .before .before .before .before .before .deliver-due .result in
-    let z = c .before .before .before .before .before .before .before .before .at-once in
+    let d = due-of p .deliver-due .result in
+    let z = once-of c .at-once in
     let f = c .before .before .before .before .stretch in
     let g = c .before .gone-on in
     let b = now (s .args .events) in
@@ -290,20 +306,20 @@ loop-again c =
     (stateWith (f .last .0) (g .result) (f .last .1 .0)) j =
     stretch-passes (eventsOf b) (q .last .0) (q .result) (q .last .1 .0) (f .last .0) (f .result) (f .last .1 .0) (z .result) (d .at .due)
     (halts-none lent (q .result .halted) (z .result) (z .ensures .2))
-    (undisturbed b (d .at .next) (d .at .due) (q .result .count) (h .3) (s .pre .2)) (z .ensures .1) (f .ensures .0) (g .result)
-    (g .ensures) in (
-      omega (arith, within c),
-      omega (arith, h .1),
-      omega (arith, n, h .2),
-      awaits-later b (d .at .next) (d .at .due) (q .result .count) (h .3) _ (omega (arith, n)),
-      reached-stretch _ _ _ _ _ _ _ _ (h .4) _ _ (e .0) (e .1),
-      h .5,
-      h .6,
-      depth-on _ _ _ _ _ _ _ _ (h .4) _ _ (h .7) _ (e .1),
-      kept-stretch b₀ (s .args .begins) (eventsOf b) _ (l .loop .done + 1) j
-          (lends-none b₀ (q .result .halted) (z .result) (f .result .left) (z .ensures .2)) _ (h .8),
-      h .9,
-    )
+    (undisturbed b (d .at .next) (d .at .due) (q .result .count) (h .awaits) (s .pre .2)) (z .ensures .1) (f .ensures .0) (g .result)
+    (g .ensures) in record {
+      some = omega (arith, within c);
+      size = omega (arith, h .size);
+      counts = omega (arith, n, h .counts);
+      awaits = awaits-later b (d .at .next) (d .at .due) (q .result .count) (h .awaits) _ (omega (arith, n));
+      reached = reached-stretch _ _ _ _ _ _ _ _ (h .reached) _ _ (e .0) (e .1);
+      whole = h .whole;
+      sixteen = h .sixteen;
+      deep = depth-on _ _ _ _ _ _ _ _ (h .reached) _ _ (h .deep) _ (e .1);
+      kept = kept-stretch b₀ (s .args .begins) (eventsOf b) _ (l .loop .done + 1) j
+          (lends-none b₀ (q .result .halted) (z .result) (f .result .left) (z .ensures .2)) _ (h .kept);
+      lends = h .lends;
+    }
 
 loop-less-2 : tie.Need-loop-less-2 Inv-loop μ-loop
 loop-less-2 c = omega (arith, on (turn-of (plan-of (add-of (c .before .before .before)))) .1)
@@ -329,22 +345,23 @@ exits c =
     let lent = not (eqb (length (now (a .journal))) 0) in
     ⊎-elim
     (λ w. (
-      carried (w .1) (w .2) (w .3 ∙ l .inv .5)
-          (reached-left _ _ _ _ _ _ _ _ (l .inv .4) (a .n) (l .inv .0) (all-done (l .t .halted) (l .done) (a .n) (l .inv .0) (w .0 .left))),
+      carried (w .1) (w .2) (w .3 ∙ l .inv .whole)
+          (reached-left _ _ _ _ _ _ _ _ (l .inv .reached) (a .n) (l .inv .some)
+          (all-done (l .t .halted) (l .done) (a .n) (l .inv .some) (w .0 .left))),
       ap length (w .1),
     ))
     (λ w.
     let more = goes-on (l .t .halted) (l .done) (a .n) (w .0 .taken) in
     let back =
-    undone-memory b _ _ _ _ _ _ _ _ _ (l .inv .4) (more .0) _ _ (w .8 .ensures .0) _ (w .13 .ensures) _ (w .14 .ensures .0)
-    (w .16 .result) (w .16 .ensures) _ (w .17 .ensures) (w .18 .taken) (l .at .next) (l .at .due) (l .inv .3) (s .pre .2) (s .pre .3)
-    (omega (arith, s .pre .0, l .inv .1)) lent _ (w .2 .ensures) _ (w .5 .ensures .0) in
+    undone-memory b _ _ _ _ _ _ _ _ _ (l .inv .reached) (more .0) _ _ (w .8 .ensures .0) _ (w .13 .ensures) _ (w .14 .ensures .0)
+    (w .16 .result) (w .16 .ensures) _ (w .17 .ensures) (w .18 .taken) (l .at .next) (l .at .due) (l .inv .awaits) (s .pre .2) (s .pre .3)
+    (omega (arith, s .pre .0, l .inv .size)) lent _ (w .2 .ensures) _ (w .5 .ensures .0) in
     let mem = w .25 ∙ w .22 .ensures ∙ back in
     let regs = w .26 ∙ ap (λ (z : State). z .core .regs) (w .1 .ensures []) in (
       carried mem regs (w .27)
-          (undone b _ _ _ _ _ _ _ _ _ (l .inv .4) (more .0) _ _ (w .8 .ensures .0) _ (w .13 .ensures) _ (w .14 .ensures .0)
-          (w .16 .result) (w .16 .ensures) _ (w .17 .ensures) (w .18 .taken) (l .at .next) (l .at .due) (l .inv .3) (s .pre .2)
-          (s .pre .3) (omega (arith, s .pre .0, l .inv .1)) lent _ (w .2 .ensures) _ (w .5 .ensures .0) (a .n) (more .1)),
+          (undone b _ _ _ _ _ _ _ _ _ (l .inv .reached) (more .0) _ _ (w .8 .ensures .0) _ (w .13 .ensures) _ (w .14 .ensures .0)
+          (w .16 .result) (w .16 .ensures) _ (w .17 .ensures) (w .18 .taken) (l .at .next) (l .at .due) (l .inv .awaits) (s .pre .2)
+          (s .pre .3) (omega (arith, s .pre .0, l .inv .size)) lent _ (w .2 .ensures) _ (w .5 .ensures .0) (a .n) (more .1)),
       ap length mem,
     ))
     (c .if1 .came)
@@ -352,29 +369,30 @@ exits c =
 same-length : tie.Need-same-length Inv-loop μ-loop
 same-length c =
     let e = exits (c .before) .1 in
-    let i = c .before .before .before .loop .inv .1 in
+    let i = c .before .before .before .loop .inv .size in
     omega (arith, e, i)
 
 same-length-2 : tie.Need-same-length-2 Inv-loop μ-loop
-same-length-2 c = log-size _ _ _ _ _ _ _ _ (c .before .before .before .loop .inv .4)
+same-length-2 c = log-size _ _ _ _ _ _ _ _ (c .before .before .before .loop .inv .reached)
 
 same-length-3 : tie.Need-same-length-3 Inv-loop μ-loop
 same-length-3 c =
     let l = c .before .before .before in
     let a = start l .args in
     let s₀ = stateWith (a .m .regs) (l .before .before .rest-of .result) (now (a .memory)) in
-    ap (λ (z : Journal). length (z .bytes)) (l .loop .inv .8)
+    ap (λ (z : Journal). length (z .bytes)) (l .loop .inv .kept)
     ∙ kept-size (now (a .journal)) (a .begins) (eventsOf (now (a .events))) s₀ (l .loop .done)
 
 returns : tie.Need-returns Inv-loop μ-loop
 returns c =
+    let at-rest-of : tie.After-rest-of Inv-loop μ-loop = search in
     let x = c .before .if1 in
     let l = c .before .before .before .loop in
     let s = start (c .before .before .before) in
     let a = s .args in
     let b = now (a .events) in
     let g = exits (c .before) in
-    let e = c .before .before .before .before .before .rest-of .ensures (now (a .memory)) in
+    let e = at-rest-of .rest-of .ensures (now (a .memory)) in
     let h =
     subst (λ (z : State). Reached (runLogged (eventsOf b) z (length (now (a .log)) / 8) (a .n)) (now (a .log))
     (stateWith (x .regs) (l .t) (x .memory)) (l .done) (l .added) (l .log) (x .short)) e (g .0) in
@@ -392,11 +410,11 @@ returns c =
               h .log,
               (
                 subst (λ i. Behind b i (c .ended .result .machine .count)) (sym (k .2))
-                    (subst (Behind b (l .at .next)) (sym (ap (λ (z : State). z .count) p)) (l .inv .3 .0)),
+                    (subst (Behind b (l .at .next)) (sym (ap (λ (z : State). z .count) p)) (l .inv .awaits .0)),
                 (
-                  k .3 ∙ l .inv .7 ∙ (λ i. depthFrom (eventsOf b) (e i) (a .begun) (h .steps i)),
+                  k .3 ∙ l .inv .deep ∙ (λ i. depthFrom (eventsOf b) (e i) (a .begun) (h .steps i)),
                   ap (journalWith (l .journal)) (k .4)
-                      ∙ l .inv .8
+                      ∙ l .inv .kept
                       ∙ (λ i. keptOver (now (a .journal)) (a .begins) (eventsOf b) (e i) (h .steps i)),
                 ),
               ),

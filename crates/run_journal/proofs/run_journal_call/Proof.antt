@@ -1,4 +1,5 @@
--- Refused, nothing is changed; else what the callees need is what the verdict has settled. Assumes nothing.
+-- Refused, nothing is changed; else what the callees need is what the verdict has settled, of the run (`Passed`) and of the journal
+-- (`RingFits`), and what they leave is the definition's closing and its journal (Laws). Assumes nothing.
 use Prim.Native.Nat.{_≤_}
 use mathlib.Core.Path.{refl, ap, sym, subst}
 use native.Mathlib.Omega.{arith}
@@ -36,16 +37,22 @@ read-record-requires c κs =
 
 cast-run-kept : tie.Need-cast-run-kept
 cast-run-kept c =
-    let v = c .before .before .before .before .before .before .before .journal-verdict .ensures in
-    let k = c .before .before .before .before .before .before .refusal-number .ensures .0 in
-    let few = passed-all _ _ _ _ _ _ _ _ v k (c .before .before .before .before .before .if1 .left) .few-steps in
+    let at-if1 : tie.Else1 = search in
+    let at-refusal-number : tie.After-refusal-number = search in
+    let at-journal-verdict : tie.After-journal-verdict = search in
+    let v = at-journal-verdict .journal-verdict .ensures in
+    let k = at-refusal-number .refusal-number .ensures .0 in
+    let few = passed-all _ _ _ _ _ _ _ _ v k (at-if1 .if1 .left) .few-steps in
     omega arith
 
 run-kept-requires : tie.Need-run-kept-requires
 run-kept-requires c κs =
-    let v = c .before .before .before .before .before .before .before .journal-verdict .ensures in
-    let k = c .before .before .before .before .before .before .refusal-number .ensures .0 in
-    let i = c .before .before .before .before .before .if1 .left in
+    let at-if1 : tie.Else1 = search in
+    let at-refusal-number : tie.After-refusal-number = search in
+    let at-journal-verdict : tie.After-journal-verdict = search in
+    let v = at-journal-verdict .journal-verdict .ensures in
+    let k = at-refusal-number .refusal-number .ensures .0 in
+    let i = at-if1 .if1 .left in
     let p = passed-all _ _ _ _ _ _ _ _ v k i in
     let few = p .few-steps in (
       p .memory-size,
@@ -59,23 +66,25 @@ run-kept-requires c κs =
 
 write-record-requires : tie.Need-write-record-requires
 write-record-requires c κs =
-    let v = c .before .before .before .before .before .before .before .before .before .before .before .before .before .before .before
-    .journal-verdict .ensures in
-    let k = c .before .before .before .before .before .before .before .before .before .before .before .before .before .before
-    .refusal-number .ensures .0 in
-    passed-all _ _ _ _ _ _ _ _ v k (c .before .before .before .before .before .before .before .before .before .before .before .before
-    .before .if1 .left) .record-size
+    let at-if1 = c .before .before .before .before .before .before .before .before .before .before .before .before .before in
+    let at-refusal-number = at-if1 .before in
+    let at-journal-verdict = at-refusal-number .before in
+    let v = at-journal-verdict .journal-verdict .ensures in
+    let k = at-refusal-number .refusal-number .ensures .0 in
+    passed-all _ _ _ _ _ _ _ _ v k (at-if1 .if1 .left) .record-size
 
 reply-of-requires : tie.Need-reply-of-requires
 reply-of-requires c κs =
-    let v = c .before .before .before .before .before .before .before .before .before .before .before .before .before .before .before
-    .before .before .before .journal-verdict .ensures in
-    let k = c .before .before .before .before .before .before .before .before .before .before .before .before .before .before .before
-    .before .before .refusal-number .ensures .0 in
-    let i = c .before .before .before .before .before .before .before .before .before .before .before .before .before .before .before
-    .before .if1 .left in
-    let r = c .before .before .before .before .before .before .before .before .before .before .run-kept .ensures in
-    let m = c .before .before .before .before .before .before .before .before .before .before .before .before .before .before .read-record
+    let at-run-kept : tie.After-run-kept = search in
+    let at-read-record = at-run-kept .before .before .before .before in
+    let at-if1 = at-read-record .before .before in
+    let at-refusal-number = at-if1 .before in
+    let at-journal-verdict = at-refusal-number .before in
+    let v = at-journal-verdict .journal-verdict .ensures in
+    let k = at-refusal-number .refusal-number .ensures .0 in
+    let i = at-if1 .if1 .left in
+    let r = at-run-kept .run-kept .ensures in
+    let m = at-read-record .read-record
     in (
       subst (λ x. x ≤ 1000000) (sym (r .1 .1 .0)) (steps-few _ _ _ _ _ _ _ _ v k i (m .result) (m .ensures)),
       subst (λ x. x ≤ 1000000) (sym (r .1 .1 .1 .0)) (records-few _ _ _ _ _ _ _ _ v k i (m .result) (m .ensures)),
@@ -83,17 +92,17 @@ reply-of-requires c κs =
 
 returns-2 : tie.Need-returns-2
 returns-2 c =
-    let v = c .before .before .before .before .before .before .before .before .before .before .before .before .before .before .before
-    .before .before .before .before .journal-verdict .ensures in
-    let k = c .before .before .before .before .before .before .before .before .before .before .before .before .before .before .before
-    .before .before .before .refusal-number .ensures .0 in
-    let i = c .before .before .before .before .before .before .before .before .before .before .before .before .before .before .before
-    .before .before .if1 .left in
-    let s = c .before .before .before .before .before .before .before .before .before .before .before .before .before .before .before
-    .before .before .before .before .before .before .before .before .before .before .before .before .before .before .before .before in
-    let r = c .before .before .before .before .before .before .before .before .before .before .before .run-kept .ensures in
-    let m = c .before .before .before .before .before .before .before .before .before .before .before .before .before .before .before
-    .read-record in
+    let at-run-kept : tie.After-run-kept = search in
+    let at-read-record = at-run-kept .before .before .before .before in
+    let at-if1 = at-read-record .before .before in
+    let at-refusal-number = at-if1 .before in
+    let at-journal-verdict = at-refusal-number .before in
+    let s = at-journal-verdict .before .before .before .before .before .before .before .before .before .before .before .before in
+    let v = at-journal-verdict .journal-verdict .ensures in
+    let k = at-refusal-number .refusal-number .ensures .0 in
+    let i = at-if1 .if1 .left in
+    let r = at-run-kept .run-kept .ensures in
+    let m = at-read-record .read-record in
     let e =
     closing-ran _ _ _ _ _ _ _ _ v k i (m .result) (m .ensures) _ _ _ _ _ _ _ _ (r .0) (r .1 .0) (r .1 .1 .0) (r .1 .1 .1 .0)
     (r .1 .1 .1 .1 .0) (c .before .before .before .write-record .ensures) (c .reply-of .ensures) in

@@ -1,8 +1,11 @@
+-- The parts of the input are copied out and read, the run is made in slices, and its line is put. Each callee's answer is a part of the
+-- definition (`run-of-parts`), and each finds its bytes since an accepted input is long enough (`ready`). Assumes nothing.
 use mathlib.Core.Path.{sym, ap, _∙_}
 use native.Mathlib.Omega.{arith}
 use lib.ListN.{length}
 use borrow.Author.Needs.{needs}
-use Rattle.sheet.proofs.Inputs.{ready, part-length, run-ready, run-of-parts}
+use Rattle.stores.proofs.Laws.{part-length}
+use Rattle.sheet.proofs.Inputs.{ready, run-ready, run-of-parts}
 use Rattle.sheet.proofs.put_run.Statement.{statement}
 use Rattle.sheet.proofs.put_run.Tie as tie
 
@@ -20,23 +23,23 @@ copy-requires c κs =
 
 four-at-requires : tie.Need-four-at-requires
 four-at-requires c κs =
-    let entry = c .before .before .before .before .before .before .before .before in
+    let entry : tie.Start = search in
     let h = ready (entry .args .input .now) (entry .pre .0) .size in omega arith
 
 part-requires-2 : tie.Need-part-requires-2
 part-requires-2 c κs =
-    let entry = c .before .before .before .before .before .before .before .before .before in
+    let entry : tie.Start = search in
     let h = ready (entry .args .input .now) (entry .pre .0) .size in (omega arith, omega arith)
 
 read-record-requires : tie.Need-read-record-requires
 read-record-requires c κs =
-    let entry = c .before .before .before .before .before .before .before .before .before .before in
+    let entry : tie.Start = search in
     let h = ready (entry .args .input .now) (entry .pre .0) .size in
     ap length (c .part2 .ensures) ∙ part-length (entry .args .input .now) 4 32 (omega arith)
 
 part-requires-3 : tie.Need-part-requires-3
 part-requires-3 c κs =
-    let entry = c .before .before .before .before .before .before .before .before .before .before .before in
+    let entry : tie.Start = search in
     let h = ready (entry .args .input .now) (entry .pre .0) .size in (omega arith, omega arith)
 
 run-whole-requires : tie.Need-run-whole-requires

@@ -16,33 +16,29 @@ Inv-loop text₀ at bytes next₀ i₀ text next i = (i ≤ length bytes) × (ne
 abbrev μ-loop : tie.MeasureT-loop
 μ-loop text₀ at bytes next₀ i₀ text next i = length bytes - i
 
-cast-digit : tie.Need-cast-digit Inv-loop μ-loop
-cast-digit c = omega (arith, c .shared-slice-known2 .given (c .before .before .loop .i))
-
-digit-requires : tie.Need-digit-requires Inv-loop μ-loop
-digit-requires c κs = omega (arith, c .shared-slice-known2 .given (c .before .before .loop .i))
-
 loop-again : tie.Need-loop-again Inv-loop μ-loop
 loop-again c =
-    let c4 = c .before .before .before .before in
-    let c7 = c4 .before .before .before in
-    let p = c4 .loop in (
+    let at-loop = c .before .before .before .before in
+    let at-start : tie.Start Inv-loop μ-loop = search in
+    let p = at-loop .loop in (
       omega arith,
       omega arith,
       simp length-set (p .inv .2),
-      digits-more (p .text) (c7 .args .bytes .now) (p .next) (p .i) _ _ (omega arith) (c .before .digit .ensures) (c .digit2 .ensures)
+      digits-more (p .text) (at-start .args .bytes .now) (p .next) (p .i) _ _ (omega arith) (c .before .digit .ensures) (c .digit2 .ensures)
           ∙ p .inv .3,
     )
 
 returns : tie.Need-returns Inv-loop μ-loop
 returns c =
-    let c4 = c .before .before .before .before in
+    let at-start = c .before .before .before .before in
     let p = c .before .loop in
-    (sym (digits-end (p .text) (c4 .args .bytes .now) (p .next) (p .i) (omega arith)) ∙ p .inv .3, omega arith)
+    (sym (digits-end (p .text) (at-start .args .bytes .now) (p .next) (p .i) (omega arith)) ∙ p .inv .3, omega arith)
 
 pub put-bytes-spec : {M : Type 1} → statement M
 put-bytes-spec =
     tie.close
-    (tie.spec Inv-loop μ-loop (λ c. (omega arith, omega arith, refl, refl)) (λ c. omega arith) cast-digit digit-requires (λ c. omega arith)
-    (λ c. omega arith) (λ c κs. omega arith) (λ c. omega arith) (λ c. simp length-set (omega arith)) (λ c. omega arith) (λ c. search needs)
-    (λ c. omega arith) loop-again (λ c. search needs) returns)
+    (tie.spec Inv-loop μ-loop (λ c. (omega arith, omega arith, refl, refl)) (λ c. omega arith)
+    (λ c. omega (arith, c .shared-slice-known2 .given (c .before .before .loop .i)))
+    (λ c κs. omega (arith, c .shared-slice-known2 .given (c .before .before .loop .i))) (λ c. omega arith) (λ c. omega arith)
+    (λ c κs. omega arith) (λ c. omega arith) (λ c. simp length-set (omega arith)) (λ c. omega arith) (λ c. search needs) (λ c. omega arith)
+    loop-again (λ c. search needs) returns)

@@ -14,18 +14,12 @@ Inv-loop bytes s₀ i₀ s i = (i ≤ length bytes) × (s ≤ 255 * i) × (s + s
 abbrev μ-loop : tie.MeasureT-loop
 μ-loop bytes s₀ i₀ s i = length bytes - i
 
-cast-s : tie.Need-cast-s Inv-loop μ-loop
-cast-s c = omega (arith, c .shared-slice-known .given (c .before .before .loop .i))
-
-add-s : tie.Need-add-s Inv-loop μ-loop
-add-s c = omega (arith, c .shared-slice-known .given (c .before .before .loop .i))
-
 loop-again : tie.Need-loop-again Inv-loop μ-loop
 loop-again c =
-    let c2 = c .before .before in
-    let c3 = c2 .before in
-    let h = sum-here (c3 .args .bytes .now) (c2 .loop .i) (omega arith) in
-    let b = c .shared-slice-known .given (c2 .loop .i) in
+    let at-loop = c .before .before in
+    let at-start = at-loop .before in
+    let h = sum-here (at-start .args .bytes .now) (at-loop .loop .i) (omega arith) in
+    let b = c .shared-slice-known .given (at-loop .loop .i) in
     (omega arith, omega arith, omega arith)
 
 returns : tie.Need-returns Inv-loop μ-loop
@@ -35,5 +29,7 @@ returns c = let h = sum-end (c .before .before .args .bytes .now) (c .before .lo
 pub sum-spec : {M : Type 1} → statement M
 sum-spec =
     tie.close
-    (tie.spec Inv-loop μ-loop (λ c. (omega arith, omega arith, omega arith)) (λ c. omega arith) cast-s add-s (λ c. search needs)
-    (λ c. omega arith) loop-again returns)
+    (tie.spec Inv-loop μ-loop (λ c. (omega arith, omega arith, omega arith)) (λ c. omega arith)
+    (λ c. omega (arith, c .shared-slice-known .given (c .before .before .loop .i)))
+    (λ c. omega (arith, c .shared-slice-known .given (c .before .before .loop .i))) (λ c. search needs) (λ c. omega arith) loop-again
+    returns)

@@ -11,12 +11,12 @@ use Rattle.state_record.proofs.put_counts.Tie as tie
 
 returns : tie.Need-returns
 returns c =
-    let c2 = c .before .before in
-    let c6 = c2 .before .before .before .before in
-    let c10 = c6 .before .before .before .before in
-    let a = c10 .before .before .before .args in
+    let at-put-two = c .before .before in
+    let at-put-four2 : tie.After-put-four2 = search in
+    let at-put-four : tie.After-put-four = search in
+    let a = at-put-four .before .before .before .args in
     let lines = two (a .lines % 65536) (two (a .lines / 65536) (two 0 [])) in
-    rw (c2 .put-two .ensures, c6 .put-four2 .ensures, c10 .put-four .ensures)
+    rw (at-put-two .put-two .ensures, at-put-four2 .put-four2 .ensures, at-put-four .put-four .ensures)
     (ap (sets (now (a .r)) 22) (halves (a .count) lines ∙ ap (four (a .count)) (halves (a .lines) (two 0 []))))
 
 pub put-counts-spec : {M : Type 1} → statement M

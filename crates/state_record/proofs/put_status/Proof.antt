@@ -6,18 +6,20 @@ use Rattle.state_record.proofs.put_status.Tie as tie
 
 slice-write-r-2 : tie.Need-slice-write-r-2
 slice-write-r-2 c =
-    let c2 = c .before .before in
-    let c6 = c2 .before .before .before .before in
-    simp length-set (omega (arith, c6 .before .before .before .pre, c6 .put-two .kept, c2 .put-two2 .kept))
+    let at-put-two2 = c .before .before in
+    let at-put-two : tie.After-put-two = search in
+    simp length-set (omega (arith, at-put-two .before .before .before .pre, at-put-two .put-two .kept, at-put-two2 .put-two2 .kept))
 
 same-length : tie.Need-same-length
 same-length c =
-    let c2 = c .before .before in
-    let c6 = c2 .before .before .before .before in
-    simp length-set (omega (arith, c6 .put-two .kept, c2 .put-two2 .kept))
+    let at-put-two2 = c .before .before in
+    let at-put-two : tie.After-put-two = search in
+    simp length-set (omega (arith, at-put-two .put-two .kept, at-put-two2 .put-two2 .kept))
 
 returns : tie.Need-returns
-returns c = rw (c .before .before .put-two2 .ensures, c .before .before .before .before .before .before .put-two .ensures)
+returns c =
+    let at-put-two : tie.After-put-two = search in
+    rw (c .before .before .put-two2 .ensures, at-put-two .put-two .ensures)
 
 pub put-status-spec : {M : Type 1} → statement M
 put-status-spec =

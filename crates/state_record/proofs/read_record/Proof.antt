@@ -6,15 +6,27 @@ use Rattle.state_record.proofs.read_record.Tie as tie
 returns : tie.Need-returns
 unfolding stateIn
 returns c =
-    let c3 = c .before .before .before in
-    let c5 = c3 .before .before in
-    let c7 = c5 .before .before in
-    let c9 = c7 .before .before in
-    let c11 = c9 .before .before in
+    let at-two-at10 = c .before .before .before in
+    let at-two-at8 : tie.After-two-at8 = search in
+    let at-two-at6 : tie.After-two-at6 = search in
+    let at-two-at4 : tie.After-two-at4 = search in
+    let at-two-at2 : tie.After-two-at2 = search in
     λ mem.
-    rw (c .four-at2 .ensures, c .before .before .four-at .ensures, c11 .before .two-at .ensures, c11 .two-at2 .ensures)
-    (rw (c9 .before .two-at3 .ensures, c9 .two-at4 .ensures, c7 .before .two-at5 .ensures, c7 .two-at6 .ensures)
-    (rw (c5 .before .two-at7 .ensures, c5 .two-at8 .ensures, c3 .before .two-at9 .ensures, c3 .two-at10 .ensures)))
+    rw (c .four-at2 .ensures, c .before .before .four-at .ensures, at-two-at2 .before .two-at .ensures, at-two-at2 .two-at2 .ensures)
+    (rw (
+      at-two-at4 .before .two-at3 .ensures,
+      at-two-at4 .two-at4 .ensures,
+      at-two-at6 .before .two-at5 .ensures,
+      at-two-at6
+          .two-at6 .ensures,
+    )
+    (rw (
+      at-two-at8 .before .two-at7 .ensures,
+      at-two-at8 .two-at8 .ensures,
+      at-two-at10 .before .two-at9 .ensures,
+      at-two-at10
+          .two-at10 .ensures,
+    )))
 
 pub read-record-spec : {M : Type 1} → statement M
 read-record-spec =

@@ -6,11 +6,12 @@ use Rattle.state_record.proofs.write_record.Tie as tie
 
 returns : tie.Need-returns
 returns c =
-    let c6 = c .before .before .before .before .before .before in
-    let s = c6 .before .before .before .before .before .before .before .before in
+    let at-put-status : tie.After-put-status = search in
+    let s = at-put-status .before .before .before .before .before .before .before .before in
     λ mem.
     whole-record (now (s .args .r)) _ _ _ (s .args .m) mem (s .pre)
-    (c6 .before .before .before .before .put-registers .ensures) (c6 .put-status .ensures) (c .before .before .put-counts .ensures)
+    (at-put-status .before .before .before .before .put-registers .ensures) (at-put-status .put-status .ensures)
+    (c .before .before .put-counts .ensures)
 
 pub write-record-spec : {M : Type 1} → statement M
 write-record-spec = tie.close (tie.spec (λ c κs. search needs) (λ c κs. search needs) (λ c κs. search needs) (λ c. search needs) returns)

@@ -1,4 +1,5 @@
--- `step::grant` meets its contract: an arm for each access. Assumes nothing.
+-- An arm for each access: what the arm plans is what `allowed` has for that access (Laws, allowed-nothing to allowed-trap). A trap asks for
+-- its vector's priority first, whose place the bounds of the access give (`Asked`). Assumes nothing.
 use mathlib.Core.Path.{subst}
 use denote.Ref.{now}
 use borrow.Author.Needs.{needs}
@@ -10,12 +11,13 @@ use Rattle.step.proofs.grant.Tie as tie
 
 priority-of-requires : tie.Need-priority-of-requires
 priority-of-requires c κs =
-    let s = c .before .before .before .before .before in
+    let s : tie.Start = search in
     (s .pre .0, subst Asked (c .before .before .a4 .given .1) (s .pre .1))
 
 returns : tie.Need-returns
 returns c =
-    let a = c .before .before .before .before .before .before .before .args in
+    let at-start : tie.Start = search in
+    let a = at-start .args in
     let x = coreOf (now (a .regs)) (a .d .psw) (a .d .cex) in
     λ b ep eq er quits.
     allowed-trap b x (a .d .access) (now (a .mem)) (a .psw) (a .cex) (a .pc) ep eq er quits _ _ _
@@ -45,7 +47,8 @@ returns-4 c =
 
 returns-5 : tie.Need-returns-5
 returns-5 c =
-    let a = c .before .before .before .before .before .before .args in
+    let at-start : tie.Start = search in
+    let a = at-start .args in
     let x = coreOf (now (a .regs)) (a .d .psw) (a .d .cex) in
     λ b ep eq er quits.
     allowed-fault b x (a .d .access) (now (a .mem)) (a .psw) (a .cex) (a .pc) ep eq er quits _
@@ -53,11 +56,13 @@ returns-5 c =
 
 returns-6 : tie.Need-returns-6
 returns-6 c =
-    let a = c .before .before .before .before .before .before .before .before .before .args in
+    let at-a4 : tie.After-a4 = search in
+    let at-start : tie.Start = search in
+    let a = at-start .args in
     let x = coreOf (now (a .regs)) (a .d .psw) (a .d .cex) in
     λ b ep eq er quits.
     allowed-low b x (a .d .access) (now (a .mem)) (a .psw) (a .cex) (a .pc) ep eq er quits _ _ _
-    (c .before .before .before .before .before .before .a4 .given .1)
+    (at-a4 .a4 .given .1)
     (c .before .before .before .before .current-priority .ensures .0) (c .before .before .before .priority-of .ensures)
     (c .before .before .if1 .left) (c .faulted2 .ensures)
 

@@ -1,4 +1,5 @@
--- `step::instruction` meets its contract. Assumes nothing.
+-- The points of a step from sleep on, in order: asleep, PC odd, skipped, an odd word access, or what the access grants. Each way out is a
+-- law with the tests before it as premises (Laws, instruction-asleep to instruction-runs). Assumes nothing.
 use Prim.Native.Nat.{ℕ}
 use mathlib.Core.List.{List}
 use mathlib.Core.Path.{refl, sym, ap, subst, _∙_}
@@ -25,9 +26,10 @@ returns c =
 
 returns-2 : tie.Need-returns-2
 returns-2 c =
-    let a = c .before .before .before .before .before .before .before .before .args in
+    let k : tie.Else1 = search in
+    let at-start : tie.Start = search in
+    let a = at-start .args in
     let x = coreOf (now (a .regs)) (a .psw) (a .cex) in
-    let k = c .before .before .before .before .before in
     let awake = sym (k .before .asleep .ensures) ∙ k .if1 .left in
     c .faulted .ensures
     ∙ ap (λ (r : List ℕ). faulting (coreOf r (a .psw) (a .cex)) x 9) (set-getD (now (a .regs)) 7 0)
@@ -35,8 +37,9 @@ returns-2 c =
 
 returns-3 : tie.Need-returns-3
 returns-3 c =
-    let r = c .before .before .before .before .before in
-    let a = r .before .before .before .before .before .args in
+    let r : tie.After-lower = search in
+    let at-start : tie.Start = search in
+    let a = at-start .args in
     let x = coreOf (now (a .regs)) (a .psw) (a .cex) in
     let awake = sym (r .before .before .before .asleep .ensures) ∙ r .before .before .if1 .left in
     let skipped = sym (c .before .skips .ensures) ∙ c .if3 .taken in
@@ -51,10 +54,12 @@ execute-requires c κs = subst Fields (sym (c .decode .ensures)) (decode-fields 
 returns-4 : tie.Need-returns-4
 returns-4 c =
     let o = c .before .before .before in
-    let d = o .before .before in
-    let b = d .before .before in
-    let r = b .before .before .before .before .before .before .before in
-    let a = r .before .before .before .before .before .args in
+    let d : tie.After-decode = search in
+    let b : tie.After-read-word = search in
+    let at-if2 = b .before .before .before .before .before .before in
+    let r = at-if2 .before in
+    let at-start = r .before .before .before .before .before in
+    let a = at-start .args in
     let x = coreOf (now (a .regs)) (a .psw) (a .cex) in
     let y = coreOf (set (now (a .regs)) 7 (b .before .before .before .before .wrapping-add-u16 .result)) (a .psw) (r .lower .result) in
     let e =
@@ -66,22 +71,24 @@ returns-4 c =
     odd-law (now (a .regs)) (now (a .mem)) (a .psw) (a .cex) _ _ _ (b .before .before .before .before .wrapping-add-u16 .ensures)
     (r .lower .ensures) (sym (o .odd .ensures) ∙ c .before .before .if4 .taken) (c .faulted2 .ensures)
     ∙ ap (λ (z : Effect). executed x z (now (a .mem))) e
-    ∙ sym (instruction-runs x (now (a .mem)) awake (b .before .before .before .before .before .before .if2 .left) taken)
+    ∙ sym (instruction-runs x (now (a .mem)) awake (at-if2 .if2 .left) taken)
 
 grant-requires : tie.Need-grant-requires
 grant-requires c κs =
     let b = c .before .before .before .before in
-    let f = subst Fields (sym (b .decode .ensures)) (decode-fields _) in
     let s = b .before .before .before .before .before .before .before .before .before .before .before .before .before .before in
+    let f = subst Fields (sym (b .decode .ensures)) (decode-fields _) in
     (s .pre, subst (λ (e : Effect). Asked (e .access)) (sym (c .before .before .before .execute .ensures)) (effect-within _ _ f))
 
 returns-5 : tie.Need-returns-5
 returns-5 c =
     let o = c .before .before .before in
-    let d = o .before .before in
-    let b = d .before .before in
-    let r = b .before .before .before .before .before .before .before in
-    let a = r .before .before .before .before .before .args in
+    let d : tie.After-decode = search in
+    let b : tie.After-read-word = search in
+    let at-if2 = b .before .before .before .before .before .before in
+    let r = at-if2 .before in
+    let at-start = r .before .before .before .before .before in
+    let a = at-start .args in
     let x = coreOf (now (a .regs)) (a .psw) (a .cex) in
     let y = coreOf (set (now (a .regs)) 7 (b .before .before .before .before .wrapping-add-u16 .result)) (a .psw) (r .lower .result) in
     let e =
@@ -93,7 +100,7 @@ returns-5 c =
     c .grant .ensures x refl refl refl (fetched-quits _ _ _ e)
     ∙ sym (granted-even x _ _ (now (a .mem)) (sym (o .odd .ensures) ∙ c .before .before .if4 .left))
     ∙ ap (λ (z : Effect). executed x z (now (a .mem))) e
-    ∙ sym (instruction-runs x (now (a .mem)) awake (b .before .before .before .before .before .before .if2 .left) taken)
+    ∙ sym (instruction-runs x (now (a .mem)) awake (at-if2 .if2 .left) taken)
 
 pub instruction-spec : {M : Type 1} → statement M
 instruction-spec =

@@ -12,14 +12,16 @@ use Rattle.step.proofs.leave.Tie as tie
 
 returns : tie.Need-returns
 returns c =
-    let a = c .before .before .before .before .before .args in
+    let at-start : tie.Start = search in
+    let a = at-start .args in
     let q = c .before .before .previous-priority .ensures .0 in
     let d = c .before .best-above .ensures .0 in
     (λ regs p. leave-chains (coreOf regs (a .psw) (a .cex)) (a .lines) _ _ (now (a .mem)) q d p (c .if2 .taken), c .if2 .taken)
 
 returns-2 : tie.Need-returns-2
 returns-2 c =
-    let a = c .before .before .before .before .before .args in
+    let at-start : tie.Start = search in
+    let a = at-start .args in
     let q = c .before .before .previous-priority .ensures .0 in
     let d = c .before .best-above .ensures .0 in
     (λ regs p. leave-pulls (coreOf regs (a .psw) (a .cex)) (a .lines) _ _ (now (a .mem)) q d p (c .if2 .left), tt)

@@ -8,14 +8,18 @@ use Rattle.step.proofs.load.Tie as tie
 
 with-low-requires : tie.Need-with-low-requires
 with-low-requires c κs =
-    let a = c .before .before .before .before .before .before .before .args in
-    let bytes : Bytes (now (a .mem)) = λ i. omega (arith, c .before .before .before .before .before .before .slice-known .given i) in
+    let at-slice-known : tie.After-slice-known = search in
+    let at-start : tie.Start = search in
+    let a = at-start .args in
+    let bytes : Bytes (now (a .mem)) = λ i. omega (arith, at-slice-known .slice-known .given i) in
     value-lt (a .byte) (now (a .mem)) (a .at .0) _ bytes (c .before .before .before .before .load .ensures .0)
 
 returns : tie.Need-returns
 returns c =
-    let a = c .before .before .before .before .before .before .before .before .before .before .args in
-    let o = c .before .before .before .before .before .before .before .load .ensures in
+    let at-load : tie.After-load = search in
+    let at-start : tie.Start = search in
+    let a = at-start .args in
+    let o = at-load .load .ensures in
     let p = c .put .ensures in (
       λ psw. load-law (now (a .regs)) _ (now (a .mem)) psw (a .cex) _ (a .byte) (a .at .0) (a .dst) _ _ _
           (o .0) (omega arith) (c .before .before .before .get .ensures) (c .before .before .with-low .ensures) (p .0) (p .1),

@@ -5,14 +5,9 @@ use Rattle.machine.specs.Step.{odd?}
 use Rattle.step.proofs.odd.Statement.{statement}
 use Rattle.step.proofs.odd.Tie as tie
 
-returns-2 : tie.Need-returns-2
-returns-2 c = ap odd? (sym (c .before .before .a .given .1))
-
-returns-3 : tie.Need-returns-3
-returns-3 c = ap odd? (sym (c .before .before .a2 .given .1))
-
 pub odd-spec : {M : Type 1} → statement M
 odd-spec =
     tie.close
     (tie.spec (λ c. search needs) (λ c. search needs) (λ c. search needs) (λ c. search needs) (λ c. search needs) (λ c. search needs)
-    returns-2 returns-3 (λ c. search needs) (λ c. search needs))
+    (λ c. ap odd? (sym (c .before .before .a .given .1))) (λ c. ap odd? (sym (c .before .before .a2 .given .1))) (λ c. search needs)
+    (λ c. search needs))

@@ -1,4 +1,5 @@
--- `step::perform` meets its contract: an arm for each act, in the order of `Act`. Assumes nothing.
+-- An arm for each act, in the order of `Act`: the callee's answer is what `perform` has for that act (Laws, performed). A callee finds its
+-- bytes since the memory is whole and the act's vector, device or register lies within its bounds (`Within`). Assumes nothing.
 use Rattle.step.proofs.Laws.{performed}
 use Rattle.step.specs.Planned.{Within}
 use Rattle.machine.specs.Step.{perform}
@@ -16,41 +17,42 @@ use Rattle.step.proofs.perform.Tie as tie
 
 chain-requires : tie.Need-chain-requires
 chain-requires c κs =
-    let s = c .before .before .before .before .before .before in
+    let s : tie.Start = search in
     let h = subst Within (c .before .before .before .a .given .1) (s .pre .2) in
     (s .pre .0, omega (arith, h))
 
 fall-requires : tie.Need-fall-requires
 fall-requires c κs =
-    let s = c .before .before .before .before .before .before .before in
+    let s : tie.Start = search in
     subst Within (c .before .before .before .before .a .given .1) (s .pre .2)
 
 enter-requires : tie.Need-enter-requires
 enter-requires c κs =
-    let s = c .before .before .before .before .before .before in
+    let s : tie.Start = search in
     let h = subst Within (c .before .before .before .a2 .given .1) (s .pre .2) in
     (s .pre .0, omega (arith, h))
 
 fall-requires-2 : tie.Need-fall-requires-2
 fall-requires-2 c κs =
-    let s = c .before .before .before .before .before .before .before .before .before in
-    subst Within (c .before .before .before .before .before .before .a2 .given .1) (s .pre .2)
+    let at-a2 : tie.After-a2 = search in
+    let s : tie.Start = search in
+    subst Within (at-a2 .a2 .given .1) (s .pre .2)
 
 enter-requires-2 : tie.Need-enter-requires-2
 enter-requires-2 c κs =
-    let s = c .before .before .before .before .before .before in
+    let s : tie.Start = search in
     let h = subst Within (c .before .before .before .a3 .given .1) (s .pre .2) in
     (s .pre .0, omega (arith, h))
 
 enter-requires-3 : tie.Need-enter-requires-3
 enter-requires-3 c κs =
-    let s = c .before .before .before .before .before .before in
+    let s : tie.Start = search in
     let h = subst Within (c .before .before .before .a4 .given .1) (s .pre .2) in
     (s .pre .0, omega (arith, h))
 
 load-requires : tie.Need-load-requires
 load-requires c κs =
-    let s = c .before .before .before .before .before .before in
+    let s : tie.Start = search in
     (s .pre .0, subst Within (c .before .before .before .a5 .given .1) (s .pre .2))
 
 returns : tie.Need-returns
@@ -64,7 +66,8 @@ returns c =
 returns-2 : tie.Need-returns-2
 unfolding perform commit
 returns-2 c =
-    let a = c .before .before .before .before .before .before .before .args in
+    let at-start : tie.Start = search in
+    let a = at-start .args in
     let x = coreOf (now (a .regs)) (a .p .psw) (a .p .cex) in
     rw (c .after2 .ensures)
     (performed (a .p .act) _ x (a .lines) (a .count) (now (a .mem)) (c .before .before .before .before .enum-told2 .given .1)
@@ -73,18 +76,22 @@ returns-2 c =
 returns-3 : tie.Need-returns-3
 unfolding perform commit
 returns-3 c =
-    let a = c .before .before .before .before .before .before .before .before .before .args in
+    let at-a : tie.After-a = search in
+    let at-start : tie.Start = search in
+    let a = at-start .args in
     let x = coreOf (now (a .regs)) (a .p .psw) (a .p .cex) in
     rw (c .after3 .ensures)
-    (performed (a .p .act) _ x (a .lines) (a .count) (now (a .mem)) (c .before .before .before .before .before .before .a .given .1)
+    (performed (a .p .act) _ x (a .lines) (a .count) (now (a .mem)) (at-a .a .given .1)
     (λ i. stateFrom (c .before .before .chain .ensures (a .p .cex) i) (c .before .fall .ensures i) false (a .count + 1) (now (a .mem))))
 
 returns-4 : tie.Need-returns-4
 unfolding perform commit
 returns-4 c =
-    let a = c .before .before .before .before .before .before .before .before .before .before .before .args in
+    let at-a2 : tie.After-a2 = search in
+    let at-start : tie.Start = search in
+    let a = at-start .args in
     let x = coreOf (now (a .regs)) (a .p .psw) (a .p .cex) in
-    let g = c .before .before .before .before .before .before .before .before .a2 .given .1 in
+    let g = at-a2 .a2 .given .1 in
     let e = c .before .before .before .before .enter .ensures in
     rw (c .after4 .ensures)
     (performed (a .p .act) _ x (a .lines) (a .count) (now (a .mem)) g
@@ -101,9 +108,11 @@ returns-5 c =
 returns-6 : tie.Need-returns-6
 unfolding perform commit
 returns-6 c =
-    let a = c .before .before .before .before .before .before .before .before .before .before .args in
+    let at-a3 : tie.After-a3 = search in
+    let at-start : tie.Start = search in
+    let a = at-start .args in
     let x = coreOf (now (a .regs)) (a .p .psw) (a .p .cex) in
-    let g = c .before .before .before .before .before .before .before .a3 .given .1 in
+    let g = at-a3 .a3 .given .1 in
     let e = c .before .before .before .enter2 .ensures in
     rw (c .after6 .ensures)
     (performed (a .p .act) _ x (a .lines) (a .count) (now (a .mem)) g
@@ -128,9 +137,11 @@ returns-8 c =
 returns-9 : tie.Need-returns-9
 unfolding perform commit
 returns-9 c =
-    let a = c .before .before .before .before .before .before .before .before .before .before .args in
+    let at-a4 : tie.After-a4 = search in
+    let at-start : tie.Start = search in
+    let a = at-start .args in
     let x = coreOf (now (a .regs)) (a .p .psw) (a .p .cex) in
-    let g = c .before .before .before .before .before .before .before .a4 .given .1 in
+    let g = at-a4 .a4 .given .1 in
     let e = c .before .before .before .enter3 .ensures in
     rw (c .after9 .ensures)
     (performed (a .p .act) _ x (a .lines) (a .count) (now (a .mem)) g
@@ -147,9 +158,11 @@ returns-10 c =
 returns-11 : tie.Need-returns-11
 unfolding perform commit
 returns-11 c =
-    let a = c .before .before .before .before .before .before .before .before .before .before .args in
+    let at-a5 : tie.After-a5 = search in
+    let at-start : tie.Start = search in
+    let a = at-start .args in
     let x = coreOf (now (a .regs)) (a .p .psw) (a .p .cex) in
-    let g = c .before .before .before .before .before .before .before .a5 .given .1 in
+    let g = at-a5 .a5 .given .1 in
     let e = c .before .before .before .load .ensures in
     rw (c .after11 .ensures)
     (performed (a .p .act) _ x (a .lines) (a .count) (now (a .mem)) g
@@ -158,10 +171,12 @@ returns-11 c =
 returns-12 : tie.Need-returns-12
 unfolding perform commit
 returns-12 c =
-    let a = c .before .before .before .before .before .before .before .before .before .args in
+    let at-a6 : tie.After-a6 = search in
+    let at-start : tie.Start = search in
+    let a = at-start .args in
     let x = coreOf (now (a .regs)) (a .p .psw) (a .p .cex) in
     rw (c .after12 .ensures)
-    (performed (a .p .act) _ x (a .lines) (a .count) (now (a .mem)) (c .before .before .before .before .before .before .a6 .given .1)
+    (performed (a .p .act) _ x (a .lines) (a .count) (now (a .mem)) (at-a6 .a6 .given .1)
     (λ i. stateFrom x (a .lines) false (a .count + 1) (c .before .before .before .store .ensures i)))
 
 pub perform-spec : {M : Type 1} → statement M

@@ -11,7 +11,7 @@ use Rattle.step.proofs.plan.Tie as tie
 
 returns : tie.Need-returns
 returns c =
-    let s = c .before .before .before .before .before in
+    let s : tie.Start = search in
     let a = s .args in
     let r = returns-is (coreWith (now (a .regs)) (a .t)) (c .before .before .before .asleep .ensures) (c .before .if1 .taken) in
     let e = c .leave .ensures in
@@ -19,9 +19,9 @@ returns c =
 
 returns-2 : tie.Need-returns-2
 returns-2 c =
-    let s = c .before .before .before .before .before .before .before in
-    let a = s .args in
     let k = c .before .before .before in
+    let s : tie.Start = search in
+    let a = s .args in
     let r = returns-is (coreWith (now (a .regs)) (a .t)) (k .before .before .asleep .ensures) (k .if1 .left) in
     let d = c .before .line-above .ensures .0 in
     let q = c .before .before .current-priority .ensures .0 in
@@ -29,9 +29,9 @@ returns-2 c =
 
 returns-3 : tie.Need-returns-3
 returns-3 c =
-    let s = c .before .before .before .before .before .before .before .before .before in
+    let k : tie.Else1 = search in
+    let s : tie.Start = search in
     let a = s .args in
-    let k = c .before .before .before .before .before in
     let r = returns-is (coreWith (now (a .regs)) (a .t)) (k .before .before .asleep .ensures) (k .if1 .left) in
     let d = c .before .before .before .line-above .ensures .0 in
     let q = c .before .before .before .before .current-priority .ensures .0 in

@@ -21,13 +21,15 @@ returns c =
 
 returns-2 : tie.Need-returns-2
 returns-2 c =
-    let k = c .before .before .before .before .before .before .before .before .before .before .before in
-    let a = k .before .before .before .before .before .args in
+    let at-plan : tie.After-plan = search in
+    let k : tie.After-deliver = search in
+    let at-start = k .before .before .before .before .before in
+    let a = at-start .args in
     let d = k .deliver in
     let live = k .before .before .if1 .left in
     let x = coreOf (a .m .regs) (a .m .psw) (a .m .cex) in
     let e = ap (λ h. stateFrom x (d .result .lines) h (a .m .count) (d .last .0)) (sym live) in
-    let p = c .before .before .before .before .before .plan .ensures .0 in (
+    let p = at-plan .plan .ensures .0 in (
       step-law (eventsOf (now (a .events))) (stateOf (a .m) (now (a .memory))) _ _ live
           (e ∙ d .ensures .0 x (a .m .halted))
           (c .before .before .perform .ensures

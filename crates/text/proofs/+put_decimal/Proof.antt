@@ -1,3 +1,5 @@
+-- By digits, the highest first: a number below ten, or no place left, is one digit; else the digits of a tenth of it, with one place less,
+-- and then its last digit (Laws, decimal-more). The places fall at each call. Assumes nothing.
 use Prim.Native.Nat.{ℕ, _<_}
 use mathlib.Core.List.{append-assoc}
 use mathlib.Core.Logic.{⊎-elim}

@@ -39,15 +39,15 @@ run-traced-requires c κs =
 
 write-record-requires : tie.Need-write-record-requires
 write-record-requires c κs =
-    let i = c .before .before .before .before .before .before .before .before .before .before in
+    let i : tie.Else1 = search in
     call-passed _ _ _ _ _ _ _ (i .before .refusal-of .ensures) (i .if1 .left) .record-size
 
 reply-of-requires : tie.Need-reply-of-requires
 reply-of-requires c κs =
-    let a = c .before .before .before .before .before .before .before .before in
+    let a : tie.After-run-traced = search in
     let r = a .run-traced .ensures in
     let m = a .before .before .before .read-record in
-    let e = a .before .before .before .before .before in
+    let e : tie.Else1 = search in
     let f = e .before .refusal-of .ensures in (
       subst (λ j. j ≤ 1000000) (sym (r .1 .1 .0)) (few-steps _ _ _ _ _ _ _ f (e .if1 .left) (m .result) (m .ensures)),
       subst (λ j. j ≤ 1004096) (sym (r .1 .1 .1 .0)) (few-records _ _ _ _ _ _ _ f (e .if1 .left) (m .result) (m .ensures)),
@@ -55,10 +55,10 @@ reply-of-requires c κs =
 
 returns-2 : tie.Need-returns-2
 returns-2 c =
-    let a = c .before .before .before .before .before .before .before .before .before in
+    let a : tie.After-run-traced = search in
     let r = a .run-traced .ensures in
     let m = a .before .before .before .read-record in
-    let o = a .before .before .before .before .before in
+    let o : tie.Else1 = search in
     let e =
     call-ran _ _ _ _ _ _ _ (o .before .refusal-of .ensures) (o .if1 .left) (m .result) (m .ensures)
     _ _ _ _ _ _ _ _ (r .0) (r .1 .0) (r .1 .1 .0) (r .1 .1 .1 .0) (r .1 .1 .1 .1) (c .before .before .before .write-record .ensures)

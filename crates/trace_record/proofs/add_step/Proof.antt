@@ -17,7 +17,7 @@ use Rattle.trace_record.proofs.add_step.Tie as tie
 
 add-events-requires : tie.Need-add-events-requires
 add-events-requires c κs =
-    let s = c .before .before .before .before .before .before in
+    let s : tie.Start = search in
     let a = s .args in
     let e = step-with (a .b) (a .kinds) (a .wanted) _ (c .before .before .asks .ensures) (now (a .devices)) (a .lines) (eventsOf (now
     (a .events))) (a .a) (a .seen) (a .pc) (a .psw)
@@ -28,11 +28,13 @@ add-events-requires c κs =
 
 add-act-requires : tie.Need-add-act-requires
 add-act-requires c κs =
-    let s = c .before .before .before .before .before .before .before .before .before .before in
+    let at-if1 : tie.Then1 = search in
+    let at-asks : tie.After-asks = search in
+    let s : tie.Start = search in
     let a = s .args in
-    let e = step-with (a .b) (a .kinds) (a .wanted) _ (c .before .before .before .before .before .before .asks .ensures) (now
+    let e = step-with (a .b) (a .kinds) (a .wanted) _ (at-asks .asks .ensures) (now
     (a .devices)) (a .lines) (eventsOf (now (a .events))) (a .a) (a .seen) (a .pc) (a .psw)
-    (c .before .before .before .before .before .if1 .taken) in
+    (at-if1 .if1 .taken) in
     let xs = eventsBefore (asSeen (a .b) (now (a .devices)) (a .lines)) (a .b .step) (eventsOf (now (a .events))) in
     let ys = actWritten (a .b) (a .kinds) (a .a) (a .seen) (a .pc) (a .psw) in
     let f = c .before .before .before .add-events in
@@ -40,15 +42,18 @@ add-act-requires c κs =
 
 returns : tie.Need-returns
 returns c =
-    let s = c .before .before .before .before .before .before .before .before .before .before .before .before .before in
+    let at-add-events : tie.After-add-events = search in
+    let at-if1 : tie.Then1 = search in
+    let at-asks : tie.After-asks = search in
+    let s = at-asks .before .before .before .before in
     let a = s .args in
     let e = step-with (a .b) (a .kinds) (a .wanted) _
-    (c .before .before .before .before .before .before .before .before .before .asks .ensures) (now (a .devices)) (a .lines) (eventsOf
+    (at-asks .asks .ensures) (now (a .devices)) (a .lines) (eventsOf
     (now (a .events))) (a .a) (a .seen) (a .pc) (a .psw)
-    (c .before .before .before .before .before .before .before .before .if1 .taken) in
+    (at-if1 .if1 .taken) in
     let xs = eventsBefore (asSeen (a .b) (now (a .devices)) (a .lines)) (a .b .step) (eventsOf (now (a .events))) in
     let ys = actWritten (a .b) (a .kinds) (a .a) (a .seen) (a .pc) (a .psw) in
-    let f = c .before .before .before .before .before .before .add-events in
+    let f = at-add-events .add-events in
     let g = c .before .before .add-act in (
       joined-count (a .k) (f .result) _ xs ys _ e (f .ensures .0) (g .ensures .0),
       joined-bytes (now (a .trace)) _ _ (a .k) (f .result) xs ys _ e (f .ensures .0) (f .ensures .1) (g .ensures .1),
@@ -56,7 +61,7 @@ returns c =
 
 add-act-requires-2 : tie.Need-add-act-requires-2
 add-act-requires-2 c κs =
-    let s = c .before .before .before .before .before .before in
+    let s : tie.Start = search in
     let a = s .args in
     let e = step-without (a .b) (a .kinds) (a .wanted) _ (c .before .before .asks .ensures) (now (a .devices)) (a .lines) (eventsOf (now
     (a .events))) (a .a) (a .seen) (a .pc) (a .psw)
@@ -67,9 +72,10 @@ add-act-requires-2 c κs =
 
 returns-2 : tie.Need-returns-2
 returns-2 c =
-    let s = c .before .before .before .before .before .before .before .before .before in
+    let at-asks : tie.After-asks = search in
+    let s : tie.Start = search in
     let a = s .args in
-    let e = step-without (a .b) (a .kinds) (a .wanted) _ (c .before .before .before .before .before .asks .ensures) (now (a .devices))
+    let e = step-without (a .b) (a .kinds) (a .wanted) _ (at-asks .asks .ensures) (now (a .devices))
     (a .lines) (eventsOf (now (a .events))) (a .a) (a .seen) (a .pc) (a .psw)
     (c .before .before .before .before .if1 .left) in
     let xs = eventsBefore (asSeen (a .b) (now (a .devices)) (a .lines)) (a .b .step) (eventsOf (now (a .events))) in

@@ -11,17 +11,20 @@ use Rattle.trace_record.proofs.needed.Statement.{statement}
 use Rattle.trace_record.proofs.needed.Tie as tie
 
 add-result : tie.Need-add-result
-add-result c = omega (
-  arith,
-  c .count-due .ensures .1,
-  one-at-most
-      (c .before .before .before .asks .result),
-  c .before .before .before .before .before .before .good,
-)
+add-result c =
+    let at-start : tie.Start = search in
+    omega (
+      arith,
+      c .count-due .ensures .1,
+      one-at-most
+          (c .before .before .before .asks .result),
+      at-start .good,
+    )
 
 returns : tie.Need-returns
 returns c =
-    let a = c .before .before .before .before .before .before .args in
+    let at-start : tie.Start = search in
+    let a = at-start .args in
     λ b m l x p w e.
     let ev = eventsOf (now (a .events)) in
     both-count _ _ (eventsBefore (asSeen b m l) (b .step) ev) (actWritten b (a .kinds) (a .a) x p w) _ (c .count-due .ensures .0
@@ -32,7 +35,8 @@ returns c =
 
 returns-2 : tie.Need-returns-2
 returns-2 c =
-    let a = c .before .before .before .before .before .args in
+    let at-start : tie.Start = search in
+    let a = at-start .args in
     λ b m l x p w e.
     act-count b (a .kinds) (a .a) x p w _ (c .before .before .before .kind-of .ensures .0) _ (c .before .before .asks .ensures)
     ∙ ap length (step-without b (a .kinds) (a .wanted) _ (c .before .asks2 .ensures) m l (eventsOf (now (a .events))) (a .a) x p w

@@ -10,7 +10,8 @@ use Rattle.trace_record.proofs.put_head.Tie as tie
 
 returns : tie.Need-returns
 returns c =
-    let a = c .before .before .before .before .before .args in
+    let at-start : tie.Start = search in
+    let a = at-start .args in
     let i = a .i in
     ap (λ l. set (set (set (set l (i + 4) (a .kind)) (i + 5) (a .number)) (i + 6) (lowByte (a .address))) (i + 7) (highByte (a .address)))
     (c .before .before .put-four .ensures)

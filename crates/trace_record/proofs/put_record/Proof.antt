@@ -7,9 +7,11 @@ use Rattle.trace_record.proofs.put_record.Tie as tie
 
 returns : tie.Need-returns
 returns c =
-    let a = c .before .before .before .before .before .before .before .before .before .args in
+    let at-put-head : tie.After-put-head = search in
+    let at-start : tie.Start = search in
+    let a = at-start .args in
     whole-bytes (now (a .trace)) _ _ (16 * a .k) (a .b) (a .kind) (a .number) (a .address) (a .value)
-    (c .before .before .before .before .before .before .put-head .ensures)
+    (at-put-head .put-head .ensures)
     (c .before .before .put-tail .ensures)
 
 pub put-record-spec : {M : Type 1} → statement M

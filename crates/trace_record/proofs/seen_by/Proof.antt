@@ -6,7 +6,9 @@ use Rattle.trace_record.proofs.seen_by.Statement.{statement}
 use Rattle.trace_record.proofs.seen_by.Tie as tie
 
 returns-11 : tie.Need-returns-11
-returns-11 c = c .value-at .ensures ∙ ap (λ x. seenOf x (now (c .before .before .before .before .before .args .mem))) (sym
+returns-11 c =
+    let at-start : tie.Start = search in
+    c .value-at .ensures ∙ ap (λ x. seenOf x (now (at-start .args .mem))) (sym
     (c .before .before .a .given .1))
 
 pub seen-by-spec : {M : Type 1} → statement M

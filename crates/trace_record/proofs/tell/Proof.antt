@@ -51,7 +51,9 @@ returns-11 c = let a = c .before .before .before .before .args in c .telling11 .
     (sym (c .before .before .a5 .given .1))
 
 returns-12 : tie.Need-returns-12
-returns-12 c = let a = c .before .before .before .before .before .args in c .telling12 .ensures ∙ ap (told _ _)
+returns-12 c =
+    let at-start : tie.Start = search in
+    let a = at-start .args in c .telling12 .ensures ∙ ap (told _ _)
     (c .before .operand .ensures) ∙ ap (λ x. toldOf x (a .seen) (a .pc) (a .psw)) (sym (c .before .before .before .a6 .given .1))
 
 pub tell-spec : {M : Type 1} → statement M

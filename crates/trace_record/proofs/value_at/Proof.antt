@@ -1,5 +1,5 @@
 use denote.Ref.{now}
-use Rattle.trace_record.proofs.Laws.{word-value}
+use Rattle.memory.proofs.Laws.{load-value}
 use borrow.Author.Needs.{needs}
 use Rattle.trace_record.proofs.value_at.Statement.{statement}
 use Rattle.trace_record.proofs.value_at.Tie as tie
@@ -8,7 +8,7 @@ returns : tie.Need-returns
 returns c = rw (c .before .if1 .taken) (c .read-byte .ensures)
 
 returns-2 : tie.Need-returns-2
-returns-2 c = rw (c .before .before .if1 .left) (word-value (now (c .before .before .before .before .args .mem)) _
+returns-2 c = rw (c .before .before .if1 .left) (load-value (now (c .before .before .before .before .args .mem)) _
     (c .before .before .before .before .args .a .0) (c .before .word-of .ensures .0) (c .read-word .ensures))
 
 pub value-at-spec : {M : Type 1} → statement M

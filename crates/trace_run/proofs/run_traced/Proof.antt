@@ -84,7 +84,7 @@ on c = let l = loop-of c in goes-on (l .loop .t .halted) (l .loop .done) (start 
 
 step-traced-requires : tie.Need-step-traced-requires Inv-loop μ-loop
 step-traced-requires c κs =
-    let t = c .before .before .before .before .before in
+    let t : tie.Then1 Inv-loop μ-loop = search in
     let l = loop-of t in
     let s = start l in
     let i = l .loop .inv in
@@ -111,11 +111,12 @@ stepped : (c : tie.Else2 Inv-loop μ-loop)
     (l .before .before .rest-of .result) (q .result .at) 0 0 false (q .last .1 .1 .1 .0) (q .last .1 .1 .1 .1 .1 .1 .0) (q .last .0)
     (q .result .rest) (q .result .at) (l .loop .done + 1) (q .result .added) (l .loop .short)
 stepped c =
+    let at-step-traced : tie.After-step-traced Inv-loop μ-loop = search in
     let t = turn-of c in
     let l = loop-of t in
     let s = start l in
     let i = l .loop .inv in
-    let q = c .before .before .before .before .before .step-traced in
+    let q = at-step-traced .step-traced in
     let x = q .ensures .0 in
     let taken = c .if2 .left in
     let here = stateWith (l .loop .regs) (l .loop .t) (l .loop .memory) in
@@ -145,7 +146,7 @@ stretch-requires c κs =
 
 gone-on-requires : tie.Need-gone-on-requires Inv-loop μ-loop
 gone-on-requires c κs =
-    let o = c .before .before .before .before .before .before in
+    let o : tie.After-at-once Inv-loop μ-loop = search in
     let k = taken-of o in
     let h = stepped k in
     let l = loop-of (turn-of k) in
@@ -172,6 +173,7 @@ loop-less c = omega (arith, within c, on (turn-of (taken-of (once-of c))) .1)
 -- and the invariant holds after it
 loop-again : tie.Need-loop-again Inv-loop μ-loop
 loop-again c =
+    let at-if3 : tie.Then3 Inv-loop μ-loop = search in
     let o = once-of c in
     let k = taken-of o in
     let h = stepped k in
@@ -185,7 +187,7 @@ loop-again c =
     let b = now (s .args .events) in
     let j = did c in
     let n : g .result .count ≡ q .result .rest .count + j = ap (λ (x : Rest). x .count) (g .ensures) in
-    let more : 0 < z .result = c .before .before .before .before .before .before .before .if3 .taken in
+    let more : 0 < z .result = at-if3 .if3 .taken in
     let sparse = asked-sparse (quiet .result) (q .result .rest .halted) (z .result) (z .ensures .2) more in
     let e : Passes (eventsOf b) (stateWith (q .last .0) (q .result .rest) (q .last .1 .1 .1 .0))
     (stateWith (f .last .0) (g .result) (f .last .1 .0)) j =

@@ -10,17 +10,27 @@ returns-2 : tie.Need-returns-2
 returns-2 c = met-7 (c .before .before .before .before .args .kinds) _ (c .before .asks2 .ensures) (c .if2 .taken)
 
 returns-3 : tie.Need-returns-3
-returns-3 c = met-9 (c .before .before .before .before .before .before .args .kinds) _ (c .before .asks3 .ensures) (c .if3 .taken)
+returns-3 c =
+    let at-start : tie.Start = search in
+    met-9 (at-start .args .kinds) _ (c .before .asks3 .ensures) (c .if3 .taken)
 
 returns-4 : tie.Need-returns-4
-returns-4 c = met-10 (c .before .before .before .before .before .before .before .before .args .kinds) _ (c .before .asks4 .ensures)
+returns-4 c =
+    let at-start : tie.Start = search in
+    met-10 (at-start .args .kinds) _ (c .before .asks4 .ensures)
     (c .if4 .taken)
 
 returns-5 : tie.Need-returns-5
-returns-5 c = none-met (c .before .before .before .before .before .before .before .before .before .args .kinds) _ _ _ _ _
-    (c .before .before .before .before .before .before .before .before .asks .ensures)
-    (c .before .before .before .before .before .before .before .if1 .left)
-    (c .before .before .before .before .before .before .asks2 .ensures) (c .before .before .before .before .before .if2 .left)
+returns-5 c =
+    let at-if2 : tie.Else2 = search in
+    let at-asks2 : tie.After-asks2 = search in
+    let at-if1 : tie.Else1 = search in
+    let at-asks : tie.After-asks = search in
+    let at-start : tie.Start = search in
+    none-met (at-start .args .kinds) _ _ _ _ _
+    (at-asks .asks .ensures)
+    (at-if1 .if1 .left)
+    (at-asks2 .asks2 .ensures) (at-if2 .if2 .left)
     (c .before .before .before .before .asks3 .ensures) (c .before .before .before .if3 .left) (c .before .before .asks4 .ensures)
     (c .before .if4 .left) (c .asks5 .ensures)
 

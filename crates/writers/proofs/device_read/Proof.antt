@@ -1,4 +1,5 @@
--- The arms of `foreign_read`, with device registers for marks. Assumes nothing.
+-- The arms of `foreign_read`, with device registers for marks: each arm's callees look at the bytes that `readsOf` has for the act, in its
+-- order, and the first of two lists is the first of the one, or else of the other (`two-first`). Assumes nothing.
 use Rattle.writers.proofs.Laws.{device-within, two-first, trap-first}
 use Rattle.writers.specs.First.{firstIn}
 use Rattle.resume.specs.Frames.{readsOf, frameSpan}
@@ -12,9 +13,6 @@ use borrow.Author.Needs.{needs}
 use Rattle.writers.proofs.device_read.Statement.{statement}
 use Rattle.writers.proofs.device_read.Tie as tie
 
-returns : tie.Need-returns
-returns c k p q = ap (λ z. firstIn device? (readsOf z k)) (sym (c .enum-told .given .1))
-
 returns-2 : tie.Need-returns-2
 returns-2 c k p q =
     c .device-frame .ensures ∙ ap (λ (s : ℕ). firstIn device? (frameSpan s)) (sym q)
@@ -24,21 +22,6 @@ returns-3 : tie.Need-returns-3
 returns-3 c k p q =
     c .device-frame2 .ensures ∙ ap (λ (s : ℕ). firstIn device? (frameSpan s)) (sym q)
     ∙ ap (λ z. firstIn device? (readsOf z k)) (sym (c .before .enum-told3 .given .1))
-
-returns-4 : tie.Need-returns-4
-returns-4 c k p q = ap (λ z. firstIn device? (readsOf z k)) (sym (c .enum-told4 .given .1))
-
-returns-5 : tie.Need-returns-5
-returns-5 c k p q = ap (λ z. firstIn device? (readsOf z k)) (sym (c .enum-told5 .given .1))
-
-returns-6 : tie.Need-returns-6
-returns-6 c k p q = ap (λ z. firstIn device? (readsOf z k)) (sym (c .enum-told6 .given .1))
-
-returns-7 : tie.Need-returns-7
-returns-7 c k p q = ap (λ z. firstIn device? (readsOf z k)) (sym (c .enum-told7 .given .1))
-
-returns-8 : tie.Need-returns-8
-returns-8 c k p q = ap (λ z. firstIn device? (readsOf z k)) (sym (c .enum-told8 .given .1))
 
 returns-9 : tie.Need-returns-9
 returns-9 c k p q =
@@ -71,5 +54,9 @@ device-read-spec =
     (tie.spec (λ c. search needs) (λ c. search needs) (λ c κs. search needs) (λ c. search needs) (λ c κs. search needs) (λ c. search needs)
     (λ c. search needs) (λ c. search needs) (λ c. search needs) (λ c. search needs) (λ c. search needs) (λ c κs. search needs)
     (λ c. search needs) (λ c κs. search needs) (λ c. search needs) (λ c κs. search needs) (λ c κs. search needs) (λ c κs. search needs)
-    (λ c. search needs) (λ c κs. search needs) returns returns-2 returns-3 returns-4 returns-5 returns-6 returns-7 returns-8 returns-9
-    returns-10 returns-11 returns-12)
+    (λ c. search needs) (λ c κs. search needs) (λ c k p q. ap (λ z. firstIn device? (readsOf z k)) (sym (c .enum-told .given .1))) returns-2
+    returns-3 (λ c k p q. ap (λ z. firstIn device? (readsOf z k)) (sym (c .enum-told4 .given .1)))
+    (λ c k p q. ap (λ z. firstIn device? (readsOf z k)) (sym (c .enum-told5 .given .1)))
+    (λ c k p q. ap (λ z. firstIn device? (readsOf z k)) (sym (c .enum-told6 .given .1)))
+    (λ c k p q. ap (λ z. firstIn device? (readsOf z k)) (sym (c .enum-told7 .given .1)))
+    (λ c k p q. ap (λ z. firstIn device? (readsOf z k)) (sym (c .enum-told8 .given .1))) returns-9 returns-10 returns-11 returns-12)

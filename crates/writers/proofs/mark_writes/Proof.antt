@@ -1,4 +1,5 @@
--- An arm for each act: an entry's pushes, a load's status byte, a store's bytes; every other act writes nothing. Assumes nothing.
+-- An arm for each act: an entry's pushes, a load's status byte, a store's bytes; every other act writes nothing. In each arm what is marked
+-- are the places of the act's writes, in the definition's order. Assumes nothing.
 use Rattle.writers.proofs.Laws.{marked-none}
 use Rattle.soundness.specs.Watch.{marked}
 use Rattle.machine.specs.Step.{perform}

@@ -10,7 +10,7 @@ use Rattle.xm23.proofs.xm23_run.Tie as tie
 
 returns : tie.Need-returns
 returns c =
-    let called = c .before .before .before .before .before .before in
+    let called : tie.After-run-call = search in
     let e = called .run-call .ensures in
     let a = called .before .before .before .before .before .before .before .before .before .args in
     let memory = e .1 .0 in

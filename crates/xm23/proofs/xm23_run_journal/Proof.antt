@@ -10,7 +10,7 @@ use Rattle.xm23.proofs.xm23_run_journal.Tie as tie
 
 returns : tie.Need-returns
 returns c =
-    let called = c .before .before .before .before .before .before .before .before in
+    let called : tie.After-run-journal-call = search in
     let e = called .run-journal-call .ensures in
     let a = called .before .before .before .before .before .before .before .before .before .before .before .before .before .args in
     let lent = journalOf (now (a .journal)) (now (a .kept)) (now (a .place)) in

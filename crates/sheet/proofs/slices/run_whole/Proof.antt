@@ -6,6 +6,7 @@ use native.Mathlib.Omega.{arith}
 use lib.ListN.{length}
 use lib.Seq.{length-sets}
 use borrow.Author.Needs.{needs}
+use borrow.Author.Tests.{not-true, not-false}
 use Rattle.machine.specs.declared.Depth.{Depth}
 use Rattle.machine.specs.State.{stateOf}
 use Rattle.machine.specs.Events.{eventsOf}
@@ -13,7 +14,6 @@ use Rattle.machine.specs.Run.{ran, runOf}
 use Rattle.machine.specs.Log.{logBytes}
 use Rattle.machine.specs.Depth.{depth, depthFrom}
 use Rattle.devices.specs.Cursor.{Behind}
-use Rattle.output_log.proofs.Laws.{is-not, is-so}
 use Rattle.turn.proofs.Laws.{behind-none}
 use Rattle.sheet.proofs.Sliced.{slices-start, slices-count, slices-full, slice-le, slice-on, slice-some, slice-ends}
 use Rattle.sheet.proofs.Sliced.{depth-begins, depth-few, slice-depth}
@@ -21,85 +21,102 @@ use Rattle.sheet.proofs.slices.run_whole.Statement.{statement}
 use Rattle.sheet.proofs.slices.run_whole.Tie as tie
 
 abbrev Inv-loop : tie.InvT-loop
-Inv-loop memory₀ events n log₀ machine₀ next₀ depth₀ done₀ memory log machine next d done =
-    (done ≤ n)
-    × (length memory ≡ length memory₀)
-    × (length log ≡ 512)
-    × Behind events next (machine .count)
-    × (ran (stateOf machine memory) done ≡ runOf (eventsOf events) (stateOf machine₀ memory₀) done)
-    × (d ≡ depthFrom (eventsOf events) (stateOf machine₀ memory₀) (depth 0 0) done)
+Inv-loop memory₀ events n log₀ machine₀ next₀ depth₀ done₀ memory log machine next d done = record {
+  some : done ≤ n;
+  size : length memory ≡ length memory₀;
+  short : length log ≡ 512;
+  behind : Behind events next (machine .count);
+  reached : ran (stateOf machine memory) done ≡ runOf (eventsOf events) (stateOf machine₀ memory₀) done;
+  deep : d ≡ depthFrom (eventsOf events) (stateOf machine₀ memory₀) (depth 0 0) done;
+}
 
 abbrev μ-loop : tie.MeasureT-loop
 μ-loop memory₀ events n log₀ machine₀ next₀ depth₀ done₀ memory log machine next d done = n - done
 
 loop-holds : tie.Need-loop-holds Inv-loop μ-loop
-loop-holds c = (omega arith, refl, refl, behind-none _ _, slices-start _ _, depth-begins _ _)
+loop-holds c = record {
+  some = omega arith;
+  size = refl;
+  short = refl;
+  behind = behind-none _ _;
+  reached = slices-start _ _;
+  deep = depth-begins _ _;
+}
 
 slice-aggregate-run : tie.Need-slice-aggregate-run Inv-loop μ-loop
-slice-aggregate-run c = omega (arith, c .before .before .before .loop .inv .2)
+slice-aggregate-run c = omega (arith, c .before .before .before .loop .inv .short)
 
 run-requires : tie.Need-run-requires Inv-loop μ-loop
 run-requires c κs =
+    let s : tie.Start Inv-loop μ-loop = search in
     let l = c .before .before .before .loop in
-    let s = c .before .before .before .before .before .before in
-    let k = slices-count _ _ _ _ (l .inv .4) in (
-      omega (arith, s .pre .0, l .inv .1),
-      omega (arith, s .pre .1, k, l .inv .0),
+    let k = slices-count _ _ _ _ (l .inv .reached) in (
+      omega (arith, s .pre .0, l .inv .size),
+      omega (arith, s .pre .1, k, l .inv .some),
       s .pre .2,
       s .pre .3,
-      l .inv .3,
-      omega (arith, depth-few _ _ (l .depth) _ _ (l .inv .5) (l .inv .0), s .pre .1),
+      l .inv .behind,
+      omega (arith, depth-few _ _ (l .depth) _ _ (l .inv .deep) (l .inv .some), s .pre .1),
     )
 
 add-done : tie.Need-add-done Inv-loop μ-loop
 add-done c =
-    let r = c .before .before .before .before .before .before .run .ensures in
-    let l = c .before .before .before .before .before .before .before .before .before .before .loop in
-    let i = slice-le _ _ _ _ (l .inv .4) _ _ _ _ _ (r .0) (r .1 .0) (r .1 .1 .0) in
-    omega (arith, i, l .inv .0)
+    let at-run : tie.After-run Inv-loop μ-loop = search in
+    let at-loop : tie.At-loop Inv-loop μ-loop = search in
+    let r = at-run .run .ensures in
+    let l = at-loop .loop in
+    let i = slice-le _ _ _ _ (l .inv .reached) _ _ _ _ _ (r .0) (r .1 .0) (r .1 .1 .0) in
+    omega (arith, i, l .inv .some)
 
 loop-less : tie.Need-loop-less Inv-loop μ-loop
 loop-less c =
-    let r = c .before .before .before .before .before .before .before .before .run .ensures in
-    let l = c .before .before .before .before .before .before .before .before .before .before .before .before .loop in
-    let b = sym (c .before .out-of-room .ensures) ∙ is-so _ (c .if1 .left) in
-    let i = slice-le _ _ _ _ (l .inv .4) _ _ _ _ _ (r .0) (r .1 .0) (r .1 .1 .0) in
-    let j = slice-some _ _ _ _ (l .inv .4) _ _ _ _ _ (r .0) (r .1 .0) (r .1 .1 .0) (omega (arith, l .inv .2)) b in
-    omega (arith, i, j, l .inv .0)
+    let at-run : tie.After-run Inv-loop μ-loop = search in
+    let at-loop : tie.At-loop Inv-loop μ-loop = search in
+    let r = at-run .run .ensures in
+    let l = at-loop .loop in
+    let b = sym (c .before .out-of-room .ensures) ∙ not-false _ (c .if1 .left) in
+    let i = slice-le _ _ _ _ (l .inv .reached) _ _ _ _ _ (r .0) (r .1 .0) (r .1 .1 .0) in
+    let j = slice-some _ _ _ _ (l .inv .reached) _ _ _ _ _ (r .0) (r .1 .0) (r .1 .1 .0) (omega (arith, l .inv .short)) b in
+    omega (arith, i, j, l .inv .some)
 
 loop-again : tie.Need-loop-again Inv-loop μ-loop
 loop-again c =
-    let r = c .before .before .before .before .before .before .before .before .run .ensures in
-    let l = c .before .before .before .before .before .before .before .before .before .before .before .before .loop in
-    let i = slice-le _ _ _ _ (l .inv .4) _ _ _ _ _ (r .0) (r .1 .0) (r .1 .1 .0) in (
-      omega (arith, i, l .inv .0),
-      omega (arith, l .inv .1),
-      ap length (r .1 .1 .1 .1 .0) ∙ length-sets _ 0 (logBytes _) ∙ l .inv .2,
-      r .1 .1 .1 .1 .1 .0,
-      slice-on _ _ _ _ (l .inv .4) _ _ _ _ _ (r .0) (r .1 .0) (r .1 .1 .0),
-      slice-depth _ _ _ _ (l .inv .4) _ _ _ _ _ (r .0) (r .1 .0) (r .1 .1 .0) _ _ (l .inv .5) (r .1 .1 .1 .1 .1 .1),
-    )
+    let at-run : tie.After-run Inv-loop μ-loop = search in
+    let at-loop : tie.At-loop Inv-loop μ-loop = search in
+    let r = at-run .run .ensures in
+    let l = at-loop .loop in
+    let i = slice-le _ _ _ _ (l .inv .reached) _ _ _ _ _ (r .0) (r .1 .0) (r .1 .1 .0) in record {
+      some = omega (arith, i, l .inv .some);
+      size = omega (arith, l .inv .size);
+      short = ap length (r .1 .1 .1 .1 .0) ∙ length-sets _ 0 (logBytes _) ∙ l .inv .short;
+      behind = r .1 .1 .1 .1 .1 .0;
+      reached = slice-on _ _ _ _ (l .inv .reached) _ _ _ _ _ (r .0) (r .1 .0) (r .1 .1 .0);
+      deep = slice-depth _ _ _ _ (l .inv .reached) _ _ _ _ _ (r .0) (r .1 .0) (r .1 .1 .0) _ _ (l .inv .deep) (r .1 .1 .1 .1 .1 .1);
+    }
 
 same-length : tie.Need-same-length Inv-loop μ-loop
-same-length c = c .before .loop .inv .1
+same-length c = c .before .loop .inv .size
 
 returns : tie.Need-returns Inv-loop μ-loop
 returns c =
     let l = c .before .loop in
-    (slices-full _ _ _ _ (l .inv .4) _ (l .inv .0) (c .loop-test .left), ap (λ (p : Depth). p .deepest) (l .inv .5))
+    (slices-full _ _ _ _ (l .inv .reached) _ (l .inv .some) (c .loop-test .left), ap (λ (p : Depth). p .deepest) (l .inv .deep))
 
 same-length-2 : tie.Need-same-length-2 Inv-loop μ-loop
 same-length-2 c =
-    let l = c .before .before .before .before .before .before .before .before .before .before .before .before .loop in
-    omega (arith, l .inv .1)
+    let at-loop : tie.At-loop Inv-loop μ-loop = search in
+    let l = at-loop .loop in
+    omega (arith, l .inv .size)
 
 returns-2 : tie.Need-returns-2 Inv-loop μ-loop
 returns-2 c =
-    let r = c .before .before .before .before .before .before .before .before .run .ensures in
-    let l = c .before .before .before .before .before .before .before .before .before .before .before .before .loop in
-    let b = sym (c .before .out-of-room .ensures) ∙ is-not _ (c .if1 .taken) in
-    let d = slice-depth _ _ _ _ (l .inv .4) _ _ _ _ _ (r .0) (r .1 .0) (r .1 .1 .0) _ _ (l .inv .5) (r .1 .1 .1 .1 .1 .1) in
-    (slice-ends _ _ _ _ (l .inv .4) _ _ _ _ _ (r .0) (r .1 .0) (r .1 .1 .0) (l .inv .0) b, ap (λ (p : Depth). p .deepest) d)
+    let at-run : tie.After-run Inv-loop μ-loop = search in
+    let at-loop : tie.At-loop Inv-loop μ-loop = search in
+    let r = at-run .run .ensures in
+    let l = at-loop .loop in
+    let b = sym (c .before .out-of-room .ensures) ∙ not-true _ (c .if1 .taken) in
+    let d = slice-depth _ _ _ _ (l .inv .reached) _ _ _ _ _ (r .0) (r .1 .0) (r .1 .1 .0) _ _ (l .inv .deep) (r .1 .1 .1 .1 .1 .1) in
+    (slice-ends _ _ _ _ (l .inv .reached) _ _ _ _ _ (r .0) (r .1 .0) (r .1 .1 .0) (l .inv .some) b, ap (λ (p : Depth). p .deepest) d)
 
 pub run-whole-spec : {M : Type 1} → statement M
 run-whole-spec =

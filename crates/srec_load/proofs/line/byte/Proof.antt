@@ -7,10 +7,10 @@ use Rattle.srec_load.proofs.line.byte.Tie as tie
 
 returns : tie.Need-returns
 returns c =
-    let c2 = c .before .before in
-    let c5 = c2 .before .before .before in
-    let e = byte-at (c5 .args .line .now) (c5 .args .k) (omega arith) in
-    rw (c2 .digit .ensures .0, c .digit2 .ensures .0) (sym e)
+    let at-digit = c .before .before in
+    let at-start : tie.Start = search in
+    let e = byte-at (at-start .args .line .now) (at-start .args .k) (omega arith) in
+    rw (at-digit .digit .ensures .0, c .digit2 .ensures .0) (sym e)
 
 pub byte-spec : {M : Type 1} → statement M
 byte-spec =

@@ -7,24 +7,27 @@ use Rattle.srec_load.proofs.line.store.Tie as tie
 
 returns : tie.Need-returns
 returns c =
-    let c4 = c .before .before .before .before in
-    store-none (c4 .args .line .now) (c4 .args .memory .now) _ (c .before .kind .ensures) (c .if1 .taken)
+    let at-start = c .before .before .before .before in
+    store-none (at-start .args .line .now) (at-start .args .memory .now) _ (c .before .kind .ensures) (c .if1 .taken)
 
 store-data-requires : tie.Need-store-data-requires
-store-data-requires c κs = let h = c .before .before .before .before .before .before .before .pre .1 in
+store-data-requires c κs =
+    let at-start : tie.Start = search in
+    let h = at-start .pre .1 in
     let i = h .inside (sym (c .before .before .before .before .kind .ensures) ∙ c .before .before .before .if1 .left) in
     (omega arith, omega arith)
 
 returns-2 : tie.Need-returns-2
 returns-2 c =
-    let c2 = c .before .before in
-    let c4 = c2 .before .before in
-    let c5 = c4 .before in
-    let c6 = c5 .before in
-    let c7 = c6 .before in
-    let c10 = c7 .before .before .before in
-    store-some (c10 .args .line .now) (c10 .args .memory .now) _ _ _ _ (c7 .kind .ensures) (c6 .if1 .left) (c5 .address .ensures .0)
-    (c4 .count .ensures .0) (c2 .store-data .ensures)
+    let at-store-data = c .before .before in
+    let at-count = at-store-data .before .before in
+    let at-address : tie.After-address = search in
+    let at-if1 : tie.Else1 = search in
+    let at-kind : tie.After-kind = search in
+    let at-start : tie.Start = search in
+    store-some (at-start .args .line .now) (at-start .args .memory .now) _ _ _ _ (at-kind .kind .ensures) (at-if1 .if1 .left)
+    (at-address .address .ensures .0)
+    (at-count .count .ensures .0) (at-store-data .store-data .ensures)
 
 pub store-spec : {M : Type 1} → statement M
 store-spec =

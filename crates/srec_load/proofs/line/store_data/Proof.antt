@@ -18,22 +18,21 @@ abbrev μ-loop : tie.MeasureT-loop
 
 loop-again : tie.Need-loop-again Inv-loop μ-loop
 loop-again c =
-    let c2 = c .before .before in
-    let c5 = c2 .before .before .before in
-    let s = c5 in
-    let p = c2 .loop in (
+    let at-loop = c .before .before in
+    let at-start : tie.Start Inv-loop μ-loop = search in
+    let p = at-loop .loop in (
       omega arith,
       simp length-set (omega arith),
-      store-more (s .args .memory .now) (p .memory) (s .args .line .now) (s .args .a) (s .args .n) (p .k)
-          (s .pre .1) (omega arith) (p .inv .2) _ (c .byte .ensures),
+      store-more (at-start .args .memory .now) (p .memory) (at-start .args .line .now) (at-start .args .a) (at-start .args .n) (p .k)
+          (at-start .pre .1) (omega arith) (p .inv .2) _ (c .byte .ensures),
     )
 
 returns : tie.Need-returns Inv-loop μ-loop
 returns c =
-    let c4 = c .before .before .before .before in
-    let s = c4 in
+    let at-start = c .before .before .before .before in
     let p = c .before .loop in
-    store-end (s .args .memory .now) (p .memory) (s .args .line .now) (s .args .a) (s .args .n) (p .k) (s .pre .1) (omega arith) (p .inv .2)
+    store-end (at-start .args .memory .now) (p .memory) (at-start .args .line .now) (at-start .args .a) (at-start .args .n) (p .k)
+    (at-start .pre .1) (omega arith) (p .inv .2)
 
 pub store-data-spec : {M : Type 1} → statement M
 store-data-spec =

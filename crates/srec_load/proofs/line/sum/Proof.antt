@@ -16,8 +16,10 @@ abbrev μ-loop : tie.MeasureT-loop
 μ-loop line n s₀ k₀ s k = n + 1 - k
 
 loop-again : tie.Need-loop-again Inv-loop μ-loop
-loop-again c = let l = c .before .before .before .before .before .args .line .now in
-    let n = bytes-length l _ (c .before .before .before .before .before .pre) in
+loop-again c =
+    let at-start : tie.Start Inv-loop μ-loop = search in
+    let l = at-start .args .line .now in
+    let n = bytes-length l _ (at-start .pre) in
     let h = sum-here (bytesOf l) (c .before .before .loop .k) (omega arith) in
     (omega arith, omega arith, omega arith)
 

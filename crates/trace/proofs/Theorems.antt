@@ -78,7 +78,8 @@ pub before-told : BeforeTold
 unfolding tracedOf stepTraced
 before-told ks ev s =
     each-asked (TellsBefore s) ks (stepTraced ev s)
-    (each-append (TellsBefore s) (eventsTraced s (s .count) ev s) (actRecord ev s ∷ []) (events-told s (s .count) ev s) (told s _ _ _ _, tt))
+    (each-append (TellsBefore s) (eventsTraced s (s .count) ev s) (actRecord ev s ∷ []) (events-told s (s .count) ev s)
+    (told s _ _ _ _, tt))
 
 pub effects-before : EffectsBefore
 effects-before = events-before

@@ -56,15 +56,15 @@ reply-of-requires c κs =
     let a-verdict : tie.After-call-verdict = search in
     let a-write = a-verdict .before .before .before .before .before in
     let at-start = a-write .before .before .before .before .before in
-    let r = a-run .run .ensures in
+    let (_, (_, (steps, (added, _)))) = a-run .run .ensures in
     let i = a-run .before .before .before .if1 .left in
     let k = a-run .before .before .before .before .refusal-number .ensures .0 in
     let v = a-verdict .call-verdict .ensures in
     let a = at-start .args in
     let s = stateOf (a .m) (now (a .memory)) in
     let w = a-write .write-record .ensures (now (a .memory)) in (
-      subst (λ j. j ≤ 1000000) (sym (r .1 .1 .0)) (few-steps s _ _ _ _ _ _ w v k i),
-      subst (λ j. j ≤ 1000000) (sym (r .1 .1 .1 .0)) (few-records s _ _ _ _ _ _ w v k i),
+      subst (λ j. j ≤ 1000000) (sym steps) (few-steps s _ _ _ _ _ _ w v k i),
+      subst (λ j. j ≤ 1000000) (sym added) (few-records s _ _ _ _ _ _ w v k i),
     )
 
 returns-2 : tie.Need-returns-2
@@ -73,7 +73,7 @@ returns-2 c =
     let a-verdict : tie.After-call-verdict = search in
     let a-write = a-verdict .before .before .before .before .before in
     let at-start = a-write .before .before .before .before .before in
-    let r = a-run .run .ensures in
+    let (state, (reason, (steps, (added, (log, (_, deep)))))) = a-run .run .ensures in
     let i = a-run .before .before .before .if1 .left in
     let k = a-run .before .before .before .before .refusal-number .ensures .0 in
     let v = a-verdict .call-verdict .ensures in
@@ -82,8 +82,8 @@ returns-2 c =
     let w = a-write .write-record .ensures (now (a .memory)) in
     let e =
     advance-ran s _ _ _ _ _ _ w v k i
-    _ _ _ _ _ _ (r .0) (r .1 .0) (r .1 .1 .0) (r .1 .1 .1 .0) (r .1 .1 .1 .1 .0) (c .reply-of .ensures) in
-    let f = figure-ran s _ _ _ _ _ _ w v k i _ _ (r .1 .1 .1 .1 .1 .1) in
+    _ _ _ _ _ _ state reason steps added log (c .reply-of .ensures) in
+    let f = figure-ran s _ _ _ _ _ _ w v k i _ _ deep in
     (ap (λ x. x .reply) e, ap (λ x. x .state) e, ap (λ x. x .log) e, f)
 
 pub advance-by-value-spec : {M : Type 1} → statement M

@@ -171,22 +171,21 @@ returns-2 c =
     let p : Passes ev s₀ v j = subst (λ x. Passes ev s₀ x j) (sym (m .ensures (f .last .1 .0))) (passed i) in
     let x = sym (run-on ev s₀ v j p k (a .n) (few i)) in
     let o = at-run-kept .run-kept in
-    let r = o .ensures in
-    let g = r .1 .1 .1 in
+    let (state, (reason, (steps, (added, (log, (next, (deep, _))))))) = o .ensures in
     let e = c .after-steps .ensures in (
-      ap (λ (y : Ran). stateOf (y .machine) (o .last .1 .0)) e ∙ r .0 ∙ ap (λ (y : Logged). y .state) x,
+      ap (λ (y : Ran). stateOf (y .machine) (o .last .1 .0)) e ∙ state ∙ ap (λ (y : Logged). y .state) x,
       (
-        ap (λ (y : Ran). y .reason) e ∙ r .1 .0 ∙ ap reasonLogged x,
+        ap (λ (y : Ran). y .reason) e ∙ reason ∙ ap reasonLogged x,
         (
-          ap (λ (y : Ran). y .steps) e ∙ ap (λ n. j + n) (r .1 .1 .0) ∙ ap (λ (y : Logged). y .steps) x,
+          ap (λ (y : Ran). y .steps) e ∙ ap (λ n. j + n) steps ∙ ap (λ (y : Logged). y .steps) x,
           (
-            ap (λ (y : Ran). y .added) e ∙ g .0 ∙ ap (λ (y : Logged). length (y .records)) x,
+            ap (λ (y : Ran). y .added) e ∙ added ∙ ap (λ (y : Logged). length (y .records)) x,
             (
-              g .1 .0 ∙ ap (logAfter (now (a .log))) x,
+              log ∙ ap (logAfter (now (a .log))) x,
               (
-                subst (λ (y : Ran). Behind b (y .next) (y .machine .count)) (sym e) (g .1 .1 .0),
+                subst (λ (y : Ran). Behind b (y .next) (y .machine .count)) (sym e) next,
                 ap (λ (y : Ran). y .depth) e
-                    ∙ g .1 .1 .1 .0
+                    ∙ deep
                     ∙ depth-run-on ev s₀ v j p k (a .begun) (a .n) (few i),
               ),
             ),

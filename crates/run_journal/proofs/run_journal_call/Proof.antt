@@ -83,11 +83,11 @@ reply-of-requires c κs =
     let v = at-journal-verdict .journal-verdict .ensures in
     let k = at-refusal-number .refusal-number .ensures .0 in
     let i = at-if1 .if1 .left in
-    let r = at-run-kept .run-kept .ensures in
+    let (_, (_, (steps, (added, _)))) = at-run-kept .run-kept .ensures in
     let m = at-read-record .read-record
     in (
-      subst (λ x. x ≤ 1000000) (sym (r .1 .1 .0)) (steps-few _ _ _ _ _ _ _ _ v k i (m .result) (m .ensures)),
-      subst (λ x. x ≤ 1000000) (sym (r .1 .1 .1 .0)) (records-few _ _ _ _ _ _ _ _ v k i (m .result) (m .ensures)),
+      subst (λ x. x ≤ 1000000) (sym steps) (steps-few _ _ _ _ _ _ _ _ v k i (m .result) (m .ensures)),
+      subst (λ x. x ≤ 1000000) (sym added) (records-few _ _ _ _ _ _ _ _ v k i (m .result) (m .ensures)),
     )
 
 returns-2 : tie.Need-returns-2
@@ -101,14 +101,14 @@ returns-2 c =
     let v = at-journal-verdict .journal-verdict .ensures in
     let k = at-refusal-number .refusal-number .ensures .0 in
     let i = at-if1 .if1 .left in
-    let r = at-run-kept .run-kept .ensures in
+    let (state, (reason, (steps, (added, (log, (_, (deep, journal))))))) = at-run-kept .run-kept .ensures in
     let m = at-read-record .read-record in
     let e =
-    closing-ran _ _ _ _ _ _ _ _ v k i (m .result) (m .ensures) _ _ _ _ _ _ _ _ (r .0) (r .1 .0) (r .1 .1 .0) (r .1 .1 .1 .0)
-    (r .1 .1 .1 .1 .0) (c .before .before .before .write-record .ensures) (c .reply-of .ensures) in
+    closing-ran _ _ _ _ _ _ _ _ v k i (m .result) (m .ensures) _ _ _ _ _ _ _ _ state reason steps added log
+    (c .before .before .before .write-record .ensures) (c .reply-of .ensures) in
     let some = some-length _ _ _ _ _ _ _ _ v k (now (s .args .journal)) _ refl i in
     let j = journal-ran _ _ _ _ _ _ _ _ v k i (m .result) (m .ensures) (now (s .args .journal)) _ _ _ refl some
-    (r .1 .1 .1 .1 .1 .1 .1) in (
+    journal in (
       ap (λ x. x .reply) e,
       (
         ap (λ x. x .memory) e,
@@ -116,7 +116,7 @@ returns-2 c =
           ap (λ x. x .state) e,
           (
             ap (λ x. x .log) e,
-            (figure-ran _ _ _ _ _ _ _ _ v k i (m .result) (m .ensures) _ _ (r .1 .1 .1 .1 .1 .1 .0), j),
+            (figure-ran _ _ _ _ _ _ _ _ v k i (m .result) (m .ensures) _ _ deep, j),
           ),
         ),
       ),

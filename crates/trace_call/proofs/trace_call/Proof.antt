@@ -45,23 +45,23 @@ write-record-requires c κs =
 reply-of-requires : tie.Need-reply-of-requires
 reply-of-requires c κs =
     let a : tie.After-run-traced = search in
-    let r = a .run-traced .ensures in
+    let (_, (_, (steps, (added, _)))) = a .run-traced .ensures in
     let m = a .before .before .before .read-record in
     let e : tie.Else1 = search in
     let f = e .before .refusal-of .ensures in (
-      subst (λ j. j ≤ 1000000) (sym (r .1 .1 .0)) (few-steps _ _ _ _ _ _ _ f (e .if1 .left) (m .result) (m .ensures)),
-      subst (λ j. j ≤ 1004096) (sym (r .1 .1 .1 .0)) (few-records _ _ _ _ _ _ _ f (e .if1 .left) (m .result) (m .ensures)),
+      subst (λ j. j ≤ 1000000) (sym steps) (few-steps _ _ _ _ _ _ _ f (e .if1 .left) (m .result) (m .ensures)),
+      subst (λ j. j ≤ 1004096) (sym added) (few-records _ _ _ _ _ _ _ f (e .if1 .left) (m .result) (m .ensures)),
     )
 
 returns-2 : tie.Need-returns-2
 returns-2 c =
     let a : tie.After-run-traced = search in
-    let r = a .run-traced .ensures in
+    let (state, (reason, (steps, (added, trace)))) = a .run-traced .ensures in
     let m = a .before .before .before .read-record in
     let o : tie.Else1 = search in
     let e =
     call-ran _ _ _ _ _ _ _ (o .before .refusal-of .ensures) (o .if1 .left) (m .result) (m .ensures)
-    _ _ _ _ _ _ _ _ (r .0) (r .1 .0) (r .1 .1 .0) (r .1 .1 .1 .0) (r .1 .1 .1 .1) (c .before .before .before .write-record .ensures)
+    _ _ _ _ _ _ _ _ state reason steps added trace (c .before .before .before .write-record .ensures)
     (c .reply-of .ensures) in
     (ap (λ x. x .reply) e, (ap (λ x. x .memory) e, (ap (λ x. x .state) e, ap (λ x. x .trace) e)))
 

@@ -11,14 +11,11 @@ use Rattle.xm23.proofs.xm23_run.Tie as tie
 returns : tie.Need-returns
 returns c =
     let called : tie.After-run-call = search in
-    let e = called .run-call .ensures in
+    let (reply, (memory, (state, (log, deepest)))) = called .run-call .ensures in
     let a = called .before .before .before .before .before .before .before .before .before .args in
-    let memory = e .1 .0 in
-    let state = e .1 .1 .0 in
     let resumes = call-resumes (now (a .memory)) (now (a .state)) (now (a .events)) (now (a .log)) (a .n) _ _ memory state in
     let carried = call-carried (now (a .memory)) (now (a .state)) (now (a .events)) (now (a .log)) (a .n) (now (a .deepest)) in
-    let figure = e .1 .1 .1 .1 ∙ carried in
-    (e .0, (memory, (state, (e .1 .1 .1 .0, (figure, resumes)))))
+    (reply, (memory, (state, (log, (deepest ∙ carried, resumes)))))
 
 pub xm23-run-spec : {M : Type 1} → statement M
 xm23-run-spec = tie.close (tie.spec (λ c κs. search needs) (λ c. search needs) (λ c. search needs) (λ c. search needs) returns)

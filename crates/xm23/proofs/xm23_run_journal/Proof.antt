@@ -11,22 +11,19 @@ use Rattle.xm23.proofs.xm23_run_journal.Tie as tie
 returns : tie.Need-returns
 returns c =
     let called : tie.After-run-journal-call = search in
-    let e = called .run-journal-call .ensures in
+    let (reply, (memory, (state, (log, (deepest, j))))) = called .run-journal-call .ensures in
     let a = called .before .before .before .before .before .before .before .before .before .before .before .before .before .args in
     let lent = journalOf (now (a .journal)) (now (a .kept)) (now (a .place)) in
-    let memory = e .1 .0 in
-    let state = e .1 .1 .0 in
-    let figure = e .1 .1 .1 .1 .0
+    let figure = deepest
     ∙ journal-carried (now (a .memory)) (now (a .state)) (now (a .events)) (now (a .log)) lent (a .n) (now (a .deepest)) in
-    let resumes = journal-resumes (now (a .memory)) (now (a .state)) (now (a .events)) (now (a .log)) lent (a .n) _ _ memory state in
-    let j = e .1 .1 .1 .1 .1 in (
-      e .0,
+    let resumes = journal-resumes (now (a .memory)) (now (a .state)) (now (a .events)) (now (a .log)) lent (a .n) _ _ memory state in (
+      reply,
       (
         memory,
         (
           state,
           (
-            e .1 .1 .1 .0,
+            log,
             (
               figure,
               (

@@ -54,6 +54,11 @@ static void open_bar(struct picture *d, unsigned row, uint32_t step)
     bars[d->open++].row = (uint8_t)row;
 }
 
+static void count_bar(struct picture *d, const struct bar *b, uint32_t past)
+{
+    d->busy[(b->row - ROW_DEVICES) % 8] += past - b->step;
+}
+
 /* The newest handler ends before a step: one column stays free, so that the next one's bar is another. */
 static void close_bar(struct picture *d, uint32_t step)
 {
@@ -63,6 +68,7 @@ static void close_bar(struct picture *d, uint32_t step)
         return;
     }
     d->open--;
+    count_bar(d, &bars[d->open], step);
     paint_columns(d, bars[d->open].row, column(d, bars[d->open].step), past ? past - 1 : 0);
 }
 
@@ -95,8 +101,10 @@ void draw_trace(struct picture *d, const uint8_t *trace, uint32_t records)
 /* Handlers that never returned end with the run. */
 void end_picture(struct picture *d)
 {
-    for (size_t i = 0; i < d->open; i++)
+    for (size_t i = 0; i < d->open; i++) {
+        count_bar(d, &bars[i], d->steps);
         paint_columns(d, bars[i].row, column(d, bars[i].step), COLUMNS);
+    }
 }
 
 /* ---- the picture */
@@ -203,6 +211,20 @@ static void add_walk_mark(struct text *t, const struct picture *d, uint32_t walk
 
 /* ---- in words */
 
+/* How long handlers were open: where many short ones are drawn as one bar, this tells them from a long one. */
+static void add_busy(struct text *t, const struct picture *d)
+{
+    unsigned many = 0;
+    for (unsigned lane = 8; lane-- > 0;)
+        if (d->busy[lane]) {
+            addf(t, "%s%llu at %s%u", many ? ", " : " Steps with a handler open: ", (unsigned long long)d->busy[lane],
+                many ? "" : "priority ", lane);
+            many++;
+        }
+    if (many)
+        addf(t, ".");
+}
+
 static void add_counts(struct text *t, const struct picture *d)
 {
     unsigned long devices = d->told[XM23_KIND_ACCEPT] + d->told[XM23_KIND_CHAIN];
@@ -216,6 +238,7 @@ static void add_counts(struct text *t, const struct picture *d)
     addf(t, "Open at the close: %lu.", (unsigned long)d->open);
     if (d->strays)
         addf(t, " Returns with no handler open: %lu.", d->strays);
+    add_busy(t, d);
 }
 
 static void add_key(struct text *t, const struct picture *d)

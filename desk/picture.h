@@ -21,6 +21,7 @@ struct picture {
     uint8_t rows[ROWS][COLUMNS];    /* 1 where something is drawn */
     unsigned long told[16], strays; /* records, by kind; pulls with no handler open */
     size_t open;                    /* handlers that are open */
+    uint64_t busy[8];               /* by priority: steps with a handler open, together */
 };
 
 void begin_picture(struct picture *d, const uint8_t *record, uint32_t steps);

@@ -74,7 +74,7 @@ def try_sitting():
     same("sitting: marks", marks(page), [("grid", 0, 0), ("grid", 250, 30), ("grid", 500, 60), ("grid", 750, 90),
                                          ("grid", COLUMNS, 120), ("walk", 0, 0)])
     words = "120 steps, 2 events due, 0 faults. Handlers entered: 2 of devices, 0 of SVC, 0 of faults. "
-    words += "Open at the close: 0."
+    words += "Open at the close: 0. Steps with a handler open: 24 at priority 3."
     same("sitting: words, for eyes and for readers", section(page).count(words), 2)
     head = '<svg id="run" role="img" aria-labelledby="run_title run_desc"'
     same("sitting: a picture with a name",

@@ -43,11 +43,17 @@ static void leave(void)
         others -= !open_ones[--many_open].own;
 }
 
-/* The next handler, in the frame of the one that returns. */
+/* The next handler, in the frame of the one that returns; in the application's own it is the outermost of others. */
 static void follow(unsigned device, unsigned sp)
 {
-    leave();
-    enter(device, 0, sp);
+    struct opened *o = many_open ? &open_ones[many_open - 1] : NULL;
+    if (!o || o->own) {
+        leave();
+        enter(device, 0, sp);
+    } else {
+        o->device = (uint8_t)device;
+        o->settled = 0;
+    }
 }
 
 /* How far one place lies below another, downwards; 0 where it does not. */

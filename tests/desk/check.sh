@@ -147,6 +147,11 @@ model+=" ORG \$2300\n ST R0,-SP\n LD SP+,R0\n MOV LR,PC\nEND\n"
 found 'handlers within handlers' '' "$nested" "$model"
 same 'each by itself' "$(held 1) $(held 2) $(held 3) $(held 4)" '2 0 6 2'
 same 'and together' "$(grep 'went down' out)" "handlers went down to SP \$07E0, 32 bytes below the application's; stack says 32"
+chained="${base}device 1 \$11\ndevice 2 \$11\nvector 1 \$20 \$2000\nvector 2 \$20 \$2100\nuse 1 0\nuse 2 4\n20 1 0\n21 2 0\n"
+found 'chained onto the outermost' '' "$chained" \
+    "${loop%END*} ORG \$2000\n ADD #0,R0\n ADD #0,R0\n MOV LR,PC\n ORG \$2100\n ST R0,-SP\n ST R0,-SP\n ADD #4,SP\n MOV LR,PC\nEND\n"
+like 'from the SP of the application' "$(grep 'went down' out)" '.*, 12 bytes below .*; stack says 12'
+same 'as the events say' "$("$xm23" events -c p.paper m.asm | tail -1)" '11,21,2,0,taken,no,chained,24'
 found 'SVC of the application is its own' '' "$base${two}vector 12 \$20 \$2100\nuse 1 4\n" \
     "$(sed 's/A BRA A/ SVC #12\\nA BRA A/; s/END/ ORG $2100\\n ST R0,-SP\\n ADD #2,SP\\n MOV LR,PC\\nEND/' <<< "$saves")"
 like 'it is not counted' "$(grep 'went down' out)" '.*, 12 bytes below .*'

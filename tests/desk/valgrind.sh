@@ -55,6 +55,20 @@ clean 'check with a folder' 1 check examples/sitting/handlers.paper examples/sit
 clean 'check with a refused model' 1 check "$paper" "$programs/refused.s19"
 clean 'stack' 0 stack "$paper"
 clean 'card' 0 card -o "$room/card.html"
+points=examples/sitting/handlers.paper
+mkdir "$room/folder" "$room/twice" "$room/none"
+cp "$programs/with_handlers/"* "$room/folder"
+cp "$programs/with_handlers/program.asm" "$room/twice/a.asm"
+cp "$programs/with_handlers/program.asm" "$room/twice/b.asm"
+ln -s program.asm "$room/none/x.asm"
+clean 'run of a folder' 0 run -l "$points" "$room/folder"
+clean 'run with too few points' 1 run -l "$points" "$programs/unsound.s19"
+clean 'report of a folder' 0 report -o "$room/report.html" "$points" "$room/folder"
+clean 'a byte that two files state' 1 report -o "$room/report.html" "$points" "$room/twice"
+clean 'a link in a folder' 3 run "$points" "$room/none"
+clean 'dis of a folder' 0 dis -o "$room/list" "$room/folder"
+clean 'paper with awards' 0 paper "$points"
+clean 'mark with awards' 1 mark -j 2 -o "$room/points" "$points" "$programs"/* "$room/twice" "$room/none"
 clean 'mark' 1 mark -j 2 -o "$room/marks" "$paper" "$programs"/* "$room/noise" no/such /
 clean 'mark again' 1 mark -L -j 2 -o "$room/marks" "$paper" "$programs"/* "$room/noise" no/such /
 count

@@ -88,12 +88,16 @@ void listen_to(void)
         abort();
 }
 
-/* What was said since: nothing, or one line that may be shown. */
-void end_listening(int lines)
+/* What was said since: nothing, or one line or more, at most so many, that may be shown. */
+void end_listening(int most)
 {
+    int lines = 0;
     fclose(stderr);
     stderr = heard;
-    must(lines ? said_length > 1 && said[said_length - 1] == '\n' && may_be_shown(said, said_length - 1, "")
-               : said_length == 0, "a message", said, said_length);
+    for (size_t i = 0; i < said_length; i++)
+        lines += said[i] == '\n';
+    must(most ? said_length > 1 && said[said_length - 1] == '\n' && may_be_shown(said, said_length, "\n")
+              : said_length == 0, "a message", said, said_length);
+    must((lines > 0) == (most > 0) && lines <= most, "its lines", said, said_length);
     free(said);
 }

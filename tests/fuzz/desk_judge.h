@@ -18,8 +18,8 @@ int may_be_shown(const char *text, size_t length, const char *kept);
 /* The bytes that such a text stands for. */
 void add_undone(struct text *t, const char *text, size_t length);
 
-/* Catches what is said on standard error; it must be nothing, or one line that may be shown. */
+/* Catches what is said on standard error; it must be nothing, or at most so many lines, each of which may be shown. */
 void listen_to(void);
-void end_listening(int lines);
+void end_listening(int most);
 
 #endif

@@ -130,7 +130,7 @@ int LLVMFuzzerTestOneInput(const uint8_t *data, size_t size)
     add_bytes(&t, data, size);
     listen_to();
     status = take_paper("a\npaper", t.at, t.length, &p);
-    end_listening(status != DONE);
+    end_listening(status == DONE ? 0 : 2); /* a source that is refused may have a hint */
     if (status != DONE)
         return 0;
     run_paper(&p);

@@ -101,7 +101,7 @@ int LLVMFuzzerTestOneInput(const uint8_t *data, size_t size)
         must((f.refusal || p.folder) && f.why.length, "a refusal", p.name, strlen(p.name));
         listen_to();
         say_fault(p.name, &f);
-        end_listening(1);
+        end_listening(f.hint[0] ? 2 : 1);
     } else {
         hold_loaded(&p, &a);
         if (p.folder)

@@ -9,6 +9,7 @@
 #define MOST_PAGE 400000  /* bytes */
 #define MOST_ROWS 512     /* of memory, of the listing and of the source */
 #define FEW_ROWS 32       /* on a page that is else too long */
+#define FEW_BYTES 64      /* of what an award wants or finds, on such a page */
 #define MOST_SHOWN 2048   /* bytes of screen text */
 
 /* The last part of a name; slashes behind it are none of it. */
@@ -269,7 +270,7 @@ static void add_heading(struct text *t, const struct sitting *s, const struct ro
 
 static void add_state(struct text *t, const struct sitting *s, const struct marked *m, unsigned most)
 {
-    add_awards_section(t, s->paper, m);
+    add_awards_section(t, s->paper, m, most < MOST_ROWS ? FEW_BYTES : MOST_SHOWN);
     addf(t, "<div class=\"beside\">\n<div>\n");
     add_fields(t, s->paper, m->row.line.at);
     addf(t, "</div>\n<div class=\"grow\">\n");

@@ -21,10 +21,11 @@ void add_page(struct text *t, const struct sitting *s, const struct marked *m);
 void add_sources(struct text *t, const struct program *p, unsigned most);
 void add_files(struct text *t, const struct paper *paper, const struct program *p);
 
-/* ---- page_award.c: the points in the heading; and of a program that ran, what was found for each award */
+/* ---- page_award.c: the points in the heading; and of a program that ran, what was found for each award, of a text as
+ * many bytes as there is room for */
 
 void add_points_line(struct text *t, const struct paper *p, const struct row *r);
-void add_awards_section(struct text *t, const struct paper *p, const struct marked *m);
+void add_awards_section(struct text *t, const struct paper *p, const struct marked *m, size_t most);
 
 /* The walk on a page: tables that are there without scripts, and the data with the script that walks through it. */
 void add_walk_words(struct text *t, const struct walk *w);

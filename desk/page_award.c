@@ -2,40 +2,42 @@
 #include "awarded.h"
 #include "page.h"
 
-static void add_cell(struct text *t, struct text *words, const char *classes)
+/* Of a long text the first bytes, so many. */
+static void add_cell(struct text *t, struct text *words, const char *classes, size_t most)
 {
+    size_t length = words->length < most ? words->length : most;
     addf(t, "<td class=\"%s\">", classes);
-    add_html(t, words->length ? words->at : "", words->length);
-    addf(t, "</td>");
+    add_html(t, length ? words->at : "", length);
+    addf(t, "%s</td>", length < words->length ? " .." : "");
     drop_text(words);
 }
 
 /* One that is not met is marked, and its points say so. */
-static void add_row(struct text *t, const struct awards *a, size_t i, const struct marked *m, const struct closing *c)
+static void add_row(struct text *t, const struct paper *p, size_t i, const struct marked *m, size_t most)
 {
+    const struct awards *a = &p->awards;
+    struct closing c = closing_of(&m->after, &m->o, m->verdict);
     struct text subject = {0}, wanted = {0}, found = {0};
     int met = m->row.met >> i & 1;
     add_subject(&subject, &a->list[i]);
     add_wanted(&wanted, &a->list[i]);
-    add_found(&found, &a->list[i], c, m->verdict);
+    add_found(&found, &a->list[i], &c, m->verdict);
     addf(t, "<tr%s><td class=\"nowrap\">%lu of %u</td>", met ? "" : " class=\"other\"", (unsigned long)points_of(a, i, m->row.met),
         a->list[i].points);
-    add_cell(t, &subject, "small");
-    add_cell(t, &wanted, "n any");
-    add_cell(t, &found, "n any");
+    add_cell(t, &subject, "small", most);
+    add_cell(t, &wanted, "n any", most);
+    add_cell(t, &found, "n any", most);
     addf(t, "</tr>\n");
 }
 
-void add_awards_section(struct text *t, const struct paper *p, const struct marked *m)
+void add_awards_section(struct text *t, const struct paper *p, const struct marked *m, size_t most)
 {
-    const struct awards *a = &p->awards;
-    struct closing c = closing_of(&m->after, &m->o, m->verdict);
-    if (!a->many)
+    if (!p->awards.many)
         return;
     addf(t, "<h2>Awards</h2>\n<div id=\"awards\">\n");
     open_table(t, "Points|For|Wanted|Found");
-    for (size_t i = 0; i < a->many; i++)
-        add_row(t, a, i, m, &c);
+    for (size_t i = 0; i < p->awards.many; i++)
+        add_row(t, p, i, m, most);
     close_table(t);
     addf(t, "</div>\n");
 }

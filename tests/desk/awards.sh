@@ -319,5 +319,7 @@ for program in with_handlers unsound.s19; do
         grep -Fx -f "$room/doc")" "$(cat "$room/doc")"
 done
 cd "$room" || exit 1
+same 'its digest, as the guide has it' "$(cells example program_sha256 | tail -1)" \
+    "$(cd "$programs/with_handlers" && LC_ALL=C sha256sum -z *.asm | sha256sum | cut -c -64)"
 same 'its points' "$(cells example total passed | paste -s -d ' ')" '2|no 0|no 6|no 12|no 6|no 20|yes'
 count

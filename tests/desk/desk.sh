@@ -54,7 +54,8 @@ expect 'run with three words' 2 '' "$(usage run)" "$xm23" run "$paper" "$sound" 
 expect 'no such paper' 3 '' 'no/paper: No such file.*' "$xm23" run no/paper "$sound"
 expect 'a folder as paper' 3 '' '/: is a folder' "$xm23" run / "$sound"
 expect 'no such program' 3 '' 'no/program: No such file.*' "$xm23" run "$paper" no/program
-expect 'a folder without a program' 3 '' '/: is a folder, and no file in it ends in .s19 or .asm' "$xm23" run "$paper" /
+expect 'a folder without a program' 3 '' '/: is a folder, and no file in it ends in .s19 or .asm' \
+    "$xm23" run "$paper" /
 expect 'an endless program' 3 '' '/dev/zero: is longer than 16777216 bytes' "$xm23" run "$paper" /dev/zero
 expect 'an endless paper' 3 '' '/dev/zero: is longer than 16777216 bytes' "$xm23" run /dev/zero "$sound"
 expect 'an empty program' 1 'R10' '/dev/null:1: R10: .*' "$xm23" run "$paper" /dev/null
@@ -257,7 +258,8 @@ same 'says so' "$(grep -c '>Refused: not the expected line<' "$room/report.html"
 same 'and has no walk' "$(grep -c 'id="walk"' "$room/report.html")" 0
 rm "$room/report.html"
 expect 'report of no program' 3 '' 'no/such: No such .*' "$xm23" report -o "$room/report.html" sum.paper no/such
-expect 'report of a folder without a program' 3 '' '/: is a folder, and .*' "$xm23" report -o "$room/report.html" sum.paper /
+expect 'report of a folder without a program' 3 '' '/: is a folder, and .*' \
+    "$xm23" report -o "$room/report.html" sum.paper /
 expect 'report of no paper' 3 '' 'no/such: No such .*' "$xm23" report -o "$room/report.html" no/such programs/sound.s19
 same 'then there is no page' "$(ls "$room" | grep report)" ''
 expect 'report to a full disk' 3 '' '/dev/full: cannot be written: .*' \
@@ -560,6 +562,10 @@ with open(room + "/worst.paper", "w") as file:
     for at in range(0x2000, 0xFF00, 256):
         file.write(f"bytes {at} {' '.join(str(dice.randrange(1, 256)) for _ in range(256))}\n")
 END
+{ cat "$room/worst.paper"; for i in {10..73}; do printf 'award 1 screen 2 != "%0250d%d"\n' 0 "$i" | tr 0 '<'; done; } \
+    > "$room/worst_awards.paper"
+expect 'and with awards' 0 '' '' "$xm23" mark -o "$room/worst_points" "$room/worst_awards.paper" "$room/worst.asm"
+same 'not too long either' "$(python3 -B tests/desk/pages.py "$room"/worst_points/pages/*.html)" 'all well-formed'
 expect 'the longest pages' 1 '' '' "$xm23" mark -o "$room/worst" "$room/worst.paper" "$room/worst.asm" "$long"
 same 'they are as long as they may be' "$(python3 -B tests/desk/pages.py "$room"/worst/pages/*.html)" 'all well-formed'
 

@@ -149,6 +149,7 @@ desk_page_seeds() {
     for file in "$out"/sources/*; do
         { printf '5\4<a>&\5"\xE2\x80\xAE\\'; cat "$file"; } > "$1/$(basename "$file")"
     done
+    { printf 'w\40\1=\1a'; printf 'A ADD #1,R0\nB BRA A\nC EQU #7\nEND\n'; } > "$1/step"
     { printf '2\1=\1a'; head -c 700 target/staticlib/libxm23.a; } > "$1/words"
 }
 

@@ -1,8 +1,8 @@
 /*
- * A target of libFuzzer: the page of a program. The string has a name, a title and a program, S-records of random words
- * or a source. Held: the page is HTML of few tags, each closed in its order, with texts that may be shown and no other
- * byte; its script and style are the desk's own, its data numbers and texts without a tag; the name as text and as a
- * cell gives its bytes back.
+ * A target of libFuzzer: the page of a program, or of one of its steps. The string has a name, a title and a program,
+ * S-records of random words or a source. Held: the page has 400,000 bytes at most; it is HTML of few tags, each closed
+ * in its order, with texts that may be shown and no other byte; its script and style are the desk's own, its data
+ * numbers and texts without a tag; the name as text and as a cell gives its bytes back.
  */
 #include <stdio.h>
 #include <stdlib.h>
@@ -43,11 +43,13 @@ static int text(struct page *p)
     return may_be_shown(from, (size_t)(p->at - from), "\n\t");
 }
 
-/* A tag's words: name="value", or a name alone. */
+#define LETTERS "abcdefghijklmnopqrstuvwxyz"
+
+/* A tag's words: name="value", or a name alone; 2 where the tag is closed at once, as those of a picture are. */
 static int attributes(struct page *p)
 {
     while (pass(p, " ")) {
-        p->at += strspn(p->at, "abcdefghijklmnopqrstuvwxyz-");
+        p->at += strspn(p->at, LETTERS "ABCDEFGHIJKLMNOPQRSTUVWXYZ0123456789-");
         if (pass(p, "=\"")) {
             size_t length = strcspn(p->at, "\"<>&\n\t");
             if (!may_be_shown(p->at, length, ""))
@@ -57,7 +59,7 @@ static int attributes(struct page *p)
                 return 0;
         }
     }
-    return pass(p, ">");
+    return pass(p, "/>") ? 2 : pass(p, ">");
 }
 
 static int is_void(const char *name)
@@ -86,19 +88,20 @@ static int tag(struct page *p)
 {
     char name[16] = {0};
     size_t length;
-    int closing = pass(p, "</"), data = starts(p, "<script type=\"application/json\" id=\"data\">");
+    int ended, closing = pass(p, "</"), data = starts(p, "<script type=\"application/json\" id=\"data\">");
     if (!closing && !pass(p, "<"))
         return 0;
-    length = strspn(p->at, "abcdefghijklmnopqrstuvwxyz123456789");
+    length = strspn(p->at, LETTERS "123456789");
     if (!length || length > 15)
         return 0;
     memcpy(name, p->at, length);
     p->at += length;
     if (closing)
         return p->depth > 0 && strcmp(p->open[--p->depth], name) == 0 && pass(p, ">");
-    if (!attributes(p) || p->depth == 32)
+    ended = attributes(p);
+    if (!ended || p->depth == 32)
         return 0;
-    if (!is_void(name))
+    if (!is_void(name) && ended == 1)
         memcpy(p->open[p->depth++], name, sizeof name);
     return inside(p, name, data);
 }
@@ -106,7 +109,7 @@ static int tag(struct page *p)
 static void hold_page(const struct text *t)
 {
     struct page p = {t->at, t->at + t->length, {{0}}, 0};
-    int good = pass(&p, "<!DOCTYPE html>");
+    int good = t->length <= 400000 && pass(&p, "<!DOCTYPE html>");
     while (good && p.at < p.end)
         good = *p.at == '<' ? tag(&p) : text(&p);
     must(good && p.depth == 0, "a page", p.at, (size_t)(p.end - p.at) < 200 ? (size_t)(p.end - p.at) : 200);
@@ -160,7 +163,7 @@ static void take(struct string *s, struct text *t, size_t most)
     }
 }
 
-static void add_paper(struct text *t, const struct text *title, unsigned kind)
+static void write_paper(struct text *t, const struct text *title, unsigned kind)
 {
     addf(t, "steps %u\nstart SP=$0800\ndevice 0 $11\ndevice 2 $10\n", kind & 2 ? 1500u : 90u);
     for (unsigned v = 0; v < 16; v++)
@@ -199,9 +202,11 @@ int LLVMFuzzerTestOneInput(const uint8_t *data, size_t size)
     struct sitting sitting = {0};
     struct text name = {0}, title = {0}, paper = {0}, program = {0}, path = {0}, page = {0};
     unsigned kind = next(&s);
+    sitting.asked = kind >> 6 & 1;
+    sitting.around = sitting.asked ? 6u * next(&s) : 0;
     take(&s, &name, 64);
     take(&s, &title, 64);
-    add_paper(&paper, &title, kind);
+    write_paper(&paper, &title, kind);
     add_program(&program, &s, kind);
     hold_name(name.at, name.length);
     must(take_paper("a\npaper", paper.at, paper.length, &p) == DONE, "the paper", title.at, title.length);

@@ -171,6 +171,9 @@ static void write_paper(struct text *t, const struct text *title, unsigned kind)
     addf(t, "5 0 1\n9 0 2\n70 0 3\ntitle ");
     add_bytes(t, title->at, title->length);
     addf(t, "\n%s", kind & 4 ? "expect 0 90 * * * * * * 0800 * * * * 1\n" : kind & 8 ? "expect R11\n" : "");
+    if (kind & 16)
+        addf(t, "award 3 sound\naward 2 R0 >= 2\naward 1 screen 2 = \"<&\\x22\\x00\"\naward 1 bytes $1000 != 1 2\n"
+                "pass 4\n");
 }
 
 /* A source as it is; else words from $1000 on, which show and store something by and by. */

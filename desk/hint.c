@@ -21,14 +21,37 @@ static int unknown(struct text *t, const char *source, size_t length, const char
     return 1;
 }
 
-/* One that a line below gives, where it is needed above: with a number in its place nothing is wrong. */
+/* A name that a line uses for a value. */
+static int is_use(const char *line, const struct span *w)
+{
+    return !is_marked(line, w) && is_name(line, w) && is_used(line, w);
+}
+
+/* Whether names are what is wrong with the line: with a number for each that it uses nothing is. */
+static int by_names(const char *source, size_t length, uint32_t number, const char *line, size_t from)
+{
+    struct text with = {0};
+    struct span w = {from, 0};
+    size_t done = 0;
+    int fault;
+    while (next_run(line, w.at + w.length, &w))
+        if (is_use(line, &w)) {
+            add_bytes(&with, line + done, w.at - done);
+            addf(&with, "#0");
+            done = w.at + w.length;
+        }
+    addf(&with, "%s", line + done);
+    fault = at_fault_with(source, length, number, with.at, XM23_REFUSED_SOURCE_NAME);
+    drop_text(&with);
+    return !fault;
+}
+
+/* One that this line or one below gives, where it is needed above. */
 static int below(struct text *t, const char *source, size_t length, uint32_t number, const char *line,
                  const struct span *w)
 {
-    char tried[MOST_LINE + 1];
     uint32_t given = giving_line(source, length, 1, line + w->at, w->length);
-    if (given < number || !put_part(tried, line, w, "#0") ||
-        at_fault_with(source, length, number, tried, XM23_REFUSED_SOURCE_NAME))
+    if (given < number)
         return 0;
     add_column(t, w->at);
     addf(t, "'%.*s' is given on line %lu: ORG, EQU and BSS need it above", (int)w->length, line + w->at,
@@ -40,13 +63,16 @@ static int below(struct text *t, const char *source, size_t length, uint32_t num
 static int hint_uses(struct text *t, const char *source, size_t length, uint32_t number, const char *line, size_t from)
 {
     struct span w = {from, 0};
-    for (int late = 0; late < 2; late++, w.at = from, w.length = 0)
-        while (next_run(line, w.at + w.length, &w)) {
-            if (is_marked(line, &w) || !is_name(line, &w) || !is_used(line, &w))
-                continue;
-            if (late ? below(t, source, length, number, line, &w) : unknown(t, source, length, line, &w))
-                return 1;
-        }
+    while (next_run(line, w.at + w.length, &w))
+        if (is_use(line, &w) && unknown(t, source, length, line, &w))
+            return 1;
+    w.at = from;
+    w.length = 0;
+    if (!by_names(source, length, number, line, from))
+        return 0;
+    while (next_run(line, w.at + w.length, &w))
+        if (is_use(line, &w) && below(t, source, length, number, line, &w))
+            return 1;
     return 0;
 }
 

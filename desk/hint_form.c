@@ -68,10 +68,16 @@ static char before(const struct shown *s, const struct span *w)
 #define TEN "0123456789"
 #define SIXTEEN TEN "ABCDEF"
 
+/* A character in quotes, which no line has. */
+static int is_character(const struct shown *s, const struct span *w)
+{
+    return before(s, w) == '\'' && w->length == 1 && s->line[w->at + 1] == '\'';
+}
+
 /* The first word of a line that has small letters. */
 static int small_letters(struct text *t, struct shown *s, const struct span *w)
 {
-    if (s->small || (strchr(TEN, s->line[w->at]) && !is_marked(s->line, w)) ||
+    if (s->small || is_character(s, w) || (strchr(TEN, s->line[w->at]) && !is_marked(s->line, w)) ||
         memcmp(s->line + w->at, s->upper + w->at, w->length) == 0)
         return 0;
     s->small = 1;
@@ -101,7 +107,7 @@ static int underscore(struct text *t, struct shown *s, const struct span *w)
 
 static int character(struct text *t, struct shown *s, const struct span *w)
 {
-    if (before(s, w) != '\'' || w->length != 1 || s->line[w->at + 1] != '\'')
+    if (!is_character(s, w))
         return 0;
     add_column(t, w->at - 1);
     addf(t, "'%c' is written by its number, $%02X", s->line[w->at], (unsigned)s->line[w->at]);

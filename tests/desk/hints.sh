@@ -35,6 +35,7 @@ of_form "column 7: '#1F' is no number of base ten: \$1F is base sixteen" ' MOVL 
 of_form "column 7: '#0X1F' is no number of base ten: \$1F is base sixteen" ' MOVL #0X1F,R0'
 of_form "column 7: '\$1G' is no number of base sixteen" ' MOVL $1G,R0'
 of_form "column 7: 'A' is written by its number, \$41" " MOVL 'A',R0"
+of_form "column 7: 'a' is written by its number, \$61" " BYTE 'a'"
 of_form "column 5: '.L' is no suffix: .B is a byte, .W a word" ' ADD.L R0,R1'
 of_form "column 2: '=' stands in no line but in a comment" ' = #5'
 of_form "column 2: ':' stands in no line but in a comment" ' : ADD R0,R1'
@@ -127,6 +128,8 @@ hint "$name" 1 "column 6: no line gives the name 'R9'" ' ADD R9,R1'
 hint "$name" 3 "column 1: 'A' is given already, on line 1" 'A\nB\nA'
 hint "$name" 1 "column 6: 'A' is given on line 2: ORG, EQU and BSS need it above" ' ORG A\nA'
 hint "$name" 1 "column 8: 'A' is given on line 1: ORG, EQU and BSS need it above" 'A EQU (A+#1)'
+hint "$name" 1 "column 7: 'A' is given on line 3: ORG, EQU and BSS need it above" ' ORG (A+B)\nB\nA'
+hint "$name" 1 "column 8: 'B' is given on line 2: ORG, EQU and BSS need it above" 'A EQU (B+C)\nB\nC'
 hint "$name" 1025 "column 1: 'N1025' is the 1,025th name: a source gives at most 1,024" \
     "$(seq -f 'N%g' -s '\n' 1 1026)"
 hint "$name" 1025 "column 1: 'N1025' is the 1,025th name: a source gives at most 1,024" \
@@ -179,6 +182,10 @@ expect 'a value far down' 1 '' ".*:20001: $value.*:20001: column 7: BYTE takes -
     timeout 20 "$xm23" asm "$room/long.asm"
 { yes ' ADD R0,R1' | head -n 30000; echo ' BYTE #256'; echo ' END'; } > "$room/long.asm"
 expect 'a source that is not assembled again' 1 '' ".*:30001: $value" timeout 20 "$xm23" asm "$room/long.asm"
+names=$(seq -f 'L%g' 10 54)
+{ yes ' BSS #0' | head -n 25000; echo " ORG (${names//$'\n'/+})"; echo "$names"; echo ' END'; } > "$room/long.asm"
+expect 'many names that are late, far down' 1 '' ".*:25001: $name.*:25001: column 7: 'L10' is given on line 25002: .*" \
+    timeout 20 "$xm23" asm "$room/long.asm"
 
 # ---- wherever a source is refused
 printf ' RET\n END\n' > "$room/ret.asm"

@@ -4,7 +4,7 @@ _xm23() {
     COMPREPLY=()
     compopt -o filenames 2> /dev/null
     if [ "$COMP_CWORD" -eq 1 ]; then
-        mapfile -t COMPREPLY < <(compgen -W 'run mark report back events sound line asm dis paper check stack card --help --version' -- "$word")
+        mapfile -t COMPREPLY < <(compgen -W 'run mark report back events sound line copies asm dis paper check stack card --help --version' -- "$word")
         return
     fi
     case ${COMP_WORDS[1]} in
@@ -13,6 +13,7 @@ _xm23() {
         back) options='-a -n -w --help' ;;
         events) options='-c --help' ;;
         asm) options='-l -o -s --help' ;;
+        copies) options='-L -o --help' ;;
         report) options='-s -a -o --help' ;;
         dis | paper | card) options='-o --help' ;;
         sound | line | check | stack) options='--help' ;;

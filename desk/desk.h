@@ -21,6 +21,7 @@ int xm23_desk_back(int argc, char **argv);
 int xm23_desk_events(int argc, char **argv);
 int xm23_desk_sound(int argc, char **argv);
 int xm23_desk_line(int argc, char **argv);
+int xm23_desk_copies(int argc, char **argv);
 int xm23_desk_asm(int argc, char **argv);
 int xm23_desk_paper(int argc, char **argv);
 int xm23_desk_check(int argc, char **argv);

@@ -116,6 +116,23 @@ const struct subcommand subcommands[] = {
      "\n"
      "Status 1: it is no line of the sheet.\n",
      xm23_desk_line},
+    {"copies", "xm23 copies [-L] [-o PAGE] PAPER PROGRAM..", "find programs of a sitting that are alike",
+     "Compares each PROGRAM with every other and prints a line for each group with the same words, for each with the\n"
+     "same words but for registers, and for each pair that shares runs of 12 words and more: how many words, the\n"
+     "names, and where the longest run is. Words whose ignored bit is set, which the assembler leaves 0, come first,\n"
+     "where two programs have one and the word before or behind it alike. Words count at whatever address. These\n"
+     "count for nothing: words that PAPER lays, runs that PAPER has, runs that more than a quarter of the programs\n"
+     "have (more than 8, of many more than 64), runs of less than four different words. Programs are read as\n"
+     "'xm23 mark' reads them.\n"
+     "\n"
+     "What is alike may have an honest reason: a person decides.\n"
+     "\n"
+     "  -L        follow links\n"
+     "  -o PAGE   write a page of HTML too: groups, pairs, and of the first 24 pairs both listings side by side\n"
+     "\n"
+     "Status 0: nothing is alike. 1: something is, or PAPER has a mistake. 3: a program could not be compared, as a\n"
+     "message says, PAPER cannot be read, or PAGE cannot be written.\n",
+     xm23_desk_copies},
     {"asm", "xm23 asm [-l] [-o FILE] [-s START] SOURCE", "assemble a source to S-records, or to a listing",
      "Assembles SOURCE (docs/FORMATS.md has the language) and writes the bytes that it states as S-records. A source\n"
      "at fault is told as 'SOURCE:LINE: R17: ..', with a hint where one is found, and nothing is written.\n"

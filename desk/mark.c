@@ -5,6 +5,7 @@
 #include <string.h>
 #include <unistd.h>
 
+#include "alike.h"
 #include "desk.h"
 #include "way.h"
 #include "workers.h"
@@ -63,12 +64,16 @@ static int mark_into(const struct sitting *s, const char *folder)
 static int mark_paper(struct sitting *s, const char *name, const char *folder)
 {
     static struct paper p;
+    struct alike alike;
     int status = read_paper(name, &p);
     if (status != DONE)
         return status;
     s->paper = &p;
+    s->alike = &alike;
     s->shared = shared_folders(s->names, s->many);
+    open_alike(&alike, s->many);
     status = digest_paper(&p, s->paper_digest) ? mark_into(s, folder) : UNREADABLE;
+    drop_alike(&alike);
     drop_paper(&p);
     return status;
 }
@@ -120,9 +125,11 @@ static unsigned workers_of(const char *word)
 
 int xm23_desk_mark(int argc, char **argv)
 {
-    struct sitting s = {NULL, "", NULL, 0, processors(), REGULAR_FILE, 0, 0, 0, 0};
+    struct sitting s = {0};
     const char *folder = "marks";
     int option, listed = 0, status = DONE;
+    s.workers = processors();
+    s.kind = REGULAR_FILE;
     while ((option = getopt(argc, argv, "+:j:o:0Ls")) != -1) {
         if (option == 'j')
             s.workers = workers_of(optarg);

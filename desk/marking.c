@@ -4,6 +4,7 @@
 
 #include "awarded.h"
 #include "line.h"
+#include "prints.h"
 
 /* Of a long screen text the row has the first bytes, and how many there were. */
 static void put_screen(struct row *r, const struct text *screen)
@@ -80,6 +81,17 @@ static void walk_marked(const struct sitting *s, struct marked *m)
     gather_names(&m->names, s->paper, &m->program);
 }
 
+/* What is compared with other programs, where there are any. */
+static void put_prints(const struct sitting *s, struct marked *m)
+{
+    static struct assembled a;
+    static struct prints prints;
+    struct fault f = {0};
+    if (s->many > 1 && load_program(&m->program, &a, &f) && take_prints(&prints, s->paper, &a))
+        pack_prints(&m->row.prints, &prints);
+    drop_text(&f.why);
+}
+
 static void run_marked(const struct sitting *s, struct marked *m)
 {
     struct row *r = &m->row;
@@ -97,6 +109,7 @@ static void run_marked(const struct sitting *s, struct marked *m)
         walk_marked(s, m);
         put_verdict(s, m);
         put_awards(s->paper, m);
+        put_prints(s, m);
     } else {
         put_fault(r, &f);
         memcpy(m->hint, f.hint, sizeof m->hint);

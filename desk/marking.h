@@ -14,6 +14,7 @@ struct row {
     const char *name;
     struct text line, says, screen; /* line: empty where it could not be read; says: why it has no closing state */
     struct text handlers, application; /* whether they are sound and undisturbed; empty where it did not run */
+    struct text prints; /* of prints.h, as bytes; empty where it did not run, or is the only one */
     char digest[SHA256_TEXT];       /* of the program; empty where it could not be read */
     char page[SHA256_TEXT];         /* of its page, where mark has written it */
     uint32_t steps, deepest;
@@ -33,6 +34,7 @@ struct sitting {
     enum reading kind; /* of the programs */
     size_t shared;     /* folders that all names begin with */
     int sound; /* handlers are judged, whatever the paper */
+    struct alike *alike; /* of alike.h: what is found of copies, where it is looked for */
     int asked; /* pages are about the step of this count */
     uint32_t around;
 };

@@ -3,6 +3,7 @@
 #include <string.h>
 #include <unistd.h>
 
+#include "alike.h"
 #include "awarded.h"
 #include "desk.h"
 #include "page.h"
@@ -86,9 +87,27 @@ static void add_html_head(struct text *t, const struct award *a)
 
 /* ---- rows */
 
+/* Which programs one is alike, for a person to look at. */
+static void add_copies(struct text *t, const struct sitting *s, size_t i,
+                       void (*add)(struct text *, const char *, size_t))
+{
+    struct text says = {0};
+    add_bytes(&says, "", 0);
+    add_alike(&says, s->alike, s->names, i);
+    add(t, says.at, says.length);
+    drop_text(&says);
+}
+
+/* The prints of a row, where it has them. */
+static void compare_row(const struct sitting *s, size_t i, const struct row *r)
+{
+    static struct prints f;
+    if (r->prints.length && unpack_prints(r->prints.at, r->prints.length, &f))
+        take_alike(s->alike, i, &f);
+}
+
 static void add_csv_row(struct text *t, const struct sitting *s, size_t i, const struct row *r)
 {
-    (void)i;
     add_csv(t, r->name, strlen(r->name));
     addf(t, ",");
     add_csv(t, r->line.at, r->line.length);
@@ -106,6 +125,8 @@ static void add_csv_row(struct text *t, const struct sitting *s, size_t i, const
         add_sum_of(t, s, r);
         addf(t, ",%s", passed_word(s, r));
     }
+    addf(t, ",");
+    add_copies(t, s, i, add_csv);
     addf(t, "\n");
 }
 
@@ -158,6 +179,8 @@ static void add_html_row(struct text *t, const struct sitting *s, size_t i, cons
             "<td class=\"more\">%s</td><td class=\"n any more\">",
         (unsigned long)r->steps, (unsigned long)r->deepest, r->handlers.at, r->application.at);
     add_screen(t, &r->screen);
+    addf(t, "</td><td class=\"any name more\">");
+    add_copies(t, s, i, add_html);
     addf(t, "</td></tr>\n");
 }
 
@@ -196,7 +219,7 @@ static void add_index_heads(struct text *t, const struct awards *a)
         addf(t, "<th>Points<br>of %lu</th>%s", (unsigned long)most_of(a), a->pass_line ? "<th>Passed</th>" : "");
     for (size_t i = 0; i < a->many; i++)
         add_html_head(t, &a->list[i]);
-    add_heads(t, "Line, or refusal|Steps|Depth|Handlers|Application|Screen", " class=\"more\"");
+    add_heads(t, "Line, or refusal|Steps|Depth|Handlers|Application|Screen|Copies", " class=\"more\"");
     close_heads(t);
 }
 
@@ -295,7 +318,7 @@ static int write_csv(const struct sitting *s, const struct folder *f, const stru
     open_sheet(&x, f, "results.csv");
     addf(&x.t, "name,line,says,steps,depth,screen,agrees,program_sha256,paper_sha256,handlers,application");
     add_csv_heads(&x.t, &s->paper->awards);
-    addf(&x.t, "\n");
+    addf(&x.t, ",copies\n");
     put_rows(s, rows, &x, add_csv_row);
     return close_sheet(&x);
 }
@@ -344,8 +367,10 @@ static int tally_rows(const struct sitting *s, const struct folder *f, const str
         all->unmarked += r.problem == UNMARKED;
         all->passed += has_passed(s, &r) == 1;
         all->failed += has_passed(s, &r) == 0;
+        compare_row(s, i, &r);
         drop_row(&r);
     }
+    find_alike(s->alike);
     return DONE;
 }
 

@@ -3,12 +3,12 @@
 
 #include "marking.h"
 
-enum { TEXTS = 5 };
+enum { TEXTS = 6 };
 
 struct head {
     uint64_t number;
     uint64_t met;
-    uint64_t lengths[TEXTS]; /* of line, says, screen, handlers and application, which follow */
+    uint64_t lengths[TEXTS]; /* of line, says, screen, handlers, application and prints, which follow */
     uint32_t steps, deepest;
     int32_t agrees, problem;
     char digest[SHA256_TEXT], page[SHA256_TEXT];
@@ -21,11 +21,12 @@ void drop_row(struct row *r)
     drop_text(&r->screen);
     drop_text(&r->handlers);
     drop_text(&r->application);
+    drop_text(&r->prints);
 }
 
 void pack_row(struct text *t, size_t number, const struct row *r)
 {
-    const struct text *texts[TEXTS] = {&r->line, &r->says, &r->screen, &r->handlers, &r->application};
+    const struct text *texts[TEXTS] = {&r->line, &r->says, &r->screen, &r->handlers, &r->application, &r->prints};
     struct head h;
     memset(&h, 0, sizeof h);
     h.number = number;
@@ -52,7 +53,7 @@ static int is_digest(const char *digits)
 
 int unpack_row(const char *bytes, size_t length, size_t number, struct row *r)
 {
-    struct text *texts[TEXTS] = {&r->line, &r->says, &r->screen, &r->handlers, &r->application};
+    struct text *texts[TEXTS] = {&r->line, &r->says, &r->screen, &r->handlers, &r->application, &r->prints};
     struct head h;
     memset(r, 0, sizeof *r);
     if (length < sizeof h)

@@ -18,8 +18,8 @@ static int is_plain(unsigned place, uint16_t word)
     return memcmp(text, "WORD", 4) == 0;
 }
 
-/* The instruction without its ignored bit, or without an adjustment: the same one, where it moves nothing. */
-static uint64_t without(uint64_t instruction)
+/* The instruction without its ignored bit. */
+static uint64_t without_ignored(uint64_t instruction)
 {
     switch (XM23_FORMAT(instruction)) {
     case XM23_FORMAT_SWAP:
@@ -27,11 +27,26 @@ static uint64_t without(uint64_t instruction)
     case XM23_FORMAT_SWPB:
     case XM23_FORMAT_SXT:
         return instruction & ~XM23_PUT_FIELD(2, 0xFF);
+    default:
+        return instruction;
+    }
+}
+
+uint16_t plain_word(uint16_t word)
+{
+    uint64_t instruction = xm23_decode(word), plain = without_ignored(instruction);
+    return plain == instruction ? word : XM23_ENCODED(xm23_encode(plain));
+}
+
+/* The instruction without its ignored bit, or without an adjustment: the same one, where it moves nothing. */
+static uint64_t without(uint64_t instruction)
+{
+    switch (XM23_FORMAT(instruction)) {
     case XM23_FORMAT_LD:
     case XM23_FORMAT_ST:
         return instruction & ~(XM23_PUT_FIELD(1, 0xFF) | XM23_PUT_FIELD(2, 0xFF) | XM23_PUT_FIELD(3, 0xFF));
     default:
-        return instruction;
+        return without_ignored(instruction);
     }
 }
 

@@ -30,15 +30,10 @@ static void put_labels(struct names *n, size_t from, const uint8_t *set)
 static void add_source_names(struct names *n, const char *source, size_t length)
 {
     static struct assembled a;
-    struct fault f = {0};
     struct name *names;
-    size_t many, from = n->many;
-    if (!assemble_source(source, length, &a, &f)) {
-        drop_text(&f.why);
-        return;
-    }
-    many = source_names(source, length, &names);
+    size_t many = source_names(source, length, &names), from = n->many;
     if (many) {
+        find_stated(source, length, &a);
         n->each = (struct name *)room_for(n->each, (from + many) * sizeof *names);
         memcpy(n->each + from, names, many * sizeof *names);
         n->many += many;

@@ -113,8 +113,7 @@ size_t source_names(const char *source, size_t length, struct name **names)
 
 /* ---- a source assembled */
 
-/* The bytes that a source states, and the place of its first instruction, 0 where there is none. */
-static void find_stated(const char *source, size_t length, struct assembled *a)
+void find_stated(const char *source, size_t length, struct assembled *a)
 {
     struct places p = read_places(source, length);
     memset(a->set, 0, sizeof a->set);

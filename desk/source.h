@@ -9,8 +9,9 @@
 int is_source(const char *name);
 int assemble_source(const char *source, size_t length, struct assembled *a, struct fault *f);
 
-/* Of an accepted source: its names; which line states a byte; what a number, name or expression comes to, or the
- * refusal; a listing of its lines, or of so many at most, which then leaves out bytes on which a later line stands. */
+/* Of an accepted source: the bytes that it states; its names; which line states a byte; what a number, name or
+ * expression comes to, or the refusal; a listing of its lines, or of so many at most, which then leaves out bytes on
+ * which a later line stands. */
 struct name {
     const char *at; /* in the source */
     size_t length;
@@ -19,6 +20,7 @@ struct name {
     uint8_t kind; /* XM23_PLACE_EQU; of any other it is a label, the place of its line */
 };
 
+void find_stated(const char *source, size_t length, struct assembled *a); /* `set`, and the place where it starts */
 size_t source_names(const char *source, size_t length, struct name **names); /* how many, in the order of their lines */
 uint32_t line_stating(const char *source, size_t length, unsigned at); /* the last that states a byte; 0: none does */
 unsigned source_value(const char *source, size_t length, const char *value, uint16_t *word);

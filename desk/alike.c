@@ -207,10 +207,13 @@ static void add_hits(const struct alike *x, const struct seen **in, size_t many,
     for (size_t i = 0; i < many; i++)
         for (size_t k = i + 1; k < many && all->many < MOST_HITS; k++) {
             const struct seen *a = in[i], *b = in[k];
-            struct hit *h = &all->each[all->many];
+            struct hit *h;
             if (x->each[a->program].shape_many > 1 &&
                 x->each[a->program].shape_first == x->each[b->program].shape_first)
                 continue;
+            if (all->many % 4096 == 0)
+                all->each = (struct hit *)room_for(all->each, (all->many + 4096) * sizeof *all->each);
+            h = &all->each[all->many];
             h->a = a->program;
             h->b = b->program;
             h->at_a = a->at;
@@ -255,7 +258,6 @@ static void find_hits(struct alike *x, struct hits *all)
 {
     memset(all, 0, sizeof *all);
     all->of = UINT32_MAX;
-    all->each = (struct hit *)room_for(NULL, MOST_HITS * sizeof *all->each);
     all->spots = (struct spot *)room_for(NULL, x->filled * sizeof *all->spots);
     x->common = (uint64_t *)room_for(NULL, (x->filled / LEAST_COMMON + 1) * sizeof *x->common);
     for (size_t from = 0, to; from < x->filled; from = to) {
@@ -269,7 +271,8 @@ static void find_hits(struct alike *x, struct hits *all)
         else
             add_hits(x, in, programs, all);
     }
-    qsort(all->spots, all->many_spots, sizeof *all->spots, by_spot);
+    if (all->many_spots)
+        qsort(all->spots, all->many_spots, sizeof *all->spots, by_spot);
 }
 
 static int by_pair(const void *a, const void *b)
@@ -369,7 +372,8 @@ static void find_pairs(struct alike *x)
     free(x->table);
     x->table = NULL;
     x->filled = 0;
-    qsort(all.each, all.many, sizeof *all.each, by_pair);
+    if (all.many)
+        qsort(all.each, all.many, sizeof *all.each, by_pair);
     join_hits(x, &all);
     free(all.each);
     free(all.spots);

@@ -28,7 +28,7 @@ const struct subcommand subcommands[] = {
      "  results.csv      a row for each: name, line or refusal, what is wrong, steps, depth, screen text, agreement\n"
      "                   with the expected line, SHA-256 of program and paper, whether its handlers are sound and\n"
      "                   its application undisturbed; of a PAPER with awards the points of each, the total, and\n"
-     "                   whether it is enough to pass\n"
+     "                   whether it is enough to pass; which others it is alike, as 'xm23 copies' finds them\n"
      "  index.html       the same as a table, with a link to each page\n"
      "  pages/           a page for each program\n"
      "  SHA256SUMS       digests of all these files: sha256sum -c SHA256SUMS\n"

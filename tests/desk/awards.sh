@@ -29,7 +29,7 @@ heads() { # FOLDER: the columns behind those that every sitting has
 import csv, sys
 with open(sys.argv[1] + "/results.csv", newline="") as file:
     rows = list(csv.reader(file))
-print("\n".join(rows[0][rows[0].index("application") + 1:]))
+print("\n".join(rows[0][rows[0].index("application") + 1:-1]))
 assert all(len(row) == len(rows[0]) for row in rows), "a row has more cells than there are columns"
 END
 }

@@ -47,7 +47,7 @@ print("back", [plain(r["name"].removeprefix("'")) for r in rows] == names)
 print("columns", {len(r) for r in csv.reader(data.decode().splitlines())})
 print("quoted", sum(r["name"].startswith("'") for r in rows))
 END
-same 'names in cells' "$(cat "$room/cells")" $'rows 18\ncontrols []\nformulas []\nback True\ncolumns {11}\nquoted 9'
+same 'names in cells' "$(cat "$room/cells")" $'rows 18\ncontrols []\nformulas []\nback True\ncolumns {12}\nquoted 9'
 
 # ---- lines end in LF or CR LF; of the last one the LF may be missing, or both
 for end in '\n' '\r\n' '\r' ''; do

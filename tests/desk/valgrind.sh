@@ -69,6 +69,7 @@ clean 'a link in a folder' 3 run "$points" "$room/none"
 clean 'dis of a folder' 0 dis -o "$room/list" "$room/folder"
 clean 'paper with awards' 0 paper "$points"
 clean 'mark with awards' 1 mark -j 2 -o "$room/points" "$points" "$programs"/* "$room/twice" "$room/none"
+clean 'copies' 3 copies -o "$room/copies.html" "$paper" "$programs"/* "$programs/sound.s19" "$room/noise" no/such
 clean 'mark' 1 mark -j 2 -o "$room/marks" "$paper" "$programs"/* "$room/noise" no/such /
 clean 'mark again' 1 mark -L -j 2 -o "$room/marks" "$paper" "$programs"/* "$room/noise" no/such /
 count

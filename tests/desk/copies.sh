@@ -9,9 +9,13 @@ checked=${1:-}
 cd "$room"
 printf 'title A sitting\nsteps 50\nstart SP=$0800\n' > p.paper
 
-# code SEED LINES [OF]: so many lines of instructions, the same for the same seed.
+# code SEED LINES: so many lines of instructions, the same for the same seed; made once.
 code() {
-    python3 - "$@" << 'END'
+    [ -e "code $1 $2" ] || make_code "$@" > "code $1 $2"
+    cat "code $1 $2"
+}
+make_code() {
+    python3 -S -E - "$@" << 'END'
 import random, sys
 dice = random.Random(sys.argv[1])
 R = lambda: "R%d" % dice.randrange(5)
@@ -102,10 +106,10 @@ expect 'what eight have' 1 '(30 words shared: c[1-8].asm [^:]*: *)?.*8 programs 
 same 'each pair of them' "$(tell c[1-8].asm | grep -c '^30 words shared: ')" 28
 { code common 30; code 'own 9' 12; code 'own 1' 30; } | source_of c9.asm 1000
 like 'words of what many have are not counted' "$(tell c?.asm)" '.*[34][0-9] words shared: c1.asm .*, c9.asm .*'
-for i in $(seq 40); do
+for i in $(seq 12); do
     { code common 30; code "own $i" 11; code "$((i / 2))" 1; code common 30; } | source_of "n$i.asm" 1000
 done
-like 'what many have goes on by a word' "$(tell n*.asm)" '40 programs compared, nothing is alike.*'
+like 'what many have goes on by a word' "$(tell n*.asm)" '12 programs compared, nothing is alike.*'
 
 # ---- folders, what is not compared, misuse
 mkdir folder && cp alice.asm folder/program.asm

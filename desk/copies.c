@@ -29,6 +29,7 @@ static int compare_one(struct compared *c, size_t i)
     struct fault f = {0};
     struct text why = {0};
     int good = read_program(c->names[i], c->kind, c->shared, &p, &why);
+    c->taken = c->to && overwrites_program(c->to, &p);
     if (!good)
         say_at(c->names[i], 0, "is not compared: %s", why.at);
     else if (!(good = load_program(&p, &a, &f)))
@@ -133,16 +134,16 @@ static int found_any(const struct alike *x)
            next_group(x, 0, 1, 0) < x->many;
 }
 
-static int tell_copies(const struct compared *c, const char *to)
+static int tell_copies(const struct compared *c)
 {
     struct text lines = {0}, page = {0};
     int found = found_any(&c->alike), status = DONE;
     add_found(&lines, c);
     if (found)
         addf(&lines, "%s\n", A_PERSON);
-    if (to) {
+    if (c->to) {
         add_copies_page(&page, c);
-        status = write_file(to, &page);
+        status = write_file(c->to, &page);
     }
     if (status == DONE)
         status = write_file("-", &lines);
@@ -155,24 +156,26 @@ static int tell_copies(const struct compared *c, const char *to)
 
 /* ---- the command */
 
-static int overwrites_any(const char *to, const struct compared *c)
+/* Whether the page would take the place of what is read. Files in folders are known when these are read. */
+static int overwrites_any(const struct compared *c)
 {
-    for (size_t i = 0; to && i < c->many; i++)
-        if (overwrites(to, c->names[i]))
+    for (size_t i = 0; c->to && i < c->many; i++)
+        if (overwrites(c->to, c->names[i]))
             return 1;
-    return to && overwrites_paper(to, c->paper);
+    return c->to && overwrites_paper(c->to, c->paper);
 }
 
-static int compare_all(struct compared *c, const char *to)
+static int compare_all(struct compared *c)
 {
     int status = UNREADABLE;
     c->shared = shared_folders(c->names, c->many);
     open_alike(&c->alike, c->many);
-    if (!overwrites_any(to, c)) {
-        for (size_t i = 0; i < c->many; i++)
-            c->left += !compare_one(c, i);
+    c->taken = overwrites_any(c);
+    for (size_t i = 0; i < c->many && !c->taken; i++)
+        c->left += !compare_one(c, i);
+    if (!c->taken) {
         find_alike(&c->alike);
-        status = tell_copies(c, to);
+        status = tell_copies(c);
     }
     drop_alike(&c->alike);
     return status;
@@ -182,12 +185,11 @@ int xm23_desk_copies(int argc, char **argv)
 {
     static struct paper p;
     struct compared c = {0};
-    const char *to = NULL;
     int option, status;
     c.kind = REGULAR_FILE;
     while ((option = getopt(argc, argv, "+:Lo:")) != -1) {
         if (option == 'o')
-            to = optarg;
+            c.to = optarg;
         else if (option == 'L')
             c.kind = LINKED_FILE;
         else
@@ -201,7 +203,7 @@ int xm23_desk_copies(int argc, char **argv)
     c.paper = &p;
     c.names = argv + optind + 1;
     c.many = (size_t)(argc - optind - 1);
-    status = compare_all(&c, to);
+    status = compare_all(&c);
     drop_paper(&p);
     return status;
 }

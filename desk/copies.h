@@ -14,7 +14,9 @@ struct compared {
     char **names;
     size_t many, left; /* programs; those that could not be compared */
     enum reading kind;
-    size_t shared; /* folders that all names begin with */
+    size_t shared;  /* folders that all names begin with */
+    const char *to; /* where the page goes; NULL: there is none */
+    int taken;      /* a file that is read stands there, which has been told */
     struct alike alike;
 };
 

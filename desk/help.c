@@ -74,7 +74,7 @@ const struct subcommand subcommands[] = {
      "  -o PAGE   write there instead of to standard output\n"
      "\n"
      "Status 1: PROGRAM is refused, PAPER has a mistake, the run has no such STEP, another line was expected, or the\n"
-     "points are not enough to pass; but in the second and the third case the page is written.\n",
+     "points are not enough to pass. Of a mistake and of no such STEP there is no page.\n",
      xm23_desk_report},
     {"back", "xm23 back [-a STEP] [-n STEPS] [-w BYTE] PAPER PROGRAM",
      "go back from the close or from any step, as far as the step that wrote a byte",
@@ -143,7 +143,7 @@ const struct subcommand subcommands[] = {
      "            its first instruction)\n",
      xm23_desk_asm},
     {"dis", "xm23 dis [-o FILE] PROGRAM", "list a program, instruction by instruction",
-     "Prints a source of the bytes that PROGRAM, S-records or a source, names: a statement for each word, a lone byte\n"
+     "Prints a source of the bytes that PROGRAM, a file or a folder, names: a statement for each word, a lone byte\n"
      "as BYTE, with address and word in a comment; a word that the assembler has no notation for as WORD, with what\n"
      "the machine takes it for. The comment at END has the PC, as 'xm23 asm -s' takes it with a $ before it.\n"
      "\n"

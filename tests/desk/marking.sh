@@ -116,20 +116,25 @@ for signal in KILL SEGV PROF; do
 done
 
 # ---- a sitting that is stopped, or ended: what was there is as it was, and the same command does it all
-"$xm23" mark -o stopped "$paper" a.s19
-first=$(sum stopped)
+# stop SIGNAL: a marking over an earlier one gets a signal in its middle; one that was done before it came is begun again.
+stop() {
+    for _ in 1 2 3 4 5 6 7 8 9 10; do
+        "$xm23" mark -o stopped "$paper" a.s19
+        first=$(sum stopped)
+        under "$xm23" mark -j 2 -o stopped long.paper many/*
+        kill "-$1" "$pid" 2> /dev/null
+        ended
+        [ "$status" -eq 0 ] || break
+    done
+}
 for signal in TERM HUP; do
-    under "$xm23" mark -j 2 -o stopped long.paper many/*
-    kill "-$signal" "$pid"
-    ended
+    stop "$signal"
     same "stopped by $signal" "$status" "$((128 + $(kill -l "$signal")))"
     same 'says so' "$(cat err)" 'stopped: the marking was stopped; what was there is as it was'
     same 'is as it was' "$(sum stopped)" "$first"
     same 'with nothing beside it' "$(beside stopped)" ''
 done
-under "$xm23" mark -j 2 -o stopped long.paper many/*
-kill -KILL "$pid"
-ended
+stop KILL
 same 'ended in the middle' "$status $(sum stopped)" "137 $first"
 same 'leaves what was begun' "$(beside stopped | wc -l)" 1
 expect 'which hinders nobody' 0 '' '' "$xm23" mark -j 2 -o stopped long.paper many/*

@@ -84,9 +84,9 @@ same 'the same' "$(sum unheard)" "$(sum fresh)"
 sed 's/^steps.*/steps 1000000/; /^expect/d' "$paper" > long.paper
 mkdir many
 for i in $(seq -w 400); do cp "$sound" "many/$i.s19"; done
-# under WORD..: a marking of them that is at work, its pid in $pid.
+# under WORD..: a marking of them that is at work, its pid in $pid. It hears every signal, whatever began this script.
 under() {
-    (exec "$@" 2> err) &
+    (exec env --default-signal "$@" 2> err) &
     pid=$!
     while kill -0 "$pid" 2> /dev/null && [ "$(find . -path '*.new-*/pages/*' 2> /dev/null | wc -l)" -lt 5 ]; do
         sleep 0.01

@@ -39,15 +39,21 @@ static uint32_t eventful(const struct paper *p, const struct machine *before, ui
     return last;
 }
 
+static uint32_t least(uint32_t a, uint32_t b)
+{
+    return a < b ? a : b;
+}
+
 /*
  * Where a step from the closing state changes nothing, and no event is due any more, the machine that has come to that
- * state stays in it: so the first step that finds it so is between one that does not and one that does.
+ * state stays in it: so the first step that finds it so is between one that does not and one that does. Most programs
+ * come to it early: it is looked for by leaps that double, and by halves once one has passed it.
  */
 uint32_t idle_steps(const struct paper *p, const struct machine *before, const struct machine *after, uint32_t steps)
 {
     static struct machine low, middle;
     struct outcome o = {0};
-    uint32_t first = eventful(p, before, steps), last = steps;
+    uint32_t first = eventful(p, before, steps), last = steps, leap = 1024;
     if (!stays(after))
         return 0;
     memcpy(&low, before, sizeof low);
@@ -55,13 +61,15 @@ uint32_t idle_steps(const struct paper *p, const struct machine *before, const s
     if (alike(&low, after))
         return steps - first;
     while (last - first > 1) {
-        uint32_t half = (last - first) / 2;
+        uint32_t on = least((last - first) / 2, leap);
         memcpy(&middle, &low, sizeof middle);
-        run_machine(&middle, p, half, &o);
+        run_machine(&middle, p, on, &o);
         if (alike(&middle, after)) {
-            last = first + half;
+            last = first + on;
+            leap = steps;
         } else {
-            first += half;
+            first += on;
+            leap = least(2 * leap, steps);
             memcpy(&low, &middle, sizeof low);
         }
     }
@@ -69,11 +77,6 @@ uint32_t idle_steps(const struct paper *p, const struct machine *before, const s
 }
 
 /* ---- parts */
-
-static uint32_t least(uint32_t a, uint32_t b)
-{
-    return a < b ? a : b;
-}
 
 /* Of steps that change nothing the first one is shown, and more where there is room; a table of few has none. */
 struct part closing_part(uint32_t steps, uint32_t idle)

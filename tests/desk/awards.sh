@@ -16,14 +16,6 @@ gcc -std=c99 -pedantic -O2 -Wall -Wextra -Werror -Iinclude -fsanitize=undefined 
 like 'one comparison' "$("$room/awards")" '[1-9][0-9]+ passed, 0 failed'
 
 cd "$room" || exit 1
-cells() { # FOLDER COLUMN..: of each row
-    python3 - "$@" << 'END'
-import csv, sys
-with open(sys.argv[1] + "/results.csv", newline="") as file:
-    for row in csv.DictReader(file):
-        print("|".join(row[name] for name in sys.argv[2:]))
-END
-}
 heads() { # FOLDER: the columns behind those that every sitting has
     python3 - "$1" << 'END'
 import csv, sys

@@ -157,19 +157,14 @@ same 'the same files give the same bytes' "$("$xm23" copies -o again.html p.pape
 # ---- the column of a marking
 all='alice.asm bob.asm carol.asm dave.asm erin.asm frank.asm henry.asm broken.asm'
 "$xm23" mark -o marks p.paper $all
-cells() {
-    python3 -c 'import csv, sys
-for row in csv.DictReader(open("marks/results.csv")):
-    print(row["name"], row["copies"], sep=": ")'
-}
-same 'the column' "$(cells)" 'alice.asm: same as bob.asm
-bob.asm: same as alice.asm
-carol.asm: same but for registers as alice.asm and 1 more
-dave.asm: shares 26 words with alice.asm
-erin.asm: 1 ignored bit set alike: as frank.asm
-frank.asm: 1 ignored bit set alike: as erin.asm
-henry.asm: 
-broken.asm: '
+same 'the column' "$(cells marks name copies)" 'alice.asm|same as bob.asm
+bob.asm|same as alice.asm
+carol.asm|same but for registers as alice.asm and 1 more
+dave.asm|shares 26 words with alice.asm
+erin.asm|1 ignored bit set alike: as frank.asm
+frank.asm|1 ignored bit set alike: as erin.asm
+henry.asm|
+broken.asm|'
 same 'the head' "$(head -1 marks/results.csv | grep -c ',copies$')" 1
 same 'in the table' "$(grep -c 'shares 26 words with alice.asm' marks/index.html)" 1
 "$xm23" mark -j 1 -o again p.paper $all

@@ -14,14 +14,6 @@ source=$sitting/sources/sound.asm
 line='0 120 001F 0120 0000 0006 0000 FFFF 0800 1016 0003 00 00000000 1'
 cd "$room" || exit 1
 
-cells() { # FOLDER COLUMN..: of each row
-    python3 - "$@" << 'END'
-import csv, sys
-with open(sys.argv[1] + "/results.csv", newline="") as file:
-    for row in csv.DictReader(file):
-        print("|".join(row[name] for name in sys.argv[2:]))
-END
-}
 digest() { (cd "$1" && shift && sha256sum -z -- "$@" | sha256sum | cut -c -64); } # FOLDER FILE..
 folder() { rm -rf "$1" && mkdir -p "$1"; }
 part() { # FILE ADDRESS WORD..: a source of words

@@ -14,14 +14,6 @@ unsound=$sitting/programs/unsound.s19
 cd "$room" || exit 1
 
 sum() { (cd "$1" && find . -type f -exec cksum {} + | sort -k 3 | cksum); }
-cells() { # FOLDER COLUMN..: of each row
-    python3 - "$@" << 'END'
-import csv, sys
-with open(sys.argv[1] + "/results.csv", newline="") as file:
-    for row in csv.DictReader(file):
-        print("|".join(row[name] for name in sys.argv[2:]))
-END
-}
 whole() { # FOLDER: every file is in SHA256SUMS, and as it says
     (cd "$1" && sha256sum --quiet --strict -c SHA256SUMS &&
         diff <(cut -c 67- SHA256SUMS) <(find . -type f ! -name SHA256SUMS -printf '%P\n' | LC_ALL=C sort) && echo whole)

@@ -252,14 +252,6 @@ expect 'an end that is full' 3 '' 'standard output: cannot be written: .*' \
     bash -c '"$0" sound clock.paper the_model.asm > /dev/full' "$xm23"
 
 # ---- a marking: two columns, and a section of each page
-cells() { # FOLDER COLUMN..: of each row
-    python3 - "$@" << 'END'
-import csv, sys
-with open(sys.argv[1] + "/results.csv", newline="") as file:
-    for row in csv.DictReader(file):
-        print("|".join(row[name] for name in sys.argv[2:]))
-END
-}
 cp R3_is_left.asm $'=R3,"is\nleft.asm'
 cp R3_is_left.asm '<b>&R3.asm'
 "$xm23" mark -o marks clock.paper "${names[@]}" $'=R3,"is\nleft.asm' '<b>&R3.asm' refused.s19 no/such 2> err

@@ -42,6 +42,16 @@ noise() {
     python3 -c 'import random, sys; sys.stdout.buffer.write(random.Random(23).randbytes(int(sys.argv[1])))' "$1"
 }
 
+# cells FOLDER COLUMN..: of each row of a marking's results.csv, a bar between two.
+cells() {
+    python3 - "$@" << 'END'
+import csv, sys
+with open(sys.argv[1] + "/results.csv", newline="") as file:
+    for row in csv.DictReader(file):
+        print("|".join(row[name] for name in sys.argv[2:]))
+END
+}
+
 count() {
     echo "$passed passed, $failed failed"
     [ "$failed" -eq 0 ]

@@ -145,7 +145,6 @@ same 'words that both have' "$(grep -c '^<b>| 1008 ' page.html)" "$(grep -c '^<b
 same 'a word with its ignored bit' "$(grep -c '4CD3  WORD \$4CD3 ; as SWAP R2,R3' page.html)" 2
 same 'a person decides' "$(grep -c 'a person decides' page.html)" 1
 expect 'a page over a program' 3 '' '.*alice.asm.*' "$xm23" copies -o alice.asm p.paper alice.asm bob.asm
-mkdir folder && cp alice.asm folder/program.asm
 expect 'a page over a file of a folder' 3 '' 'folder/program.asm: cannot be written: it is the file that is read' \
     "$xm23" copies -o folder/program.asm p.paper bob.asm folder
 same 'which is as it was' "$(cksum < folder/program.asm)" "$(cksum < alice.asm)"

@@ -1,3 +1,5 @@
+-- Three functions that call each other, measured by three times the brackets left: an expression, then its terms, then their factors,
+-- and only a bracket leads back, with one bracket less. Each loop keeps that the chain from here on is the whole chain.
 use mathlib.Core.Path.{_≡_, sym, ap, _∙_, subst}
 use Prim.Native.Nat.{ℕ, _+_, _-_, _*_, _<_}
 use native.Mathlib.Nat.{pos-of-ne-zero}

@@ -1,3 +1,5 @@
+-- The first byte decides as in `plainAt`: a letter begins a name, # and $ a number, any other byte nothing. Each way out rewrites the
+-- definition by the tests on the way, and what is left is the callee's equation.
 use mathlib.Core.Bool.{true, false}
 use mathlib.Core.Path.{sym, ap, _∙_}
 use Prim.Native.Nat.{_+_}

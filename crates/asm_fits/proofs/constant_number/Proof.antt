@@ -1,3 +1,5 @@
+-- The magnitude and the sign decide as in the definition: 0, the powers of two up to 32, and -1 have a field, any other number has
+-- none. Each way out is the law of its case over the magnitude.
 use native.Mathlib.Omega.{arith}
 use mathlib.Core.Path.{_∙_}
 use Rattle.asm_fits.proofs.Laws.{constant-minus, constant-less, constant-plus}

@@ -1,3 +1,5 @@
+-- The operands stand in a row, and each is read where the one before it ended: so do the definition's cases. The first that is missing
+-- makes the whole a misfit; where all are there, the places and values are those of the callees' equations.
 use mathlib.Core.Path.{sym, _∙_}
 use Rattle.asm_line.specs.Statement.{storeRelative}
 use borrow.Author.Needs.{needs}

@@ -1,3 +1,5 @@
+-- The byte after the register decides, + or - or any other, as in `changedAfter`: each way out rewrites the definition by the tests on
+-- the way.
 use mathlib.Core.Path.{sym, ap, _∙_}
 use native.Mathlib.Omega.{arith}
 use Rattle.asm_expr.proofs.Laws.{byte-is-in}

@@ -1,3 +1,5 @@
+-- The first byte decides, a sign before the register or none, as in `addressAt`: each way out rewrites the definition by the tests on the
+-- way, and what is left is the callee's equation.
 use mathlib.Core.Path.{sym, ap, _∙_}
 use Prim.Native.Nat.{_+_}
 use native.Mathlib.Omega.{arith}

@@ -1,3 +1,5 @@
+-- The bytes behind the word decide as in `widthAt`: no point, a letter too many, B, W, any other. Each way out rewrites the definition
+-- by the tests on the way.
 use mathlib.Core.Path.{sym, _∙_}
 use native.Mathlib.Omega.{arith}
 use Rattle.asm_expr.proofs.Laws.{byte-is-in}

@@ -1,3 +1,5 @@
+-- The loop keeps that the look-up in the rows from k on is the look-up in all rows: a row that is not the name's is passed over, the
+-- first that is decides, and behind the last row, or the last key or value, there is none.
 use mathlib.Core.Bool.{true, false, _&&_}
 use mathlib.Core.Path.{_≡_, refl, sym, ap, _∙_}
 use Prim.Native.Nat.{_-_, _≤_}

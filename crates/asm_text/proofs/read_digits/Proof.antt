@@ -1,3 +1,5 @@
+-- The loop keeps that the digits from here on, after what was read, say what all of them say, cut at 2^32, and end at the same place. A
+-- digit is one step of both; the first byte that is none ends them.
 use lib.ListN.{length, drop}
 use Prim.Native.Nat.{_-_, _<_, _≤_, _^_, _+_}
 use Rattle.asm_text.proofs.Laws.{sat, sat-numeral, digit-in, sat-more, sat-stop, digits-more, digits-stop}

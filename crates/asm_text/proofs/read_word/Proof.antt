@@ -1,3 +1,5 @@
+-- The loop keeps that the rest of the word, after the bytes read so far, has the spelling and the key of the whole word and ends at the
+-- same place. A letter or digit is one step of all three; the first byte that is none ends them.
 use mathlib.Core.Bool.{true, false}
 use mathlib.Core.Path.{_≡_, refl, sym, ap, _∙_}
 use Prim.Native.Nat.{_+_, _-_, _*_, _%_, _≤_, _^_, min}

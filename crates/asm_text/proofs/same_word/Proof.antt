@@ -1,3 +1,5 @@
+-- The loop keeps that the rests of both words are the same exactly if the words are. Two equal bytes are one step of that; two others, or
+-- the end of one word alone, decide.
 use mathlib.Core.Bool.{true, false, not}
 use mathlib.Core.Path.{_≡_, refl, sym, ap, _∙_}
 use Prim.Native.Nat.{_-_}

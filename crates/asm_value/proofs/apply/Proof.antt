@@ -1,3 +1,5 @@
+-- Sums, differences and products of 32-bit numbers fit 64 bits, so that the code's arithmetic is the definition's on whole numbers; the
+-- operator's byte decides which, and a divisor of zero is told before the division.
 use Rattle.asm_value.specs.Value.{fitted, applied}
 use mathlib.Core.Path.{sym, ap, _∙_}
 use borrow.Author.Tests.{eq-eqb, ne-eqb}

@@ -1,3 +1,5 @@
+-- The loop keeps that the letters from here on, after the flags read so far, give the flags of the whole word. A letter is one step of
+-- that, a letter that does not fit decides, and the word's end leaves the flags that were read, of which there must be one.
 use mathlib.Core.Bool.{true, false}
 use mathlib.Core.Path.{_≡_, refl, sym, ap, _∙_}
 use Prim.Native.Nat.{_+_, _-_, _<_}

@@ -1,3 +1,5 @@
+-- Two counts are to fit, and the first fault among them decides, as in `codedBoth`: each way out is one law over what the two counts
+-- came to; where both fit, the word is that of the instruction with them.
 use Rattle.asm_fits.proofs.Laws.{number-below}
 use Rattle.isa.specs.declared.Instr.the-variants as i
 use Rattle.asm_fits.specs.Fits.{countFit}

@@ -1,3 +1,5 @@
+-- An arm for each statement, in the order of `Statement`: the arm tells which it is, and there the definition computes.
+-- Instructions are all alike: two bytes.
 use Rattle.asm_write.specs.Written.{layoutOf}
 use mathlib.Core.Path.{sym, ap}
 use borrow.Author.Needs.{needs}

@@ -1,3 +1,5 @@
+-- An arm for each statement, in the order of `Statement`: the arm tells which it is, and there the definition is the arm's call, or the
+-- number 0 of a statement that has no bytes.
 use Rattle.asm_write.specs.Written.{numberOf}
 use mathlib.Core.Path.{sym, ap, _∙_}
 use borrow.Author.Needs.{needs}

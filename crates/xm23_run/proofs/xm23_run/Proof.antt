@@ -5,8 +5,8 @@ use denote.Ref.{now}
 use mathlib.Core.Path.{_∙_}
 use Rattle.resume.proofs.Deepest.{call-carried}
 use Rattle.resume.proofs.Resumption.{call-resumes}
-use Rattle.xm23.proofs.xm23_run.Statement.{statement}
-use Rattle.xm23.proofs.xm23_run.Tie as tie
+use Rattle.xm23_run.proofs.xm23_run.Statement.{statement}
+use Rattle.xm23_run.proofs.xm23_run.Tie as tie
 
 returns : tie.Need-returns
 returns c =

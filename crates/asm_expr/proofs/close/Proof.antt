@@ -8,17 +8,17 @@ use Rattle.asm_expr.proofs.close.Tie as tie
 
 add-t9 : tie.Need-add-t9
 add-t9 c =
-    let c2 = c .before .before in
-    let c7 = c2 .before .before .before .before .before in
-    let h = byte-is-in (c7 .args .s .now) (c2 .skip-blanks .result) 40 (sym (c .before .byte-at .ensures) ∙ c .if1 .taken) in omega arith
+    let at-start : tie.Start = search in
+    let skip-blanks = c .before .before .skip-blanks in
+    let h = byte-is-in (at-start .args .s .now) (skip-blanks .result) 40 (sym (c .before .byte-at .ensures) ∙ c .if1 .taken) in omega arith
 
 returns : tie.Need-returns
 returns c =
-    let c2 = c .before .before in
-    let c4 = c2 .before .before in
-    let c7 = c4 .before .before .before in
-    shut-yes (c7 .args .s .now) ((c4 .a .given .0) .0) ((c4 .a .given .0) .1 .0) (c2 .skip-blanks .result) (c .before .byte-at .result)
-    (c2 .skip-blanks .ensures) (c .before .byte-at .ensures) (c .if1 .taken) ∙ ap (shut (c7 .args .s .now)) (sym (c4 .a .given .1))
+    let at-start : tie.Start = search in
+    let skip-blanks = c .before .before .skip-blanks in
+    let a = c .before .before .before .before .a in
+    shut-yes (at-start .args .s .now) ((a .given .0) .0) ((a .given .0) .1 .0) (skip-blanks .result) (c .before .byte-at .result)
+    (skip-blanks .ensures) (c .before .byte-at .ensures) (c .if1 .taken) ∙ ap (shut (at-start .args .s .now)) (sym (a .given .1))
 
 returns-2 : tie.Need-returns-2
 unfolding shut
@@ -26,11 +26,11 @@ returns-2 c = rw (c .enum-told .given .1)
 
 returns-3 : tie.Need-returns-3
 returns-3 c =
-    let c2 = c .before .before in
-    let c4 = c2 .before .before in
-    let c7 = c4 .before .before .before in
-    shut-no (c7 .args .s .now) ((c4 .a .given .0) .0) ((c4 .a .given .0) .1 .0) (c2 .skip-blanks .result) (c .before .byte-at .result)
-    (c2 .skip-blanks .ensures) (c .before .byte-at .ensures) (c .if1 .left) ∙ ap (shut (c7 .args .s .now)) (sym (c4 .a .given .1))
+    let at-start : tie.Start = search in
+    let skip-blanks = c .before .before .skip-blanks in
+    let a = c .before .before .before .before .a in
+    shut-no (at-start .args .s .now) ((a .given .0) .0) ((a .given .0) .1 .0) (skip-blanks .result) (c .before .byte-at .result)
+    (skip-blanks .ensures) (c .before .byte-at .ensures) (c .if1 .left) ∙ ap (shut (at-start .args .s .now)) (sym (a .given .1))
 
 pub close-spec : {M : Type 1} → statement M
 close-spec =

@@ -10,27 +10,26 @@ use Rattle.asm_line.proofs.after_name.Tie as tie
 
 returns : tie.Need-returns
 returns c =
-    let c6 = c .before .before .before .before .before .before in
-    let a = c6 .args in
-    let s = a .line .now in
-    let f = lookUpAt (a .source .now) (a .places .now) (a .keys .now) (a .values .now) in
-    name-alone f s (a .name) (a .at) (sym (c .before .is-over .ensures) ∙ c .if1 .taken)
+    let start : tie.Start = search in
+    let s = start .args .line .now in
+    let f = lookUpAt (start .args .source .now) (start .args .places .now) (start .args .keys .now) (start .args .values .now) in
+    name-alone f s (start .args .name) (start .args .at) (sym (c .before .is-over .ensures) ∙ c .if1 .taken)
 
 returns-2 : tie.Need-returns-2
 returns-2 c =
-    let c2 = c .before .before in
-    let c3 = c2 .before in
-    let c4 = c3 .before in
-    let c5 = c4 .before in
-    let c10 = c5 .before .before .before .before .before in
-    let a = c10 .args in
+    let at-start : tie.Start = search in
+    let at-is-over : tie.After-is-over = search in
+    let find-word = c .before .before .find-word in
+    let read-word = c .before .before .before .read-word in
+    let if1 = c .before .before .before .before .if1 in
+    let a = at-start .args in
     let s = a .line .now in
     let f = lookUpAt (a .source .now) (a .places .now) (a .keys .now) (a .values .now) in
-    let e = c2 .find-word .ensures (drop (a .at) s) (c3 .read-word .ensures .1 .0) in
-    let x = statement-there f s true (a .at) (c2 .find-word .result) (c3 .read-word .result .next) (c .before .read-statement .result) e
-    (c3 .read-word .ensures .0) (c .before .read-statement .ensures) in
+    let e = find-word .ensures (drop (a .at) s) (read-word .ensures .1 .0) in
+    let x = statement-there f s true (a .at) (find-word .result) (read-word .result .next) (c .before .read-statement .result) e
+    (read-word .ensures .0) (c .before .read-statement .ensures) in
     c .end-line .ensures ∙ ap (ended s true (a .name)) x
-    ∙ name-statement f s (a .name) (a .at) (sym (c5 .is-over .ensures) ∙ c4 .if1 .left)
+    ∙ name-statement f s (a .name) (a .at) (sym (at-is-over .is-over .ensures) ∙ if1 .left)
 
 pub after-name-spec : {M : Type 1} → statement M
 after-name-spec =

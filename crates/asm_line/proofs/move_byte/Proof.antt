@@ -14,27 +14,27 @@ returns c = rw (sym (c .before .before .factor .ensures) ∙ c .enum-told .given
 returns-2 : tie.Need-returns-2
 unfolding moveByte valueAt
 returns-2 c =
-    let c2 = c .before .before in
-    let c4 = c2 .before .before in
-    let c6 = c4 .before .before in
+    let at-factor : tie.After-factor = search in
+    let comma-register = c .before .before .comma-register in
+    let a = c .before .before .before .before .a in
     rw (
-      sym (c6 .factor .ensures) ∙ c4 .a .given .1,
-      sym (c2 .comma-register .ensures) ∙ c .enum-told2 .given .1,
+      sym (at-factor .factor .ensures) ∙ a .given .1,
+      sym (comma-register .ensures) ∙ c .enum-told2 .given .1,
     )
 
 returns-3 : tie.Need-returns-3
 unfolding moveByte valueAt
 returns-3 c =
-    let c2 = c .before .before in
-    let c4 = c2 .before .before in
-    let c6 = c4 .before .before in
-    let c8 = c6 .before .before in
-    let c13 = c8 .before .before .before .before .before in
+    let at-start : tie.Start = search in
+    let at-factor : tie.After-factor = search in
+    let at-a : tie.After-a = search in
+    let d = c .before .before .d in
+    let comma-register = c .before .before .before .before .comma-register in
     rw (
-      sym (c8 .factor .ensures) ∙ c6 .a .given .1,
-      sym (c4 .comma-register .ensures) ∙ c2 .d .given .1,
+      sym (at-factor .factor .ensures) ∙ at-a .a .given .1,
+      sym (comma-register .ensures) ∙ d .given .1,
     )
-    (ap (λ x. Fits (MovImm (c13 .args .op) x (c6 .a .given .0 .0) (c2 .d .given .0 .0)) (c2 .d .given .0 .1 .0)) (c .is-number .ensures))
+    (ap (λ x. Fits (MovImm (at-start .args .op) x (at-a .a .given .0 .0) (d .given .0 .0)) (d .given .0 .1 .0)) (c .is-number .ensures))
 
 pub move-byte-spec : {M : Type 1} → statement M
 move-byte-spec =

@@ -8,25 +8,25 @@ use Rattle.asm_line.proofs.read_equate.Tie as tie
 
 returns : tie.Need-returns
 unfolding equate
-returns c = let a = c .before .before .before .before .before .args in rw (not-true (a .named) (c .if1 .taken))
+returns c = let at-start : tie.Start = search in rw (not-true (at-start .args .named) (c .if1 .taken))
 
 returns-2 : tie.Need-returns-2
 unfolding equate valueAt
 returns-2 c =
+    let at-start : tie.Start = search in
     let test = c .before .before .before in
-    let a = test .before .before .before .before .before .args in
     rw (
-      not-false (a .named) (test .if1 .left),
+      not-false (at-start .args .named) (test .if1 .left),
       sym (c .before .before .factor .ensures) ∙ c .enum-told .given .1,
     )
 
 returns-3 : tie.Need-returns-3
 unfolding equate valueAt
 returns-3 c =
+    let at-start : tie.Start = search in
     let test = c .before .before .before .before in
-    let a = test .before .before .before .before .before .args in
     rw (
-      not-false (a .named) (test .if1 .left),
+      not-false (at-start .args .named) (test .if1 .left),
       sym (c .before .before .before .factor .ensures) ∙ c .before .a .given .1,
     )
 

@@ -15,50 +15,50 @@ returns c = sym (ap (changedAfter (c .before .before .before .args .line .now)) 
 
 add-t8 : tie.Need-add-t8
 add-t8 c =
-    let c2 = c .before .before in
-    let c7 = c2 .before .before .before .before .before in
-    let h = byte-is-in (c7 .args .line .now) (c2 .skip-blanks .result) 42 (sym (c .before .byte-at .ensures) ∙ c .if1 .taken) in
+    let at-start : tie.Start = search in
+    let skip-blanks = c .before .before .skip-blanks in
+    let h = byte-is-in (at-start .args .line .now) (skip-blanks .result) 42 (sym (c .before .byte-at .ensures) ∙ c .if1 .taken) in
     omega arith
 
 returns-2 : tie.Need-returns-2
 returns-2 c =
-    let c2 = c .before .before in
-    let c4 = c2 .before .before in
-    let c7 = c4 .before .before .before in
-    let s = c7 .args .line .now in
-    let g = c4 .found .given in
-    changed-plus s (g .0 .1 .0) (c2 .skip-blanks .result) (c .before .byte-at .result) (c2 .skip-blanks .ensures)
+    let at-start : tie.Start = search in
+    let skip-blanks = c .before .before .skip-blanks in
+    let found = c .before .before .before .before .found in
+    let s = at-start .args .line .now in
+    let g = found .given in
+    changed-plus s (g .0 .1 .0) (skip-blanks .result) (c .before .byte-at .result) (skip-blanks .ensures)
     (c .before .byte-at .ensures) (g .0 .0) (c .if1 .taken) ∙ sym (ap (changedAfter s) (g .1))
 
 add-t9 : tie.Need-add-t9
 add-t9 c =
-    let c2 = c .before .before in
-    let c3 = c2 .before in
-    let c8 = c3 .before .before .before .before .before in
-    let h = byte-is-in (c8 .args .line .now) (c3 .skip-blanks .result) 44 (sym (c2 .byte-at .ensures) ∙ c .if2 .taken) in
+    let at-start : tie.Start = search in
+    let byte-at = c .before .before .byte-at in
+    let skip-blanks = c .before .before .before .skip-blanks in
+    let h = byte-is-in (at-start .args .line .now) (skip-blanks .result) 44 (sym (byte-at .ensures) ∙ c .if2 .taken) in
     omega arith
 
 returns-3 : tie.Need-returns-3
 returns-3 c =
-    let c2 = c .before .before in
-    let c3 = c2 .before in
-    let c5 = c3 .before .before in
-    let c8 = c5 .before .before .before in
-    let s = c8 .args .line .now in
-    let g = c5 .found .given in
-    changed-minus s (g .0 .1 .0) (c3 .skip-blanks .result) (c2 .byte-at .result) (c3 .skip-blanks .ensures) (c2 .byte-at .ensures)
+    let at-start : tie.Start = search in
+    let at-found : tie.After-found = search in
+    let byte-at = c .before .before .byte-at in
+    let skip-blanks = c .before .before .before .skip-blanks in
+    let s = at-start .args .line .now in
+    let g = at-found .found .given in
+    changed-minus s (g .0 .1 .0) (skip-blanks .result) (byte-at .result) (skip-blanks .ensures) (byte-at .ensures)
     (g .0 .0) (c .before .if1 .left) (c .if2 .taken)
     ∙ sym (ap (changedAfter s) (g .1))
 
 returns-4 : tie.Need-returns-4
 returns-4 c =
-    let c2 = c .before .before in
-    let c3 = c2 .before in
-    let c5 = c3 .before .before in
-    let c8 = c5 .before .before .before in
-    let s = c8 .args .line .now in
-    let g = c5 .found .given in
-    unchanged s (g .0 .1 .0) (c3 .skip-blanks .result) (c2 .byte-at .result) (c3 .skip-blanks .ensures) (c2 .byte-at .ensures) (g .0 .0)
+    let at-start : tie.Start = search in
+    let at-found : tie.After-found = search in
+    let byte-at = c .before .before .byte-at in
+    let skip-blanks = c .before .before .before .skip-blanks in
+    let s = at-start .args .line .now in
+    let g = at-found .found .given in
+    unchanged s (g .0 .1 .0) (skip-blanks .result) (byte-at .result) (skip-blanks .ensures) (byte-at .ensures) (g .0 .0)
     (c .before .if1 .left) (c .if2 .left)
     ∙ sym (ap (changedAfter s) (g .1))
 

@@ -27,63 +27,60 @@ abbrev μ-loop : tie.MeasureT-loop
 
 returns : tie.Need-returns Inv-loop μ-loop
 returns c =
-    let c2 = c .before .before in
-    let c7 = c2 .before .before .before .before .before in
-    let a = c7 .args in
-    let k = c2 .loop .k in
-    sym (look-no-key (a .source .now) (a .places .now) (a .keys .now) (a .values .now) (word (drop (a .at) (a .s .now))) k
-    (omega arith) (omega arith))
-    ∙ c2 .loop .inv .1
+    let at-start : tie.Start Inv-loop μ-loop = search in
+    let loop = c .before .before .loop in
+    let k = loop .k in
+    sym (look-no-key (at-start .args .source .now) (at-start .args .places .now) (at-start .args .keys .now) (at-start .args .values .now)
+    (word (drop (at-start .args .at) (at-start .args .s .now))) k (omega arith) (omega arith))
+    ∙ loop .inv .1
 
 returns-2 : tie.Need-returns-2 Inv-loop μ-loop
 returns-2 c =
-    let c3 = c .before .before .before in
-    let c8 = c3 .before .before .before .before .before in
-    let a = c8 .args in
-    let k = c3 .loop .k in
-    sym (look-no-value (a .source .now) (a .places .now) (a .keys .now) (a .values .now) (word (drop (a .at) (a .s .now))) k
-    (omega arith) (omega arith) (omega arith))
-    ∙ c3 .loop .inv .1
+    let at-start : tie.Start Inv-loop μ-loop = search in
+    let loop = c .before .before .before .loop in
+    let k = loop .k in
+    sym (look-no-value (at-start .args .source .now) (at-start .args .places .now) (at-start .args .keys .now) (at-start .args .values .now)
+    (word (drop (at-start .args .at) (at-start .args .s .now))) k (omega arith) (omega arith) (omega arith))
+    ∙ loop .inv .1
 
 returns-3 : tie.Need-returns-3 Inv-loop μ-loop
 returns-3 c =
-    let c2 = c .before .before in
-    let c8 = c2 .before .before .before .before .before .before in
-    let c13 = c8 .before .before .before .before .before in
-    let a = c13 .args in
-    let k = c8 .loop .k in
+    let at-start : tie.Start Inv-loop μ-loop = search in
+    let at-loop : tie.At-loop Inv-loop μ-loop = search in
+    let is-name = c .before .before .is-name in
+    let a = at-start .args in
+    let k = at-loop .loop .k in
     let n = word (drop (a .at) (a .s .now)) in
     let v = getD (a .values .now) k (pos 0) in
     let e : toZ w32 (ofZ w32 v) ≡ v = search needs in
     let h : eqb (getD (a .keys .now) k 0) (keyOf n) && same (word (drop (getD (a .places .now) k 0) (a .source .now))) n ≡ true =
-    ap (λ x. eqb (getD (a .keys .now) k 0) x && same (word (drop (getD (a .places .now) k 0) (a .source .now))) n) (sym (c13 .pre))
-    ∙ sym (c2 .is-name .ensures) ∙ c .before .if3 .taken in
+    ap (λ x. eqb (getD (a .keys .now) k 0) x && same (word (drop (getD (a .places .now) k 0) (a .source .now))) n) (sym (at-start .pre))
+    ∙ sym (is-name .ensures) ∙ c .before .if3 .taken in
     ap Known e
     ∙ sym (look-hit (a .source .now) (a .places .now) (a .keys .now) (a .values .now) n k (omega arith) (omega arith) (omega arith) h)
-    ∙ c8 .loop .inv .1
+    ∙ at-loop .loop .inv .1
 
 loop-again : tie.Need-loop-again Inv-loop μ-loop
 loop-again c =
-    let c7 = c .before .before .before .before .before .before .before in
-    let c12 = c7 .before .before .before .before .before in
-    let a = c12 .args in
-    let k = c7 .loop .k in
+    let at-start : tie.Start Inv-loop μ-loop = search in
+    let at-loop : tie.At-loop Inv-loop μ-loop = search in
+    let a = at-start .args in
+    let k = at-loop .loop .k in
     let n = word (drop (a .at) (a .s .now)) in
     let h : eqb (getD (a .keys .now) k 0) (keyOf n) && same (word (drop (getD (a .places .now) k 0) (a .source .now))) n ≡ false =
-    ap (λ x. eqb (getD (a .keys .now) k 0) x && same (word (drop (getD (a .places .now) k 0) (a .source .now))) n) (sym (c12 .pre))
+    ap (λ x. eqb (getD (a .keys .now) k 0) x && same (word (drop (getD (a .places .now) k 0) (a .source .now))) n) (sym (at-start .pre))
     ∙ sym (c .before .is-name .ensures) ∙ c .if3 .left in (
       omega arith,
       look-miss (a .source .now) (a .places .now) (a .keys .now) (a .values .now) n k (omega arith) (omega arith) (omega arith) h
-          ∙ c7 .loop .inv .1,
+          ∙ at-loop .loop .inv .1,
     )
 
 returns-4 : tie.Need-returns-4 Inv-loop μ-loop
 returns-4 c =
-    let c6 = c .before .before .before .before .before .before in
-    let a = c6 .args in
+    let at-start : tie.Start Inv-loop μ-loop = search in
     let k = c .before .loop .k in
-    sym (look-end (a .source .now) (a .places .now) (a .keys .now) (a .values .now) (word (drop (a .at) (a .s .now))) k (omega arith))
-    ∙ c .before .loop .inv .1
+    sym (look-end (at-start .args .source .now) (at-start .args .places .now) (at-start .args .keys .now) (at-start .args .values .now)
+    (word (drop (at-start .args .at) (at-start .args .s .now))) k (omega arith)) ∙ c .before .loop .inv .1
 
 pub look-up-spec : {M : Type 1} → statement M
 look-up-spec =

@@ -40,15 +40,15 @@ returns-4 c = register-at (c .before .before .before .before .args .p) 6 (rw (c 
 -- PC
 returns-5 : tie.Need-returns-5
 unfolding spelledIn registers spelled spelledFrom
-returns-5 c = let start = c .before .before .before .before .before in register-at (start .args .p) 7 (rw (c .if5 .taken))
+returns-5 c = let start : tie.Start = search in register-at (start .args .p) 7 (rw (c .if5 .taken))
 
 returns-6 : tie.Need-returns-6
 returns-6 c =
-    let c2 = c .before .before in
-    let c3 = c2 .before in
-    let c4 = c3 .before in
-    let p = c4 .before .args .p in
-    register-at p 8 (register-none p (c4 .if1 .left) (c3 .if2 .left) (c2 .if3 .left) (c .before .if4 .left) (c .if5 .left))
+    let if3 = c .before .before .if3 in
+    let if2 = c .before .before .before .if2 in
+    let at-if1 = c .before .before .before .before in
+    let p = at-if1 .before .args .p in
+    register-at p 8 (register-none p (at-if1 .if1 .left) (if2 .left) (if3 .left) (c .before .if4 .left) (c .if5 .left))
 
 pub register-number-spec : {M : Type 1} → statement M
 register-number-spec = tie.close (tie.spec sub-result cast-result returns returns-2 returns-3 returns-4 returns-5 returns-6)

@@ -1,8 +1,9 @@
 /* xm23 asm: a source to S-records, or to a listing. */
+#include <stdlib.h>
 #include <unistd.h>
 
 #include "desk.h"
-#include "source.h"
+#include "lone.h"
 
 /* The PC that is asked for; told where it is none. */
 static int put_start(const struct program *p, const char *start, struct assembled *a)
@@ -23,6 +24,20 @@ static void add_lines(struct text *t, const struct program *p, const struct asse
     drop_text(&lines);
 }
 
+/* Names that stand alone and that neither a line nor the start uses. */
+static void tell_lone(const struct program *p, const char *start)
+{
+    struct name *names;
+    size_t many = lone_names(p->files[0].bytes, p->files[0].length, start ? start : "", &names);
+    for (size_t i = 0; i < many; i++) {
+        struct text says = {0};
+        add_lone(&says, &names[i]);
+        say_at(p->name, names[i].line, "%s", says.at);
+        drop_text(&says);
+    }
+    free(names);
+}
+
 static int assemble_program(const struct program *p, const char *to, const char *start, int listing)
 {
     static struct assembled a;
@@ -32,6 +47,7 @@ static int assemble_program(const struct program *p, const char *to, const char 
     if (!assemble_source(p->files[0].bytes, p->files[0].length, &a, &f)) {
         say_fault(p->name, &f);
     } else if (put_start(p, start, &a)) {
+        tell_lone(p, start);
         if (listing)
             add_lines(&t, p, &a);
         else

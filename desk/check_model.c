@@ -1,10 +1,12 @@
 /* A paper beside a model, the setter's own solution: what its run tells, by the trace, the judge and its awards. */
+#include <stdlib.h>
 #include <string.h>
 
 #include "awarded.h"
 #include "check.h"
 #include "held.h"
 #include "line.h"
+#include "lone.h"
 
 /* ---- events */
 
@@ -105,6 +107,28 @@ static void check_bytes(struct check *c)
             find(c, p->name, line, "lays $%04X to $%04X over bytes of the model, %u of them with another value", at,
                  end - 1, others);
     }
+}
+
+/* ---- names of the model that stand alone and that nothing uses */
+
+static void check_names(struct check *c, const struct handed *h)
+{
+    struct name *names;
+    size_t many = lone_names(h->bytes, h->length, "", &names);
+    for (size_t i = 0; i < many; i++) {
+        struct text says = {0};
+        add_lone(&says, &names[i]);
+        find_text(c, h->path, names[i].line, &says);
+        drop_text(&says);
+    }
+    free(names);
+}
+
+static void check_sources(struct check *c)
+{
+    for (unsigned i = 0; i < c->model->many; i++)
+        if (is_source(c->model->files[i].name))
+            check_names(c, &c->model->files[i]);
 }
 
 /* ---- how it closes */
@@ -209,6 +233,7 @@ void check_model(struct check *c)
     award_run(c->paper, &c->before, &w);
     check_events(c);
     check_bytes(c);
+    check_sources(c);
     check_line(c, &w);
     check_awards(c, &w);
     check_handlers(c);

@@ -135,7 +135,8 @@ const struct subcommand subcommands[] = {
      xm23_desk_copies},
     {"asm", "xm23 asm [-l] [-o FILE] [-s START] SOURCE", "assemble a source to S-records, or to a listing",
      "Assembles SOURCE (docs/FORMATS.md has the language) and writes the bytes that it states as S-records. A source\n"
-     "at fault is told as 'SOURCE:LINE: R17: ..', with a hint where one is found, and nothing is written.\n"
+     "at fault is told as 'SOURCE:LINE: R17: ..', with a hint where one is found, and nothing is written. A name that\n"
+     "stands alone on its line and that nothing uses is told too: it may be an instruction that is misspelt.\n"
      "\n"
      "  -l        a listing instead: address, word, line number and line, as far as END, and where it starts\n"
      "  -o FILE   write there instead of to standard output\n"
@@ -165,9 +166,9 @@ const struct subcommand subcommands[] = {
      "\n"
      "With MODEL, a program, its run is looked at: events that come behind a halt, find ENA clear, are overruns, are\n"
      "lost or wait at the close, or ask for a handler with no vector; bytes of MODEL over which PAPER lays others;\n"
-     "a line that is not the expected one; points that it does not get; what 'sound' finds of its handlers; a handler\n"
-     "that holds more stack bytes than its 'use', or all together more than the figure of 'stack'. Below the findings\n"
-     "stand its line, its points and the stack bytes.\n"
+     "names in its sources that stand alone and that nothing uses; a line that is not the expected one; points that it\n"
+     "does not get; what 'sound' finds of its handlers; a handler that holds more stack bytes than its 'use', or all\n"
+     "together more than the figure of 'stack'. Below the findings stand its line, its points and the stack bytes.\n"
      "\n"
      "Status 0: nothing found. 1: something, or MODEL is refused, or PAPER has a mistake.\n",
      xm23_desk_check},

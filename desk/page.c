@@ -297,6 +297,8 @@ static void add_rows(struct text *t, const struct sitting *s, const struct marke
     addf(t, "<!DOCTYPE html>\n");
     add_heading(t, s, r);
     add_hint_of(t, m);
+    if (m->ran)
+        add_notes(t, &m->program);
     if (m->screen.length)
         add_screen(t, &m->screen);
     if (m->ran)

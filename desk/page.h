@@ -16,8 +16,10 @@ void close_table(struct text *t);
 void add_wide(struct text *t, const struct text *rows); /* not broken on a screen, which moves them sideways */
 void add_page(struct text *t, const struct sitting *s, const struct marked *m);
 
-/* ---- page_files.c: the sources as they were handed in, of so many lines in all; of a folder what it has */
+/* ---- page_files.c: names of accepted sources that stand alone and that nothing uses; the sources as they were handed
+ * in, of so many lines in all; of a folder what it has */
 
+void add_notes(struct text *t, const struct program *p);
 void add_sources(struct text *t, const struct program *p, unsigned most);
 void add_files(struct text *t, const struct paper *paper, const struct program *p);
 

@@ -1,10 +1,12 @@
 /* What was handed in, on a page: sources with places and words, and the files of a folder. */
+#include <stdlib.h>
 #include <string.h>
 
 #include "page.h"
-#include "source.h"
+#include "lone.h"
 
 #define MOST_SOURCE 65536 /* bytes of a source that is listed */
+#define MOST_LONE 8       /* names of a source that are told of as standing alone */
 
 static int is_listed(const struct handed *h)
 {
@@ -63,6 +65,34 @@ void add_sources(struct text *t, const struct program *p, unsigned most)
         most -= share < most ? share : most;
     }
     addf(t, "</div>\n");
+}
+
+/* Where a name stands alone that nothing uses, of a folder with the name of the file. */
+static void add_lone_names(struct text *t, const struct program *p, const struct handed *h)
+{
+    struct name *names;
+    size_t many = lone_names(h->bytes, h->length, "", &names);
+    for (size_t i = 0; i < many && i < MOST_LONE; i++) {
+        struct text says = {0};
+        add_lone(&says, &names[i]);
+        addf(t, "<p class=\"note\">");
+        if (p->folder)
+            add_name(t, h->name);
+        addf(t, "%sline %lu: ", p->folder ? ", " : "", (unsigned long)names[i].line);
+        add_html(t, says.at, says.length);
+        addf(t, "</p>\n");
+        drop_text(&says);
+    }
+    if (many > MOST_LONE)
+        addf(t, "<p class=\"note\">and %lu names more</p>\n", (unsigned long)(many - MOST_LONE));
+    free(names);
+}
+
+void add_notes(struct text *t, const struct program *p)
+{
+    for (unsigned i = 0; i < p->many; i++)
+        if (is_source(p->files[i].name))
+            add_lone_names(t, p, &p->files[i]);
 }
 
 /* Name, length and digest of each; which one has the PC, where the paper does not. */

@@ -392,7 +392,9 @@ same 'wrote it' "$(cat "$room/list")" "$(cat examples/copy_words.lst)"
 # A listing is a source of the same bytes: S-records of it are those of the program, with its start.
 listed_again() { # NAME PROGRAM S-RECORDS
     "$xm23" dis "$2" > "$room/trip.asm"
-    same "$1, listed and assembled" "$("$xm23" asm -s "\$$(tail -1 "$room/trip.asm" | sed 's/.*start //')" "$room/trip.asm")" \
+    # its labels stand alone, and nothing uses them: of that there are notes
+    same "$1, listed and assembled" \
+        "$("$xm23" asm -s "\$$(tail -1 "$room/trip.asm" | sed 's/.*start //')" "$room/trip.asm" 2> /dev/null)" \
         "$(cat "$3")"
 }
 for program in examples/copy_words.s19 "${sound%/*}"/*.s19; do

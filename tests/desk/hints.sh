@@ -51,7 +51,7 @@ of_form "$small; $(bare 4 1); $(bare 6 2); $(bare 8 3)" ' x 1 2 3 4 5'
 # ---- 003's other words, each with what it is written as, which assembles
 written() { # WORDS STATEMENT: also in small letters
     of_form "column 2: $1 is written $2" " $1"
-    same "$2 is a statement" "$(told " $2\nSUBR")" ''
+    same "$2 is a statement" "$(told " $2\nSUBR EQU #0")" ''
     same "$1 in small letters" "$(told " ${1,,}" | sed -n 's/.*comments; column/column/p')" "column 2: $1 is written $2"
     words=$((words + 1))
 }

@@ -7,10 +7,12 @@
     prove.py above NAME ..   proves nothing: which crates stand on these, and about how long these and all of them take
     prove.py seconds [LOG]   proves nothing: writes docs/seconds.txt, by which that is known, of what rt ci printed
 
-Nothing is printed where nothing was to be done. What rt printed is in build/log. The status is rt's. The gate is rt ci,
-which starts from nothing.
+Of a program or an archive nothing is printed where nothing was to be done; of crates one line says so. An archive is
+made anew where the contents of what it is made of are others, or its own, whatever the time of a file is. What rt
+printed is in build/log. The status is rt's. The gate is rt ci, which starts from nothing.
 """
 import glob
+import hashlib
 import os
 import re
 import shutil
@@ -87,13 +89,14 @@ def tell_above(names):
     about = lambda crates: clock(max(sum(took.get(name, 0) for name in crates) / cores, longest(crates, took)))
     print(f"{', '.join(names)}: about {about(names)} on {cores} cores ({SECONDS})")
     if follow:
-        print(f"{len(follow)} crates follow, about {about([*names, *follow])} in all ('make prove'):")
+        many = "1 crate follows" if len(follow) == 1 else f"{len(follow)} crates follow"
+        print(f"{many}, about {about([*names, *follow])} in all ('make prove'):")
         print(textwrap.fill(" ".join(follow), 110, initial_indent="    ", subsequent_indent="    "))
     else:
         print("no crate stands on it" if len(names) == 1 else "no crate stands on them")
     unknown = [name for name in [*names, *follow] if name not in took]
     if unknown:
-        print(f"not timed yet: {', '.join(unknown)}")
+        print(f"without {', '.join(unknown)}, of which {SECONDS} has no time yet")
     return 0
 
 
@@ -113,6 +116,45 @@ def parts_of(name):
     return [*JOINED.get(name, []), name]
 
 
+def digest_of(path):
+    with open(path, "rb") as file:
+        return hashlib.sha256(file.read()).hexdigest()
+
+
+def made_of(name):
+    """What an archive is made of, as one text: the kit, crates.txt, and every file of every crate below."""
+    kit = subprocess.run(["rt", "--version"], capture_output=True, text=True, check=True).stdout.strip()
+    paths = ["crates.txt"]
+    for crate in sorted(below(parts_of(name))):
+        paths += sorted(os.path.join(folder, file) for folder, _, files in os.walk(f"crates/{crate}") for file in files)
+    return "".join([f"{kit}\n", *(f"{digest_of(path)}  {path}\n" for path in paths)])
+
+
+def stamp_of(name):
+    return f"target/staticlib/lib{name}.made"
+
+
+def archives_of(name):
+    """Digests of the archive and of those that went into it."""
+    paths = [f"target/staticlib/lib{part}.a" for part in parts_of(name)]
+    return "".join(f"{digest_of(path)}  {path}\n" for path in paths if os.path.exists(path))
+
+
+def is_made(name):
+    """Whether an archive is what its stamp says, made of what is here now."""
+    if not os.path.exists(stamp_of(name)):
+        return False
+    with open(stamp_of(name), encoding="utf-8") as file:
+        return file.read() == made_of(name) + archives_of(name)
+
+
+def keep_made(name, before):
+    """The stamp of an archive that was made of this; none where that has changed meanwhile."""
+    if before == made_of(name):
+        with open(stamp_of(name), "w", encoding="utf-8") as file:
+            file.write(before + archives_of(name))
+
+
 def join(name):
     """Puts the objects of the archives that belong to it into an archive."""
     place = os.path.abspath("target/staticlib")
@@ -125,7 +167,7 @@ def join(name):
 
 def archive(progress, name):
     """The crates below an archive's side by side, then its own, by the one command that proves and writes each."""
-    parts = parts_of(name)
+    parts, before = parts_of(name), made_of(name)
     others = below(parts) - set(parts)
     status = progress.rt("check", *sorted(others)) if others else 0
     for part in parts:
@@ -137,6 +179,7 @@ def archive(progress, name):
             progress.crate(part, int(time.time() - began))
     if status == 0:
         join(name)
+        keep_made(name, before)
     return status
 
 
@@ -166,10 +209,20 @@ def main():
     if not shutil.which("rt"):
         print("prove.py: rt is not here: it is the command of the Rattle kit", file=sys.stderr)
         return 2
+    return prove(place, names, work)
+
+
+def prove(place, names, work):
+    """The status of work(progress), which proves these crates, or makes what is at a place of them."""
     path, wanted = f"build/log/prove_{'_'.join(names) or 'all'}.out", below(names or crates())
+    asked = time.time() - 0.1  # a file that is changed from now on is newer than what is found made
+    if place and place.endswith(".a") and is_made(names[-1]):
+        os.utime(place, (asked, asked))
+        return 0
     new = sum(not os.path.exists(f"target/stamp/{crate}") for crate in wanted)
     if new > 2:
-        print(f"proving {new} crates, which takes some minutes the first time; what rt prints: {path}", flush=True)
+        first = ", which takes some minutes the first time" if new == len(wanted) else ""
+        print(f"proving {new} crates{first}; what rt prints: {path}", flush=True)
     status, progress = watched(path, len(wanted), work)
     if place and status == 0:
         # Newer than every file that it was made from, so that make asks no more; unless one was changed meanwhile.
@@ -179,6 +232,9 @@ def main():
         print(f"prove.py: not all is proved; what rt printed: {path}", file=sys.stderr)
     elif new > 2:
         print(f"{progress.proved} crates proved in {clock(time.time() - progress.began)}")
+    elif not place and not progress.proved:
+        again = f" ('rt dev {names[0]}' proves its functions again)" if len(names) == 1 else ""
+        print(f"{', '.join(names) or 'every crate'}: proved already, nothing changed{again}")
     return status
 
 

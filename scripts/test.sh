@@ -162,6 +162,7 @@ part 'floors of the crates' count_line python3 -B scripts/floors.py --check
 part 'layout of proofs and code' count_status rt fmt --check
 part 'texts of the must-fail edits' count_line scripts/edits.py --texts
 part 'the gate itself' count_line tests/shell/gate.sh
+part 'what is proved again' count_line tests/shell/prove.sh
 # What an older run that was interrupted may have left: no file of Rattle lies outside the crates.
 rm -rf build/edits/.worker*
 # Every crate from nothing, every must-fail edit, every program: the verdict is rt's, and so is the count.

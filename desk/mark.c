@@ -13,7 +13,7 @@
 /* ---- the marking */
 
 /* Fills the new folder. DONE where it is whole. */
-static int fill_folder(const struct sitting *s, const struct folder *f, int *verdict)
+static int fill_folder(const struct sitting *s, const struct folder *f, int *verdict, struct text *counts)
 {
     struct rows rows;
     int problem = open_rows(&rows, f, s->many), status = UNREADABLE;
@@ -22,7 +22,7 @@ static int fill_folder(const struct sitting *s, const struct folder *f, int *ver
     else
         status = mark_all(s, f, &rows);
     if (status == DONE)
-        status = write_results(s, f, &rows, verdict);
+        status = write_results(s, f, &rows, verdict, counts);
     drop_rows(&rows);
     return status;
 }
@@ -36,24 +36,36 @@ static int end_stopped(const char *folder)
     return UNREADABLE;
 }
 
+/* On a terminal how many programs there were, and where the table is. */
+static void tell_counts(const char *folder, const struct text *counts)
+{
+    if (isatty(STDERR_FILENO))
+        say_at(folder, 0, "%s; the table is %s/index.html", counts->at, folder);
+}
+
 static int mark_into(const struct sitting *s, const char *folder)
 {
     struct folder f;
+    struct text counts = {0};
     int verdict = DONE, status;
     signal(SIGCHLD, SIG_DFL);
     notice_stop();
     status = open_folder(&f, folder);
     if (status != DONE)
         return status;
-    status = fill_folder(s, &f, &verdict);
+    status = fill_folder(s, &f, &verdict, &counts);
     if (status == DONE && count_pages(&f) != s->many) {
         say_at(folder, 0, "pages of the new marking are gone: somebody has removed them");
         status = UNREADABLE;
     }
     if (status == DONE && !stop_signal()) {
         status = place_folder(&f);
+        if (status == DONE)
+            tell_counts(folder, &counts);
+        drop_text(&counts);
         return status == DONE ? verdict : status;
     }
+    drop_text(&counts);
     leave_folder(&f);
     if (stop_signal())
         return end_stopped(folder);

@@ -187,7 +187,7 @@ static void add_html_row(struct text *t, const struct sitting *s, size_t i, cons
 static void add_counts(struct text *t, const struct sitting *s, const struct tally *all)
 {
     const struct paper *p = s->paper;
-    addf(t, "<p id=\"verdict\">%lu program%s", (unsigned long)s->many, s->many == 1 ? "" : "s");
+    addf(t, "%lu program%s", (unsigned long)s->many, s->many == 1 ? "" : "s");
     if (p->expected)
         addf(t, ": %lu as expected, %lu not", (unsigned long)all->agree, (unsigned long)all->differ);
     if (p->awards.pass_line)
@@ -196,7 +196,6 @@ static void add_counts(struct text *t, const struct sitting *s, const struct tal
     addf(t, "; %lu without a closing state", (unsigned long)all->without);
     if (all->unmarked)
         addf(t, "; %lu could not be marked", (unsigned long)all->unmarked);
-    addf(t, "</p>\n");
 }
 
 /* Those that are not as the paper wants them can be shown alone. */
@@ -232,7 +231,9 @@ static void add_index_head(struct text *t, const struct sitting *s, const struct
     addf(t, "<h1>");
     add_name(t, title);
     addf(t, "</h1>\n");
+    addf(t, "<p id=\"verdict\">");
     add_counts(t, s, all);
+    addf(t, "</p>\n");
     if (p->awards.pass_line)
         addf(t, "<p>%lu of %lu points are enough to pass.</p>\n", (unsigned long)p->awards.pass,
             (unsigned long)most_of(&p->awards));
@@ -352,6 +353,13 @@ static int write_sums(const struct sitting *s, const struct folder *f, const str
     return close_sheet(&x);
 }
 
+/* A name that leads to nothing is a slip of the person who types. */
+static void tell_missing(const struct row *r)
+{
+    if (!r->digest[0] && strcmp(r->says.at, strerror(ENOENT)) == 0)
+        say_at(r->name, 0, "%s", r->says.at);
+}
+
 static int tally_rows(const struct sitting *s, const struct folder *f, const struct rows *rows, struct tally *all)
 {
     for (size_t i = 0; i < s->many; i++) {
@@ -367,6 +375,7 @@ static int tally_rows(const struct sitting *s, const struct folder *f, const str
         all->unmarked += r.problem == UNMARKED;
         all->passed += has_passed(s, &r) == 1;
         all->failed += has_passed(s, &r) == 0;
+        tell_missing(&r);
         compare_row(s, i, &r);
         drop_row(&r);
     }
@@ -374,7 +383,8 @@ static int tally_rows(const struct sitting *s, const struct folder *f, const str
     return DONE;
 }
 
-int write_results(const struct sitting *s, const struct folder *f, const struct rows *rows, int *verdict)
+int write_results(const struct sitting *s, const struct folder *f, const struct rows *rows, int *verdict,
+                  struct text *counts)
 {
     struct tally all = {0};
     int status = tally_rows(s, f, rows, &all);
@@ -384,6 +394,7 @@ int write_results(const struct sitting *s, const struct folder *f, const struct 
         status = write_index(s, f, rows, &all);
     if (status == DONE)
         status = write_sums(s, f, rows);
+    add_counts(counts, s, &all);
     *verdict = all.unmarked ? UNREADABLE : all.differ || all.without || all.failed ? REFUSED : DONE;
     if (status == DONE && all.unmarked)
         say_at(f->name, 0, "%lu program%s could not be marked; the rows say why", (unsigned long)all.unmarked,

@@ -40,8 +40,9 @@ int stop_signal(void);
 void notice_stop(void);
 
 /* ---- results.c: results.csv, index.html and SHA256SUMS. DONE, or a status that has been told; `verdict` is that of
- * the programs. */
+ * the programs, and `counts` gets how many there are of each kind, in words. */
 
-int write_results(const struct sitting *s, const struct folder *f, const struct rows *r, int *verdict);
+int write_results(const struct sitting *s, const struct folder *f, const struct rows *r, int *verdict,
+                  struct text *counts);
 
 #endif

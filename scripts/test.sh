@@ -167,6 +167,8 @@ part 'what is proved again' count_line tests/shell/prove.sh
 rm -rf build/edits/.worker*
 # Every crate from nothing, every must-fail edit, every program: the verdict is rt's, and so is the count.
 part 'proofs, must-fail edits and programs' count_line scripts/progress.py rt ci
+# The library is made anew, whatever an older run has kept of it.
+rm -f target/staticlib/*.made
 part 'static library xm23' count_status scripts/prove.py archive xm23
 part 'what the tables show' count_line python3 -B scripts/tables_test.py
 part 'tables of the decoder' count_line python3 -B scripts/tables.py

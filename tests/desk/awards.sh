@@ -155,7 +155,7 @@ same 'run -l' "$("$xm23" run -l a.paper "$sound" | tail -7)" "$points"
 same 'on a terminal' "$(python3 -B "$top/tests/desk/terminal.py" "$xm23" run a.paper "$sound" | tr -d '\r' | tail -7)" \
     "$points"
 expect 'not enough' 1 '0 120 0019 .*' "a.paper:$at: 6 of 13 points, 12 to pass: not passed" \
-    "$xm23" run a.paper "$programs/unsound.s19"
+    "$xm23" run a.paper "$programs/stops_early.s19"
 same 'what was found' "$("$xm23" run -l a.paper "$programs/screen.asm" 2> /dev/null | tail -7)" \
     '     0 of 4     word $0120 = $001F: $0000
      0 of 2     R0 = $001F: $004D
@@ -173,16 +173,16 @@ expect 'a refused program' 1 'R11' ".*refused.s19:2: R11: .*a.paper:$at: 0 of 13
 same 'gets none' "$("$xm23" run -l a.paper "$programs/refused.s19" 2> /dev/null | tail -1)" \
     '  0 of 13 points, 12 to pass: not passed'
 grep -v '^pass' a.paper > b.paper
-expect 'who passes is not said' 0 '0 120 0019 .*' '' "$xm23" run b.paper "$programs/unsound.s19"
-same 'the points are' "$("$xm23" run -l b.paper "$programs/unsound.s19" | tail -1)" '  6 of 13 points'
+expect 'who passes is not said' 0 '0 120 0019 .*' '' "$xm23" run b.paper "$programs/stops_early.s19"
+same 'the points are' "$("$xm23" run -l b.paper "$programs/stops_early.s19" | tail -1)" '  6 of 13 points'
 { cat a.paper; echo "expect 0 120 0019 * * * * * * * * * * *"; } > both.paper
 expect 'both, of which one is not so' 1 "$line" "both.paper:$((at + 1)): another line was expected: .*" \
     "$xm23" run both.paper "$sound"
 expect 'and the other' 1 '0 120 0019 .*' "both.paper:$at: 6 of 13 points, 12 to pass: not passed" \
-    "$xm23" run both.paper "$programs/unsound.s19"
+    "$xm23" run both.paper "$programs/stops_early.s19"
 expect 'report' 0 '' '' "$xm23" report -o page.html a.paper "$sound"
 expect 'report of one with too few' 1 '' "a.paper:$at: 6 of 13 points, 12 to pass: not passed" \
-    "$xm23" report -o page.html a.paper "$programs/unsound.s19"
+    "$xm23" report -o page.html a.paper "$programs/stops_early.s19"
 same 'has a page' "$(grep -c '<p id="points">6 of 13 points, 12 to pass: not passed</p>' page.html)" 1
 
 # What each device shows is its own; memory, registers and relations at their ends.
@@ -212,13 +212,13 @@ like 'judged no further' "$("$xm23" run -l deep.paper empty.s19 2> /dev/null | t
     '     0 of 1     undisturbed: judged for its first [0-9]+ steps alone.  0 of 2 points'
 
 # ---- mark: cells, the table, pages, the status
-expect 'mark' 1 '' '' "$xm23" mark -o marks a.paper "$sound" "$programs/unsound.s19" "$programs/refused.s19" no/such
+expect 'mark' 1 '' 'no/such: No such file or directory' "$xm23" mark -o marks a.paper "$sound" "$programs/stops_early.s19" "$programs/refused.s19" no/such
 same 'its columns' "$(heads marks)" $'word $0120 = $001F\nR0 = $001F\nscreen 2 = "SUM"\nword $0130 >= $0002
 reason != 1\nsound\ntotal\npassed'
 same 'its cells' "$(cells marks 'word $0120 = $001F' 'R0 = $001F' 'screen 2 = "SUM"' sound total passed agrees)" \
     $'4|2|0|2|12|yes|\n0|0|0|2|6|no|\n0|0|0|0|0|no|\n0|0|0|0|0|no|'
 expect 'all have passed' 0 '' '' "$xm23" mark -o some a.paper "$sound" "$sound"
-expect 'nobody need' 0 '' '' "$xm23" mark -o some b.paper "$sound" "$programs/unsound.s19"
+expect 'nobody need' 0 '' '' "$xm23" mark -o some b.paper "$sound" "$programs/stops_early.s19"
 same 'and nothing is said of it' "$(cells some total passed)" $'12|\n6|'
 expect 'passed, and not as expected' 1 '' '' "$xm23" mark -o some both.paper "$sound"
 same 'has a cell each' "$(cells some agrees passed)" 'no|yes'
@@ -231,7 +231,7 @@ same 'a column for each' "$(grep -o '<th class="award">[^/]*' marks/index.html |
     "|word \$0120 = \$001F|of 4<|R0 = \$001F|of 2<|screen 2 = &#34;SUM&#34;|of 1<|word \$0130 &#62;= \$0002|of 3<\
 |reason != 1|of 1<|sound|of 2<"
 same 'those that have not can be shown' "$(grep -c 'only those that have not passed' marks/index.html)" 1
-"$xm23" mark -o some both.paper "$sound" "$programs/unsound.s19"
+"$xm23" mark -o some both.paper "$sound" "$programs/stops_early.s19"
 same 'of both' "$(counts some)" '2 programs: 1 as expected, 1 not; 1 passed, 1 not; 0 without a closing state'
 same 'who is neither' "$(grep -o 'data-agrees="[a-z]*"' some/index.html | tr '\n' ' ')" \
     'data-agrees="no" data-agrees="no" '
@@ -249,8 +249,8 @@ same 'what is found beside what is wanted' "$(awards_of marks/pages/000002-*)" \
 same 'of one that did not run nothing is found' "$(awards_of marks/pages/000003-*)" ''
 same 'but its points are told' "$(grep -c '0 of 13 points, 12 to pass: not passed' marks/pages/00000[34]-*)" \
     $'marks/pages/000003-refused.s19.html:1\nmarks/pages/000004-such.html:1'
-same 'report writes the same page' "$("$xm23" report a.paper "$programs/unsound.s19" 2> /dev/null | cksum)" \
-    "$(cksum < marks/pages/000002-unsound.s19.html)"
+same 'report writes the same page' "$("$xm23" report a.paper "$programs/stops_early.s19" 2> /dev/null | cksum)" \
+    "$(cksum < marks/pages/000002-stops_early.s19.html)"
 
 # What could not be marked has no points, and nobody says that it has not passed.
 if [ $# -eq 0 ]; then
@@ -304,7 +304,7 @@ expect 'the example' 1 '' '' "$xm23" mark -o "$room/example" handlers.paper prog
 # docs/SITTING.md: the lines of the paper, and what two commands print.
 awk '/^    award/,/^$/' "$top/docs/SITTING.md" | sed 's/^    //; /^$/d' > "$room/doc"
 same 'the awards of the guide' "$(cat "$room/doc")" "$(grep -E '^(award|pass)' handlers.paper)"
-for program in with_handlers unsound.s19; do
+for program in with_handlers stops_early.s19; do
     sed -n "/^    \$ xm23 run -l handlers.paper programs\/$program$/,/^$/p" "$top/docs/SITTING.md" |
         sed '1d; $d; s/^    //; /^\.\.$/d' > "$room/doc"
     same "what it prints of $program" "$("$xm23" run -l handlers.paper "programs/$program" 2> "$room/err" |

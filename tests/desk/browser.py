@@ -78,7 +78,7 @@ def state_back(program, many):
 
 
 def try_walk(browser, marks, room):
-    browser.open(os.path.join(marks, "pages/000005-unsound.s19.html"))
+    browser.open(os.path.join(marks, "pages/000005-stops_early.s19.html"))
     same("walk: it is there", browser.value("document.getElementById('walk').hidden"), False)
     same("walk: the close", browser.text("now"),
          "After step 119, at $1016: BRA $1016. It left: nothing but PC. The run ends here.")
@@ -86,13 +86,13 @@ def try_walk(browser, marks, room):
     browser.press("ArrowLeft")
     browser.press("ArrowLeft")
     same("walk: three back", (browser.value("document.getElementById('step').value"), registers(browser)),
-         ("116", state_back("programs/unsound.s19", 3)))
+         ("116", state_back("programs/stops_early.s19", 3)))
     for many in (20, 54, 75, 99):
         slide(browser, 120 - many)
-        same(f"walk: {many} back", registers(browser), state_back("programs/unsound.s19", many))
+        same(f"walk: {many} back", registers(browser), state_back("programs/stops_early.s19", many))
     browser.press("Home")
     same("walk: Home", browser.text("now"), "Before step 0, the first of these.")
-    same("walk: the start", registers(browser), state_back("programs/unsound.s19", 120))
+    same("walk: the start", registers(browser), state_back("programs/stops_early.s19", 120))
     browser.press("ArrowRight")
     same("walk: one forward", browser.text("now").split(".")[0], "After step 0, at $1000: MOVLZ $00,R1")
     browser.press("ArrowRight", shift=True)
@@ -141,7 +141,7 @@ def try_steps(browser, program):
 def try_picture(browser, marks):
     """The picture of the run is as wide as the page at every width, and its words are as large."""
     for scripts in (True, False):
-        browser.open(os.path.join(marks, "pages/000005-unsound.s19.html"), scripts=scripts)
+        browser.open(os.path.join(marks, "pages/000005-stops_early.s19.html"), scripts=scripts)
         browser.call("Emulation.setScriptExecutionDisabled", value=False)
         for width in (360, 1280, 1920):
             browser.size(width, 900)
@@ -164,7 +164,7 @@ def try_writer(browser):
     same("writer: found", browser.text("found"), "Step 46 wrote $0120: ST R0,R1.")
     same("writer: it is gone to", browser.value("document.getElementById('step').value"), "46")
     same("writer: the bytes", browser.value("document.querySelector('#memory .chosen').innerText"), "19")
-    told = run("back", "-w", "120", "sum.paper", "programs/unsound.s19").splitlines()
+    told = run("back", "-w", "120", "sum.paper", "programs/stops_early.s19").splitlines()
     same("writer: as xm23 back tells", told[-2].split()[0], "46")
     browser.click("#writer")
     same("writer: none before it", browser.text("found"), "No step before, back to step 0, wrote $0120.")
@@ -232,7 +232,7 @@ def try_folder(browser, marks):
 
 
 def try_without_scripts(browser, marks):
-    browser.open(os.path.join(marks, "pages/000005-unsound.s19.html"), scripts=False)
+    browser.open(os.path.join(marks, "pages/000005-stops_early.s19.html"), scripts=False)
     text = browser.call("DOM.getOuterHTML", nodeId=browser.call("DOM.getDocument")["root"]["nodeId"])["outerHTML"]
     browser.call("Emulation.setScriptExecutionDisabled", value=False)
     same("without scripts: no walk", 'id="walk" hidden' in text, True)
@@ -317,7 +317,7 @@ with tempfile.TemporaryDirectory() as room:
     try:
         try_index(browser, marks, room)
         try_walk(browser, marks, room)
-        try_steps(browser, "programs/unsound.s19")
+        try_steps(browser, "programs/stops_early.s19")
         try_writer(browser)
         fits(browser, "page")
         on_paper(browser, "page", room)

@@ -161,7 +161,7 @@ expect 'the sitting' 0 '.*nothing found' '' "$xm23" check "$sitting/sum.paper"
 expect 'its model' 1 '.*:19: the event at step 65 is an overrun .*1 thing to look at' '' \
     "$xm23" check "$sitting/sum.paper" "$sitting/programs/sound.s19"
 expect 'another model' 1 '.*:21: the model closes with another line: 0 120 0019 .*' '' \
-    "$xm23" check "$sitting/sum.paper" "$sitting/programs/unsound.s19"
+    "$xm23" check "$sitting/sum.paper" "$sitting/programs/stops_early.s19"
 expect 'a folder as model' 1 '.*overrun.*the model gets 20 of 20 points.*device 7: its .*1 thing to look at' '' \
     "$xm23" check "$sitting/handlers.paper" "$sitting/programs/with_handlers"
 { printf 'steps 1000000\nstart SP=$0800 LR=$FFFF\naward 1 reason = 0\ndevice 1 $11\ndevice 2 $11\n'

@@ -46,7 +46,7 @@ same 'a legend on a terminal' "$(python3 -B tests/desk/terminal.py "$xm23" run "
 same 'the screen' "$("$xm23" run -l "$paper" "${sound%/*}/screen.asm" 2> /dev/null | tail -1)" '  screen  SUM'
 expect 'no screen without -l' 1 '0 120 004D 0005 .*0 1' '.*another line.*' "$xm23" run "$paper" "${sound%/*}/screen.asm"
 expect 'another line' 1 '0 120 0019 .*' "$paper:21: another line was expected: $line" \
-    "$xm23" run "$paper" "${sound%/*}/unsound.s19"
+    "$xm23" run "$paper" "${sound%/*}/stops_early.s19"
 expect 'a refused program' 1 'R11' ".*refused.s19:2: R11: a line's checksum differs.*" \
     "$xm23" run "$paper" "${sound%/*}/refused.s19"
 expect 'a paper alone, taken for a program' 1 R10 "$paper:1: R10: .*" "$xm23" run "$paper"
@@ -186,7 +186,7 @@ started 1000 ' ORG $1000\n ADD R0,R1\n ORG $1000\n WORD #0\nEND'
 started 0002 'ORGAN BSS #2\n SVC #1\nEND'
 
 # ---- asm
-for name in halting sound unsound; do
+for name in halting sound stops_early; do
     same "asm $name" "$("$xm23" asm "${sound%/*/*}/sources/$name.asm")" "$(cat "${sound%/*}/$name.s19")"
 done
 same 'asm of copy_words' "$("$xm23" asm examples/copy_words.asm)" "$(cat examples/copy_words.s19)"
@@ -243,12 +243,12 @@ expect 'asm of random bytes' 1 '' "$room/noise.asm:[0-9]+: R17: .*" "$xm23" asm 
 
 # ---- report and back
 cd examples/sitting || exit 1
-"$xm23" mark -o "$room/two" sum.paper programs/sound.s19 programs/unsound.s19
+"$xm23" mark -o "$room/two" sum.paper programs/sound.s19 programs/stops_early.s19
 expect 'report' 0 '' '' "$xm23" report -o "$room/report.html" sum.paper programs/sound.s19
 same 'the page of mark' "$(cat "$room/report.html")" "$(cat "$room"/two/pages/*-sound*)"
 expect 'report of another line' 1 '' "sum.paper:21: another line was expected: $line" \
-    "$xm23" report -o "$room/report.html" sum.paper programs/unsound.s19
-same 'to standard output' "$("$xm23" report sum.paper programs/unsound.s19 2> /dev/null)" "$(cat "$room/report.html")"
+    "$xm23" report -o "$room/report.html" sum.paper programs/stops_early.s19
+same 'to standard output' "$("$xm23" report sum.paper programs/stops_early.s19 2> /dev/null)" "$(cat "$room/report.html")"
 same 'with its steps, as far as the closing ones' \
     "$(sed -n '/<h2>The last 32 steps before the closing ones</,/<\/table>/p' "$room/report.html" | grep '^<tr><td' |
         sed -n 's/<tr><td class="n">\([0-9]*\)<.*/\1/p' | tr '\n' ' ')" "$(seq -s ' ' 45 76) "
@@ -461,7 +461,7 @@ if [ $# -eq 0 ]; then
         make -s --no-print-directory -C "$top" run
     same 'marks the sitting' "$(cat "$top/build/sitting/results.csv")" "$(cat expected.csv)"
 fi
-marked() { printf 'programs/%s.s19\0' sound unsound | "$xm23" mark -o "$room/listed" -0 sum.paper; }
+marked() { printf 'programs/%s.s19\0' sound stops_early | "$xm23" mark -o "$room/listed" -0 sum.paper; }
 expect 'names from standard input' 1 '' '' marked
 same 'two rows' "$(wc -l < "$room/listed/results.csv")" 3
 cd "$top" || exit 1
@@ -510,7 +510,7 @@ noise 100000 > "$room/noise"
 long=$(printf 'x%.0s' $(seq 100000))
 expect 'a long name is a row' 1 '' '' "$xm23" mark -o "$room/long" "$paper" "$long"
 same 'with its name' "$(sed -n 's/^\(x*\),,File name too long.*/\1/p' "$room/long/results.csv" | wc -c)" 100001
-expect 'bad files are rows' 1 '' '' timeout 60 "$xm23" mark -o "$room/bad" "$paper" no/such / "$room/fifo" /dev/zero \
+expect 'bad files are rows' 1 '' 'no/such: No such file or directory.no\\x0Asuch: No such file or directory' timeout 60 "$xm23" mark -o "$room/bad" "$paper" no/such / "$room/fifo" /dev/zero \
     "$room/noise" "$room/empty" "$room/a b.s19" $'no\nsuch' "$room/a
 b.s19" "$room/\"quoted\", <b>&.s19" "$sound" "$sound"
 same 'twelve rows' "$(python3 -c 'import csv, sys
@@ -573,4 +573,9 @@ same 'they are as long as they may be' "$(python3 -B tests/desk/pages.py "$room"
 
 same 'a bar on a terminal' "$(python3 -B tests/desk/terminal.py "$xm23" mark -o "$room/bar" "$paper" "$sound" |
     tr '\r' '\n' | grep -c '\[########################################\] 1 of 1')" 1
+same 'what there was, and where the table is' \
+    "$(python3 -B tests/desk/terminal.py "$xm23" mark -o "$room/bar" "$paper" "$sound" no/such | tr -d '\r' | tail -2)" \
+    "no/such: No such file or directory
+$room/bar: 2 programs: 1 as expected, 1 not; 1 without a closing state; the table is $room/bar/index.html"
+expect 'not where there is no terminal' 0 '' '' "$xm23" mark -o "$room/bar" "$paper" "$sound"
 count

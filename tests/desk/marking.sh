@@ -10,7 +10,7 @@ tests=$(pwd -P)/tests/desk
 sitting=$(pwd -P)/examples/sitting
 paper=$sitting/sum.paper
 sound=$sitting/programs/sound.s19
-unsound=$sitting/programs/unsound.s19
+stops_early=$sitting/programs/stops_early.s19
 cd "$room" || exit 1
 
 sum() { (cd "$1" && find . -type f -exec cksum {} + | sort -k 3 | cksum); }
@@ -32,7 +32,7 @@ inode=$(stat -c %i one)
 expect 'mark again' 0 '' '' "$xm23" mark -o one/ "$paper" a.s19
 same 'the same bytes' "$(sum one)" "$first"
 same 'in a new folder' "$([ "$(stat -c %i one)" != "$inode" ] && echo yes)" yes
-cp "$unsound" a.s19
+cp "$stops_early" a.s19
 expect 'a program that is another' 1 '' '' "$xm23" mark -o one "$paper" a.s19
 same 'is another row' "$(cells one agrees program_sha256)" "no|$(digest a.s19)"
 cp "$sound" b.s19
@@ -58,7 +58,7 @@ same 'stays' "$(readlink linked) $(cells two agrees)" 'two yes'
 # ---- no page, and no mark, of an earlier program: a failing write, somebody else's child, a worker that is ended
 cp "$sound" a.s19
 "$xm23" mark -o stale "$paper" a.s19
-cp "$unsound" a.s19
+cp "$stops_early" a.s19
 ln -s /dev/full stale/pages/000001-a.s19.html.part
 listed() { bash -c 'exec "$0" mark -j 1 -o "$1" -0 "$2" < <(sleep 0.3; printf "a.s19\0")' "$xm23" "$1" "$paper"; }
 expect 'a stale page' 3 '' "stale: is there and is no marking: 'pages/000001-a.s19.html.part' is not in .*" listed stale
@@ -258,8 +258,8 @@ wait "$writer" 2> /dev/null
 # ---- and by a link in its folders nothing is reached, but for the folders that all names share
 mkdir -p sittings/setter sittings/cand/bob sittings/cand/carol/src
 cp "$sound" sittings/setter/prog.s19
-cp "$unsound" sittings/cand/bob/prog.s19
-cp "$unsound" sittings/cand/carol/src/prog.s19
+cp "$stops_early" sittings/cand/bob/prog.s19
+cp "$stops_early" sittings/cand/carol/src/prog.s19
 ln -s ../setter sittings/cand/alice
 ln -s sittings office
 here=$(pwd -P)

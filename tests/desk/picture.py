@@ -65,7 +65,7 @@ def try_exact(what, files, page, start="0000"):
 
 def try_sitting():
     os.chdir(sitting)
-    for name in ("sound.s19", "unsound.s19", "screen.asm", "halting.s19"):
+    for name in ("sound.s19", "stops_early.s19", "screen.asm", "halting.s19"):
         files = "sum.paper", f"programs/{name}"
         try_exact(name, files, run("report", *files))
     page = run("report", "sum.paper", "programs/sound.s19")

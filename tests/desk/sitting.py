@@ -1,8 +1,8 @@
 #!/usr/bin/env python3
 """Every command of docs/SITTING.md, in a copy of the example sitting, prints what stands below it: sitting.py XM23. A
 line of two dots stands for any lines, two dots behind a blank for the rest of a line; messages behind the output may be
-left out. What the guide calls mine.asm, clock.paper and twins.paper is written here. The last line is 'N passed, M
-failed'."""
+left out. What the guide calls mine.asm, yours.asm, clock.paper and twins.paper is written here. The last line is
+'N passed, M failed'."""
 import os
 import re
 import shutil
@@ -39,6 +39,8 @@ FILES = {
     "xm23 sound clock.paper mine.asm": {
         "clock.paper": CLOCK,
         "mine.asm": source(["ORG $1000"] + SUM, ["ORG $2000", "MOVLZ $07,R3", "MOV LR,PC"])},
+    "xm23 asm -o yours.s19 yours.asm": {
+        "yours.asm": source(["ORG $1000", "MOVLZ #3,R0", "ADD R0,R1", "HERE ADD #1,R1", "BNE HERE", "HALT"])},
     "xm23 asm mine.asm": {"mine.asm": source(["ORG $1000", "NEXT SUB #1,R0", "ADD R0,R1", "BNE NEXTT"])},
 }
 

@@ -77,7 +77,7 @@ expect 'run -n before the start' 1 '' "mine.asm: step 999 is before the start: $
 expect 'run -n of no step' 1 '' 'mine.asm: step 1: no step was taken' "$xm23" run -n 1 <(echo 'steps 0') mine.asm
 expect 'run -n 0 of no step' 0 '0 0 .*' '' "$xm23" run -n 0 <(echo 'steps 0') mine.asm
 sitting=$top/examples/sitting
-expect 'no line is expected there' 0 '0 46 0019 .*' '' "$xm23" run -n 46 "$sitting/sum.paper" "$sitting/programs/unsound.s19"
+expect 'no line is expected there' 0 '0 46 0019 .*' '' "$xm23" run -n 46 "$sitting/sum.paper" "$sitting/programs/stops_early.s19"
 expect 'nor behind the end' 1 '' '.*step 6 is beyond the end: the run has the steps 0 to 4' \
     "$xm23" run -n 6 "$sitting/sum.paper" "$sitting/programs/halting.s19"
 expect 'a halt, by its count' 0 '1 5 .*' '' "$xm23" run -n 5 "$sitting/sum.paper" "$sitting/programs/halting.s19"

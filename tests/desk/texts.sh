@@ -111,14 +111,14 @@ expect 'two of them' 1 '' "$room/e.paper:2: the expected line is on line 1 alrea
 # Marked by it: the model agrees, what cannot be read never does, a refusal does where it is expected.
 printf '%s\nexpect * * 001f * * * * * * * * * * * ; R0\n' "$unlined" > "$room/e.paper"
 expect 'marked by one field' 1 '' '' \
-    "$xm23" mark -o "$room/field" "$room/e.paper" "$sound" "${sound%/*}/unsound.s19" no/such
+    "$xm23" mark -o "$room/field" "$room/e.paper" "$sound" "${sound%/*}/stops_early.s19" no/such
 agreeing() { # FOLDER
     python3 -c 'import csv, sys
 print(*(row["agrees"] for row in csv.DictReader(open(sys.argv[1], newline=""))))' "$1/results.csv"
 }
 same 'one agrees' "$(agreeing "$room/field")" 'yes no no'
 same 'thirteen fields may be anything' "$(grep -c '<td class="n">any</td>' "$room"/field/pages/*-sound*)" 13
-same 'one may not' "$(grep -c 'not 001F' "$room"/field/pages/*-unsound*)" 1
+same 'one may not' "$(grep -c 'not 001F' "$room"/field/pages/*-stops_early*)" 1
 printf '%s\nexpect r11\n' "$unlined" > "$room/e.paper"
 expect 'marked by a refusal' 1 '' '' \
     "$xm23" mark -o "$room/refusal" "$room/e.paper" "${sound%/*}/refused.s19" "$sound" no/such

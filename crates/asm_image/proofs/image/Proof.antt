@@ -29,53 +29,48 @@ store-line-requires c κs = c .before .before .before .before .loop .inv .1
 
 same-length : tie.Need-same-length Inv-loop μ-loop
 same-length c =
-    let c3 = c .before .before .before in
-    let c8 = c3 .before .before .before .before .before in
-    let c13 = c8 .before .before .before .before .before in
-    c3 .store-line .kept .0 ∙ c8 .loop .inv .1 ∙ sym (c13 .pre)
+    let at-start : tie.Start Inv-loop μ-loop = search in
+    let at-loop : tie.At-loop Inv-loop μ-loop = search in
+    let store-line = c .before .before .before .store-line in
+    store-line .kept .0 ∙ at-loop .loop .inv .1 ∙ sym (at-start .pre)
 
 returns : tie.Need-returns Inv-loop μ-loop
 returns c =
-    let c3 = c .before .before .before in
-    let c6 = c3 .before .before .before in
-    let c8 = c6 .before .before in
-    let c13 = c8 .before .before .before .before .before in
-    let a = c13 .args in
-    let cut = c6 .line-at in
-    let stored = c3 .store-line in
-    store-end (lookUpAt (a .source .now) (a .places .now) (a .keys .now) (a .values .now)) (a .source .now) (c8 .loop .at)
-    (cut .result .stop) (cut .result .next) (c8 .loop .p) (c8 .loop .memory) (stored .last .0) (cut .ensures) (stored .ensures .0)
-    (stored .result .end) (stored .ensures .1 .1) (c .if1 .taken)
-    ∙ c8 .loop .inv .2
+    let at-start : tie.Start Inv-loop μ-loop = search in
+    let at-line-at : tie.After-line-at Inv-loop μ-loop = search in
+    let at-loop : tie.At-loop Inv-loop μ-loop = search in
+    let stored = c .before .before .before .store-line in
+    let cut = at-line-at .line-at in
+    store-end (lookUpAt (at-start .args .source .now) (at-start .args .places .now) (at-start .args .keys .now)
+    (at-start .args .values .now)) (at-start .args .source .now) (at-loop .loop .at) (cut .result .stop) (cut .result .next)
+    (at-loop .loop .p) (at-loop .loop .memory) (stored .last .0) (cut .ensures) (stored .ensures .0) (stored .result .end)
+    (stored .ensures .1 .1) (c .if1 .taken) ∙ at-loop .loop .inv .2
 
 loop-again : tie.Need-loop-again Inv-loop μ-loop
 loop-again c =
-    let c3 = c .before .before .before in
-    let c6 = c3 .before .before .before in
-    let c8 = c6 .before .before in
-    let c13 = c8 .before .before .before .before .before in
-    let a = c13 .args in
-    let cut = c6 .line-at in
-    let stored = c3 .store-line in (
+    let at-start : tie.Start Inv-loop μ-loop = search in
+    let at-line-at : tie.After-line-at Inv-loop μ-loop = search in
+    let at-loop : tie.At-loop Inv-loop μ-loop = search in
+    let stored = c .before .before .before .store-line in
+    let cut = at-line-at .line-at in (
       omega arith,
-      stored .kept .0 ∙ c8 .loop .inv .1,
-      store-more (lookUpAt (a .source .now) (a .places .now) (a .keys .now) (a .values .now)) (a .source .now) (c8 .loop .at)
-          (cut .result .stop) (cut .result .next) (c8 .loop .p) (c8 .loop .memory) (stored .last .0) (cut .ensures) (stored .ensures .0)
-          (stored .result .end) (stored .ensures .1 .1) (c .if1 .left) (stored .result .place) (stored .ensures .1 .0)
-          ∙ c8 .loop .inv .2,
+      stored .kept .0 ∙ at-loop .loop .inv .1,
+      store-more (lookUpAt (at-start .args .source .now) (at-start .args .places .now) (at-start .args .keys .now)
+          (at-start .args .values .now)) (at-start .args .source .now) (at-loop .loop .at) (cut .result .stop) (cut .result .next)
+          (at-loop .loop .p) (at-loop .loop .memory) (stored .last .0) (cut .ensures) (stored .ensures .0) (stored .result .end)
+          (stored .ensures .1 .1) (c .if1 .left) (stored .result .place) (stored .ensures .1 .0) ∙ at-loop .loop .inv .2,
     )
 
 same-length-2 : tie.Need-same-length-2 Inv-loop μ-loop
-same-length-2 c = c .before .loop .inv .1 ∙ sym (c .before .before .before .before .before .before .pre)
+same-length-2 c = let at-start : tie.Start Inv-loop μ-loop = search in c .before .loop .inv .1 ∙ sym (at-start .pre)
 
 returns-2 : tie.Need-returns-2 Inv-loop μ-loop
 returns-2 c =
-    let c1 = c .before in
-    let c6 = c1 .before .before .before .before .before in
-    let a = c6 .args in
-    image-last (lookUpAt (a .source .now) (a .places .now) (a .keys .now) (a .values .now)) (a .source .now) (c1 .loop .at)
-    (c1 .loop .p) (c1 .loop .memory) (omega arith)
-    ∙ c1 .loop .inv .2
+    let at-start : tie.Start Inv-loop μ-loop = search in
+    let loop = c .before .loop in
+    image-last (lookUpAt (at-start .args .source .now) (at-start .args .places .now) (at-start .args .keys .now)
+    (at-start .args .values .now)) (at-start .args .source .now) (loop .at) (loop .p) (loop .memory) (omega arith)
+    ∙ loop .inv .2
 
 pub image-spec : {M : Type 1} → statement M
 image-spec =

@@ -12,10 +12,9 @@ enum-told c = search needs
 
 returns : tie.Need-returns
 returns c =
-    let c2 = c .before .before in
-    let c8 = c2 .before .before .before .before .before .before in
-    let a = c8 .args in
-    let read = c2 .read-line in
+    let at-start : tie.Start = search in
+    let read = c .before .before .read-line in
+    let a = at-start .args in
     let enum-told = c .enum-told in
     let names = lookUpAt (a .source .now) (a .places .now) (a .keys .now) (a .values .now) in (
       image-fault (a .p) (lineOf names (a .part .now)) (a .memory .now) (sym (read .ensures) ∙ enum-told .given .1),
@@ -27,25 +26,24 @@ returns c =
 
 returns-2 : tie.Need-returns-2
 returns-2 c =
-    let c1 = c .before in
-    let c2 = c1 .before in
-    let c3 = c2 .before in
-    let c6 = c3 .before .before .before in
-    let c9 = c6 .before .before .before in
-    let c11 = c9 .before .before in
-    let c17 = c11 .before .before .before .before .before .before in
-    let a = c17 .args in
-    let read = c11 .read-line in
-    let g = c9 .r .given in
-    let layout = c3 .layout-of in
+    let at-start : tie.Start = search in
+    let at-store : tie.After-store = search in
+    let at-r : tie.After-r = search in
+    let at-read-line : tie.After-read-line = search in
+    let after = c .before .after in
+    let is-stop = c .before .before .is-stop in
+    let layout = c .before .before .before .layout-of in
+    let a = at-start .args in
+    let read = at-read-line .read-line in
+    let g = at-r .r .given in
     let names = lookUpAt (a .source .now) (a .places .now) (a .keys .now) (a .values .now) in (
-      image-one (a .p) (lineOf names (a .part .now)) (g .0 .0) (g .0 .1 .0) (g .0 .1 .1 .0) (a .memory .now) (c6 .store .last .0)
-          (sym (read .ensures) ∙ g .1) (c6 .store .ensures),
+      image-one (a .p) (lineOf names (a .part .now)) (g .0 .0) (g .0 .1 .0) (g .0 .1 .1 .0) (a .memory .now) (at-store .store .last .0)
+          (sym (read .ensures) ∙ g .1) (at-store .store .ensures),
       (
         place-line (read .result) (lineOf names (a .part .now)) (read .ensures) (a .p) (g .0 .0) (g .0 .1 .0) (g .0 .1 .1 .0) (g .1)
-            (layout .result) (layout .ensures) (c1 .after .result) (c1 .after .ensures) (c .place-after .result) (c .place-after .ensures),
+            (layout .result) (layout .ensures) (after .result) (after .ensures) (c .place-after .result) (c .place-after .ensures),
         form-line (read .result) (lineOf names (a .part .now)) (read .ensures) (g .0 .0) (g .0 .1 .0) (g .0 .1 .1 .0) (layout .result)
-            (c2 .is-stop .result) (g .1) (layout .ensures) (c2 .is-stop .ensures) .1,
+            (is-stop .result) (g .1) (layout .ensures) (is-stop .ensures) .1,
       ),
     )
 

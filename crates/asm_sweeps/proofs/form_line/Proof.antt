@@ -11,23 +11,22 @@ use Rattle.asm_sweeps.proofs.form_line.Tie as tie
 
 returns : tie.Need-returns
 returns c =
-    let c1 = c .before in
-    let c3 = c1 .before .before in
-    let c5 = c3 .before .before in
-    let c10 = c5 .before .before .before .before .before in
-    let a = c10 .args in
-    let g = c3 .r .given in
-    form-line (c5 .read-line .result) (lineOf noNames (a .part .now))
-    (c5 .read-line .ensures ∙ ap (λ (f : List ℕ → Value). lineOf f (a .part .now)) (no-names (a .part .now) [] [])) (g .0 .0)
-    (g .0 .1 .0) (g .0 .1 .1 .0) (c1 .layout-of .result) (c .is-stop .result) (g .1) (c1 .layout-of .ensures) (c .is-stop .ensures)
+    let at-start : tie.Start = search in
+    let at-read-line : tie.After-read-line = search in
+    let layout-of = c .before .layout-of in
+    let r = c .before .before .before .r in
+    let a = at-start .args in
+    let g = r .given in
+    form-line (at-read-line .read-line .result) (lineOf noNames (a .part .now))
+    (at-read-line .read-line .ensures ∙ ap (λ (f : List ℕ → Value). lineOf f (a .part .now)) (no-names (a .part .now) [] [])) (g .0 .0)
+    (g .0 .1 .0) (g .0 .1 .1 .0) (layout-of .result) (c .is-stop .result) (g .1) (layout-of .ensures) (c .is-stop .ensures)
 
 returns-2 : tie.Need-returns-2
 returns-2 c =
-    let c2 = c .before .before in
-    let c7 = c2 .before .before .before .before .before in
-    let a = c7 .args in
-    form-none (c2 .read-line .result) (lineOf noNames (a .part .now))
-    (c2 .read-line .ensures ∙ ap (λ (f : List ℕ → Value). lineOf f (a .part .now)) (no-names (a .part .now) [] []))
+    let at-start : tie.Start = search in
+    let read-line = c .before .before .read-line in
+    form-none (read-line .result) (lineOf noNames (at-start .args .part .now))
+    (read-line .ensures ∙ ap (λ (f : List ℕ → Value). lineOf f (at-start .args .part .now)) (no-names (at-start .args .part .now) [] []))
     (c .enum-told .given .1)
 
 pub form-line-spec : {M : Type 1} → statement M

@@ -17,88 +17,88 @@ use Rattle.asm_sweeps.proofs.give.Tie as tie
 
 slice-aggregate-look-up : tie.Need-slice-aggregate-look-up
 slice-aggregate-look-up c =
-    let c5 = c .before .before .before .before .before in
-    sym (length-take-le (c5 .args .t .count) (c5 .args .places .now) (omega (arith, c5 .pre .within, c5 .pre .places)))
+    let start : tie.Start = search in
+    sym (length-take-le (start .args .t .count) (start .args .places .now) (omega (arith, start .pre .within, start .pre .places)))
 
 slice-aggregate-look-up-2 : tie.Need-slice-aggregate-look-up-2
 slice-aggregate-look-up-2 c =
-    let c6 = c .before .before .before .before .before .before in
-    sym (length-take-le (c6 .args .t .count) (c6 .args .keys .now) (omega (arith, c6 .pre .within, c6 .pre .keys)))
+    let at-start : tie.Start = search in
+    sym (length-take-le (at-start .args .t .count) (at-start .args .keys .now) (omega (arith, at-start .pre .within, at-start .pre .keys)))
 
 slice-aggregate-look-up-3 : tie.Need-slice-aggregate-look-up-3
 slice-aggregate-look-up-3 c =
-    let c7 = c .before .before .before .before .before .before .before in
-    sym (length-take-le (c7 .args .t .count) (c7 .args .values .now) (omega (arith, c7 .pre .within, c7 .pre .values)))
+    let start : tie.Start = search in
+    sym (length-take-le (start .args .t .count) (start .args .values .now) (omega (arith, start .pre .within, start .pre .values)))
 
 returns : tie.Need-returns
 returns c =
-    let c1 = c .before in
-    let c2 = c1 .before in
-    let c3 = c2 .before in
-    let c11 = c3 .before .before .before .before .before .before .before .before in
-    let a = c11 .args in
+    let at-start : tie.Start = search in
+    let if1 = c .before .if1 in
+    let is-known = c .before .before .is-known in
+    let look-up = c .before .before .before .look-up in
+    let a = at-start .args in
     let note-unknown = c .note-unknown in (
       ap (tableAt (a .source .now) (a .places .now) (a .values .now)) (note-unknown .ensures)
-          ∙ give-known (a .source .now) (a .places .now) (a .keys .now) (a .values .now) (a .t) (c11 .pre)
-          (word (drop (a .at) (a .source .now))) (a .v) (c3 .look-up .result) (c3 .look-up .ensures)
-          (sym (c2 .is-known .ensures) ∙ c1 .if1 .taken),
+          ∙ give-known (a .source .now) (a .places .now) (a .keys .now) (a .values .now) (a .t) (at-start .pre)
+          (word (drop (a .at) (a .source .now))) (a .v) (look-up .result) (look-up .ensures)
+          (sym (is-known .ensures) ∙ if1 .taken),
       (
         holds-as (a .source .now) (a .places .now) (a .keys .now) (a .values .now) (a .t) (note-unknown .result)
-            (ap (λ (x : Tally). x .count) (note-unknown .ensures)) (c11 .pre),
+            (ap (λ (x : Tally). x .count) (note-unknown .ensures)) (at-start .pre),
         (ap (λ (x : Tally). x .line) (note-unknown .ensures)),
       ),
     )
 
 returns-2 : tie.Need-returns-2
 returns-2 c =
-    let c1 = c .before in
-    let c2 = c1 .before in
-    let c3 = c2 .before in
-    let c4 = c3 .before in
-    let c12 = c4 .before .before .before .before .before .before .before .before in
-    let a = c12 .args in
+    let at-start : tie.Start = search in
+    let if2 = c .before .if2 in
+    let if1 = c .before .before .if1 in
+    let is-known = c .before .before .before .is-known in
+    let look-up = c .before .before .before .before .look-up in
+    let a = at-start .args in
     let note-unknown2 = c .note-unknown2 in (
       ap (tableAt (a .source .now) (a .places .now) (a .values .now)) (note-unknown2 .ensures)
-          ∙ give-full (a .source .now) (a .places .now) (a .keys .now) (a .values .now) (a .t) (c12 .pre)
-          (word (drop (a .at) (a .source .now))) (a .v) (c4 .look-up .result) (c4 .look-up .ensures)
-          (sym (c3 .is-known .ensures) ∙ c2 .if1 .left) (c1 .if2 .taken),
+          ∙ give-full (a .source .now) (a .places .now) (a .keys .now) (a .values .now) (a .t) (at-start .pre)
+          (word (drop (a .at) (a .source .now))) (a .v) (look-up .result) (look-up .ensures)
+          (sym (is-known .ensures) ∙ if1 .left) (if2 .taken),
       (
         holds-as (a .source .now) (a .places .now) (a .keys .now) (a .values .now) (a .t) (note-unknown2 .result)
-            (ap (λ (x : Tally). x .count) (note-unknown2 .ensures)) (c12 .pre),
+            (ap (λ (x : Tally). x .count) (note-unknown2 .ensures)) (at-start .pre),
         (ap (λ (x : Tally). x .line) (note-unknown2 .ensures)),
       ),
     )
 
 one-more-requires : tie.Need-one-more-requires
 one-more-requires c κs =
-    let c2 = c .before .before in
-    let c13 = c2 .before .before .before .before .before .before .before .before .before .before .before in
-    omega (arith, ap (λ (x : Tally). x .count) (c .note-value .ensures) ∙ note-count (c13 .args .t) (c13 .args .v), c2 .if2 .left)
+    let at-start : tie.Start = search in
+    let if2 = c .before .before .if2 in
+    omega (arith, ap (λ (x : Tally). x .count) (c .note-value .ensures) ∙ note-count (at-start .args .t) (at-start .args .v), if2 .left)
 
 returns-3 : tie.Need-returns-3
 returns-3 c =
-    let c1 = c .before in
-    let c2 = c1 .before in
-    let c3 = c2 .before in
-    let c4 = c3 .before in
-    let c5 = c4 .before in
-    let c6 = c5 .before in
-    let c10 = c6 .before .before .before .before in
-    let c14 = c10 .before .before .before .before in
-    let a = c14 .args in
-    let look-up = c6 .look-up in
-    let stored = c2 .stored in
+    let start : tie.Start = search in
+    let at-read-word : tie.After-read-word = search in
+    let at-look-up : tie.After-look-up = search in
+    let at-is-known : tie.After-is-known = search in
+    let note-value = c .before .note-value in
+    let at-stored = c .before .before in
+    let if2 = at-stored .before .if2 in
+    let if1 = at-stored .before .before .if1 in
+    let a = start .args in
+    let look-up = at-look-up .look-up in
+    let stored = at-stored .stored in
     let one-more = c .one-more in
     let e : toZ w32 (ofZ w32 (stored .result)) ≡ stored .result = search needs in
-    let eu = one-more .ensures ∙ ap oneMore (c1 .note-value .ensures) in (
-      give-new (a .source .now) (a .places .now) (a .keys .now) (a .values .now) (a .t) (c14 .pre) (word (drop (a .at) (a .source .now)))
-          (a .v) (look-up .result) (look-up .ensures) (sym (c5 .is-known .ensures) ∙ c4 .if1 .left) (c3 .if2 .left) (a .at)
+    let eu = one-more .ensures ∙ ap oneMore (note-value .ensures) in (
+      give-new (a .source .now) (a .places .now) (a .keys .now) (a .values .now) (a .t) (start .pre) (word (drop (a .at) (a .source .now)))
+          (a .v) (look-up .result) (look-up .ensures) (sym (at-is-known .is-known .ensures) ∙ if1 .left) (if2 .left) (a .at)
           (toZ w32 (ofZ w32 (stored .result))) (one-more .result) refl (e ∙ stored .ensures) eu,
       (
-        holds-new (a .source .now) (a .places .now) (a .keys .now) (a .values .now) (a .t) (c14 .pre)
-            (word (drop (a .at) (a .source .now))) (a .v) (look-up .result) (look-up .ensures) (sym (c5 .is-known .ensures) ∙ c4 .if1 .left)
-            (c3 .if2 .left) (a .at) (toZ w32 (ofZ w32 (stored .result))) (one-more .result) refl (e ∙ stored .ensures) eu
-            (c10 .read-word .result .key) (c10 .read-word .ensures .1 .1),
+        holds-new (a .source .now) (a .places .now) (a .keys .now) (a .values .now) (a .t) (start .pre)
+            (word (drop (a .at) (a .source .now))) (a .v) (look-up .result) (look-up .ensures)
+            (sym (at-is-known .is-known .ensures) ∙ if1 .left) (if2 .left) (a .at) (toZ w32 (ofZ w32 (stored .result))) (one-more .result)
+            refl (e ∙ stored .ensures) eu (at-read-word .read-word .result .key) (at-read-word .read-word .ensures .1 .1),
         ap (λ (x : Tally). x .line) eu ∙ note-line (a .t) (a .v),
       ),
     )

@@ -16,63 +16,61 @@ use Rattle.asm_sweeps.proofs.name_line.Tie as tie
 
 slice-aggregate-read-line : tie.Need-slice-aggregate-read-line
 slice-aggregate-read-line c =
-    let c5 = c .before .before .before .before .before in
-    sym (length-take-le (c5 .args .t .count) (c5 .args .places .now) (omega (arith, c5 .pre .0 .within, c5 .pre .0 .places)))
+    let start : tie.Start = search in
+    sym (length-take-le (start .args .t .count) (start .args .places .now) (omega (arith, start .pre .0 .within, start .pre .0 .places)))
 
 slice-aggregate-read-line-2 : tie.Need-slice-aggregate-read-line-2
 slice-aggregate-read-line-2 c =
-    let c6 = c .before .before .before .before .before .before in
-    sym (length-take-le (c6 .args .t .count) (c6 .args .keys .now) (omega (arith, c6 .pre .0 .within, c6 .pre .0 .keys)))
+    let start : tie.Start = search in
+    sym (length-take-le (start .args .t .count) (start .args .keys .now) (omega (arith, start .pre .0 .within, start .pre .0 .keys)))
 
 slice-aggregate-read-line-3 : tie.Need-slice-aggregate-read-line-3
 slice-aggregate-read-line-3 c =
-    let c7 = c .before .before .before .before .before .before .before in
-    sym (length-take-le (c7 .args .t .count) (c7 .args .values .now) (omega (arith, c7 .pre .0 .within, c7 .pre .0 .values)))
+    let start : tie.Start = search in
+    sym (length-take-le (start .args .t .count) (start .args .values .now) (omega (arith, start .pre .0 .within, start .pre .0 .values)))
 
 returns : tie.Need-returns
 returns c =
-    let c2 = c .before .before in
-    let c10 = c2 .before .before .before .before .before .before .before .before in
-    let a = c10 .args in
-    let read = c2 .read-line in
+    let at-start : tie.Start = search in
+    let read = c .before .before .read-line in
+    let a = at-start .args in
     let line = lineAt (a .source .now) (a .at) (a .stop) in (
-      name-fault (a .source .now) (a .places .now) (a .keys .now) (a .values .now) (a .t) (c10 .pre .0) line (read .result)
+      name-fault (a .source .now) (a .places .now) (a .keys .now) (a .values .now) (a .t) (at-start .pre .0) line (read .result)
           (read .ensures) (c .enum-told .given .1),
       (
-        end-fault (a .source .now) (a .places .now) (a .keys .now) (a .values .now) (a .t) (c10 .pre .0) line (read .result)
+        end-fault (a .source .now) (a .places .now) (a .keys .now) (a .values .now) (a .t) (at-start .pre .0) line (read .result)
             (read .ensures) (c .enum-told .given .1),
-        (c10 .pre .0, refl),
+        (at-start .pre .0, refl),
       ),
     )
 
 returns-2 : tie.Need-returns-2
 returns-2 c =
-    let c1 = c .before in
-    let c2 = c1 .before in
-    let c3 = c2 .before in
-    let c4 = c3 .before in
-    let c6 = c4 .before .before in
-    let c8 = c6 .before .before in
-    let c16 = c8 .before .before .before .before .before .before .before .before in
-    let a = c16 .args in
-    let read = c8 .read-line in
-    let g = c6 .r .given in
-    let layout = c4 .layout-of in
-    let after = c2 .after in
-    let placed-at = c1 .placed-at in
+    let at-start : tie.Start = search in
+    let at-read-line : tie.After-read-line = search in
+    let at-r : tie.After-r = search in
+    let at-placed-at = c .before in
+    let at-after = at-placed-at .before in
+    let is-stop = at-after .before .is-stop in
+    let layout = at-after .before .before .layout-of in
+    let a = at-start .args in
+    let read = at-read-line .read-line in
+    let g = at-r .r .given in
+    let after = at-after .after in
+    let placed-at = at-placed-at .placed-at in
     let line = lineAt (a .source .now) (a .at) (a .stop) in (
-      name-none (a .source .now) (a .places .now) (a .keys .now) (a .values .now) (a .t) (c16 .pre .0) line (read .result)
+      name-none (a .source .now) (a .places .now) (a .keys .now) (a .values .now) (a .t) (at-start .pre .0) line (read .result)
           (read .ensures) (g .0 .0) (g .0 .1 .0) (g .0 .1 .1 .0) (g .1) (layout .result) (layout .ensures) (after .result) (after .ensures)
           (placed-at .result) (placed-at .ensures) (not-true _ (c .if1 .taken)),
       (
-        end-line (a .source .now) (a .places .now) (a .keys .now) (a .values .now) (a .t) (c16 .pre .0) line (read .result)
-            (read .ensures) (g .0 .0) (g .0 .1 .0) (g .0 .1 .1 .0) (g .1) (layout .result) (layout .ensures) (c3 .is-stop .result)
-            (c3 .is-stop .ensures),
+        end-line (a .source .now) (a .places .now) (a .keys .now) (a .values .now) (a .t) (at-start .pre .0) line (read .result)
+            (read .ensures) (g .0 .0) (g .0 .1 .0) (g .0 .1 .1 .0) (g .1) (layout .result) (layout .ensures) (is-stop .result)
+            (is-stop .ensures),
         (
-          holds-on (a .source .now) (a .places .now) (a .keys .now) (a .values .now) (a .t) (c16 .pre .0) line (read .result)
+          holds-on (a .source .now) (a .places .now) (a .keys .now) (a .values .now) (a .t) (at-start .pre .0) line (read .result)
               (read .ensures) (g .0 .0) (g .0 .1 .0) (g .0 .1 .1 .0) (g .1) (layout .result) (layout .ensures) (after .result)
               (after .ensures) (placed-at .result) (placed-at .ensures),
-          line-on (a .source .now) (a .places .now) (a .keys .now) (a .values .now) (a .t) (c16 .pre .0) line (read .result)
+          line-on (a .source .now) (a .places .now) (a .keys .now) (a .values .now) (a .t) (at-start .pre .0) line (read .result)
               (read .ensures) (g .0 .0) (g .0 .1 .0) (g .0 .1 .1 .0) (g .1) (layout .result) (layout .ensures) (after .result)
               (after .ensures) (placed-at .result) (placed-at .ensures),
         ),
@@ -81,70 +79,69 @@ returns-2 c =
 
 add-give : tie.Need-add-give
 add-give c =
-    let c4 = c .before .before .before .before in
-    let c10 = c4 .before .before .before .before .before .before in
-    let c12 = c10 .before .before in
-    let c20 = c12 .before .before .before .before .before .before .before .before in
-    let a = c20 .args in
-    let g = c10 .r .given in
+    let at-start : tie.Start = search in
+    let at-read-line : tie.After-read-line = search in
+    let at-r : tie.After-r = search in
+    let if1 = c .before .before .before .before .if1 in
+    let g = at-r .r .given in
     let k =
-    name-within (a .source .now) (a .at) (a .stop) (g .0 .1 .0) (c20 .pre .1)
-    (named-in _ (lineAt (a .source .now) (a .at) (a .stop)) (c12 .read-line .result) (g .0 .0) (g .0 .1 .0) (g .0 .1 .1 .0)
-    (c12 .read-line .ensures) (g .1) (not-false _ (c4 .if1 .left))) in
-    record { fits = omega (arith, k, c20 .pre .1 .to, c20 .good .0 .1) }
+    name-within (at-start .args .source .now) (at-start .args .at) (at-start .args .stop) (g .0 .1 .0) (at-start .pre .1)
+    (named-in _ (lineAt (at-start .args .source .now) (at-start .args .at) (at-start .args .stop)) (at-read-line .read-line .result)
+    (g .0 .0) (g .0 .1 .0) (g .0 .1 .1 .0) (at-read-line .read-line .ensures) (g .1) (not-false _ (if1 .left))) in
+    record { fits = omega (arith, k, at-start .pre .1 .to, at-start .good .0 .1) }
 
 give-requires : tie.Need-give-requires
 give-requires c κs =
-    let c5 = c .before .before .before .before .before in
-    let c6 = c5 .before in
-    let c8 = c6 .before .before in
-    let c10 = c8 .before .before in
-    let c12 = c10 .before .before in
-    let c20 = c12 .before .before .before .before .before .before .before .before in
-    let a = c20 .args in
-    let g = c10 .r .given in
-    holds-on (a .source .now) (a .places .now) (a .keys .now) (a .values .now) (a .t) (c20 .pre .0)
-    (lineAt (a .source .now) (a .at) (a .stop)) (c12 .read-line .result) (c12 .read-line .ensures) (g .0 .0) (g .0 .1 .0)
-    (g .0 .1 .1 .0) (g .1) (c8 .layout-of .result) (c8 .layout-of .ensures) (c6 .after .result) (c6 .after .ensures)
-    (c5 .placed-at .result) (c5 .placed-at .ensures)
+    let at-start : tie.Start = search in
+    let at-read-line : tie.After-read-line = search in
+    let at-r : tie.After-r = search in
+    let at-layout-of : tie.After-layout-of = search in
+    let at-after : tie.After-after = search in
+    let at-placed-at : tie.After-placed-at = search in
+    let a = at-start .args in
+    let g = at-r .r .given in
+    holds-on (a .source .now) (a .places .now) (a .keys .now) (a .values .now) (a .t) (at-start .pre .0)
+    (lineAt (a .source .now) (a .at) (a .stop)) (at-read-line .read-line .result) (at-read-line .read-line .ensures) (g .0 .0) (g .0 .1 .0)
+    (g .0 .1 .1 .0) (g .1) (at-layout-of .layout-of .result) (at-layout-of .layout-of .ensures) (at-after .after .result)
+    (at-after .after .ensures) (at-placed-at .placed-at .result) (at-placed-at .placed-at .ensures)
 
 returns-3 : tie.Need-returns-3
 returns-3 c =
-    let c5 = c .before .before .before .before .before in
-    let c9 = c5 .before .before .before .before in
-    let c10 = c9 .before in
-    let c11 = c10 .before in
-    let c12 = c11 .before in
-    let c13 = c12 .before in
-    let c14 = c13 .before in
-    let c16 = c14 .before .before in
-    let c18 = c16 .before .before in
-    let c26 = c18 .before .before .before .before .before .before .before .before in
-    let a = c26 .args in
-    let read = c18 .read-line in
-    let g = c16 .r .given in
-    let layout = c14 .layout-of in
-    let after = c12 .after in
-    let placed-at = c11 .placed-at in
-    let give = c5 .give in
+    let at-name-value : tie.After-name-value = search in
+    let at-give : tie.After-give = search in
+    let at-if1 = at-name-value .before in
+    let at-placed-at = at-if1 .before in
+    let at-after = at-placed-at .before in
+    let at-is-stop = at-after .before in
+    let at-layout-of = at-is-stop .before in
+    let at-r = at-layout-of .before .before in
+    let at-read-line = at-r .before .before in
+    let at-start = at-read-line .before .before .before .before .before .before .before .before in
+    let a = at-start .args in
+    let read = at-read-line .read-line in
+    let g = at-r .r .given in
+    let layout = at-layout-of .layout-of in
+    let after = at-after .after in
+    let placed-at = at-placed-at .placed-at in
+    let give = at-give .give in
     let line = lineAt (a .source .now) (a .at) (a .stop) in
     let k =
-    name-within (a .source .now) (a .at) (a .stop) (g .0 .1 .0) (c26 .pre .1)
-    (named-in _ line (read .result) (g .0 .0) (g .0 .1 .0) (g .0 .1 .1 .0) (read .ensures) (g .1) (not-false _ (c10 .if1 .left))) in
-    let ew = line-word (a .source .now) (a .at) (a .stop) (g .0 .1 .0) (c26 .pre .1) (omega (arith, k)) in (
-      name-some (a .source .now) (a .places .now) (a .keys .now) (a .values .now) (a .t) (c26 .pre .0) line (read .result)
+    name-within (a .source .now) (a .at) (a .stop) (g .0 .1 .0) (at-start .pre .1)
+    (named-in _ line (read .result) (g .0 .0) (g .0 .1 .0) (g .0 .1 .1 .0) (read .ensures) (g .1) (not-false _ (at-if1 .if1 .left))) in
+    let ew = line-word (a .source .now) (a .at) (a .stop) (g .0 .1 .0) (at-start .pre .1) (omega (arith, k)) in (
+      name-some (a .source .now) (a .places .now) (a .keys .now) (a .values .now) (a .t) (at-start .pre .0) line (read .result)
           (read .ensures) (g .0 .0) (g .0 .1 .0) (g .0 .1 .1 .0) (g .1) (layout .result) (layout .ensures) (after .result) (after .ensures)
-          (placed-at .result) (placed-at .ensures) (not-false _ (c10 .if1 .left)) (c9 .name-value .result) (c9 .name-value .ensures)
-          (word (drop (a .at + (g .0 .1 .0)) (a .source .now))) ew
+          (placed-at .result) (placed-at .ensures) (not-false _ (at-if1 .if1 .left)) (at-name-value .name-value .result)
+          (at-name-value .name-value .ensures) (word (drop (a .at + (g .0 .1 .0)) (a .source .now))) ew
           (tableAt (a .source .now) (give .last .1 .0) (give .last .1 .1 .1 .0) (give .result)) (give .ensures .0),
       (
-        end-line (a .source .now) (a .places .now) (a .keys .now) (a .values .now) (a .t) (c26 .pre .0) line (read .result)
-            (read .ensures) (g .0 .0) (g .0 .1 .0) (g .0 .1 .1 .0) (g .1) (layout .result) (layout .ensures) (c13 .is-stop .result)
-            (c13 .is-stop .ensures),
+        end-line (a .source .now) (a .places .now) (a .keys .now) (a .values .now) (a .t) (at-start .pre .0) line (read .result)
+            (read .ensures) (g .0 .0) (g .0 .1 .0) (g .0 .1 .1 .0) (g .1) (layout .result) (layout .ensures) (at-is-stop .is-stop .result)
+            (at-is-stop .is-stop .ensures),
         (
           give .ensures .1 .0,
           give .ensures .1 .1
-              ∙ line-on (a .source .now) (a .places .now) (a .keys .now) (a .values .now) (a .t) (c26 .pre .0) line (read .result)
+              ∙ line-on (a .source .now) (a .places .now) (a .keys .now) (a .values .now) (a .t) (at-start .pre .0) line (read .result)
               (read .ensures) (g .0 .0) (g .0 .1 .0) (g .0 .1 .1 .0) (g .1) (layout .result) (layout .ensures) (after .result)
               (after .ensures) (placed-at .result) (placed-at .ensures),
         ),

@@ -87,9 +87,8 @@ flags-length f =
     let z = letterIf (f / 2 % 2) "Z" in
     append-length (((v ++ s) ++ n) ++ z) (letterIf (f % 2) "C") 4 1
     (append-length ((v ++ s) ++ n) z 3 1
-    (append-length (v ++ s) n 2 1 (append-length v s 1 1 (if-length (f / 16 % 2) "V") (if-length (f / 8 % 2) "S")) (if-length (f / 4 % 2) "N"))
-    (if-length (f / 2 % 2) "Z"))
-    (if-length (f % 2) "C")
+    (append-length (v ++ s) n 2 1 (append-length v s 1 1 (if-length (f / 16 % 2) "V") (if-length (f / 8 % 2) "S"))
+    (if-length (f / 4 % 2) "N")) (if-length (f / 2 % 2) "Z")) (if-length (f % 2) "C")
 
 address-length : (prpo dec inc r : ℕ) → length (addressText prpo dec inc r) ≤ 3
 unfolding addressText
@@ -149,7 +148,8 @@ by-format p w (i.Mov wb src dst) = registers-length (ascii "MOV") wb src dst (om
 by-format p w (i.Swap src dst ignored) =
     either (eqb ignored 0) (phrase (ascii "SWAP") 0 (withComma (registerText src) (registerText dst))) (wordText w)
     (registers-length (ascii "SWAP") 0 src dst (omega arith)) (word-length w)
-by-format p w (i.Unary op wb dst) = phrase-length (nameIn unaries op) wb (registerText dst) 2 (unary-name op) (register-length dst) (omega arith)
+by-format p w (i.Unary op wb dst) =
+    phrase-length (nameIn unaries op) wb (registerText dst) 2 (unary-name op) (register-length dst) (omega arith)
 by-format p w (i.Swpb dst ignored) =
     either (eqb ignored 0) (phrase (ascii "SWPB") 0 (registerText dst)) (wordText w)
     (phrase-length (ascii "SWPB") 0 (registerText dst) 2 (omega arith) (register-length dst) (omega arith)) (word-length w)

@@ -11,94 +11,91 @@ use Rattle.asm_call.proofs.assemble.Tie as tie
 
 slice-aggregate-uses : tie.Need-slice-aggregate-uses
 slice-aggregate-uses c =
-    let c4 = c .before .before .before .before in
-    let collect = c4 .collect in
+    let at-collect = c .before .before .before .before in
+    let collect = at-collect .collect in
     sym
     (length-take-le (collect .result .count) (collect .last .1 .0)
     (omega (arith, collect .ensures .1 .within, collect .ensures .1 .places)))
 
 slice-aggregate-uses-2 : tie.Need-slice-aggregate-uses-2
 slice-aggregate-uses-2 c =
-    let c5 = c .before .before .before .before .before in
-    let collect = c5 .collect in
+    let at-collect : tie.After-collect = search in
+    let collect = at-collect .collect in
     sym
     (length-take-le (collect .result .count) (collect .last .1 .1 .0)
     (omega (arith, collect .ensures .1 .within, collect .ensures .1 .keys)))
 
 slice-aggregate-uses-3 : tie.Need-slice-aggregate-uses-3
 slice-aggregate-uses-3 c =
-    let c6 = c .before .before .before .before .before .before in
-    let collect = c6 .collect in
+    let at-collect : tie.After-collect = search in
+    let collect = at-collect .collect in
     sym
     (length-take-le (collect .result .count) (collect .last .1 .1 .1 .0)
     (omega (arith, collect .ensures .1 .within, collect .ensures .1 .values)))
 
 returns : tie.Need-returns
 returns c =
-    let c1 = c .before in
-    let c3 = c1 .before .before in
-    let c4 = c3 .before in
-    let c11 = c4 .before .before .before .before .before .before .before in
-    let c17 = c11 .before .before .before .before .before .before in
-    let a = c17 .args in
-    let collect = c11 .collect in
-    let decide = c3 .decide in
+    let at-start : tie.Start = search in
+    let at-collect : tie.After-collect = search in
+    let if1 = c .before .if1 in
+    let at-decide = c .before .before .before in
+    let uses = at-decide .before .uses in
+    let collect = at-collect .collect in
+    let decide = at-decide .decide in
     let e =
-    call-refused (a .memory .now) (a .source .now) (c17 .pre .0) (decide .result) (c .reply .result)
-    (verdict-found (a .source .now) (collect .last .1 .0) (collect .last .1 .1 .0) (collect .last .1 .1 .1 .0) (collect .result)
-    (collect .ensures .1) (collect .ensures .0) (c17 .pre .1) (c4 .uses .result) (c4 .uses .ensures) (decide .result)
-    (decide .ensures)) (c1 .if1 .taken) (c .reply .ensures) in
+    call-refused (at-start .args .memory .now) (at-start .args .source .now) (at-start .pre .0) (decide .result) (c .reply .result)
+    (verdict-found (at-start .args .source .now) (collect .last .1 .0) (collect .last .1 .1 .0) (collect .last .1 .1 .1 .0)
+    (collect .result) (collect .ensures .1) (collect .ensures .0) (at-start .pre .1) (uses .result) (uses .ensures) (decide .result)
+    (decide .ensures)) (if1 .taken) (c .reply .ensures) in
     (ap (λ (x : Assembled). x .reply) e, ap (λ (x : Assembled). x .memory) e)
 
 slice-aggregate-image : tie.Need-slice-aggregate-image
 slice-aggregate-image c =
-    let c12 = c .before .before .before .before .before .before .before .before .before .before .before .before in
-    let collect = c12 .collect in
+    let at-collect : tie.After-collect = search in
+    let collect = at-collect .collect in
     sym
     (length-take-le (collect .result .count) (collect .last .1 .0)
     (omega (arith, collect .ensures .1 .within, collect .ensures .1 .places)))
 
 slice-aggregate-image-2 : tie.Need-slice-aggregate-image-2
 slice-aggregate-image-2 c =
-    let c13 = c .before .before .before .before .before .before .before .before .before .before .before .before .before in
-    let collect = c13 .collect in
+    let at-collect : tie.After-collect = search in
+    let collect = at-collect .collect in
     sym
     (length-take-le (collect .result .count) (collect .last .1 .1 .0)
     (omega (arith, collect .ensures .1 .within, collect .ensures .1 .keys)))
 
 slice-aggregate-image-3 : tie.Need-slice-aggregate-image-3
 slice-aggregate-image-3 c =
-    let c14 = c .before .before .before .before .before .before .before .before .before .before .before .before .before .before in
-    let collect = c14 .collect in
+    let at-collect : tie.After-collect = search in
+    let collect = at-collect .collect in
     sym
     (length-take-le (collect .result .count) (collect .last .1 .1 .1 .0)
     (omega (arith, collect .ensures .1 .within, collect .ensures .1 .values)))
 
 image-requires : tie.Need-image-requires
 image-requires c κs =
-    let c10 = c .before .before .before .before .before .before .before .before .before .before in
-    let c20 = c10 .before .before .before .before .before .before .before .before .before .before in
-    c20 .pre .0
+    let at-start : tie.Start = search in
+    at-start .pre .0
 
 returns-2 : tie.Need-returns-2
 returns-2 c =
-    let c3 = c .before .before .before in
-    let c8 = c3 .before .before .before .before .before in
-    let c10 = c8 .before .before in
-    let c11 = c10 .before in
-    let c18 = c11 .before .before .before .before .before .before .before in
-    let c24 = c18 .before .before .before .before .before .before in
-    let a = c24 .args in
-    let collect = c18 .collect in
-    let decide = c10 .decide in
-    let image = c3 .image in
+    let at-collect : tie.After-collect = search in
+    let at-start : tie.Start = search in
+    let at-if1 : tie.Else1 = search in
+    let at-decide : tie.After-decide = search in
+    let at-uses : tie.After-uses = search in
+    let at-image = c .before .before .before in
+    let collect = at-collect .collect in
+    let decide = at-decide .decide in
+    let image = at-image .image in
     let e =
-    call-accepted (a .memory .now) (a .source .now) (c24 .pre .0) (decide .result) (c .reply2 .result) (image .last .0)
-    (verdict-found (a .source .now) (collect .last .1 .0) (collect .last .1 .1 .0) (collect .last .1 .1 .1 .0) (collect .result)
-    (collect .ensures .1) (collect .ensures .0) (c24 .pre .1) (c11 .uses .result) (c11 .uses .ensures) (decide .result)
-    (decide .ensures)) (c8 .if1 .left) (c .reply2 .ensures)
-    (image-found (a .source .now) (collect .last .1 .0) (collect .last .1 .1 .0) (collect .last .1 .1 .1 .0) (collect .result)
-    (collect .ensures .1) (collect .ensures .0) (a .memory .now) (image .last .0) (image .ensures)) in
+    call-accepted (at-start .args .memory .now) (at-start .args .source .now) (at-start .pre .0) (decide .result) (c .reply2 .result)
+    (image .last .0) (verdict-found (at-start .args .source .now) (collect .last .1 .0) (collect .last .1 .1 .0) (collect .last .1 .1 .1 .0)
+    (collect .result) (collect .ensures .1) (collect .ensures .0) (at-start .pre .1) (at-uses .uses .result) (at-uses .uses .ensures)
+    (decide .result) (decide .ensures)) (at-if1 .if1 .left) (c .reply2 .ensures)
+    (image-found (at-start .args .source .now) (collect .last .1 .0) (collect .last .1 .1 .0) (collect .last .1 .1 .1 .0) (collect .result)
+    (collect .ensures .1) (collect .ensures .0) (at-start .args .memory .now) (image .last .0) (image .ensures)) in
     (ap (λ (x : Assembled). x .reply) e, ap (λ (x : Assembled). x .memory) e)
 
 pub assemble-spec : {M : Type 1} → statement M

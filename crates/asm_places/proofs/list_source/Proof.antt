@@ -20,128 +20,124 @@ slice-aggregate-uses c =
 
 slice-aggregate-uses-2 : tie.Need-slice-aggregate-uses-2
 slice-aggregate-uses-2 c =
-    let collect = c .before .before .before .before .before .collect in
+    let at-collect : tie.After-collect = search in
+    let collect = at-collect .collect in
     sym
     (length-take-le (collect .result .count) (collect .last .1 .1 .0)
     (omega (arith, collect .ensures .1 .within, collect .ensures .1 .keys)))
 
 slice-aggregate-uses-3 : tie.Need-slice-aggregate-uses-3
 slice-aggregate-uses-3 c =
-    let collect = c .before .before .before .before .before .before .collect in
+    let at-collect : tie.After-collect = search in
+    let collect = at-collect .collect in
     sym
     (length-take-le (collect .result .count) (collect .last .1 .1 .1 .0)
     (omega (arith, collect .ensures .1 .within, collect .ensures .1 .values)))
 
 returns : tie.Need-returns
 returns c =
-    let c1 = c .before in
-    let c3 = c1 .before .before in
-    let c4 = c3 .before in
-    let c11 = c4 .before .before .before .before .before .before .before in
-    let c17 = c11 .before .before .before .before .before .before in
-    let a = c17 .args in
-    let collect = c11 .collect in
-    let uses = c4 .uses in
-    let decide = c3 .decide in
+    let at-start : tie.Start = search in
+    let at-collect : tie.After-collect = search in
+    let if1 = c .before .if1 in
+    let at-decide = c .before .before .before in
+    let at-uses = at-decide .before in
+    let collect = at-collect .collect in
+    let uses = at-uses .uses in
+    let decide = at-decide .decide in
     let judged =
-    verdict-found (a .source .now) (collect .last .1 .0) (collect .last .1 .1 .0) (collect .last .1 .1 .1 .0) (collect .result)
-    (collect .ensures .1) (collect .ensures .0) (c17 .pre) (uses .result) (uses .ensures)
+    verdict-found (at-start .args .source .now) (collect .last .1 .0) (collect .last .1 .1 .0) (collect .last .1 .1 .1 .0) (collect .result)
+    (collect .ensures .1) (collect .ensures .0) (at-start .pre) (uses .result) (uses .ensures)
     (decide .result) (decide .ensures) in
     let e =
-    places-refused (a .source .now) (a .list .now) (decide .result) judged (c .reply .result) (c1 .if1 .taken)
+    places-refused (at-start .args .source .now) (at-start .args .list .now) (decide .result) judged (c .reply .result) (if1 .taken)
     (c .reply .ensures) in
     (ap (λ (x : Recorded). x .reply) e, ap (λ (x : Recorded). x .places) e)
 
 returns-2 : tie.Need-returns-2
 returns-2 c =
-    let c1 = c .before in
-    let c3 = c1 .before .before in
-    let c4 = c3 .before in
-    let c11 = c4 .before .before .before .before .before .before .before in
-    let c17 = c11 .before .before .before .before .before .before in
-    let a = c17 .args in
-    let collect = c11 .collect in
-    let uses = c4 .uses in
-    let decide = c3 .decide in
+    let at-start : tie.Start = search in
+    let at-collect : tie.After-collect = search in
+    let if1 = c .before .if1 in
+    let at-decide = c .before .before .before in
+    let at-uses = at-decide .before in
+    let collect = at-collect .collect in
+    let uses = at-uses .uses in
+    let decide = at-decide .decide in
     let judged =
-    verdict-found (a .source .now) (collect .last .1 .0) (collect .last .1 .1 .0) (collect .last .1 .1 .1 .0) (collect .result)
-    (collect .ensures .1) (collect .ensures .0) (c17 .pre) (uses .result) (uses .ensures)
+    verdict-found (at-start .args .source .now) (collect .last .1 .0) (collect .last .1 .1 .0) (collect .last .1 .1 .1 .0) (collect .result)
+    (collect .ensures .1) (collect .ensures .0) (at-start .pre) (uses .result) (uses .ensures)
     (decide .result) (decide .ensures) in
     let e =
-    places-short (a .source .now) (a .list .now) (decide .result) judged (c1 .if1 .left)
-    (found-short (a .source .now) (collect .last .1 .0) (collect .last .1 .1 .0) (collect .last .1 .1 .1 .0) (collect .result)
-    (collect .ensures .1) (collect .ensures .0) (c17 .pre) (uses .result) (uses .ensures) (a .list .now) (omega (arith, c .if2 .taken))) in
+    places-short (at-start .args .source .now) (at-start .args .list .now) (decide .result) judged (if1 .left)
+    (found-short (at-start .args .source .now) (collect .last .1 .0) (collect .last .1 .1 .0) (collect .last .1 .1 .1 .0) (collect .result)
+    (collect .ensures .1) (collect .ensures .0) (at-start .pre) (uses .result) (uses .ensures) (at-start .args .list .now)
+    (omega (arith, c .if2 .taken))) in
     (ap (λ (x : Recorded). x .reply) e, ap (λ (x : Recorded). x .places) e)
 
 slice-aggregate-list-lines : tie.Need-slice-aggregate-list-lines
 slice-aggregate-list-lines c =
-    let c10 = c .before .before .before .before .before .before .before .before .before .before in
-    let c13 = c10 .before .before .before in
-    let collect = c13 .collect in
+    let at-collect : tie.After-collect = search in
+    let collect = at-collect .collect in
     sym
     (length-take-le (collect .result .count) (collect .last .1 .0)
     (omega (arith, collect .ensures .1 .within, collect .ensures .1 .places)))
 
 slice-aggregate-list-lines-2 : tie.Need-slice-aggregate-list-lines-2
 slice-aggregate-list-lines-2 c =
-    let c10 = c .before .before .before .before .before .before .before .before .before .before in
-    let c14 = c10 .before .before .before .before in
-    let collect = c14 .collect in
+    let at-collect : tie.After-collect = search in
+    let collect = at-collect .collect in
     sym
     (length-take-le (collect .result .count) (collect .last .1 .1 .0)
     (omega (arith, collect .ensures .1 .within, collect .ensures .1 .keys)))
 
 slice-aggregate-list-lines-3 : tie.Need-slice-aggregate-list-lines-3
 slice-aggregate-list-lines-3 c =
-    let c10 = c .before .before .before .before .before .before .before .before .before .before in
-    let c15 = c10 .before .before .before .before .before in
-    let collect = c15 .collect in
+    let at-collect : tie.After-collect = search in
+    let collect = at-collect .collect in
     sym
     (length-take-le (collect .result .count) (collect .last .1 .1 .1 .0)
     (omega (arith, collect .ensures .1 .within, collect .ensures .1 .values)))
 
 list-lines-requires : tie.Need-list-lines-requires
 list-lines-requires c κs =
-    let c4 = c .before .before .before .before in
-    let c8 = c4 .before .before .before .before in
-    let c15 = c8 .before .before .before .before .before .before .before in
-    let c21 = c15 .before .before .before .before .before .before in
-    let a = c21 .args in
-    let collect = c15 .collect in
-    let uses = c8 .uses in
-    held-room (a .source .now) (collect .last .1 .0) (collect .last .1 .1 .0) (collect .last .1 .1 .1 .0) (collect .result)
-    (collect .ensures .1) (collect .ensures .0) (c21 .pre) (uses .result) (uses .ensures) (a .list .now)
-    (omega (arith, c4 .if2 .left))
+    let at-start : tie.Start = search in
+    let at-uses : tie.After-uses = search in
+    let at-collect : tie.After-collect = search in
+    let if2 = c .before .before .before .before .if2 in
+    let collect = at-collect .collect in
+    let uses = at-uses .uses in
+    held-room (at-start .args .source .now) (collect .last .1 .0) (collect .last .1 .1 .0) (collect .last .1 .1 .1 .0) (collect .result)
+    (collect .ensures .1) (collect .ensures .0) (at-start .pre) (uses .result) (uses .ensures) (at-start .args .list .now)
+    (omega (arith, if2 .left))
 
 returns-3 : tie.Need-returns-3
 returns-3 c =
-    let c3 = c .before .before .before in
-    let c8 = c3 .before .before .before .before .before in
-    let c9 = c8 .before in
-    let c11 = c9 .before .before in
-    let c12 = c11 .before in
-    let c19 = c12 .before .before .before .before .before .before .before in
-    let c25 = c19 .before .before .before .before .before .before in
-    let a = c25 .args in
-    let collect = c19 .collect in
-    let uses = c12 .uses in
-    let decide = c11 .decide in
+    let at-collect : tie.After-collect = search in
+    let at-start : tie.Start = search in
+    let at-if2 : tie.Else2 = search in
+    let at-if1 = at-if2 .before in
+    let at-decide = at-if1 .before .before in
+    let at-uses = at-decide .before in
+    let lines = c .before .before .before .list-lines in
+    let a = at-start .args in
+    let collect = at-collect .collect in
+    let uses = at-uses .uses in
+    let decide = at-decide .decide in
     let judged =
     verdict-found (a .source .now) (collect .last .1 .0) (collect .last .1 .1 .0) (collect .last .1 .1 .1 .0) (collect .result)
-    (collect .ensures .1) (collect .ensures .0) (c25 .pre) (uses .result) (uses .ensures)
+    (collect .ensures .1) (collect .ensures .0) (at-start .pre) (uses .result) (uses .ensures)
     (decide .result) (decide .ensures) in
-    let lines = c3 .list-lines in
     let e =
-    places-accepted (a .source .now) (a .list .now) (decide .result) judged (c9 .if1 .left)
+    places-accepted (a .source .now) (a .list .now) (decide .result) judged (at-if1 .if1 .left)
     (found-room (a .source .now) (collect .last .1 .0) (collect .last .1 .1 .0) (collect .last .1 .1 .1 .0) (collect .result)
-    (collect .ensures .1) (collect .ensures .0) (c25 .pre) (uses .result) (uses .ensures) (a .list .now)
-    (omega (arith, c8 .if2 .left)))
+    (collect .ensures .1) (collect .ensures .0) (at-start .pre) (uses .result) (uses .ensures) (a .list .now)
+    (omega (arith, at-if2 .if2 .left)))
     (uses .result .line) (c .reply2 .result) (lines .last .0)
     (found-count (a .source .now) (collect .last .1 .0) (collect .last .1 .1 .0) (collect .last .1 .1 .1 .0) (collect .result)
-    (collect .ensures .1) (collect .ensures .0) (c25 .pre) (uses .result) (uses .ensures))
+    (collect .ensures .1) (collect .ensures .0) (at-start .pre) (uses .result) (uses .ensures))
     (c .reply2 .ensures)
     (found-list (a .source .now) (collect .last .1 .0) (collect .last .1 .1 .0) (collect .last .1 .1 .1 .0) (collect .result)
-    (collect .ensures .1) (collect .ensures .0) (c25 .pre) (uses .result) (uses .ensures) (a .list .now) (lines .last .0)
+    (collect .ensures .1) (collect .ensures .0) (at-start .pre) (uses .result) (uses .ensures) (a .list .now) (lines .last .0)
     (lines .ensures)) in
     (ap (λ (x : Recorded). x .reply) e, ap (λ (x : Recorded). x .places) e)
 

@@ -37,33 +37,33 @@ returns-3 c =
 returns-4 : tie.Need-returns-4
 unfolding textAt decodeOf textFor
 returns-4 c =
-    let a = c .before .before .before .before .before .args in
-    let w = a .w in
+    let at-start : tie.Start = search in
+    let w = at-start .args .w in
     rw (
       le-ltb w 0x2000 (omega arith),
       le-ltb w 0x4000 (omega arith),
       le-ltb w 0x4C00 (omega arith),
       lt-ltb w 0x5000 (omega arith),
-    ) (c .misc .ensures (a .place))
+    ) (c .misc .ensures (at-start .args .place))
 
 returns-5 : tie.Need-returns-5
 unfolding textAt decodeOf textFor
 returns-5 c =
-    let a = c .before .before .before .before .before .before .args in
-    let w = a .w in
+    let at-start : tie.Start = search in
+    let w = at-start .args .w in
     rw (
       le-ltb w 0x2000 (omega arith),
       le-ltb w 0x4000 (omega arith),
       le-ltb w 0x4C00 (omega arith),
       le-ltb w 0x5000 (omega arith),
       lt-ltb w 0x6000 (omega arith),
-    ) (c .memory .ensures (a .place))
+    ) (c .memory .ensures (at-start .args .place))
 
 returns-6 : tie.Need-returns-6
 unfolding textAt decodeOf textFor
 returns-6 c =
-    let a = c .before .before .before .before .before .before .before .args in
-    let w = a .w in
+    let at-start : tie.Start = search in
+    let w = at-start .args .w in
     rw (
       le-ltb w 0x2000 (omega arith),
       le-ltb w 0x4000 (omega arith),
@@ -71,13 +71,13 @@ returns-6 c =
       le-ltb w 0x5000 (omega arith),
       le-ltb w 0x6000 (omega arith),
       lt-ltb w 0x8000 (omega arith),
-    ) (c .move-byte .ensures (a .place))
+    ) (c .move-byte .ensures (at-start .args .place))
 
 returns-7 : tie.Need-returns-7
 unfolding textAt decodeOf textFor
 returns-7 c =
-    let a = c .before .before .before .before .before .before .before .args in
-    let w = a .w in
+    let at-start : tie.Start = search in
+    let w = at-start .args .w in
     rw (
       le-ltb w 0x2000 (omega arith),
       le-ltb w 0x4000 (omega arith),
@@ -85,7 +85,7 @@ returns-7 c =
       le-ltb w 0x5000 (omega arith),
       le-ltb w 0x6000 (omega arith),
       le-ltb w 0x8000 (omega arith),
-    ) (c .relative .ensures (a .place))
+    ) (c .relative .ensures (at-start .args .place))
 
 pub parts-of-spec : {M : Type 1} → statement M
 parts-of-spec =

@@ -12,9 +12,9 @@ use Rattle.asm_printer.proofs.relative.Tie as tie
 
 returns : tie.Need-returns
 unfolding textFor lettersOf
-returns c =
-    λ p.
-    let w = c .before .before .before .before .before .args .w in
+returns c p =
+    let at-start : tie.Start = search in
+    let w = at-start .args .w in
     let s = of-register _ (w / 8 % 8) (c .before .before .before .register .ensures .0) (omega arith) in
     let d = of-register _ (w % 8) (c .before .before .register2 .ensures .0) (omega arith) in
     rw (lt-ltb w 0xC000 (omega arith))
@@ -23,9 +23,9 @@ returns c =
 
 returns-2 : tie.Need-returns-2
 unfolding textFor lettersOf
-returns-2 c =
-    λ p.
-    let w = c .before .before .before .before .before .args .w in
+returns-2 c p =
+    let at-start : tie.Start = search in
+    let w = at-start .args .w in
     let s = of-register _ (w / 8 % 8) (c .before .before .before .register .ensures .0) (omega arith) in
     let d = of-register _ (w % 8) (c .before .before .register2 .ensures .0) (omega arith) in
     rw (le-ltb w 0xC000 (omega arith))

@@ -16,9 +16,9 @@ returns c =
 
 returns-2 : tie.Need-returns-2
 unfolding textFor lettersOf
-returns-2 c =
-    λ p.
-    let w = c .before .before .before .before .before .args .w in
+returns-2 c p =
+    let at-start : tie.Start = search in
+    let w = at-start .args .w in
     let a = of-address _ (w / 512 % 2) (w / 256 % 2) (w / 128 % 2) (w % 8) (c .before .address .ensures)
     (omega arith) (omega arith) (omega arith) (omega arith) in
     let s = of-register _ (w / 8 % 8) (c .before .before .register .ensures .0) (omega arith) in

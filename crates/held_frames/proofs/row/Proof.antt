@@ -7,11 +7,10 @@ use Rattle.held_frames.proofs.row.Tie as tie
 
 returns : tie.Need-returns
 returns c =
-    let at-frame-byte3 : tie.After-frame-byte3 = search in
-    let at-frame-byte2 : tie.After-frame-byte2 = search in
+    let at-start : tie.Start = search in
     let at-frame-byte : tie.After-frame-byte = search in
-    let u : tie.After-t20 = search in
-    let at-start = u .before .before .before .before .before .before .before in
+    let at-frame-byte2 : tie.After-frame-byte2 = search in
+    let at-frame-byte3 : tie.After-frame-byte3 = search in
     let g = now (at-start .args .regs) in
     λ t. getD g 0 0 ∷ getD g 1 0 ∷ getD g 2 0 ∷ getD g 3 0 ∷ getD g 4 0 ∷ getD g 6 0
     ∷ at-frame-byte .frame-byte .ensures t

@@ -9,22 +9,19 @@ use Rattle.held_frames.proofs.same_bytes.Tie as tie
 
 add-same-byte-7 : tie.Need-add-same-byte-7
 add-same-byte-7 c =
-    let u : tie.After-both2 = search in
-    let at-start = u .before .before .before .before .before .before in
+    let at-start : tie.Start = search in
     let h = at-start .pre .2
     in omega (arith, h)
 
 add-same-byte-8 : tie.Need-add-same-byte-8
 add-same-byte-8 c =
-    let u : tie.After-both3 = search in
-    let at-start = u .before .before .before .before .before .before .before .before in
+    let at-start : tie.Start = search in
     let h = at-start .pre .2
     in omega (arith, h)
 
 same-byte-requires-8 : tie.Need-same-byte-requires-8
 same-byte-requires-8 c κs =
-    let u : tie.After-both3 = search in
-    let at-start = u .before .before .before .before .before .before .before .before in
+    let at-start : tie.Start = search in
     let s = at-start
     in let h = s .pre .0 in (omega (arith, h), s .pre .1, omega arith)
 

@@ -18,8 +18,8 @@ returns c =
 
 cast-judged : tie.Need-cast-judged
 cast-judged c =
+    let at-start : tie.Start = search in
     let at-refusal-of : tie.After-refusal-of = search in
-    let at-start = at-refusal-of .before .before .before .before .before .before .before .before .before .before in
     let a = at-start .args in
     let p =
     call-passed (now (a .memory)) (now (a .state)) (now (a .events)) (now (a .writers)) (now (a .findings)) (a .n) _
@@ -29,8 +29,8 @@ cast-judged c =
 
 judged-requires : tie.Need-judged-requires
 judged-requires c κs =
+    let at-start : tie.Start = search in
     let at-refusal-of : tie.After-refusal-of = search in
-    let at-start = at-refusal-of .before .before .before .before .before .before .before .before .before .before in
     let a = at-start .args in
     let k = at-refusal-of .refusal-of .ensures in
     let h = c .before .before .before .before .if1 .left in (
@@ -41,10 +41,10 @@ judged-requires c κs =
 
 returns-2 : tie.Need-returns-2
 returns-2 c =
+    let at-start : tie.Start = search in
     let at-judged : tie.After-judged = search in
-    let at-if1 = at-judged .before .before .before .before .before in
-    let at-refusal-of = at-if1 .before in
-    let at-start = at-refusal-of .before .before .before .before .before .before .before .before .before .before in
+    let at-if1 : tie.Else1 = search in
+    let at-refusal-of : tie.After-refusal-of = search in
     let a = at-start .args in
     let j = at-judged .judged .ensures in
     let e =

@@ -10,27 +10,26 @@ use Rattle.judge_call.proofs.Laws.{few-steps, told-close, answer}
 use Rattle.judge_call.proofs.judged.Statement.{statement}
 use Rattle.judge_call.proofs.judged.Tie as tie
 
--- ways back from the judged run
-abbrev start : tie.After-judge-run → tie.Start
-start c = c .before .before .before .before .before .before .before .before .before .before .before .before .before .before .before
-    .before .before .before .before .before .before .before .before
-
+-- ways back: from the judged run to the machine that was read, and from there to the start
 abbrev read : tie.After-judge-run → tie.After-read-record
 read c = c .before .before .before .before .before .before .before .before
 
+abbrev start : tie.After-judge-run → tie.Start
+start c = read c .before .before .before .before .before .before .before .before .before .before .before .before .before .before .before
+
 tell-start-requires : tie.Need-tell-start-requires
 tell-start-requires c κs =
+    let at-start : tie.Start = search in
     let at-clear2 : tie.After-clear2 = search in
-    let at-start = at-clear2 .before .before .before .before .before .before .before .before .before .before .before in
     at-clear2 .clear2 .ensures ∙ ap (λ k. replicate k 0) (at-start .pre .2)
 
 judge-run-requires : tie.Need-judge-run-requires
 judge-run-requires c κs =
-    let at-tell-start : tie.After-tell-start = search in
-    let at-read-record : tie.After-read-record = search in
+    let s : tie.Start = search in
+    let at-clear : tie.After-clear = search in
     let at-findings : tie.After-findings = search in
-    let at-clear = at-findings .before .before .before .before .before in
-    let s = at-clear .before .before .before .before .before .before .before in
+    let at-read-record : tie.After-read-record = search in
+    let at-tell-start : tie.After-tell-start = search in
     let a = s .args in
     let p = s .pre .0 in (
       p .memory-size,
@@ -46,41 +45,38 @@ judge-run-requires c κs =
 tell-close-requires : tie.Need-tell-close-requires
 tell-close-requires c κs =
     let at-findings2 : tie.After-findings2 = search in
-    let at-findings = at-findings2 .before .before .before .before .before .before in
-    let at-start = at-findings .before .before .before .before .before .before .before .before .before .before .before .before in
+    let j : tie.After-judge-run = search in
     omega (
       arith,
       c .before .before .findings3 .given,
       at-findings2 .findings2 .given,
-      at-findings .findings .given,
-      at-start .pre .2,
+      read j .before .before .before .findings .given,
+      start j .pre .2,
     )
 
 write-record-requires : tie.Need-write-record-requires
 write-record-requires c κs =
-    let at-judge-run : tie.After-judge-run = c .before .before .before .before .before .before .before .before .before .before .before in
+    let at-judge-run : tie.After-judge-run = search in
     start at-judge-run .pre .0 .record-size
 
 kinds-requires : tie.Need-kinds-requires
 kinds-requires c κs =
     let at-findings4 : tie.After-findings4 = search in
     let at-findings3 : tie.After-findings3 = search in
-    let at-findings2 = at-findings3 .before .before .before .before .before .before .before .before .before .before in
-    let at-findings = at-findings2 .before .before .before .before .before .before in
-    let at-start = at-findings .before .before .before .before .before .before .before .before .before .before .before .before in
+    let j : tie.After-judge-run = search in
+    let at-findings2 : tie.After-findings2 = search in
     omega (
       arith,
       at-findings4 .findings4 .given,
       at-findings3 .findings3 .given,
       at-findings2 .findings2 .given,
-      at-findings .findings .given,
-      at-start .pre .2,
+      read j .before .before .before .findings .given,
+      start j .pre .2,
     )
 
 reply-of-requires : tie.Need-reply-of-requires
 reply-of-requires c κs =
-    let j = c .before .before .before .before .before .before .before .before .before .before .before .before .before .before
-    .before .before in
+    let j : tie.After-judge-run = search in
     let x = j .judge-run in
     let a = start j .args in
     let m = read j .read-record in (
@@ -92,34 +88,33 @@ reply-of-requires c κs =
 
 same-length-3 : tie.Need-same-length-3
 same-length-3 c =
-    let at-writers2 = c .before .before .before .before .before .before .before .before .before .before .before .before .before .before in
-    let at-writers = at-writers2 .before .before .before .before .before .before .before .before .before .before .before .before
-    .before .before .before .before .before .before in
+    let at-writers2 : tie.After-writers2 = search in
+    let j : tie.After-judge-run = search in
     omega (
       arith,
       at-writers2 .writers2 .given,
-      at-writers .writers .given,
+      read j .before .before .before .before .before .before .before .writers .given,
     )
 
 same-length-4 : tie.Need-same-length-4
 same-length-4 c =
     let at-findings4 : tie.After-findings4 = search in
     let at-findings3 : tie.After-findings3 = search in
-    let at-findings2 = at-findings3 .before .before .before .before .before .before .before .before .before .before in
-    let at-findings = at-findings2 .before .before .before .before .before .before in
+    let j : tie.After-judge-run = search in
+    let at-findings2 : tie.After-findings2 = search in
     omega (
       arith,
       at-findings4 .findings4 .given,
       at-findings3 .findings3 .given,
       at-findings2 .findings2 .given,
-      at-findings .findings .given,
+      read j .before .before .before .findings .given,
     )
 
 returns : tie.Need-returns
 returns c =
-    let at-write-record : tie.After-write-record = search in
+    let j : tie.After-judge-run = search in
     let at-tell-close : tie.After-tell-close = search in
-    let j = at-tell-close .before .before .before .before .before .before .before .before in
+    let at-write-record : tie.After-write-record = search in
     let x = j .judge-run in
     let a = start j .args in
     let m = read j .read-record in

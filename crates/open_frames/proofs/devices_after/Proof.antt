@@ -64,9 +64,9 @@ returns-2 c =
 
 returns-3 : tie.Need-returns-3
 returns-3 c =
+    let at-start : tie.Start = search in
     let at-chained : tie.After-chained = search in
     let at-act : tie.After-act = search in
-    let at-start = at-act .before .before .before .before .before .before in
     let a = at-start .args in
     let h = at-chained .chained .ensures in (
       h .0,
@@ -76,9 +76,9 @@ returns-3 c =
 
 returns-4 : tie.Need-returns-4
 returns-4 c =
+    let at-start : tie.Start = search in
     let at-hold : tie.After-hold = search in
     let at-act2 : tie.After-act2 = search in
-    let at-start = at-act2 .before .before .before .before .before .before in
     let a = at-start .args in
     let h = at-hold .hold .ensures in (
       h .0,
@@ -97,9 +97,9 @@ returns-5 c =
 
 returns-6 : tie.Need-returns-6
 returns-6 c =
+    let at-start : tie.Start = search in
     let at-hold2 : tie.After-hold2 = search in
     let at-act3 : tie.After-act3 = search in
-    let at-start = at-act3 .before .before .before .before .before .before in
     let a = at-start .args in
     let h = at-hold2 .hold2 .ensures in (
       h .0,
@@ -127,9 +127,9 @@ returns-8 c =
 
 returns-9 : tie.Need-returns-9
 returns-9 c =
+    let at-start : tie.Start = search in
     let at-trapped : tie.After-trapped = search in
     let at-act4 : tie.After-act4 = search in
-    let at-start = at-act4 .before .before .before .before .before .before in
     let a = at-start .args in
     let h = at-trapped .trapped .ensures in (
       h .0,

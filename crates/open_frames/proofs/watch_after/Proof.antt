@@ -10,11 +10,11 @@ use Rattle.open_frames.proofs.watch_after.Tie as tie
 
 returns : tie.Need-returns
 returns c =
+    let at-start : tie.Start = search in
     let at-devices-after : tie.After-devices-after = search in
     let at-owns-after : tie.After-owns-after = search in
     let at-oldest-after : tie.After-oldest-after = search in
     let at-sum : tie.After-sum = search in
-    let at-start = at-sum .before .before .before .before .before .before in
     let a = at-start .args in
     let w = at-owns-after .owns-after .ensures in
     let hs = heldRows (now (a .kept)) (now (a .opened)) (now (a .vectors)) (a .o .held) in (

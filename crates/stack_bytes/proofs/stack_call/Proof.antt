@@ -23,9 +23,9 @@ sum-above-requires c κs = let f = accepted c in (f .vectors-length, (f .uses-le
 
 mul-result : tie.Need-mul-result
 mul-result c =
-    let a = c .before .before .before .before .before .args in
-    let f = accepted (c .before) .uses-fit in
-    let x = sum-bounded (now (a .vectors)) (a .devices) (now (a .uses)) f 7 (a .p) _ (c .sum-above .ensures) in
+    let start : tie.Start = search in
+    let x = sum-bounded (now (start .args .vectors)) (start .args .devices) (now (start .args .uses)) (accepted (c .before) .uses-fit) 7
+    (start .args .p) _ (c .sum-above .ensures) in
     omega arith
 
 returns-2 : tie.Need-returns-2

@@ -22,15 +22,15 @@ two-at-requires c κs = let h = c .before .before .before .pre in omega arith
 
 returns : tie.Need-returns Inv-loop μ-loop
 returns c =
-    let b = now (c .before .before .before .before .before .args .uses) in
-    sym (unfit-below b _ 8 (c .before .before .loop-test .taken)
+    let start : tie.Start Inv-loop μ-loop = search in
+    sym (unfit-below (now (start .args .uses)) _ 8 (c .before .before .loop-test .taken)
     (ap (ltb 1024) (sym (c .before .two-at .ensures)) ∙ lt-ltb _ _ (c .if1 .taken)))
 
 loop-again : tie.Need-loop-again Inv-loop μ-loop
 loop-again c =
-    let b = now (c .before .before .before .before .before .args .uses) in
+    let start : tie.Start Inv-loop μ-loop = search in
     let e = ap (ltb 1024) (sym (c .before .two-at .ensures)) ∙ le-ltb _ _ (c .if1 .left) in
-    (omega arith, fit-next b _ (c .before .before .before .loop .inv .1) e)
+    (omega arith, fit-next (now (start .args .uses)) _ (c .before .before .before .loop .inv .1) e)
 
 returns-2 : tie.Need-returns-2 Inv-loop μ-loop
 returns-2 c =

@@ -21,10 +21,10 @@ returns-3 c = λ psw cex. inl (refl, (refl, refl, refl, refl))
 
 returns-4 : tie.Need-returns-4
 returns-4 c =
-    let d = c .before .before .before .before .before in
-    let t = d .before .before .before in
-    let e = t .before .before .before .before .before in
-    let start = e .before .before .before in
+    let d : tie.After-adjust = search in
+    let t : tie.After-aligned = search in
+    let e : tie.Else2 = search in
+    let start : tie.Start = search in
     let a = start .args in
     let o = c .before .before .load .ensures in
     let l = now (a .regs) in

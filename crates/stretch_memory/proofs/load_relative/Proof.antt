@@ -16,9 +16,9 @@ returns-2 c = λ psw cex. inl (refl, (refl, refl, refl, refl))
 
 returns-3 : tie.Need-returns-3
 returns-3 c =
-    let d = c .before .before .before .before .before in
-    let t = d .before in
-    let start = t .before .before .before .before .before .before in
+    let start : tie.Start = search in
+    let d : tie.Else2 = search in
+    let t : tie.After-aligned = search in
     let a = start .args in
     let o = c .before .before .load .ensures in
     let l = now (a .regs) in

@@ -20,11 +20,11 @@ returns-2 c =
 
 returns-3 : tie.Need-returns-3
 returns-3 c =
+    let s : tie.After-store = search in
+    let t : tie.After-address = search in
+    let i : tie.Else1 = search in
+    let start : tie.Start = search in
     let e = c .before .before in
-    let s = e .before .before .before in
-    let t = s .before .before in
-    let i = t .before .before .before .before .before .before in
-    let start = i .before .before in
     let a = start .args in
     let l = now (a .regs) in
     let stays = i .if1 .left in

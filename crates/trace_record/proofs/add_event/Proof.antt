@@ -20,11 +20,11 @@ events-waiting-requires c κs =
 
 returns : tie.Need-returns
 returns c =
-    let r = c .before .before in
-    let w = r .before .before in
+    let at-start : tie.Start = search in
     let b : tie.After-event-bits = search in
     let q : tie.After-events-waiting = search in
-    let at-start = q .before .before .before .before .before .before in
+    let r = c .before .before in
+    let w = r .before .before in
     let a = at-start .args in
     event-written (a .b) (now (a .devices)) (now (a .events)) (a .lines) (a .at) _ (now (a .trace)) _ _ _ _ (q .events-waiting .ensures)
     (b .event-bits .ensures) (w .wide .ensures) (r .put-record .ensures)

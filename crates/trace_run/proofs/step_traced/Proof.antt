@@ -36,8 +36,7 @@ else-of c = c .before .before .before .before .before .before
 
 plan-requires : tie.Need-plan-requires
 plan-requires c κs =
-    let s = c .before .before .before .before .before .before .before .before .before .before .before .before .before .before
-    .before .before in
+    let s : tie.Start = search in
     (omega (arith, s .pre .size), ap (λ (x : Rest). x .halted) (c .with-lines .ensures) ∙ s .pre .live)
 
 needed-requires : tie.Need-needed-requires
@@ -123,7 +122,7 @@ same-length-2 c =
 returns-2 : tie.Need-returns-2
 returns-2 c =
     let at-perform : tie.After-perform = search in
-    let at-if1 = at-perform .before .before .before .before .before in
+    let at-if1 : tie.Else1 = search in
     let at-lacks = else-of at-perform in
     let p = plan-of at-lacks in
     let s = start p in

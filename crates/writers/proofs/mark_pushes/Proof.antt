@@ -7,10 +7,10 @@ use Rattle.writers.proofs.mark_pushes.Tie as tie
 
 returns : tie.Need-returns
 returns c k q =
+    let at-start : tie.Start = search in
     let c₂ : tie.After-slice-known4 = search in
     let c₁ : tie.After-slice-known3 = search in
-    let c₀ = c₁ .before .before .before .before .before in
-    let at-start = c₀ .before .before .before .before .before .before in
+    let c₀ : tie.After-slice-known2 = search in
     let s = at-start .args in
     let w₁ = c₀ .before .before .before .wrapping-sub-u16 in
     let w₂ = c₁ .before .before .before .wrapping-sub-u162 in

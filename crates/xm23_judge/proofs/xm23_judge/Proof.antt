@@ -10,8 +10,8 @@ use Rattle.xm23_judge.proofs.xm23_judge.Tie as tie
 
 returns : tie.Need-returns
 returns c =
-    let called = c .before .before .before .before .before .before .before .before in
-    let known = called .before .before .before .before .before .before .before in
+    let known : tie.After-shared-slice-known = search in
+    let called : tie.After-judge-call = search in
     let a = known .before .before .before .args in
     let memory : (i : ℕ) → getD (now (a .memory)) i 0 < 256 = λ i. omega (arith, known .before .before .slice-known .given i) in
     let state : (i : ℕ) → getD (now (a .state)) i 0 < 256 = λ i. omega (arith, known .before .slice-known2 .given i) in

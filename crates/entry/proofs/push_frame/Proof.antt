@@ -7,10 +7,10 @@ use Rattle.entry.proofs.push_frame.Tie as tie
 
 returns : tie.Need-returns
 returns c =
+    let at-start : tie.Start = search in
     let at-push3 : tie.After-push3 = search in
     let b : tie.After-push2 = search in
-    let at-push = b .before .before .before .before .before in
-    let at-start = at-push .before .before .before .before .before in
+    let at-push : tie.After-push = search in
     let a = at-start .args in
     let p₁ = at-push .push .ensures in
     let p₂ = b .push2 .ensures in

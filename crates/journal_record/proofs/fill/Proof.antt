@@ -23,10 +23,10 @@ returns : tie.Need-returns
 returns c b w =
     let at-put-bytes2 : tie.After-put-bytes2 = search in
     let at-put-two : tie.After-put-two = search in
-    let at-put-bytes = at-put-two .before .before .before .before in
-    let at-write-record = at-put-bytes .before .before .before .before .before in
-    let at-eight-before = at-write-record .before .before in
-    let s = at-eight-before .before .before .before in
+    let at-put-bytes : tie.After-put-bytes = search in
+    let at-write-record : tie.After-write-record = search in
+    let at-eight-before : tie.After-eight-before = search in
+    let s : tie.Start = search in
     let e = now (s .args .e) in
     let d = now (s .args .devices) in
     let a = s .args .a in

@@ -6,14 +6,14 @@ use Rattle.srec_write.proofs.put_line.Tie as tie
 
 returns : tie.Need-returns
 returns c =
-    let at-put-lf = c .before .before in
     let at-put-bytes3 : tie.After-put-bytes3 = search in
     let at-put-bytes2 : tie.After-put-bytes2 = search in
-    let at-put-bytes = at-put-bytes2 .before .before .before .before in
-    let at-put-two = at-put-bytes .before .before .before .before .before in
-    let at-sum2 = at-put-two .before .before in
-    let at-sum = at-sum2 .before in
-    let at-start = at-sum .before .before .before .before in
+    let at-put-bytes : tie.After-put-bytes = search in
+    let at-put-two : tie.After-put-two = search in
+    let at-sum2 : tie.After-sum2 = search in
+    let at-sum : tie.After-sum = search in
+    let at-start : tie.Start = search in
+    let at-put-lf = c .before .before in
     let s = at-start .args in
     let total = check-of _ _ _ _ _ (s .bytes .now) (at-sum .sum .ensures .0) (at-sum2 .sum2 .ensures .0) in
     let lf = at-put-lf .put-lf .ensures in

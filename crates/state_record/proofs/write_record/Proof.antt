@@ -6,8 +6,8 @@ use Rattle.state_record.proofs.write_record.Tie as tie
 
 returns : tie.Need-returns
 returns c =
+    let s : tie.Start = search in
     let at-put-status : tie.After-put-status = search in
-    let s = at-put-status .before .before .before .before .before .before .before .before in
     λ mem.
     whole-record (now (s .args .r)) _ _ _ (s .args .m) mem (s .pre)
     (at-put-status .before .before .before .before .put-registers .ensures) (at-put-status .put-status .ensures)

@@ -8,12 +8,12 @@ use Rattle.sheet.proofs.line.put_machine.Tie as tie
 
 returns : tie.Need-returns
 returns c =
-    let at-put-field3 = c .before .before in
     let at-put-field2 : tie.After-put-field2 = search in
     let at-put-field : tie.After-put-field = search in
-    let at-put-words2 = at-put-field .before .before .before .before .before in
-    let at-put-words = at-put-words2 .before .before .before .before in
-    let entry = at-put-words .before .before .before .before in
+    let at-put-words2 : tie.After-put-words2 = search in
+    let at-put-words : tie.After-put-words = search in
+    let entry : tie.Start = search in
+    let at-put-field3 = c .before .before in
     let line =
     machine-text (take (entry .args .at) (entry .args .out .now)) (entry .args .m)
     (at-put-words .put-words .ensures .0)

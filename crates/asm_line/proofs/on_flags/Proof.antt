@@ -11,20 +11,16 @@ returns c = rw (sym (c .before .before .read-flags .ensures) ∙ c .enum-told .g
 returns-2 : tie.Need-returns-2
 unfolding onFlags
 returns-2 c =
-    let c2 = c .before .before in
-    let c4 = c2 .before .before in
     rw (
-      sym (c4 .read-flags .ensures) ∙ c2 .f .given .1,
+      sym (c .before .before .before .before .read-flags .ensures) ∙ c .before .before .f .given .1,
       c .if1 .taken,
     )
 
 returns-3 : tie.Need-returns-3
 unfolding onFlags
 returns-3 c =
-    let c2 = c .before .before in
-    let c4 = c2 .before .before in
     rw (
-      sym (c4 .read-flags .ensures) ∙ c2 .f .given .1,
+      sym (c .before .before .before .before .read-flags .ensures) ∙ c .before .before .f .given .1,
       c .if1 .left,
     )
 

@@ -11,20 +11,16 @@ returns c = rw (sym (c .before .before .read-register .ensures) ∙ c .enum-told
 returns-2 : tie.Need-returns-2
 unfolding oneRegister
 returns-2 c =
-    let c2 = c .before .before in
-    let c4 = c2 .before .before in
     rw (
-      sym (c4 .read-register .ensures) ∙ c2 .d .given .1,
+      sym (c .before .before .before .before .read-register .ensures) ∙ c .before .before .d .given .1,
       c .if1 .taken,
     )
 
 returns-3 : tie.Need-returns-3
 unfolding oneRegister
 returns-3 c =
-    let c2 = c .before .before in
-    let c4 = c2 .before .before in
     rw (
-      sym (c4 .read-register .ensures) ∙ c2 .d .given .1,
+      sym (c .before .before .before .before .read-register .ensures) ∙ c .before .before .d .given .1,
       c .if1 .left,
     )
 

@@ -11,40 +11,33 @@ returns c = rw (sym (c .before .before .read-condition .ensures) ∙ c .enum-tol
 returns-2 : tie.Need-returns-2
 unfolding conditional
 returns-2 c =
-    let c2 = c .before .before in
-    let c4 = c2 .before .before in
-    let c6 = c4 .before .before in
+    let w = c .before .before .before .before in
     rw (
-      sym (c6 .read-condition .ensures) ∙ c4 .w .given .1,
-      sym (c2 .comma-value .ensures) ∙ c .enum-told2 .given .1,
+      sym (w .before .before .read-condition .ensures) ∙ w .w .given .1,
+      sym (c .before .before .comma-value .ensures) ∙ c .enum-told2 .given .1,
     )
 
 returns-3 : tie.Need-returns-3
 unfolding conditional
 returns-3 c =
-    let c2 = c .before .before in
-    let c4 = c2 .before .before in
-    let c6 = c4 .before .before in
-    let c8 = c6 .before .before in
-    let c10 = c8 .before .before in
+    let t = c .before .before .before .before in
+    let w = t .before .before .before .before in
     rw (
-      sym (c10 .read-condition .ensures) ∙ c8 .w .given .1,
-      sym (c6 .comma-value .ensures) ∙ c4 .t .given .1,
-      sym (c2 .comma-value2 .ensures) ∙ c .enum-told3 .given .1,
+      sym (w .before .before .read-condition .ensures) ∙ w .w .given .1,
+      sym (t .before .before .comma-value .ensures) ∙ t .t .given .1,
+      sym (c .before .before .comma-value2 .ensures) ∙ c .enum-told3 .given .1,
     )
 
 returns-4 : tie.Need-returns-4
 unfolding conditional
 returns-4 c =
-    let c3 = c .before .before .before in
-    let c5 = c3 .before .before in
-    let c7 = c5 .before .before in
-    let c9 = c7 .before .before in
-    let c11 = c9 .before .before in
+    let f = c .before in
+    let t = f .before .before .before .before in
+    let w = t .before .before .before .before in
     rw (
-      sym (c11 .read-condition .ensures) ∙ c9 .w .given .1,
-      sym (c7 .comma-value .ensures) ∙ c5 .t .given .1,
-      sym (c3 .comma-value2 .ensures) ∙ c .before .f .given .1,
+      sym (w .before .before .read-condition .ensures) ∙ w .w .given .1,
+      sym (t .before .before .comma-value .ensures) ∙ t .t .given .1,
+      sym (f .before .before .comma-value2 .ensures) ∙ f .f .given .1,
     )
 
 pub read-conditional-spec : {M : Type 1} → statement M

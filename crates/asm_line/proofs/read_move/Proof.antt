@@ -11,40 +11,33 @@ returns c = rw (sym (c .before .before .read-width .ensures) ∙ c .enum-told .g
 returns-2 : tie.Need-returns-2
 unfolding move
 returns-2 c =
-    let c2 = c .before .before in
-    let c4 = c2 .before .before in
-    let c6 = c4 .before .before in
+    let w = c .before .before .before .before in
     rw (
-      sym (c6 .read-width .ensures) ∙ c4 .w .given .1,
-      sym (c2 .read-register .ensures) ∙ c .enum-told2 .given .1,
+      sym (w .before .before .read-width .ensures) ∙ w .w .given .1,
+      sym (c .before .before .read-register .ensures) ∙ c .enum-told2 .given .1,
     )
 
 returns-3 : tie.Need-returns-3
 unfolding move
 returns-3 c =
-    let c2 = c .before .before in
-    let c4 = c2 .before .before in
-    let c6 = c4 .before .before in
-    let c8 = c6 .before .before in
-    let c10 = c8 .before .before in
+    let a = c .before .before .before .before in
+    let w = a .before .before .before .before in
     rw (
-      sym (c10 .read-width .ensures) ∙ c8 .w .given .1,
-      sym (c6 .read-register .ensures) ∙ c4 .a .given .1,
-      sym (c2 .comma-register .ensures) ∙ c .enum-told3 .given .1,
+      sym (w .before .before .read-width .ensures) ∙ w .w .given .1,
+      sym (a .before .before .read-register .ensures) ∙ a .a .given .1,
+      sym (c .before .before .comma-register .ensures) ∙ c .enum-told3 .given .1,
     )
 
 returns-4 : tie.Need-returns-4
 unfolding move
 returns-4 c =
-    let c3 = c .before .before .before in
-    let c5 = c3 .before .before in
-    let c7 = c5 .before .before in
-    let c9 = c7 .before .before in
-    let c11 = c9 .before .before in
+    let d = c .before in
+    let a = d .before .before .before .before in
+    let w = a .before .before .before .before in
     rw (
-      sym (c11 .read-width .ensures) ∙ c9 .w .given .1,
-      sym (c7 .read-register .ensures) ∙ c5 .a .given .1,
-      sym (c3 .comma-register .ensures) ∙ c .before .d .given .1,
+      sym (w .before .before .read-width .ensures) ∙ w .w .given .1,
+      sym (a .before .before .read-register .ensures) ∙ a .a .given .1,
+      sym (d .before .before .comma-register .ensures) ∙ d .d .given .1,
     )
 
 pub read-move-spec : {M : Type 1} → statement M

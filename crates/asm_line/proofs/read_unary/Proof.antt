@@ -11,23 +11,20 @@ returns c = rw (sym (c .before .before .read-width .ensures) ∙ c .enum-told .g
 returns-2 : tie.Need-returns-2
 unfolding unary
 returns-2 c =
-    let c2 = c .before .before in
-    let c4 = c2 .before .before in
-    let c6 = c4 .before .before in
+    let w = c .before .before .before .before in
     rw (
-      sym (c6 .read-width .ensures) ∙ c4 .w .given .1,
-      sym (c2 .read-register .ensures) ∙ c .enum-told2 .given .1,
+      sym (w .before .before .read-width .ensures) ∙ w .w .given .1,
+      sym (c .before .before .read-register .ensures) ∙ c .enum-told2 .given .1,
     )
 
 returns-3 : tie.Need-returns-3
 unfolding unary
 returns-3 c =
-    let c3 = c .before .before .before in
-    let c5 = c3 .before .before in
-    let c7 = c5 .before .before in
+    let d = c .before in
+    let w = d .before .before .before .before in
     rw (
-      sym (c7 .read-width .ensures) ∙ c5 .w .given .1,
-      sym (c3 .read-register .ensures) ∙ c .before .d .given .1,
+      sym (w .before .before .read-width .ensures) ∙ w .w .given .1,
+      sym (d .before .before .read-register .ensures) ∙ d .d .given .1,
     )
 
 pub read-unary-spec : {M : Type 1} → statement M

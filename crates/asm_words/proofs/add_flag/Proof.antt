@@ -1,9 +1,5 @@
-use mathlib.Core.Path.{_≡_, sym, ap, _∙_}
-use Prim.Native.Nat.{_+_, _/_, _%_, _<_}
 use native.Mathlib.Omega.{arith}
-use borrow.Author.Tests.{eq-eqb, ne-eqb}
 use borrow.Author.Needs.{needs}
-use Rattle.asm_words.specs.Words.{flagOf, withBit}
 use Rattle.asm_words.proofs.Laws.{flag-fits, with-none, with-new, with-old}
 use Rattle.asm_words.proofs.add_flag.Statement.{statement}
 use Rattle.asm_words.proofs.add_flag.Tie as tie

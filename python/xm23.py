@@ -11,7 +11,8 @@ A Machine holds memory and the state record; its methods are the library's calls
 Refused, with the number, the sentence and, of a text, the line; nothing has changed then. include/xm23.h and man
 xm23(3) say what each call does; nothing of the machine is worked out here.
 
-The library is found by XM23_LIBRARY, a path, or by its name, libxm23.so.
+The library is found by XM23_LIBRARY, a path, or by its name, libxm23.so, where the system looks for libraries or in a
+folder of LD_LIBRARY_PATH.
 """
 import ctypes
 import enum
@@ -234,7 +235,12 @@ _CALLS = {
 
 def _opened():
     """The library, each call with its types."""
-    library = ctypes.CDLL(os.environ.get("XM23_LIBRARY", "libxm23.so"))
+    path = os.environ.get("XM23_LIBRARY", "libxm23.so")
+    try:
+        library = ctypes.CDLL(path)
+    except OSError as problem:
+        raise ImportError(f"{problem}: set XM23_LIBRARY to the path of libxm23.so, or LD_LIBRARY_PATH to its folder; "
+                          "'make install-lib PREFIX=..' puts it into PREFIX/lib") from None
     for name, (result, takes) in _CALLS.items():
         call = getattr(library, name)
         call.restype, call.argtypes = result, takes

@@ -3,6 +3,7 @@
 import os
 import re
 import struct
+import subprocess
 import sys
 import unittest
 
@@ -39,6 +40,17 @@ def ticking(handler=TICKING, **registers):
     machine.memory[2] = 0x13
     machine.put_vector(1, 0x0040, 0x0140)
     return machine
+
+
+class Found(unittest.TestCase):
+    """Where the library is not found the error says how it is."""
+
+    def test_not_found(self):
+        environment = {**os.environ, "XM23_LIBRARY": "/no/such.so", "PYTHONPATH": os.path.join(ROOT, "python")}
+        told = subprocess.run([sys.executable, "-B", "-c", "import xm23"], env=environment, capture_output=True, text=True)
+        self.assertEqual(told.returncode, 1)
+        last = told.stderr.strip().splitlines()[-1]
+        self.assertRegex(last, "^ImportError: /no/such.so: .*set XM23_LIBRARY to .*, or LD_LIBRARY_PATH to its folder; ")
 
 
 class Header(unittest.TestCase):

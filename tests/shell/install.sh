@@ -10,7 +10,8 @@ prefix=$room/usr
 files="bin/print_state bin/xm23 include/xm23.h
     lib/libxm23.a lib/libxm23.so lib/libxm23.so.${version%%.*} lib/libxm23.so.$version
     lib/pkgconfig/xm23.pc lib/python3/dist-packages/xm23.py share/man/man1/print_state.1 share/man/man1/xm23.1
-    share/man/man3/xm23.3 share/man/man3/xm23_decode.3 share/man/man5/xm23.5 share/bash-completion/completions/xm23"
+    share/man/man3/xm23.3 share/man/man3/xm23_decode.3 share/man/man5/xm23.5 share/bash-completion/completions/xm23
+    share/xm23/folders"
 
 # there FOLDER: what lies below it that is no folder.
 there() {
@@ -70,10 +71,21 @@ expect "README's example in Python" 0 "$said" '' python examples/run.py
 expect 'by a path' 0 "$said" '' env XM23_LIBRARY="$prefix/lib/libxm23.so" PYTHONPATH=python python3 -B examples/run.py
 expect 'a folder marked from Python' 0 '.*sound.s19: sum 31, ticks 2, sound.*' '' python examples/ticks.py
 same 'is that of README' "$(cat "$room/readme.py")" "$(cat examples/run.py)"
+same 'and so is the one in C' "$(block README.md '```c')" "$(cat examples/run.c)"
 same 'xm23' "$("$prefix/bin/xm23" dis examples/copy_words.s19)" "$(cat examples/copy_words.lst)"
 same 'print_state' "$("$prefix/bin/print_state" < /dev/null)" R3
 same 'a page of each call' "$(cat "$prefix/share/man/man3/xm23_run.3")" '.so man3/xm23.3'
 
 expect 'make uninstall' 0 '' '' $make uninstall PREFIX="$prefix"
-same 'nothing is left' "$(there "$prefix")" ''
+same 'nothing is left, no folder either' "$(ls -d "$prefix" 2> /dev/null)" ''
+expect 'and of DESTDIR' 0 '' '' $make uninstall PREFIX=/xm23 DESTDIR="$room/stage"
+same 'what lies before the prefix stays' "$(find "$room/stage")" "$room/stage"
+mkdir -p "$prefix/bin" "$prefix/lib/pkgconfig"
+: > "$prefix/lib/other"
+expect 'into folders that are there' 0 '.*' '' $make install-lib PREFIX="$prefix"
+: > "$prefix/include/other.h"
+expect 'a second time' 0 '.*' '' $make install PREFIX="$prefix"
+expect 'removed again' 0 '' '' $make uninstall PREFIX="$prefix"
+same 'those folders stay, and what others have put into new ones' "$(cd "$prefix" && find . | sort | xargs)" \
+    '. ./bin ./include ./include/other.h ./lib ./lib/other ./lib/pkgconfig'
 count

@@ -166,9 +166,9 @@ const struct subcommand subcommands[] = {
      "\n"
      "With MODEL, a program, its run is looked at: events that come behind a halt, find ENA clear, are overruns, are\n"
      "lost or wait at the close, or ask for a handler with no vector; bytes of MODEL over which PAPER lays others;\n"
-     "names in its sources that stand alone and that nothing uses; a line that is not the expected one; points that it\n"
-     "does not get; what 'sound' finds of its handlers; a handler that holds more stack bytes than its 'use', or all\n"
-     "together more than the figure of 'stack'. Below the findings stand its line, its points and the stack bytes.\n"
+     "names in its sources that stand alone and that nothing uses; a line that is not the expected one; points that\n"
+     "it does not get; what 'sound' finds of its handlers; a handler that holds more stack bytes than its 'use', or\n"
+     "all together more than the figure of 'stack'. Below the findings stand its line, its points and the stack bytes.\n"
      "\n"
      "Status 0: nothing found. 1: something, or MODEL is refused, or PAPER has a mistake.\n",
      xm23_desk_check},

@@ -338,6 +338,19 @@ static int bare(struct text *t, const char *line)
     return 0;
 }
 
+/* MOV of a number. */
+static int moves_number(struct text *t, const char *line)
+{
+    char tried[MOST_LINE + 1];
+    struct parts p;
+    cut_line(line, &p);
+    if (!is_run(line, &p.word, "MOV") || !put_part(tried, line, &p.word, "MOVLZ") || !line_fits(tried))
+        return 0;
+    add_column(t, p.word.at);
+    addf(t, "MOV takes registers alone: MOVLZ loads a byte, MOVH then the high one");
+    return 1;
+}
+
 /* What fits in the place of one operand. Letters of flags may be a name too. */
 static int operand(struct text *t, const char *line)
 {
@@ -400,7 +413,8 @@ static int statement(struct text *t, const char *line)
 
 /* The table: the first that is so is told. */
 static int (*const forms[])(struct text *, const char *) = {
-    strange_byte, reserved, too_much, hint_words, lone_mark, brackets, nameless, comma, bare, operand, statement,
+    strange_byte, reserved, too_much, hint_words, lone_mark, brackets,
+    nameless, comma, bare, moves_number, operand, statement,
 };
 
 void hint_form(struct text *t, const char *source, size_t length, uint32_t number)

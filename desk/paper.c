@@ -195,13 +195,21 @@ int take_paper(const char *name, char *bytes, size_t length, struct paper *p)
     return status == DONE ? REFUSED : status;
 }
 
+/* Paper and program in the other order: told besides what is wrong. */
+static int tell_swapped(const char *name, int status)
+{
+    if (status == REFUSED && (ends_in(name, ".s19") || ends_in(name, ".asm")))
+        say_at(name, 0, "by its name it is a program: the paper stands before it");
+    return status;
+}
+
 int read_paper(const char *name, struct paper *p)
 {
     struct text why = {0};
     size_t length = 0;
     char *bytes = read_file(name, ANY_FILE, MOST_TEXT, &length, &why);
     if (bytes)
-        return take_paper(name, bytes, length, p);
+        return tell_swapped(name, take_paper(name, bytes, length, p));
     say_at(name, 0, "%s", why.at);
     drop_text(&why);
     return UNREADABLE;

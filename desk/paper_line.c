@@ -209,6 +209,15 @@ static const struct {
     {"type", take_type}, {"award", take_award}, {"pass", take_pass}, {"expect", expect},
 };
 
+/* A # with no digit, or with what is no number of any base. */
+static int like_comment(const struct word *w)
+{
+    for (size_t i = 1; w->at[0] == '#' && i < w->length; i++)
+        if (!memchr("0123456789abcdefABCDEF-", w->at[i], 23))
+            return 1;
+    return w->at[0] == '#' && w->length == 1;
+}
+
 static int take_line(struct paper *p, uint32_t line, const char *at, const char *end)
 {
     struct rest r = {p, line, at, end}, whole = r;
@@ -217,6 +226,8 @@ static int take_line(struct paper *p, uint32_t line, const char *at, const char 
         return srec(p, line, at, end);
     if (!next_word(&r, &w))
         return 1;
+    if (like_comment(&w))
+        return wrong_word(&r, &w, "is no number: a comment begins with ;");
     if (memchr("0123456789#$", w.at[0], 12))
         return take_event(&whole);
     for (size_t i = 0; i < sizeof statements / sizeof *statements; i++)

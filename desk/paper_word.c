@@ -110,12 +110,21 @@ static int means_sixteen(const struct word *w)
            (w->at[1] == '0' || digits_of(w->at + 1, w->length - 1, 10, UINT32_MAX) < 0);
 }
 
+/* Base sixteen as C writes it. */
+static int like_c(const struct word *w)
+{
+    return w->length > 2 && w->at[0] == '0' && (w->at[1] | 32) == 'x' &&
+           digits_of(w->at + 2, w->length - 2, 16, UINT32_MAX) >= 0;
+}
+
 int no_number(const struct rest *r, const struct word *w, const struct word *whole, const char *what)
 {
     int64_t value = like_name(w) && r->paper->many_sources ? number_of(r, w) : 0;
     char says[64];
     if (means_sixteen(w))
         return wrong_word(r, w, "is no number: # is base ten, $ base sixteen");
+    if (like_c(w))
+        return wrong_word(r, w, "is no number: base sixteen is $ and the digits");
     if (value == NOT_ONE)
         return wrong_word(r, w, "is no name that a source of the paper gives");
     snprintf(says, sizeof says, "comes to %lld, which does not fit", (long long)value);

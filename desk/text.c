@@ -210,6 +210,12 @@ static void tell(struct text *t)
     drop_text(t);
 }
 
+int ends_in(const char *name, const char *end)
+{
+    size_t length = strlen(name), letters = strlen(end);
+    return length >= letters && strcmp(name + length - letters, end) == 0;
+}
+
 void say_text(const char *format, ...)
 {
     struct text t = {0};

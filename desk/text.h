@@ -31,6 +31,8 @@ void add_csv(struct text *t, const char *bytes, size_t length);   /* one cell; '
 void add_plain_lines(struct text *t, const char *bytes, size_t length); /* line feeds and tabs stay */
 void add_html_lines(struct text *t, const char *bytes, size_t length);
 
+int ends_in(const char *name, const char *end); /* a name, in these letters */
+
 /* Prints `xm23: ` or `name:line: ` (line 0: `name: `) and the text as one line on standard error, as add_plain has it;
  * say_of begins it with a word in quotes, of a long one the first bytes. */
 void say_text(const char *format, ...);

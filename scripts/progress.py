@@ -88,6 +88,8 @@ class Progress:
             self.crate(*found.groups())
         elif found := re.match(r"rt: must-fail (\w+/\w+): refused, .*?(\d+) s\)$", text):
             self.edit(*found.groups())
+        elif found := re.match(r"rt: (\w+) ran as nobody, and wrote what its file 'stdout' has \((\d+) s\)$", text):
+            self.say(f"ran {found[1]} on crates/{found[1]}/stdin: it printed crates/{found[1]}/stdout ({found[2]} s)")
         elif re.match(r"rt: \w+ ran\b|\d+ passed, \d+ failed$", text):
             self.say(text)
         elif not text.startswith("rt: "):

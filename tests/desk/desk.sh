@@ -49,7 +49,12 @@ expect 'another line' 1 '0 120 0019 .*' "$paper:21: another line was expected: $
     "$xm23" run "$paper" "${sound%/*}/stops_early.s19"
 expect 'a refused program' 1 'R11' ".*refused.s19:2: R11: a line's checksum differs.*" \
     "$xm23" run "$paper" "${sound%/*}/refused.s19"
-expect 'a paper alone, taken for a program' 1 R10 "$paper:1: R10: .*" "$xm23" run "$paper"
+expect 'a paper alone, taken for a program' 1 R10 "$paper:1: R10: .*$paper: by its name it is a paper: the program .*" \
+    "$xm23" run "$paper"
+expect 'paper and program in the other order' 1 '' ".*has no line 'steps N'.$sound: by its name it is a program: the paper .*" \
+    "$xm23" run "$sound" "$paper"
+expect 'the same with a source' 1 '' ".*begins no line.*: by its name it is a program: the paper .*" \
+    "$xm23" mark -o "$room/swapped" examples/sitting/sources/sound.asm "$paper"
 expect 'run with three words' 2 '' "$(usage run)" "$xm23" run "$paper" "$sound" "$sound"
 expect 'no such paper' 3 '' 'no/paper: No such file.*' "$xm23" run no/paper "$sound"
 expect 'a folder as paper' 3 '' '/: is a folder' "$xm23" run / "$sound"
@@ -76,6 +81,13 @@ right() { # WHAT LINE PAPER
     expect "$1" 0 "$2" '' "$xm23" run "$room/p.paper" "$sound"
 }
 wrong '' "has no line 'steps N'" ''
+wrong '2:' "'0x800' is no number: base sixteen is \\$ and the digits" 'steps 1\nstart SP=0x800\n'
+wrong '2:' "'0X1F' is no number: base sixteen is \\$ and the digits" 'steps 1\nbytes 0X1F 1\n'
+wrong '2:' "'0xG' is no address, .*" 'steps 1\nbytes 0xG 1\n'
+wrong '1:' "'#' is no number: a comment begins with ;" '# a paper\n'
+wrong '1:' "'#comment' is no number: a comment begins with ;" '#comment\n'
+wrong '1:' "'#1x' is no number: a comment begins with ;" '#1x\n'
+wrong '1:' "'#1F' is no number: # is base ten, .*" '#1F 1 0\n'
 wrong '1:' "'hello' begins no line of a paper: .*" 'hello\n'
 wrong '1:' "'\\\\x01\\\\x02' begins no line of a paper: .*" '\001\002\n'
 wrong '1:' "'\\\\x00' begins no line of a paper: .*" '\0000\n'

@@ -105,7 +105,6 @@ of_form "column 12: 'R2' is too much: a comment begins with ;" ' ADD R0,R1,R2'
 of_form "column 12: '//' is too much: a comment begins with ;" ' ADD R0,R1 // a comment'
 hint "$form" 1 "column 6: 'START' is too much: a comment begins with ;" ' END START'
 of_form 'column 9: here stands a register' ' ADD R1,R9'
-of_form 'column 6: here stands a register' ' MOV #1,R0'
 of_form 'column 10: here stands a number, a name or an expression in brackets' ' CEX EQ, R0,#2'
 of_form 'column 6: here stands a condition' ' CEX XX,#1,#2'
 of_form 'column 8: here stands a list of flags' ' SETCC CC'
@@ -119,6 +118,10 @@ printf ' ADD R0,R1\n' > "$room/b.asm"
 expect 'END is missing' 1 '' "$room/b.asm:2: $form.$room/b.asm:2: END is missing, which every source ends with" \
     "$xm23" asm "$room/b.asm"
 expect 'nothing at all' 1 '' ".*:1: $form./dev/null:1: END is missing, .*" "$xm23" asm /dev/null
+
+of_form 'column 2: MOV takes registers alone: MOVLZ loads a byte, MOVH then the high one' ' MOV #3,R0'
+of_form 'column 4: MOV takes registers alone: MOVLZ loads a byte, MOVH then the high one' 'A  MOV LAST,R0'
+of_form 'column 9: here stands a register' ' MOV R1,#3'
 
 # ---- names
 hint "$name" 1 "column 6: no line gives the name 'LOPP'" ' BRA LOPP\nLOOP'

@@ -188,6 +188,7 @@ part 'desk program' count_status desk
 part 'example listing' count_status listing
 part 'example host' count_status example_host
 part 'reference card' count_line card
+part 'the card as a text' count_line python3 -B scripts/card.py --check "$build/card.html"
 part 'the program' count_line tests/shell/program.sh
 part 'desk' count_line desk_tests
 part 'desk program with sanitizers of gcc' count_status desk_checked gcc

@@ -255,7 +255,7 @@ expect 'an end that is full' 3 '' 'standard output: cannot be written: .*' \
 cp R3_is_left.asm $'=R3,"is\nleft.asm'
 cp R3_is_left.asm '<b>&R3.asm'
 "$xm23" mark -o marks clock.paper "${names[@]}" $'=R3,"is\nleft.asm' '<b>&R3.asm' refused.s19 no/such 2> err
-same 'mark' "$? $(cat err)" '1 '
+same 'mark' "$? $(cat err)" '1 no/such: No such file or directory'
 cells marks name handlers application > cells
 row() { same "the row of $1" "$(grep -F "$1|" cells)" "$1|$2"; }
 row the_model.asm 'sound|undisturbed'

@@ -110,7 +110,7 @@ expect 'two of them' 1 '' "$room/e.paper:2: the expected line is on line 1 alrea
 
 # Marked by it: the model agrees, what cannot be read never does, a refusal does where it is expected.
 printf '%s\nexpect * * 001f * * * * * * * * * * * ; R0\n' "$unlined" > "$room/e.paper"
-expect 'marked by one field' 1 '' '' \
+expect 'marked by one field' 1 '' 'no/such: No such file or directory' \
     "$xm23" mark -o "$room/field" "$room/e.paper" "$sound" "${sound%/*}/stops_early.s19" no/such
 agreeing() { # FOLDER
     python3 -c 'import csv, sys
@@ -120,7 +120,7 @@ same 'one agrees' "$(agreeing "$room/field")" 'yes no no'
 same 'thirteen fields may be anything' "$(grep -c '<td class="n">any</td>' "$room"/field/pages/*-sound*)" 13
 same 'one may not' "$(grep -c 'not 001F' "$room"/field/pages/*-stops_early*)" 1
 printf '%s\nexpect r11\n' "$unlined" > "$room/e.paper"
-expect 'marked by a refusal' 1 '' '' \
+expect 'marked by a refusal' 1 '' 'no/such: No such file or directory' \
     "$xm23" mark -o "$room/refusal" "$room/e.paper" "${sound%/*}/refused.s19" "$sound" no/such
 same 'the refused one agrees' "$(agreeing "$room/refusal")" 'yes no no'
 same 'pages are well-formed' "$(python3 -B tests/desk/pages.py "$room"/{refusal,field}/pages/*.html)" 'all well-formed'

@@ -28,6 +28,10 @@ clean 'asm -l' 0 asm -l examples/copy_words.asm
 clean 'asm of noise' 1 asm "$room/noise"
 clean 'report' 1 report -o "$room/report.html" "$paper" "$programs/screen.asm"
 clean 'report of a refused program' 1 report -o "$room/report.html" "$paper" "$programs/refused.s19"
+printf ' ORG $1000\nHERE BRA HERE\n HALT\n END\n' > "$room/lone.asm"
+clean 'a name that stands alone' 0 asm -o "$room/lone.s19" "$room/lone.asm"
+clean 'the same in a model' 1 check "$paper" "$room/lone.asm"
+clean 'the same on a page' 1 report -o "$room/lone.html" "$paper" "$room/lone.asm"
 clean 'report of no program' 3 report -o "$room/report.html" "$paper" no/such
 clean 'run to a step' 0 run -n 46 "$paper" "$programs/sound.s19"
 clean 'run to no step' 1 run -n 461 "$paper" "$programs/sound.s19"

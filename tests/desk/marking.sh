@@ -239,7 +239,7 @@ same 'are programs' "$(cells followed agrees program_sha256)" "yes|$(digest "$so
 ln -s nowhere lost.s19
 ln -s lost.s19 round.s19 && ln -sf round.s19 lost.s19
 ln -s nowhere nothing.s19
-expect 'links to nothing' 1 '' '' "$xm23" mark -L -o followed "$paper" link.s19 nothing.s19 round.s19 <(:)
+expect 'links to nothing' 1 '' 'nothing.s19: No such file or directory' "$xm23" mark -L -o followed "$paper" link.s19 nothing.s19 round.s19 <(:)
 same 'are rows still' "$(cells followed says)" \
     $'\nNo such file or directory\nToo many levels of symbolic links\nis no regular file'
 mkfifo pipe
@@ -434,7 +434,7 @@ if [ $# -eq 0 ]; then
         done
     done
     for problem in '2 No such file or directory' '13 Permission denied' '40 Too many levels of symbolic links'; do
-        expect "openat: ${problem#* }" 1 '' '' \
+        expect "openat: ${problem#* }" 1 '' "$([ "${problem%% *}" != 2 ] || echo "trouble.s19: ${problem#* }")" \
             shim "openat:${problem%% *}" "$xm23" mark -o troubled "$paper" trouble.s19 b.s19
         same 'is a row' "$(cells troubled says)" "${problem#* }"
     done

@@ -1,0 +1,5 @@
+pub mod Bits
+pub mod Laws
+pub mod Sums
+pub mod Named
+pub mod Arms

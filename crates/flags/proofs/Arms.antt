@@ -1,5 +1,5 @@
--- What each kind of arm of `work` comes to. The callee gives value and flags of the definition's right-hand side at the operands as the code
--- has them; these are the definition's operands, C among them. Assumes nothing.
+-- What each kind of arm of `work` comes to. The callee gives value and flags of the definition's right-hand side at the operands as the
+-- code has them; these are the definition's operands, C among them. Assumes nothing.
 use mathlib.Core.Path.{_≡_, refl, sym, ap, _∙_}
 use mathlib.Core.Bool.{Bool, true, false}
 use Prim.Native.Nat.{ℕ, _/_, _%_, _^_, _<_, _≤_}

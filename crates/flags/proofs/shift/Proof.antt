@@ -1,4 +1,5 @@
--- `flags::shift` meets its contract. Assumes nothing.
+-- `flags::shift` meets its contract: half a number of the width below a bit is again one of the width, so every sum fits and bit 16 of what
+-- is kept is the bit that fell out. Assumes nothing.
 use mathlib.Core.Path.{_≡_, ap, _∙_}
 use denote.Ref.{now}
 use native.Mathlib.Omega.{arith}

@@ -1,4 +1,5 @@
--- `flags::work` meets its contract. Assumes nothing.
+-- An arm for each operation, in the order of `Op`: the call that the arm makes gives the value and the flags that `aluOf` has for that
+-- operation, at the operands cut to the width and at C as it is kept. Assumes nothing.
 use mathlib.Core.Path.{refl, ap₂, _∙_}
 use denote.Ref.{now}
 use lib.Dec.{leb}
@@ -12,138 +13,197 @@ use Rattle.flags.proofs.work.Tie as tie
 
 logic-requires : tie.Need-logic-requires
 logic-requires c κs =
-    and-lt _ _ _ (c .before .before .before .before .before .before .low-bits .ensures .1)
-    (c .before .before .before .before .before .low-bits2 .ensures .1)
+    let at-low-bits : tie.After-low-bits = search in
+    let at-low-bits2 : tie.After-low-bits2 = search in
+    and-lt _ _ _ (at-low-bits .low-bits .ensures .1) (at-low-bits2 .low-bits2 .ensures .1)
 
 logic-requires-2 : tie.Need-logic-requires-2
 logic-requires-2 c κs =
-    or-lt _ _ _ (c .before .before .before .before .before .before .low-bits .ensures .1)
-    (c .before .before .before .before .before .low-bits2 .ensures .1)
+    let at-low-bits : tie.After-low-bits = search in
+    let at-low-bits2 : tie.After-low-bits2 = search in
+    or-lt _ _ _ (at-low-bits .low-bits .ensures .1) (at-low-bits2 .low-bits2 .ensures .1)
 
 logic-requires-3 : tie.Need-logic-requires-3
 logic-requires-3 c κs =
-    xor-lt _ _ _ (c .before .before .before .before .before .before .low-bits .ensures .1)
-    (c .before .before .before .before .before .low-bits2 .ensures .1)
+    let at-low-bits : tie.After-low-bits = search in
+    let at-low-bits2 : tie.After-low-bits2 = search in
+    xor-lt _ _ _ (at-low-bits .low-bits .ensures .1) (at-low-bits2 .low-bits2 .ensures .1)
 
 logic-requires-4 : tie.Need-logic-requires-4
 logic-requires-4 c κs =
-    and-lt _ _ _ (c .before .before .before .before .before .before .low-bits .ensures .1)
-    (c .before .before .before .before .before .low-bits2 .ensures .1)
+    let at-low-bits : tie.After-low-bits = search in
+    let at-low-bits2 : tie.After-low-bits2 = search in
+    and-lt _ _ _ (at-low-bits .low-bits .ensures .1) (at-low-bits2 .low-bits2 .ensures .1)
 
 returns : tie.Need-returns
 unfolding aluOf
 returns c =
-    let a = c .before .before .before .before .before .before .before .before .before .args in
-    adds (a .byte) (a .d) (a .s) (a .psw) (now (a .last)) (now (a .sum)) (now (a .over)) (c .before .before .before .before .enum-told .given .1) refl
-    (c .before .before .before .before .before .before .before .low-bits2 .ensures .0) refl (c .add .ensures .0) (c .add .ensures .1 (a .psw))
+    let at-start : tie.Start = search in
+    let at-enum-told : tie.After-enum-told = search in
+    let at-low-bits2 : tie.After-low-bits2 = search in
+    let a = at-start .args in
+    adds (a .byte) (a .d) (a .s) (a .psw) (now (a .last)) (now (a .sum)) (now (a .over)) (at-enum-told .enum-told .given .1) refl
+    (at-low-bits2 .low-bits2 .ensures .0) refl (c .add .ensures .0) (c .add .ensures .1 (a .psw))
 
 returns-2 : tie.Need-returns-2
 unfolding aluOf
 returns-2 c =
-    let a = c .before .before .before .before .before .before .before .before .before .args in
-    adds (a .byte) (a .d) (a .s) (a .psw) (now (a .last)) (now (a .sum)) (now (a .over)) (c .before .before .before .before .enum-told2 .given .1) refl
-    (c .before .before .before .before .before .before .before .low-bits2 .ensures .0) (held-carry-of (a .psw) (now (a .last)) (now (a .sum)) (now (a .over))) (c .add2 .ensures .0)
+    let at-start : tie.Start = search in
+    let at-enum-told2 : tie.After-enum-told2 = search in
+    let at-low-bits2 : tie.After-low-bits2 = search in
+    let a = at-start .args in
+    adds (a .byte) (a .d) (a .s) (a .psw) (now (a .last)) (now (a .sum)) (now (a .over)) (at-enum-told2 .enum-told2 .given .1) refl
+    (at-low-bits2 .low-bits2 .ensures .0) (held-carry-of (a .psw) (now (a .last)) (now (a .sum)) (now (a .over))) (c .add2 .ensures .0)
     (c .add2 .ensures .1 (a .psw))
 
 returns-3 : tie.Need-returns-3
 unfolding aluOf
 returns-3 c =
-    let a = c .before .before .before .before .before .before .before .before .before .before .args in
-    adds (a .byte) (a .d) (a .s) (a .psw) (now (a .last)) (now (a .sum)) (now (a .over)) (c .before .before .before .before .before .enum-told3 .given .1) refl
-    (c .before .before .before .before .turned-bits .ensures .0) refl (c .add3 .ensures .0) (c .add3 .ensures .1 (a .psw))
+    let at-start : tie.Start = search in
+    let at-enum-told3 : tie.After-enum-told3 = search in
+    let at-turned-bits : tie.After-turned-bits = search in
+    let a = at-start .args in
+    adds (a .byte) (a .d) (a .s) (a .psw) (now (a .last)) (now (a .sum)) (now (a .over)) (at-enum-told3 .enum-told3 .given .1) refl
+    (at-turned-bits .turned-bits .ensures .0) refl (c .add3 .ensures .0) (c .add3 .ensures .1 (a .psw))
 
 returns-4 : tie.Need-returns-4
 unfolding aluOf
 returns-4 c =
-    let a = c .before .before .before .before .before .before .before .before .before .before .args in
-    adds (a .byte) (a .d) (a .s) (a .psw) (now (a .last)) (now (a .sum)) (now (a .over)) (c .before .before .before .before .before .enum-told4 .given .1) refl
-    (c .before .before .before .before .turned-bits2 .ensures .0) (held-carry-of (a .psw) (now (a .last)) (now (a .sum)) (now (a .over))) (c .add4 .ensures .0)
-    (c .add4 .ensures .1 (a .psw))
+    let at-start : tie.Start = search in
+    let at-enum-told4 : tie.After-enum-told4 = search in
+    let at-turned-bits2 : tie.After-turned-bits2 = search in
+    let a = at-start .args in
+    adds (a .byte) (a .d) (a .s) (a .psw) (now (a .last)) (now (a .sum)) (now (a .over)) (at-enum-told4 .enum-told4 .given .1) refl
+    (at-turned-bits2 .turned-bits2 .ensures .0) (held-carry-of (a .psw) (now (a .last)) (now (a .sum)) (now (a .over)))
+    (c .add4 .ensures .0) (c .add4 .ensures .1 (a .psw))
 
 returns-5 : tie.Need-returns-5
 unfolding aluOf
 returns-5 c =
-    let a = c .before .before .before .before .before .before .before .before .before .before .args in
-    compares (a .byte) (a .d) (a .s) (a .psw) (now (a .last)) (now (a .sum)) (now (a .over)) (c .before .before .before .before .before .enum-told5 .given .1) refl
-    (c .before .before .before .before .turned-bits3 .ensures .0) refl (c .add5 .ensures .1 (a .psw))
+    let at-start : tie.Start = search in
+    let at-enum-told5 : tie.After-enum-told5 = search in
+    let at-turned-bits3 : tie.After-turned-bits3 = search in
+    let a = at-start .args in
+    compares (a .byte) (a .d) (a .s) (a .psw) (now (a .last)) (now (a .sum)) (now (a .over)) (at-enum-told5 .enum-told5 .given .1) refl
+    (at-turned-bits3 .turned-bits3 .ensures .0) refl (c .add5 .ensures .1 (a .psw))
 
 returns-7 : tie.Need-returns-7
 unfolding aluOf
 returns-7 c =
-    let a = c .before .before .before .before .before .before .before .before .args in
-    joins (a .byte) (a .d) (a .s) (a .psw) (now (a .last)) (now (a .sum)) (now (a .over)) (c .before .before .before .enum-told7 .given .1) refl
-    (ap₂ bitAnd (c .before .before .before .before .before .before .before .low-bits .ensures .0) (c .before .before .before .before .before .before .low-bits2 .ensures .0))
-    (c .logic .ensures .0) (c .logic .ensures .1 (a .psw) (now (a .over)))
+    let at-start : tie.Start = search in
+    let at-enum-told7 : tie.After-enum-told7 = search in
+    let at-low-bits : tie.After-low-bits = search in
+    let at-low-bits2 : tie.After-low-bits2 = search in
+    let a = at-start .args in
+    joins (a .byte) (a .d) (a .s) (a .psw) (now (a .last)) (now (a .sum)) (now (a .over)) (at-enum-told7 .enum-told7 .given .1) refl
+    (ap₂ bitAnd (at-low-bits .low-bits .ensures .0) (at-low-bits2 .low-bits2 .ensures .0)) (c .logic .ensures .0)
+    (c .logic .ensures .1 (a .psw) (now (a .over)))
 
 returns-8 : tie.Need-returns-8
 unfolding aluOf
 returns-8 c =
-    let a = c .before .before .before .before .before .before .before .before .args in
-    joins (a .byte) (a .d) (a .s) (a .psw) (now (a .last)) (now (a .sum)) (now (a .over)) (c .before .before .before .enum-told8 .given .1) refl
-    (ap₂ bitOr (c .before .before .before .before .before .before .before .low-bits .ensures .0) (c .before .before .before .before .before .before .low-bits2 .ensures .0))
-    (c .logic2 .ensures .0) (c .logic2 .ensures .1 (a .psw) (now (a .over)))
+    let at-start : tie.Start = search in
+    let at-enum-told8 : tie.After-enum-told8 = search in
+    let at-low-bits : tie.After-low-bits = search in
+    let at-low-bits2 : tie.After-low-bits2 = search in
+    let a = at-start .args in
+    joins (a .byte) (a .d) (a .s) (a .psw) (now (a .last)) (now (a .sum)) (now (a .over)) (at-enum-told8 .enum-told8 .given .1) refl
+    (ap₂ bitOr (at-low-bits .low-bits .ensures .0) (at-low-bits2 .low-bits2 .ensures .0)) (c .logic2 .ensures .0)
+    (c .logic2 .ensures .1 (a .psw) (now (a .over)))
 
 returns-9 : tie.Need-returns-9
 unfolding aluOf
 returns-9 c =
-    let a = c .before .before .before .before .before .before .before .before .args in
-    joins (a .byte) (a .d) (a .s) (a .psw) (now (a .last)) (now (a .sum)) (now (a .over)) (c .before .before .before .enum-told9 .given .1) refl
-    (ap₂ bitXor (c .before .before .before .before .before .before .before .low-bits .ensures .0) (c .before .before .before .before .before .before .low-bits2 .ensures .0))
-    (c .logic3 .ensures .0) (c .logic3 .ensures .1 (a .psw) (now (a .over)))
+    let at-start : tie.Start = search in
+    let at-enum-told9 : tie.After-enum-told9 = search in
+    let at-low-bits : tie.After-low-bits = search in
+    let at-low-bits2 : tie.After-low-bits2 = search in
+    let a = at-start .args in
+    joins (a .byte) (a .d) (a .s) (a .psw) (now (a .last)) (now (a .sum)) (now (a .over)) (at-enum-told9 .enum-told9 .given .1) refl
+    (ap₂ bitXor (at-low-bits .low-bits .ensures .0) (at-low-bits2 .low-bits2 .ensures .0)) (c .logic3 .ensures .0)
+    (c .logic3 .ensures .1 (a .psw) (now (a .over)))
 
 returns-10 : tie.Need-returns-10
 unfolding aluOf
 returns-10 c =
-    let a = c .before .before .before .before .before .before .before .before .args in
-    looks (a .byte) (a .d) (a .s) (a .psw) (now (a .last)) (now (a .sum)) (now (a .over)) (c .before .before .before .enum-told10 .given .1) refl
-    (ap₂ bitAnd (c .before .before .before .before .before .before .before .low-bits .ensures .0) (c .before .before .before .before .before .before .low-bits2 .ensures .0))
+    let at-start : tie.Start = search in
+    let at-enum-told10 : tie.After-enum-told10 = search in
+    let at-low-bits : tie.After-low-bits = search in
+    let at-low-bits2 : tie.After-low-bits2 = search in
+    let a = at-start .args in
+    looks (a .byte) (a .d) (a .s) (a .psw) (now (a .last)) (now (a .sum)) (now (a .over)) (at-enum-told10 .enum-told10 .given .1) refl
+    (ap₂ bitAnd (at-low-bits .low-bits .ensures .0) (at-low-bits2 .low-bits2 .ensures .0))
     (c .logic4 .ensures .1 (a .psw) (now (a .over)))
 
 returns-11 : tie.Need-returns-11
 unfolding aluOf
 returns-11 c =
-    let a = c .before .before .before .before .before .before .before .args in
-    clears (a .byte) (a .d) (a .s) (a .psw) (now (a .last)) (now (a .sum)) (now (a .over)) (c .before .alu .ensures) (c .before .before .enum-told11 .given .1) (c .low-bits3 .ensures .0)
+    let at-start : tie.Start = search in
+    let at-enum-told11 : tie.After-enum-told11 = search in
+    let at-alu : tie.After-alu = search in
+    let a = at-start .args in
+    clears (a .byte) (a .d) (a .s) (a .psw) (now (a .last)) (now (a .sum)) (now (a .over)) (at-alu .alu .ensures)
+    (at-enum-told11 .enum-told11 .given .1) (c .low-bits3 .ensures .0)
 
 returns-12 : tie.Need-returns-12
 unfolding aluOf
 returns-12 c =
-    let a = c .before .before .before .before .before .before .args in
-    raises (a .byte) (a .d) (a .s) (a .psw) (now (a .last)) (now (a .sum)) (now (a .over)) (c .alu2 .ensures) (c .before .enum-told12 .given .1)
+    let at-start : tie.Start = search in
+    let at-enum-told12 : tie.After-enum-told12 = search in
+    let a = at-start .args in
+    raises (a .byte) (a .d) (a .s) (a .psw) (now (a .last)) (now (a .sum)) (now (a .over)) (c .alu2 .ensures)
+    (at-enum-told12 .enum-told12 .given .1)
 
 returns-13 : tie.Need-returns-13
 unfolding aluOf
 returns-13 c =
-    let a = c .before .before .before .before .before .before .before .before .before .before .args in
-    shifts (a .byte) (a .d) (a .s) (a .psw) (now (a .last)) (now (a .sum)) (now (a .over)) (c .before .before .before .before .before .enum-told13 .given .1) refl
-    (c .before .before .before .flag .ensures .0 ∙ λ i. bit (leb (c .before .before .before .before .top .ensures i) (c .before .before .before .before .before .before .before .before .before .low-bits .ensures .0 i)))
-    (c .shift .ensures .0) (c .shift .ensures .1 (a .psw) (now (a .over)))
+    let at-start : tie.Start = search in
+    let at-enum-told13 : tie.After-enum-told13 = search in
+    let at-top : tie.After-top = search in
+    let at-flag : tie.After-flag = search in
+    let at-low-bits : tie.After-low-bits = search in
+    let a = at-start .args in
+    shifts (a .byte) (a .d) (a .s) (a .psw) (now (a .last)) (now (a .sum)) (now (a .over)) (at-enum-told13 .enum-told13 .given .1) refl
+    (at-flag .flag .ensures .0 ∙ λ i. bit (leb (at-top .top .ensures i) (at-low-bits .low-bits .ensures .0 i))) (c .shift .ensures .0)
+    (c .shift .ensures .1 (a .psw) (now (a .over)))
 
 returns-14 : tie.Need-returns-14
 unfolding aluOf
 returns-14 c =
-    let a = c .before .before .before .before .before .before .before .before .args in
-    shifts (a .byte) (a .d) (a .s) (a .psw) (now (a .last)) (now (a .sum)) (now (a .over)) (c .before .before .before .enum-told14 .given .1) refl (held-carry-of (a .psw) (now (a .last)) (now (a .sum)) (now (a .over)))
-    (c .shift2 .ensures .0) (c .shift2 .ensures .1 (a .psw) (now (a .over)))
+    let at-start : tie.Start = search in
+    let at-enum-told14 : tie.After-enum-told14 = search in
+    let a = at-start .args in
+    shifts (a .byte) (a .d) (a .s) (a .psw) (now (a .last)) (now (a .sum)) (now (a .over)) (at-enum-told14 .enum-told14 .given .1) refl
+    (held-carry-of (a .psw) (now (a .last)) (now (a .sum)) (now (a .over))) (c .shift2 .ensures .0)
+    (c .shift2 .ensures .1 (a .psw) (now (a .over)))
 
 returns-15 : tie.Need-returns-15
 unfolding aluOf
 returns-15 c =
-    let a = c .before .before .before .before .before .before .before .before .before .args in
-    joins (a .byte) (a .d) (a .s) (a .psw) (now (a .last)) (now (a .sum)) (now (a .over)) (c .before .before .before .before .enum-told15 .given .1) refl
-    (c .before .before .before .turned-bits4 .ensures .0) (c .logic5 .ensures .0) (c .logic5 .ensures .1 (a .psw) (now (a .over)))
+    let at-start : tie.Start = search in
+    let at-enum-told15 : tie.After-enum-told15 = search in
+    let at-turned-bits4 : tie.After-turned-bits4 = search in
+    let a = at-start .args in
+    joins (a .byte) (a .d) (a .s) (a .psw) (now (a .last)) (now (a .sum)) (now (a .over)) (at-enum-told15 .enum-told15 .given .1) refl
+    (at-turned-bits4 .turned-bits4 .ensures .0) (c .logic5 .ensures .0) (c .logic5 .ensures .1 (a .psw) (now (a .over)))
 
 returns-16 : tie.Need-returns-16
 unfolding aluOf
 returns-16 c =
-    let a = c .before .before .before .before .before .before .args in
-    swaps (a .byte) (a .d) (a .s) (a .psw) (now (a .last)) (now (a .sum)) (now (a .over)) (c .alu3 .ensures) (c .before .enum-told16 .given .1)
+    let at-start : tie.Start = search in
+    let at-enum-told16 : tie.After-enum-told16 = search in
+    let a = at-start .args in
+    swaps (a .byte) (a .d) (a .s) (a .psw) (now (a .last)) (now (a .sum)) (now (a .over)) (c .alu3 .ensures)
+    (at-enum-told16 .enum-told16 .given .1)
 
 returns-17 : tie.Need-returns-17
 unfolding aluOf
 returns-17 c =
-    let a = c .before .before .before .before .before .before .args in
-    extends (a .byte) (a .d) (a .s) (a .psw) (now (a .last)) (now (a .sum)) (now (a .over)) (c .alu4 .ensures) (c .before .enum-told17 .given .1)
+    let at-start : tie.Start = search in
+    let at-enum-told17 : tie.After-enum-told17 = search in
+    let a = at-start .args in
+    extends (a .byte) (a .d) (a .s) (a .psw) (now (a .last)) (now (a .sum)) (now (a .over)) (c .alu4 .ensures)
+    (at-enum-told17 .enum-told17 .given .1)
 
 pub work-spec : {M : Type 1} → statement M
 work-spec =

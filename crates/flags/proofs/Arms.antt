@@ -1,14 +1,14 @@
 -- What each kind of arm of `work` comes to. The callee gives value and flags of the definition's right-hand side at the operands as the
 -- code has them; these are the definition's operands, C among them. Assumes nothing.
 use mathlib.Core.Path.{_≡_, refl, sym, ap, _∙_}
-use mathlib.Core.Bool.{Bool, true, false}
-use Prim.Native.Nat.{ℕ, _/_, _%_, _^_, _<_, _≤_}
+use mathlib.Core.Bool.{Bool, false}
+use Prim.Native.Nat.{ℕ, _/_, _%_, _^_, _<_}
 use native.Mathlib.Nat.{lt-of-le-of-lt}
 use native.Mathlib.Omega.{arith}
 use lib.Dec.{eqb}
 use lib.Bits.{bitAnd, and-le-l}
 use Rattle.word.specs.Width.{widthOf, bit, low, withLow, turned}
-use Rattle.word.specs.Psw.{bitOf, carryOf, asleep?}
+use Rattle.word.specs.Psw.{carryOf, asleep?}
 use Rattle.word.proofs.Laws.{bit-back, low-lt, with-low-same}
 use Rattle.alu.specs.declared.Op.{Op}
 use Rattle.alu.specs.declared.Op.the-variants.{Bic, Bis, Swpb, Sxt}

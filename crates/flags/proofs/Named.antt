@@ -2,13 +2,12 @@
 -- Assumes nothing.
 use mathlib.Core.Path.{_≡_, refl, sym, ap, ap₂, _∙_}
 use mathlib.Core.Bool.{Bool, true, false, not, _&&_, _||_}
-use Prim.Native.Nat.{ℕ, zero, suc, _+_, _-_, _*_, _/_, _%_, _^_, _≤_, _<_}
+use Prim.Native.Nat.{ℕ, zero, suc, _+_, _-_, _*_, _/_, _%_, _≤_, _<_}
 use native.Mathlib.Omega.{arith}
 use lib.Dec.{eqb}
 use lib.Bits.{bitAnd, bitOr, or-lt, or-zero-l, or-add-and, and-le-l, and-le-r}
 use borrow.Author.Tests.{ne-eqb}
-use Rattle.word.specs.Width.{bit}
-use Rattle.word.specs.Psw.{bitOf, asleep?}
+use Rattle.word.specs.Psw.{bitOf}
 use Rattle.machine.specs.Effect.{setFlags, clearFlags}
 use Rattle.flags.specs.Kept.{flagged, held}
 use Rattle.flags.proofs.Bits.{and-bit, or-bit}

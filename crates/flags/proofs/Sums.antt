@@ -5,7 +5,7 @@ use mathlib.Core.Bool.{Bool, true, false, not, _&&_, Bool·beq}
 use Prim.Native.Nat.{ℕ, _+_, _-_, _*_, _/_, _%_, _^_, _≤_, _<_}
 use native.Mathlib.Nat.{lt-of-le-of-lt, mul-le-mul-right}
 use native.Mathlib.Omega.{arith}
-use lib.Dec.{leb, eqb}
+use lib.Dec.{eqb}
 use lib.Bits.{bitAnd, bitXor, and-le-l, xor-lt}
 use Rattle.word.specs.Width.{widthOf, low, withLow}
 use Rattle.word.specs.Psw.{bitOf}
@@ -148,9 +148,9 @@ over-lt byte a b c ha hb hc =
     lt-of-le-of-lt (and-le-l (bitXor a (a + b + c)) (bitXor b (a + b + c))) (xor-lt 17 a (a + b + c) x t)
 
 -- a number moved down by one below a bit stays one of the width
-pub halved-lt : (byte : Bool) (dst high : ℕ) {a t : ℕ} → a < 2 ^ widthOf byte → t ≡ 2 ^ (widthOf byte - 1) → high ≤ 1
+pub halved-lt : (byte : Bool) (high : ℕ) {a t : ℕ} → a < 2 ^ widthOf byte → t ≡ 2 ^ (widthOf byte - 1) → high ≤ 1
     → (high * t < 2 ^ widthOf byte) × (a / 2 + high * t < 2 ^ widthOf byte)
-halved-lt byte dst high {a} {t} ha e hh =
+halved-lt byte high {a} {t} ha e hh =
     let m : high * t ≤ 1 * t = mul-le-mul-right t hh in
     let d = two-halves byte in
     (omega arith, omega arith)

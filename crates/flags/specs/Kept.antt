@@ -1,6 +1,5 @@
 -- The flags of a stretch of instructions, kept as what they come from: `last`, the result that Z is of; `sum`, whose
--- bit 16 is C and whose bit 15 is N; `over`, whose bit 15 is V. A byte's result and sum stand in them 256 times as
--- large, so that the same bits serve both widths. Assumes nothing.
+-- bit 16 is C and whose bit 15 is N; `over`, whose bit 15 is V. Assumes nothing.
 use mathlib.Core.Bool.{Bool}
 use Prim.Native.Nat.{ℕ}
 use lib.Dec.{eqb}

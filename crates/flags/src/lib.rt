@@ -1,10 +1,10 @@
 // The flags of a fast stretch of instructions, kept as what they come from until they are asked
 // for: `last`, the result that Z is of; `sum`, whose bit 16 is C and whose bit 15 is N; `over`,
-// whose bit 15 is V. A byte's result and sum stand in them 256 times as large, so that the same
-// bits serve both widths. `byte` chooses the width: 8 bits, else 16.
+// whose bit 15 is V. A byte form's numbers stand in `sum` and `over` 256 times as large, so that
+// the same bits serve both widths. `byte` chooses the width: 8 bits, else 16.
 ghost use mathlib.Core.Path.{_≡_};
 ghost use Prim.Native.Nat.{ℕ, _-_, _*_, _/_, _%_, _^_, _<_, _≤_};
-ghost use Rattle.word.specs.Width.{widthOf, low};
+ghost use Rattle.word.specs.Width.{widthOf};
 ghost use Rattle.alu.specs.Alu.{aluOf, logical, summed, shifted};
 ghost use Rattle.machine.specs.Effect.{setFlags, clearFlags};
 ghost use Rattle.flags.specs.Kept.{held};

@@ -3,8 +3,8 @@
 use mathlib.Core.Path.{_≡_, ap, _∙_}
 use denote.Ref.{now}
 use native.Mathlib.Omega.{arith}
-use Prim.Native.Nat.{ℕ, _+_, _*_, _/_}
-use Rattle.word.specs.Width.{widthOf, low, withLow}
+use Prim.Native.Nat.{_+_, _*_, _/_}
+use Rattle.word.specs.Width.{widthOf, withLow}
 use Rattle.word.proofs.Laws.{fits-word}
 use Rattle.alu.specs.Alu.{halved}
 use Rattle.flags.proofs.Sums.{shift-psw, halved-lt, placed-lt}
@@ -18,7 +18,7 @@ mul-v c =
     let at-low-bits : tie.After-low-bits = search in
     let a = at-start .args in
     let m = fits-word (a .byte) in
-    let h = halved-lt (a .byte) (a .dst) (a .high) (at-low-bits .low-bits .ensures .1) (c .top .ensures) (at-start .pre) in
+    let h = halved-lt (a .byte) (a .high) (at-low-bits .low-bits .ensures .1) (c .top .ensures) (at-start .pre) in
     omega (arith, h, m)
 
 add-v : tie.Need-add-v
@@ -27,7 +27,7 @@ add-v c =
     let at-low-bits : tie.After-low-bits = search in
     let a = at-start .args in
     let m = fits-word (a .byte) in
-    let h = halved-lt (a .byte) (a .dst) (a .high) (at-low-bits .low-bits .ensures .1) (c .top .ensures) (at-start .pre) in
+    let h = halved-lt (a .byte) (a .high) (at-low-bits .low-bits .ensures .1) (c .top .ensures) (at-start .pre) in
     omega (arith, h, m)
 
 cast-placed : tie.Need-cast-placed
@@ -36,7 +36,7 @@ cast-placed c =
     let at-low-bits : tie.After-low-bits = search in
     let a = at-start .args in
     let m = fits-word (a .byte) in
-    let h = halved-lt (a .byte) (a .dst) (a .high) (at-low-bits .low-bits .ensures .1) (c .top .ensures) (at-start .pre) in
+    let h = halved-lt (a .byte) (a .high) (at-low-bits .low-bits .ensures .1) (c .top .ensures) (at-start .pre) in
     omega (arith, h, m)
 
 placed-requires : tie.Need-placed-requires
@@ -45,7 +45,7 @@ placed-requires c κs =
     let at-low-bits : tie.After-low-bits = search in
     let a = at-start .args in
     let m = fits-word (a .byte) in
-    let h = halved-lt (a .byte) (a .dst) (a .high) (at-low-bits .low-bits .ensures .1) (c .top .ensures) (at-start .pre) in
+    let h = halved-lt (a .byte) (a .high) (at-low-bits .low-bits .ensures .1) (c .top .ensures) (at-start .pre) in
     omega (arith, h, m)
 
 add-sum : tie.Need-add-sum
@@ -55,7 +55,7 @@ add-sum c =
     let at-low-bits : tie.After-low-bits = search in
     let a = at-start .args in
     let m = fits-word (a .byte) in
-    let h = halved-lt (a .byte) (a .dst) (a .high) (at-low-bits .low-bits .ensures .1) (at-top .top .ensures) (at-start .pre) in
+    let h = halved-lt (a .byte) (a .high) (at-low-bits .low-bits .ensures .1) (at-top .top .ensures) (at-start .pre) in
     let v = at-low-bits .low-bits .result / 2 + a .high * at-top .top .result in
     omega (arith, placed-lt (a .byte) v (h .1), c .placed .ensures)
 
@@ -66,7 +66,7 @@ with-low-requires c κs =
     let at-low-bits : tie.After-low-bits = search in
     let a = at-start .args in
     let m = fits-word (a .byte) in
-    let h = halved-lt (a .byte) (a .dst) (a .high) (at-low-bits .low-bits .ensures .1) (at-top .top .ensures) (at-start .pre) in
+    let h = halved-lt (a .byte) (a .high) (at-low-bits .low-bits .ensures .1) (at-top .top .ensures) (at-start .pre) in
     h .1
 
 returns : tie.Need-returns
@@ -77,7 +77,7 @@ returns c =
     let at-low-bits : tie.After-low-bits = search in
     let a = at-start .args in
     let m = fits-word (a .byte) in
-    let h = halved-lt (a .byte) (a .dst) (a .high) (at-low-bits .low-bits .ensures .1) (at-top .top .ensures) (at-start .pre) in
+    let h = halved-lt (a .byte) (a .high) (at-low-bits .low-bits .ensures .1) (at-top .top .ensures) (at-start .pre) in
     let w = widthOf (a .byte) in
     let v = at-low-bits .low-bits .result / 2 + a .high * at-top .top .result in
     let e : v ≡ halved w (a .dst) (a .high) =

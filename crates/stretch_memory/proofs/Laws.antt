@@ -1,6 +1,6 @@
 -- What the code of one instruction leaves, put together as its definition has it. l is the registers with PC past the
 -- instruction, m the memory before it, p the PSW, x the CEX state. Assumes nothing.
-use Prim.Native.Nat.{ℕ, _+_, _%_, _<_}
+use Prim.Native.Nat.{ℕ, _+_, _*_, _%_, _<_}
 use native.Mathlib.Omega.{arith}
 use mathlib.Core.Bool.{Bool, true, false, cond, not, _&&_}
 use mathlib.Core.List.{List}
@@ -19,12 +19,12 @@ use Rattle.machine.specs.declared.Access.the-variants as asks
 use Rattle.machine.specs.State.{Core, coreOf, moved}
 use Rattle.machine.specs.Memory.{commit, valueAt}
 use Rattle.machine.specs.Devices.{loadWrites, storeWrites}
-use Rattle.machine.specs.Effect.{Effect, byteAddr, effect, effectOf, moves?, adjusted, loaded}
+use Rattle.machine.specs.Effect.{Effect, byteAddr, effect, effectOf, plainly, moves?, adjusted, loaded}
 use Rattle.machine.specs.Step.{Plan, allowed, odd?, granted, executed, perform}
 use Rattle.machine_laws.proofs.Cases.{and-right, eq-of}
 use Rattle.machine_laws.proofs.Plans.{granted-even}
 use Rattle.execute.proofs.Laws.{loading, storing}
-use Rattle.stretch_registers.specs.Effected.{Past, Tried}
+use Rattle.stretch_registers.specs.Effected.{leftAlone, odd, Past, Calm, Tried}
 use Rattle.stretch_registers.proofs.Laws.{pc-set, pc-back}
 use Rattle.stretch_memory.specs.Ordinary.{aligned?, inside?, storable?, ordinary?}
 use Rattle.stretch_memory.specs.Served.{running, carriedOut, Served, Taken}
@@ -46,13 +46,13 @@ ordinary-even (asks.Trap v) h = refl
 pub ordinary-granted : (c x : Core) (a : Access) (m : List ℕ) → ordinary? a ≡ true → allowed c x a m ≡ granted c x a m
 ordinary-granted c x a m h = sym (granted-even c x a m (ordinary-even a h))
 
-module _ (n : Instr) (l k m : List ℕ) (p x pc : ℕ) (past : Past pc l) where
+module _ (free : Bool) (n : Instr) (l k m : List ℕ) (p x pc : ℕ) (past : Past pc l) where
   -- a load's registers before it are k; k′ and m′ are after it
   pub served-load :
       (k′ m′ : List ℕ) (byte : Bool) (at dst : ℕ) →
       effect (coreOf k p x) (asks.Load byte (byteAddr at) dst) ≡ effectOf (coreOf l p x) n → aligned? byte at ≡ true →
       ((q y : ℕ) → coreOf k′ q y ≡ loaded (coreOf k q y) byte dst (valueAt byte m at)) → m′ ≡ commit (loadWrites byte m at) m →
-      getD k′ 7 0 ≡ getD l 7 0 → Served n l p x m k′ p x m′ pc
+      getD k′ 7 0 ≡ getD l 7 0 → Served free n l p x m k′ p x m′ pc
   unfolding perform
   served-load k′ m′ byte at dst e h f g c = (
     (λ z. omega (arith, past .2)),
@@ -62,7 +62,7 @@ module _ (n : Instr) (l k m : List ℕ) (p x pc : ℕ) (past : Past pc l) where
         ∙ ap (λ (y : Plan). carriedOut y t j m) (ordinary-granted b (coreOf k p x) (asks.Load byte (byteAddr at) dst) m h)
         ∙ ap (λ (y : Effect). carriedOut (executed b y m) t j m) e),
     (λ z. past .1),
-    (refl, refl),
+    (refl, λ z. refl),
     omega (arith, past .2),
     (λ z. z),
     ap (λ (y : Effect). ordinary? (y .access)) (sym e) ∙ h,
@@ -71,7 +71,7 @@ module _ (n : Instr) (l k m : List ℕ) (p x pc : ℕ) (past : Past pc l) where
   pub served-store :
       (m′ : List ℕ) (byte : Bool) (at v : ℕ) →
       effect (coreOf k p x) (asks.Store byte (byteAddr at) v) ≡ effectOf (coreOf l p x) n → storable? byte at ≡ true →
-      m′ ≡ commit (storeWrites byte m at v) m → getD k 7 0 ≡ getD l 7 0 → Served n l p x m k p x m′ pc
+      m′ ≡ commit (storeWrites byte m at v) m → getD k 7 0 ≡ getD l 7 0 → Served free n l p x m k p x m′ pc
   unfolding perform
   served-store m′ byte at v e h f c = (
     (λ z. omega (arith, past .2)),
@@ -81,28 +81,34 @@ module _ (n : Instr) (l k m : List ℕ) (p x pc : ℕ) (past : Past pc l) where
         ∙ ap (λ (y : Plan). carriedOut y t j m) (ordinary-granted b (coreOf k p x) (asks.Store byte (byteAddr at) v) m h)
         ∙ ap (λ (y : Effect). carriedOut (executed b y m) t j m) e),
     (λ z. past .1),
-    (refl, refl),
+    (refl, λ z. refl),
     omega (arith, past .2),
     (λ z. z),
     ap (λ (y : Effect). ordinary? (y .access)) (sym e) ∙ h,
   )
 
--- an instruction that touches registers alone
-pub tried-taken :
-    (n : Instr) (l m k : List ℕ) (p x q y r : ℕ) → Tried n l p x k q y r → Taken n l p x m k q y m r
+-- an instruction that asks for no memory
+pub plain-served :
+    (free : Bool) (n : Instr) (l m k : List ℕ) (p x q y r : ℕ) → (r ≡ leftAlone → ⊥) →
+    effectOf (coreOf l p x) n ≡ plainly (coreOf (set k 7 (r % 65536)) q y) → (r < leftAlone → r % 2 ≡ 0) → Calm free p q → r < 2 * odd →
+    (x % 64 ≡ 0 → y % 64 ≡ 0) → Served free n l p x m k q y m r
 unfolding granted perform commit
-tried-taken n l m k p x q y r =
+plain-served free n l m k p x q y r done e even calm near shut = (
+  done,
+  (λ b t j. ap (λ (e : Effect). carriedOut (executed b e m) t j m) (sym e)),
+  even,
+  calm,
+  near,
+  shut,
+  ap (λ (e : Effect). ordinary? (e .access)) e,
+)
+
+-- one that keeps the priority
+pub tried-taken :
+    (free : Bool) (n : Instr) (l m k : List ℕ) (p x q y r : ℕ) → Tried n l p x k q y r → Taken free n l p x m k q y m r
+tried-taken free n l m k p x q y r =
     ⊎-elim (λ h. inl (h .0, (h .1, h .2, h .3, refl)))
-    (λ h.
-    inr (
-      h .0,
-      (λ b t j. ap (λ (e : Effect). carriedOut (executed b e m) t j m) (sym (h .1))),
-      h .2,
-      h .3,
-      h .4,
-      h .5,
-      ap (λ (e : Effect). ordinary? (e .access)) (h .1),
-    ))
+    (λ h. inr (plain-served free n l m k p x q y r (h .0) (h .1) (h .2) (h .3 .0, (λ z. h .3 .1)) (h .4) (h .5)))
 
 -- ---- LD and ST
 

@@ -1,7 +1,7 @@
 // Loads and stores of a stretch. Each function takes the word w, PC being past it (`pc`), and
 // answers pc, or LEFT_ALONE and has left all alone. Left alone are an odd word access, a store to
 // the device bytes or to the vectors, a load into R7, and an adjustment of R7.
-ghost use mathlib.Core.Bool.{true, false, cond};
+ghost use mathlib.Core.Bool.{Bool, true, false, cond};
 ghost use mathlib.Core.Path.{_≡_};
 ghost use Prim.Native.Nat.{ℕ, _/_, _%_, _<_};
 ghost use lib.Dec.{eqb};
@@ -93,7 +93,7 @@ pub fn load_indexed(
     wb: u8,
 ) -> usize
     requires { ⌜ (length (now mem) ≡ 65536) × Past pc (now regs) ⌝ }
-    ensures { λ r. ⌜ ((psw cex : ℕ) → Taken (Instr.Ld prpo dec inc wb (w / 8 % 8) (w % 8))
+    ensures { λ r. ⌜ ((free : Bool) (psw cex : ℕ) → Taken free (Instr.Ld prpo dec inc wb (w / 8 % 8) (w % 8))
         (now (regs .entry)) psw cex (now (mem .entry))
         (now (regs .exit)) psw cex (now (mem .exit)) r) ⌝ }
 {
@@ -128,7 +128,7 @@ pub fn store_indexed(
     wb: u8,
 ) -> usize
     requires { ⌜ (length (now mem) ≡ 65536) × Past pc (now regs) ⌝ }
-    ensures { λ r. ⌜ ((psw cex : ℕ) → Taken (Instr.St prpo dec inc wb (w / 8 % 8) (w % 8))
+    ensures { λ r. ⌜ ((free : Bool) (psw cex : ℕ) → Taken free (Instr.St prpo dec inc wb (w / 8 % 8) (w % 8))
         (now (regs .entry)) psw cex (now (mem .entry))
         (now (regs .exit)) psw cex (now (mem .exit)) r) ⌝ }
 {
@@ -158,7 +158,7 @@ fn relative(base: u16, w: usize) -> u16
 // 8000 to BFFF: LDR, its width known.
 pub fn load_relative(regs: &mut [u16; 8], mem: &mut [u8], pc: usize, w: usize, wb: u8) -> usize
     requires { ⌜ (length (now mem) ≡ 65536) × Past pc (now regs) ⌝ }
-    ensures { λ r. ⌜ ((psw cex : ℕ) → Taken
+    ensures { λ r. ⌜ ((free : Bool) (psw cex : ℕ) → Taken free
         (Instr.Ldr (signedOf 64 (w / 128 % 128)) wb (w / 8 % 8) (w % 8))
         (now (regs .entry)) psw cex (now (mem .entry))
         (now (regs .exit)) psw cex (now (mem .exit)) r) ⌝ }
@@ -179,7 +179,7 @@ pub fn load_relative(regs: &mut [u16; 8], mem: &mut [u8], pc: usize, w: usize, w
 // C000 to FFFF: STR, its width known.
 pub fn store_relative(regs: &[u16; 8], mem: &mut [u8], pc: usize, w: usize, wb: u8) -> usize
     requires { ⌜ (length (now mem) ≡ 65536) × Past pc (now regs) ⌝ }
-    ensures { λ r. ⌜ ((psw cex : ℕ) → Taken
+    ensures { λ r. ⌜ ((free : Bool) (psw cex : ℕ) → Taken free
         (Instr.Str (signedOf 64 (w / 128 % 128)) wb (w / 8 % 8) (w % 8))
         (now (regs .entry)) psw cex (now (mem .entry))
         (now (regs .entry)) psw cex (now (mem .exit)) r) ⌝ }

@@ -18,7 +18,7 @@ use lib.ListN.{getD, set}
 use lib.Seq.{getD-set-other, set-getD}
 use lib.Signed.{mag}
 use Rattle.word.proofs.Laws.{bool-cases}
-use Rattle.word.specs.Psw.{current}
+use Rattle.word.specs.Psw.{asleep?, current}
 use Rattle.alu.specs.declared.Op.{Op}
 use Rattle.alu.specs.declared.Op.the-variants.{Swpb, Sxt}
 use Rattle.alu.proofs.Laws.{alu-asleep, alu-current}
@@ -28,7 +28,7 @@ use Rattle.isa.specs.declared.Instr.{Instr}
 use Rattle.isa.specs.declared.Instr.the-variants as i
 use Rattle.isa.specs.Decode.{unaryOf}
 use Rattle.machine.specs.State.{Core, coreOf, moved, doubled, withPsw, put}
-use Rattle.machine.specs.Effect.{effectOf, plainly, operated, unaryOp, immediateOf, takenOf, setFlags, clearFlags}
+use Rattle.machine.specs.Effect.{effectOf, plainly, operated, unaryOp, immediateOf, takenOf, setFlags, clearFlags, putCurrent}
 use Rattle.stretch_registers.specs.Effected.{leftAlone, odd, Past, Keeps, Done, Tried, Computes, outcome}
 
 -- a write to another register leaves PC
@@ -227,6 +227,12 @@ module _ (l : List ℕ) (p x pc f : ℕ) (h : Past pc l) (hf : f < 32) (hs : f /
   unfolding effectOf
   clears-flags {q} e =
       plain-done (i.ClrCc f) l p x pc h l q (ap (λ (g : ℕ). plainly (coreOf l g x)) (sym e)) refl (rw e (clear-keeps p f hf hs))
+
+-- SLP where another priority is put
+pub priority-asleep : (p level : ℕ) → asleep? (putCurrent p level) ≡ asleep? p
+priority-asleep p level =
+    let e : (p / 256 * 256 + level * 32 + p % 32) / 8 % 2 ≡ p / 8 % 2 = omega arith in
+    ap (λ (n : ℕ). eqb n 1) e
 
 -- ---- branches
 

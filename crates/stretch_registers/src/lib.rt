@@ -1,8 +1,10 @@
-// Instructions that touch registers, flags and the CEX state alone. Each function takes the word w,
+// Instructions that touch registers, PSW and the CEX state alone. Each function takes the word w,
 // PC being past it (`pc`, as it stands in R7 but not yet wrapped), and answers the next PC, or
 // LEFT_ALONE and has left all alone: then the step is done in the general way. A MOV of an odd
-// number to PC answers ODD more than that number. R7 is written by BL, branches and MOV alone; SLP
-// and the priority stay.
+// number to PC answers ODD more than that number. The flags are kept as what they come from (crate
+// flags): the PSW is `psw` with those of `last`, `sum` and `over`. R7 is written by BL, branches
+// and MOV alone; SLP stays, and so does the priority but for SETPRI, which is done where `free`
+// says that no line waits.
 ghost use mathlib.Core.Bool.{true, false};
 ghost use mathlib.Core.List.{List};
 ghost use mathlib.Core.Path.{_≡_};
@@ -14,8 +16,9 @@ ghost use Rattle.isa.specs.declared.Instr.the-variants as Instr;
 ghost use Rattle.isa.specs.Decode.{unaryOf, controlOf};
 ghost use Rattle.machine.specs.State.{moved, doubled};
 ghost use Rattle.word.specs.Offset.{signedOf};
+ghost use Rattle.flags.specs.Kept.{held};
 ghost use Rattle.stretch_registers.specs.Effected.{leftAlone, odd, Past, Done, Tried};
-ghost use Rattle.stretch_registers.specs.Effected.{Computes, outcome};
+ghost use Rattle.stretch_registers.specs.Effected.{Computes, Lowers, outcome};
 use alu::Op;
 
 // What is no PC, and says that a word was left alone; and how far above a PC its answer is where it
@@ -42,7 +45,10 @@ pub fn set_reg(regs: &mut [u16; 8], i: usize, v: u16)
 // An operation whose result is written, to any register but R7.
 pub fn compute(
     regs: &mut [u16; 8],
-    psw: &mut u16,
+    psw: u16,
+    last: &mut u16,
+    sum: &mut u32,
+    over: &mut u32,
     pc: usize,
     w: usize,
     op: Op,
@@ -50,33 +56,38 @@ pub fn compute(
     s: u16,
 ) -> usize
     ensures { λ r. ⌜ Computes op byte s w pc
-        (now (regs .entry)) (now (psw .entry)) (now (regs .exit)) (now (psw .exit)) r ⌝ }
+        (now (regs .entry))
+        (held psw (now (last .entry)) (now (sum .entry)) (now (over .entry)))
+        (now (regs .exit))
+        (held psw (now (last .exit)) (now (sum .exit)) (now (over .exit))) r ⌝ }
 {
     let dst = w % 8;
     if dst == 7 {
         return LEFT_ALONE;
     }
-    let o = alu::alu(op, byte, reg(regs, dst), s, *psw);
-    set_reg(regs, dst, o.value);
-    *psw = o.psw;
+    let v = flags::work(op, byte, reg(regs, dst), s, psw, last, sum, over);
+    set_reg(regs, dst, v);
     pc
 }
 
 // CMP and BIT: the flags alone.
 pub fn test(
     regs: &[u16; 8],
-    psw: &mut u16,
+    psw: u16,
+    last: &mut u16,
+    sum: &mut u32,
+    over: &mut u32,
     pc: usize,
     w: usize,
     op: Op,
     byte: bool,
     s: u16,
 ) -> usize
-    ensures { λ r. ⌜ (r ≡ pc)
-        × (now (psw .exit) ≡ outcome op byte s w (now (regs .entry)) (now (psw .entry)) .psw) ⌝ }
+    ensures { λ r. ⌜ (r ≡ pc) × (held psw (now (last .exit)) (now (sum .exit)) (now (over .exit))
+        ≡ outcome op byte s w (now (regs .entry))
+        (held psw (now (last .entry)) (now (sum .entry)) (now (over .entry))) .psw) ⌝ }
 {
-    let o = alu::alu(op, byte, reg(regs, w % 8), s, *psw);
-    *psw = o.psw;
+    flags::work(op, byte, reg(regs, w % 8), s, psw, last, sum, over);
     pc
 }
 
@@ -133,37 +144,64 @@ pub fn swap_word(regs: &mut [u16; 8], pc: usize, w: usize) -> usize
 }
 
 // 4D00 to 4D7F: SRA, RRC, COMP, SWPB, SXT, by bits 5 to 3. Those of no instruction are left alone.
-pub fn single_word(regs: &mut [u16; 8], psw: &mut u16, pc: usize, w: usize) -> usize
+pub fn single_word(
+    regs: &mut [u16; 8],
+    psw: u16,
+    last: &mut u16,
+    sum: &mut u32,
+    over: &mut u32,
+    pc: usize,
+    w: usize,
+) -> usize
     requires { ⌜ Past pc (now regs) ⌝ }
-    ensures { λ r. ⌜ ((cex : ℕ) → Tried (unaryOf w) (now (regs .entry)) (now (psw .entry)) cex
-        (now (regs .exit)) (now (psw .exit)) cex r) ⌝ }
+    ensures { λ r. ⌜ ((cex : ℕ) → Tried (unaryOf w)
+        (now (regs .entry))
+        (held psw (now (last .entry)) (now (sum .entry)) (now (over .entry))) cex
+        (now (regs .exit))
+        (held psw (now (last .exit)) (now (sum .exit)) (now (over .exit))) cex r) ⌝ }
 {
     let byte = w / 64 % 2 == 1;
     match w / 8 % 8 {
-        0 => compute(regs, psw, pc, w, Op::Sra, byte, 0),
-        1 => compute(regs, psw, pc, w, Op::Rrc, byte, 0),
-        2 => compute(regs, psw, pc, w, Op::Comp, byte, 0),
-        3 => compute(regs, psw, pc, w, Op::Swpb, false, 0),
-        4 => compute(regs, psw, pc, w, Op::Sxt, false, 0),
+        0 => compute(regs, psw, last, sum, over, pc, w, Op::Sra, byte, 0),
+        1 => compute(regs, psw, last, sum, over, pc, w, Op::Rrc, byte, 0),
+        2 => compute(regs, psw, last, sum, over, pc, w, Op::Comp, byte, 0),
+        3 => compute(regs, psw, last, sum, over, pc, w, Op::Swpb, false, 0),
+        4 => compute(regs, psw, last, sum, over, pc, w, Op::Sxt, false, 0),
         _ => LEFT_ALONE,
     }
 }
 
 // 4DC0 to 4DFF: SETCC and CLRCC of other flags than SLP.
-pub fn flags_word(psw: &mut u16, pc: usize, w: usize) -> usize
+pub fn flags_word(last: &mut u16, sum: &mut u32, over: &mut u32, pc: usize, w: usize) -> usize
     requires { ⌜ (0x4DC0 ≤ w) × (w < 0x4E00) ⌝ }
-    ensures { λ r. ⌜ ((regs : List ℕ) (cex : ℕ) → Past pc regs → Tried (controlOf w)
-        regs (now (psw .entry)) cex regs (now (psw .exit)) cex r) ⌝ }
+    ensures { λ r. ⌜ ((regs : List ℕ) (psw cex : ℕ) → Past pc regs → Tried (controlOf w)
+        regs (held psw (now (last .entry)) (now (sum .entry)) (now (over .entry))) cex
+        regs (held psw (now (last .exit)) (now (sum .exit)) (now (over .exit))) cex r) ⌝ }
 {
     if w / 8 % 2 == 1 {
         return LEFT_ALONE;
     }
     let f = (w % 32) as u16;
     if w < 0x4DE0 {
-        *psw = operands::flags_set(*psw, f);
+        flags::set(f, last, sum, over);
         return pc;
     }
-    *psw = operands::flags_cleared(*psw, f);
+    flags::clear(f, last, sum, over);
+    pc
+}
+
+// 4D80 to 4DBF: SETPRI to the own priority or a lower one, where no line waits.
+pub fn priority_word(psw: &mut u16, free: bool, pc: usize, w: usize) -> usize
+    ensures { λ r. ⌜ Lowers free w pc (now (psw .entry)) (now (psw .exit)) r ⌝ }
+{
+    if (w / 8 != 0x9B0) | !free {
+        return LEFT_ALONE;
+    }
+    let level = (w % 8) as u16;
+    if word::current_priority(*psw) < level {
+        return LEFT_ALONE;
+    }
+    *psw = operands::priority_put(*psw, level);
     pc
 }
 

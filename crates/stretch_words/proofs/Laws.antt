@@ -2,25 +2,29 @@
 -- w, m the memory, p the PSW, x the CEX state. Assumes nothing.
 use Prim.Native.Nat.{ℕ, zero, suc, _+_, _-_, _*_, _/_, _%_, _<_, _≤_}
 use native.Mathlib.Omega.{arith}
-use mathlib.Core.Bool.{Bool, true, false, cond, _||_}
+use mathlib.Core.Bool.{Bool, true, false, cond, _||_, true≢false}
 use mathlib.Core.List.{List}
-use mathlib.Core.Logic.{inr}
-use mathlib.Core.Path.{_≡_, refl, sym, ap, _∙_}
+use mathlib.Core.Logic.{inl, inr, ⊎-elim}
+use mathlib.Core.Path.{_≡_, refl, sym, ap, subst, _∙_}
 use mathlib.Mathlib.Data.Bool.Basic.{or-eq-false-eq-eq-false-and-eq-false}
 use lib.Dec.{eqb, ltb, leb}
 use lib.ListN.{getD}
 use borrow.Author.Tests.{eqb-false, ltb-false, leb-false, lt-ltb, le-ltb}
 use Rattle.word.proofs.Laws.{bool-cases}
 use Rattle.word.specs.Offset.{signedOf}
+use Rattle.word.specs.Psw.{asleep?, current}
 use Rattle.alu.specs.declared.Op.{Op}
 use Rattle.isa.specs.declared.Instr.{Instr}
 use Rattle.isa.specs.declared.Instr.the-variants as i
 use Rattle.isa.specs.Decode.{unaryOf, controlOf, decodeOf}
-use Rattle.machine.specs.Effect.{effectOf, constantOf, binaryOp, flagsOnly?, takenOf}
-use Rattle.stretch_registers.specs.Effected.{Past, Done, Tried, Computes, outcome}
-use Rattle.stretch_registers.proofs.Laws.{computes-tried, tests-done}
+use Rattle.machine.specs.State.{coreOf}
+use Rattle.machine.specs.Effect.{effectOf, plainly, constantOf, binaryOp, flagsOnly?, takenOf, putCurrent}
+use Rattle.flags.specs.Kept.{held}
+use Rattle.flags.proofs.Laws.{held-current, held-put-current}
+use Rattle.stretch_registers.specs.Effected.{Past, Done, Tried, Computes, Lowers, outcome}
+use Rattle.stretch_registers.proofs.Laws.{pc-back, computes-tried, tests-done, priority-asleep}
 use Rattle.stretch_memory.specs.Served.{Taken}
-use Rattle.stretch_memory.proofs.Laws.{tried-taken}
+use Rattle.stretch_memory.proofs.Laws.{plain-served, tried-taken}
 use Rattle.stretch_words.specs.Ready.{constants}
 
 -- the constants stand where they are named
@@ -37,8 +41,9 @@ constant-at (suc (suc (suc (suc (suc (suc (suc (suc k)))))))) h = absurd (omega 
 
 -- a word that means n, done by a function of registers
 pub means :
-    (n : Instr) (w : ℕ) (l m k : List ℕ) (p x q y r : ℕ) → decodeOf w ≡ n → Tried n l p x k q y r → Taken (decodeOf w) l p x m k q y m r
-means n w l m k p x q y r e t = rw e (tried-taken n l m k p x q y r t)
+    (free : Bool) (n : Instr) (w : ℕ) (l m k : List ℕ) (p x q y r : ℕ) → decodeOf w ≡ n → Tried n l p x k q y r →
+    Taken free (decodeOf w) l p x m k q y m r
+means free n w l m k p x q y r e t = rw e (tried-taken free n l m k p x q y r t)
 
 -- ---- the rows that a match leaves
 
@@ -60,23 +65,23 @@ module _ (w row : ℕ) (h : w / 64 ≡ row) (lo : 0x100 ≤ row) (hi : row < 0x1
       let c : w / 64 % 2 ≡ row % 2 = omega arith in
       simp (le-ltb w 0x2000 (omega arith), le-ltb w 0x4000 (omega arith), lt-ltb w 0x4C00 (omega arith), a, b, c)
 
-  module _ (l m : List ℕ) (p x pc : ℕ) (past : Past pc l) (b : Op) (byte : Bool) {s : ℕ} (hb : binaryOp (row / 4 % 16) ≡ b)
-      (ht : eqb (row % 2) 1 ≡ byte) (hs : s ≡ cond (eqb (row / 2 % 2) 1) (constantOf (w / 8 % 8)) (getD l (w / 8 % 8) 0)) where
+  module _ (free : Bool) (l m : List ℕ) (p x pc : ℕ) (past : Past pc l) (b : Op) (byte : Bool) {s : ℕ}
+      (hb : binaryOp (row / 4 % 16) ≡ b) (ht : eqb (row % 2) 1 ≡ byte) (hs : s ≡ cond (eqb (row / 2 % 2) 1) (constantOf (w / 8 % 8)) (getD l (w / 8 % 8) 0)) where
     abbrev meant : Instr
     meant = i.Alu (row / 4 % 16) (row / 2 % 2) (row % 2) (w / 8 % 8) (w % 8)
 
     pub computing : {k : List ℕ} {q r : ℕ} → flagsOnly? (row / 4 % 16) ≡ false → Computes b byte s w pc l p k q r →
-        Taken (decodeOf w) l p x m k q x m r
+        Taken free (decodeOf w) l p x m k q x m r
     unfolding effectOf
     computing {k} {q} {r} f t =
-        means meant w l m k p x q x r decode-operation
+        means free meant w l m k p x q x r decode-operation
         (computes-tried meant l p x pc past b byte s w k q r (rw (f, hb, ht, sym hs) refl) t)
 
     pub testing : {q r : ℕ} → flagsOnly? (row / 4 % 16) ≡ true → (r ≡ pc) × (q ≡ outcome b byte s w l p .psw) →
-        Taken (decodeOf w) l p x m l q x m r
+        Taken free (decodeOf w) l p x m l q x m r
     unfolding effectOf
     testing {q} {r} f t =
-        means meant w l m l p x q x r decode-operation
+        means free meant w l m l p x q x r decode-operation
         (inr (tests-done meant l p x pc past b byte s w q r (rw (f, hb, ht, sym hs) refl) t))
 
 -- ---- MOV to CLRCC
@@ -237,10 +242,44 @@ module _ (w : ℕ) where
   decode-link h = simp (lt-ltb w 0x2000 h)
 
   -- a branch by its row
-  pub branches : (row : ℕ) (l m : List ℕ) (p x : ℕ) {y r : ℕ} → w / 512 ≡ row → 16 ≤ row → row < 32 →
-      Done (i.Branch (w / 1024 % 8) (signedOf 512 (w % 1024))) l p x l p y r → Taken (decodeOf w) l p x m l p y m r
-  branches row l m p x {y} {r} e lo hi d =
-      means (i.Branch (w / 1024 % 8) (signedOf 512 (w % 1024))) w l m l p x p y r (decode-branch (omega arith) (omega arith)) (inr d)
+  pub branches : (free : Bool) (row : ℕ) (l m : List ℕ) (p x : ℕ) {y r : ℕ} → w / 512 ≡ row → 16 ≤ row → row < 32 →
+      Done (i.Branch (w / 1024 % 8) (signedOf 512 (w % 1024))) l p x l p y r → Taken free (decodeOf w) l p x m l p y m r
+  branches free row l m p x {y} {r} e lo hi d =
+      means free (i.Branch (w / 1024 % 8) (signedOf 512 (w % 1024))) w l m l p x p y r (decode-branch (omega arith) (omega arith)) (inr d)
+
+-- ---- SETPRI
+
+decode-priority : (w : ℕ) → w / 8 ≡ 0x9B0 → decodeOf w ≡ i.SetPri (w % 8)
+decode-priority w h = decode-control w (omega arith) (omega arith) ∙ first
+  where
+    first : controlOf w ≡ i.SetPri (w % 8)
+    first = rw (lt-ltb w 0x4D88 (omega arith)) refl
+
+module _ (w : ℕ) (l m : List ℕ) (p last sum over x : ℕ) where
+  -- the PSW n with the flags that are kept
+  abbrev kept : ℕ → ℕ
+  kept n = held n last sum over
+
+  granted-level : w % 8 ≤ current p →
+      effectOf (coreOf l (kept p) x) (i.SetPri (w % 8)) ≡ plainly (coreOf l (putCurrent (kept p) (w % 8)) x)
+  unfolding effectOf
+  granted-level h =
+      let own : w % 8 ≤ current (kept p) = subst (λ (n : ℕ). w % 8 ≤ n) (sym (held-current p last sum over)) h in
+      rw (le-ltb (current (kept p)) (w % 8) own) refl
+
+  -- the priority lowered, or left, while no line waits
+  pub lowers : (free : Bool) (pc q r : ℕ) → Past pc l → Lowers free w pc p q r → Taken free (decodeOf w) l (kept p) x m l (kept q) x m r
+  lowers free pc q r past =
+      ⊎-elim (λ h. inl (h .0, (refl, ap kept (h .1), refl, refl)))
+      (λ h.
+      let (none, e, level, er, eq) = h in
+      let put : putCurrent (kept p) (w % 8) ≡ kept q = held-put-current p last sum over (w % 8) ∙ ap kept (sym eq) in
+      let asleep : asleep? (kept q) ≡ asleep? (kept p) = ap asleep? (sym put) ∙ priority-asleep (kept p) (w % 8) in
+      rw (decode-priority w e, er)
+      (inr
+      (plain-served free (i.SetPri (w % 8)) l m l (kept p) x (kept q) x pc (λ z. omega (arith, past .2))
+      (granted-level level ∙ (λ j. plainly (coreOf (pc-back l l pc past refl j) (put j) x))) (λ z. past .1)
+      (asleep, (λ z. absurd (true≢false (sym none ∙ z)))) (omega (arith, past .2)) (λ z. z))))
 
 -- below 3E00 with no branch: BL
 abbrev Unbranched : ℕ → Type 0

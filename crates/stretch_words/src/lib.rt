@@ -1,9 +1,10 @@
 // Words by their leading bits: each is done by the function of its format, or left alone. `k` has
-// the constants that a source field can name. take_word has the first rows; a word with none goes
-// on to logic_word, and so on up the file. A row is the word's leading bits as a number, and hands
-// that number on: what it says of operation, operand and width is then known where the row is
-// compiled, and all rows together become one table.
-ghost use mathlib.Core.Bool.{cond};
+// the constants that a source field can name; the PSW is `psw` with the flags that `last`, `sum`
+// and `over` keep (crate flags); `free` says that no line waits. take_word has the first rows; a
+// word with none goes on to logic_word, and so on up the file. A row is the word's leading bits as
+// a number, and hands that number on: what it says of operation, operand and width is then known
+// where the row is compiled, and all rows together become one table.
+ghost use mathlib.Core.Bool.{Bool, cond};
 ghost use mathlib.Core.List.{List};
 ghost use mathlib.Core.Path.{_≡_};
 ghost use Prim.Native.Nat.{ℕ, _/_, _%_, _<_, _≤_};
@@ -11,6 +12,7 @@ ghost use lib.Dec.{eqb};
 ghost use lib.ListN.{length, getD};
 ghost use Rattle.isa.specs.Decode.{decodeOf};
 ghost use Rattle.machine.specs.Effect.{constantOf};
+ghost use Rattle.flags.specs.Kept.{held};
 ghost use Rattle.stretch_registers.specs.Effected.{Past};
 ghost use Rattle.stretch_memory.specs.Served.{Taken};
 ghost use Rattle.stretch_words.specs.Ready.{Ready, constants};
@@ -41,25 +43,30 @@ fn operand(regs: &[u16; 8], k: &[u16; 8], w: usize, row: usize) -> u16
 fn operation(
     regs: &mut [u16; 8],
     k: &[u16; 8],
-    psw: &mut u16,
+    psw: u16,
+    last: &mut u16,
+    sum: &mut u32,
+    over: &mut u32,
     pc: usize,
     w: usize,
     row: usize,
 ) -> usize
     requires { ⌜ Past pc (now regs) × (now k ≡ constants) × (w / 64 ≡ row)
         × (0x100 ≤ row) × (row < 0x130) ⌝ }
-    ensures { λ r. ⌜ ((m : List ℕ) (cex : ℕ) → Taken (decodeOf w)
-        (now (regs .entry)) (now (psw .entry)) cex m
-        (now (regs .exit)) (now (psw .exit)) cex m r) ⌝ }
+    ensures { λ r. ⌜ ((free : Bool) (m : List ℕ) (cex : ℕ) → Taken free (decodeOf w)
+        (now (regs .entry))
+        (held psw (now (last .entry)) (now (sum .entry)) (now (over .entry))) cex m
+        (now (regs .exit))
+        (held psw (now (last .exit)) (now (sum .exit)) (now (over .exit))) cex m r) ⌝ }
 {
     let n = (row / 4 % 16) as u8;
     let byte = row % 2 == 1;
     let s = operand(regs, k, w, row);
     let op = operands::binary(n);
     if (n == 5) | (n == 9) {
-        return test(regs, psw, pc, w, op, byte, s);
+        return test(regs, psw, last, sum, over, pc, w, op, byte, s);
     }
-    compute(regs, psw, pc, w, op, byte, s)
+    compute(regs, psw, last, sum, over, pc, w, op, byte, s)
 }
 
 // 5800 to 5BFF: LD; 5C00 to 5FFF: ST. `row` is w / 64: PRPO, DEC, INC and the width are its last
@@ -67,9 +74,9 @@ fn operation(
 fn load_row(regs: &mut [u16; 8], mem: &mut [u8], pc: usize, w: usize, row: usize) -> usize
     requires { ⌜ (length (now mem) ≡ 65536) × Past pc (now regs) × (w / 64 ≡ row)
         × (0x160 ≤ row) × (row < 0x170) ⌝ }
-    ensures { λ r. ⌜ ((psw cex : ℕ) → Taken (decodeOf w)
-        (now (regs .entry)) psw cex (now (mem .entry))
-        (now (regs .exit)) psw cex (now (mem .exit)) r) ⌝ }
+    ensures { λ r. ⌜ ((free : Bool) (psw cex : ℕ) → Taken free (decodeOf w)
+        (now (regs .entry)) psw cex
+        (now (mem .entry)) (now (regs .exit)) psw cex (now (mem .exit)) r) ⌝ }
 {
     let prpo = (row / 8 % 2) as u8;
     let dec = (row / 4 % 2) as u8;
@@ -80,9 +87,9 @@ fn load_row(regs: &mut [u16; 8], mem: &mut [u8], pc: usize, w: usize, row: usize
 fn store_row(regs: &mut [u16; 8], mem: &mut [u8], pc: usize, w: usize, row: usize) -> usize
     requires { ⌜ (length (now mem) ≡ 65536) × Past pc (now regs) × (w / 64 ≡ row)
         × (0x170 ≤ row) × (row < 0x180) ⌝ }
-    ensures { λ r. ⌜ ((psw cex : ℕ) → Taken (decodeOf w)
-        (now (regs .entry)) psw cex (now (mem .entry))
-        (now (regs .exit)) psw cex (now (mem .exit)) r) ⌝ }
+    ensures { λ r. ⌜ ((free : Bool) (psw cex : ℕ) → Taken free (decodeOf w)
+        (now (regs .entry)) psw cex
+        (now (mem .entry)) (now (regs .exit)) psw cex (now (mem .exit)) r) ⌝ }
 {
     let prpo = (row / 8 % 2) as u8;
     let dec = (row / 4 % 2) as u8;
@@ -91,13 +98,23 @@ fn store_row(regs: &mut [u16; 8], mem: &mut [u8], pc: usize, w: usize, row: usiz
 }
 
 // 2000 to 3FFF: a branch. `row` is w / 512: where it is a number, condition and sign are known.
-fn branch_row(regs: &[u16; 8], psw: &u16, cex: &mut u16, pc: usize, w: usize, row: usize) -> usize
+fn branch_row(
+    regs: &[u16; 8],
+    psw: u16,
+    last: u16,
+    sum: u32,
+    over: u32,
+    cex: &mut u16,
+    pc: usize,
+    w: usize,
+    row: usize,
+) -> usize
     requires { ⌜ Past pc (now regs) × (w / 512 ≡ row) × (16 ≤ row) × (row < 32) ⌝ }
-    ensures { λ r. ⌜ ((m : List ℕ) → Taken (decodeOf w)
-        (now (regs .entry)) (now (psw .entry)) (now (cex .entry)) m
-        (now (regs .entry)) (now (psw .entry)) (now (cex .exit)) m r) ⌝ }
+    ensures { λ r. ⌜ ((free : Bool) (m : List ℕ) → Taken free (decodeOf w)
+        (now (regs .entry)) (held psw last sum over) (now (cex .entry)) m
+        (now (regs .entry)) (held psw last sum over) (now (cex .exit)) m r) ⌝ }
 {
-    if !operands::taken((row / 2 % 8) as u8, *psw) {
+    if !operands::taken((row / 2 % 8) as u8, flags::together(psw, last, sum, over)) {
         return pc;
     }
     *cex = 0;
@@ -106,31 +123,40 @@ fn branch_row(regs: &[u16; 8], psw: &u16, cex: &mut u16, pc: usize, w: usize, ro
 
 // 2000 to 3FFF: the branches, by the sign of their offset too; BRA backwards, which closes a loop,
 // first. 0000 to 1FFF: BL.
-fn jump_word(regs: &mut [u16; 8], psw: &u16, cex: &mut u16, pc: usize, w: usize) -> usize
+fn jump_word(
+    regs: &mut [u16; 8],
+    psw: u16,
+    last: u16,
+    sum: u32,
+    over: u32,
+    cex: &mut u16,
+    pc: usize,
+    w: usize,
+) -> usize
     requires { ⌜ Past pc (now regs) × (w < 0x4000) ⌝ }
-    ensures { λ r. ⌜ ((m : List ℕ) → Taken (decodeOf w)
-        (now (regs .entry)) (now (psw .entry)) (now (cex .entry)) m
-        (now (regs .exit)) (now (psw .entry)) (now (cex .exit)) m r) ⌝ }
+    ensures { λ r. ⌜ ((free : Bool) (m : List ℕ) → Taken free (decodeOf w)
+        (now (regs .entry)) (held psw last sum over) (now (cex .entry)) m
+        (now (regs .exit)) (held psw last sum over) (now (cex .exit)) m r) ⌝ }
 {
     if 0x3E00 <= w {
-        return branch_row(regs, psw, cex, pc, w, 31);
+        return branch_row(regs, psw, last, sum, over, cex, pc, w, 31);
     }
     match w / 512 {
-        16 => branch_row(regs, psw, cex, pc, w, 16),
-        17 => branch_row(regs, psw, cex, pc, w, 17),
-        18 => branch_row(regs, psw, cex, pc, w, 18),
-        19 => branch_row(regs, psw, cex, pc, w, 19),
-        20 => branch_row(regs, psw, cex, pc, w, 20),
-        21 => branch_row(regs, psw, cex, pc, w, 21),
-        22 => branch_row(regs, psw, cex, pc, w, 22),
-        23 => branch_row(regs, psw, cex, pc, w, 23),
-        24 => branch_row(regs, psw, cex, pc, w, 24),
-        25 => branch_row(regs, psw, cex, pc, w, 25),
-        26 => branch_row(regs, psw, cex, pc, w, 26),
-        27 => branch_row(regs, psw, cex, pc, w, 27),
-        28 => branch_row(regs, psw, cex, pc, w, 28),
-        29 => branch_row(regs, psw, cex, pc, w, 29),
-        30 => branch_row(regs, psw, cex, pc, w, 30),
+        16 => branch_row(regs, psw, last, sum, over, cex, pc, w, 16),
+        17 => branch_row(regs, psw, last, sum, over, cex, pc, w, 17),
+        18 => branch_row(regs, psw, last, sum, over, cex, pc, w, 18),
+        19 => branch_row(regs, psw, last, sum, over, cex, pc, w, 19),
+        20 => branch_row(regs, psw, last, sum, over, cex, pc, w, 20),
+        21 => branch_row(regs, psw, last, sum, over, cex, pc, w, 21),
+        22 => branch_row(regs, psw, last, sum, over, cex, pc, w, 22),
+        23 => branch_row(regs, psw, last, sum, over, cex, pc, w, 23),
+        24 => branch_row(regs, psw, last, sum, over, cex, pc, w, 24),
+        25 => branch_row(regs, psw, last, sum, over, cex, pc, w, 25),
+        26 => branch_row(regs, psw, last, sum, over, cex, pc, w, 26),
+        27 => branch_row(regs, psw, last, sum, over, cex, pc, w, 27),
+        28 => branch_row(regs, psw, last, sum, over, cex, pc, w, 28),
+        29 => branch_row(regs, psw, last, sum, over, cex, pc, w, 29),
+        30 => branch_row(regs, psw, last, sum, over, cex, pc, w, 30),
         _ => stretch_registers::link_word(regs, cex, pc, w),
     }
 }
@@ -138,9 +164,9 @@ fn jump_word(regs: &mut [u16; 8], psw: &u16, cex: &mut u16, pc: usize, w: usize)
 // 8000 to FFFF: LDR, STR.
 fn relative_word(regs: &mut [u16; 8], mem: &mut [u8], pc: usize, w: usize) -> usize
     requires { ⌜ Ready pc w (now regs) (now mem) constants × (0x8000 ≤ w) ⌝ }
-    ensures { λ r. ⌜ ((psw cex : ℕ) → Taken (decodeOf w)
-        (now (regs .entry)) psw cex (now (mem .entry))
-        (now (regs .exit)) psw cex (now (mem .exit)) r) ⌝ }
+    ensures { λ r. ⌜ ((free : Bool) (psw cex : ℕ) → Taken free (decodeOf w)
+        (now (regs .entry)) psw cex
+        (now (mem .entry)) (now (regs .exit)) psw cex (now (mem .exit)) r) ⌝ }
 {
     let byte = w / 64 % 2 == 1;
     if w < 0xC000 {
@@ -156,11 +182,23 @@ fn relative_word(regs: &mut [u16; 8], mem: &mut [u8], pc: usize, w: usize) -> us
 }
 
 // SWAP, and one register.
-fn single_word(regs: &mut [u16; 8], mem: &[u8], psw: &mut u16, pc: usize, w: usize) -> usize
+fn single_word(
+    regs: &mut [u16; 8],
+    mem: &[u8],
+    psw: u16,
+    last: &mut u16,
+    sum: &mut u32,
+    over: &mut u32,
+    pc: usize,
+    w: usize,
+) -> usize
     requires { ⌜ Ready pc w (now regs) (now mem) constants ⌝ }
-    ensures { λ r. ⌜ ((cex : ℕ) → Taken (decodeOf w)
-        (now (regs .entry)) (now (psw .entry)) cex (now (mem .entry))
-        (now (regs .exit)) (now (psw .exit)) cex (now (mem .entry)) r) ⌝ }
+    ensures { λ r. ⌜ ((free : Bool) (cex : ℕ) → Taken free (decodeOf w)
+        (now (regs .entry))
+        (held psw (now (last .entry)) (now (sum .entry)) (now (over .entry))) cex
+        (now (mem .entry)) (now (regs .exit))
+        (held psw (now (last .exit)) (now (sum .exit)) (now (over .exit))) cex
+        (now (mem .entry)) r) ⌝ }
 {
     if (w < 0x4C80) | (0x4D80 <= w) {
         return LEFT_ALONE;
@@ -168,27 +206,34 @@ fn single_word(regs: &mut [u16; 8], mem: &[u8], psw: &mut u16, pc: usize, w: usi
     if w < 0x4D00 {
         return stretch_registers::swap_word(regs, pc, w);
     }
-    stretch_registers::single_word(regs, psw, pc, w)
+    stretch_registers::single_word(regs, psw, last, sum, over, pc, w)
 }
 
-// Branches, BL, MOVL to MOVH, LDR, STR, SWAP, one register. CEX, SETPRI, SVC, the other adjustments
-// of LD and ST and the words of no instruction are left alone.
+// Branches, BL, MOVL to MOVH, LDR, STR, SWAP, one register. CEX, SVC, the other adjustments of LD
+// and ST and the words of no instruction are left alone.
 fn far_word(
     regs: &mut [u16; 8],
     mem: &mut [u8],
     k: &[u16; 8],
-    psw: &mut u16,
+    psw: u16,
+    last: &mut u16,
+    sum: &mut u32,
+    over: &mut u32,
     cex: &mut u16,
     pc: usize,
     w: usize,
 ) -> usize
     requires { ⌜ Ready pc w (now regs) (now mem) (now k) ⌝ }
-    ensures { λ r. ⌜ Taken (decodeOf w)
-        (now (regs .entry)) (now (psw .entry)) (now (cex .entry)) (now (mem .entry))
-        (now (regs .exit)) (now (psw .exit)) (now (cex .exit)) (now (mem .exit)) r ⌝ }
+    ensures { λ r. ⌜ ((free : Bool) → Taken free (decodeOf w)
+        (now (regs .entry))
+        (held psw (now (last .entry)) (now (sum .entry)) (now (over .entry)))
+        (now (cex .entry)) (now (mem .entry))
+        (now (regs .exit))
+        (held psw (now (last .exit)) (now (sum .exit)) (now (over .exit)))
+        (now (cex .exit)) (now (mem .exit)) r) ⌝ }
 {
     if w < 0x4000 {
-        return jump_word(regs, psw, cex, pc, w);
+        return jump_word(regs, psw, *last, *sum, *over, cex, pc, w);
     }
     if 0x8000 <= w {
         return relative_word(regs, mem, pc, w);
@@ -196,28 +241,37 @@ fn far_word(
     if 0x6000 <= w {
         return stretch_registers::immediate_word(regs, pc, w);
     }
-    single_word(regs, mem, psw, pc, w)
+    single_word(regs, mem, psw, last, sum, over, pc, w)
 }
 
-// MOV, SETCC and CLRCC; LD and ST by their last four leading bits.
+// MOV, SETPRI, SETCC and CLRCC; LD and ST by their last four leading bits.
 fn move_word(
     regs: &mut [u16; 8],
     mem: &mut [u8],
     k: &[u16; 8],
     psw: &mut u16,
+    free: bool,
+    last: &mut u16,
+    sum: &mut u32,
+    over: &mut u32,
     cex: &mut u16,
     pc: usize,
     w: usize,
 ) -> usize
     requires { ⌜ Ready pc w (now regs) (now mem) (now k) ⌝ }
-    ensures { λ r. ⌜ Taken (decodeOf w)
-        (now (regs .entry)) (now (psw .entry)) (now (cex .entry)) (now (mem .entry))
-        (now (regs .exit)) (now (psw .exit)) (now (cex .exit)) (now (mem .exit)) r ⌝ }
+    ensures { λ r. ⌜ Taken free (decodeOf w)
+        (now (regs .entry))
+        (held (now (psw .entry)) (now (last .entry)) (now (sum .entry)) (now (over .entry)))
+        (now (cex .entry)) (now (mem .entry))
+        (now (regs .exit))
+        (held (now (psw .exit)) (now (last .exit)) (now (sum .exit)) (now (over .exit)))
+        (now (cex .exit)) (now (mem .exit)) r ⌝ }
 {
     match w / 64 {
         0x130 => stretch_registers::move_word(regs, cex, pc, w, false),
         0x131 => stretch_registers::move_word(regs, cex, pc, w, true),
-        0x137 => stretch_registers::flags_word(psw, pc, w),
+        0x136 => stretch_registers::priority_word(psw, free, pc, w),
+        0x137 => stretch_registers::flags_word(last, sum, over, pc, w),
         0x160 => load_row(regs, mem, pc, w, 0x160),
         0x161 => load_row(regs, mem, pc, w, 0x161),
         0x162 => load_row(regs, mem, pc, w, 0x162),
@@ -238,7 +292,7 @@ fn move_word(
         0x17B => store_row(regs, mem, pc, w, 0x17B),
         0x17C => store_row(regs, mem, pc, w, 0x17C),
         0x17D => store_row(regs, mem, pc, w, 0x17D),
-        _ => far_word(regs, mem, k, psw, cex, pc, w),
+        _ => far_word(regs, mem, k, *psw, last, sum, over, cex, pc, w),
     }
 }
 
@@ -248,41 +302,49 @@ fn logic_word(
     mem: &mut [u8],
     k: &[u16; 8],
     psw: &mut u16,
+    free: bool,
+    last: &mut u16,
+    sum: &mut u32,
+    over: &mut u32,
     cex: &mut u16,
     pc: usize,
     w: usize,
 ) -> usize
     requires { ⌜ Ready pc w (now regs) (now mem) (now k) ⌝ }
-    ensures { λ r. ⌜ Taken (decodeOf w)
-        (now (regs .entry)) (now (psw .entry)) (now (cex .entry)) (now (mem .entry))
-        (now (regs .exit)) (now (psw .exit)) (now (cex .exit)) (now (mem .exit)) r ⌝ }
+    ensures { λ r. ⌜ Taken free (decodeOf w)
+        (now (regs .entry))
+        (held (now (psw .entry)) (now (last .entry)) (now (sum .entry)) (now (over .entry)))
+        (now (cex .entry)) (now (mem .entry))
+        (now (regs .exit))
+        (held (now (psw .exit)) (now (last .exit)) (now (sum .exit)) (now (over .exit)))
+        (now (cex .exit)) (now (mem .exit)) r ⌝ }
 {
     match w / 64 {
-        0x118 => operation(regs, k, psw, pc, w, 0x118),
-        0x119 => operation(regs, k, psw, pc, w, 0x119),
-        0x11A => operation(regs, k, psw, pc, w, 0x11A),
-        0x11B => operation(regs, k, psw, pc, w, 0x11B),
-        0x11C => operation(regs, k, psw, pc, w, 0x11C),
-        0x11D => operation(regs, k, psw, pc, w, 0x11D),
-        0x11E => operation(regs, k, psw, pc, w, 0x11E),
-        0x11F => operation(regs, k, psw, pc, w, 0x11F),
-        0x120 => operation(regs, k, psw, pc, w, 0x120),
-        0x121 => operation(regs, k, psw, pc, w, 0x121),
-        0x122 => operation(regs, k, psw, pc, w, 0x122),
-        0x123 => operation(regs, k, psw, pc, w, 0x123),
-        0x124 => operation(regs, k, psw, pc, w, 0x124),
-        0x125 => operation(regs, k, psw, pc, w, 0x125),
-        0x126 => operation(regs, k, psw, pc, w, 0x126),
-        0x127 => operation(regs, k, psw, pc, w, 0x127),
-        0x128 => operation(regs, k, psw, pc, w, 0x128),
-        0x129 => operation(regs, k, psw, pc, w, 0x129),
-        0x12A => operation(regs, k, psw, pc, w, 0x12A),
-        0x12B => operation(regs, k, psw, pc, w, 0x12B),
-        0x12C => operation(regs, k, psw, pc, w, 0x12C),
-        0x12D => operation(regs, k, psw, pc, w, 0x12D),
-        0x12E => operation(regs, k, psw, pc, w, 0x12E),
-        0x12F => operation(regs, k, psw, pc, w, 0x12F),
-        _ => move_word(regs, mem, k, psw, cex, pc, w),
+        0x118 => operation(regs, k, *psw, last, sum, over, pc, w, 0x118),
+        0x119 => operation(regs, k, *psw, last, sum, over, pc, w, 0x119),
+        0x11A => operation(regs, k, *psw, last, sum, over, pc, w, 0x11A),
+        0x11B => operation(regs, k, *psw, last, sum, over, pc, w, 0x11B),
+        0x11C => operation(regs, k, *psw, last, sum, over, pc, w, 0x11C),
+        0x11D => operation(regs, k, *psw, last, sum, over, pc, w, 0x11D),
+        0x11E => operation(regs, k, *psw, last, sum, over, pc, w, 0x11E),
+        0x11F => operation(regs, k, *psw, last, sum, over, pc, w, 0x11F),
+        0x120 => operation(regs, k, *psw, last, sum, over, pc, w, 0x120),
+        0x121 => operation(regs, k, *psw, last, sum, over, pc, w, 0x121),
+        0x122 => operation(regs, k, *psw, last, sum, over, pc, w, 0x122),
+        0x123 => operation(regs, k, *psw, last, sum, over, pc, w, 0x123),
+        0x124 => operation(regs, k, *psw, last, sum, over, pc, w, 0x124),
+        0x125 => operation(regs, k, *psw, last, sum, over, pc, w, 0x125),
+        0x126 => operation(regs, k, *psw, last, sum, over, pc, w, 0x126),
+        0x127 => operation(regs, k, *psw, last, sum, over, pc, w, 0x127),
+        0x128 => operation(regs, k, *psw, last, sum, over, pc, w, 0x128),
+        0x129 => operation(regs, k, *psw, last, sum, over, pc, w, 0x129),
+        0x12A => operation(regs, k, *psw, last, sum, over, pc, w, 0x12A),
+        0x12B => operation(regs, k, *psw, last, sum, over, pc, w, 0x12B),
+        0x12C => operation(regs, k, *psw, last, sum, over, pc, w, 0x12C),
+        0x12D => operation(regs, k, *psw, last, sum, over, pc, w, 0x12D),
+        0x12E => operation(regs, k, *psw, last, sum, over, pc, w, 0x12E),
+        0x12F => operation(regs, k, *psw, last, sum, over, pc, w, 0x12F),
+        _ => move_word(regs, mem, k, psw, free, last, sum, over, cex, pc, w),
     }
 }
 
@@ -292,40 +354,48 @@ pub fn take_word(
     mem: &mut [u8],
     k: &[u16; 8],
     psw: &mut u16,
+    free: bool,
+    last: &mut u16,
+    sum: &mut u32,
+    over: &mut u32,
     cex: &mut u16,
     pc: usize,
     w: usize,
 ) -> usize
     requires { ⌜ Ready pc w (now regs) (now mem) (now k) ⌝ }
-    ensures { λ r. ⌜ Taken (decodeOf w)
-        (now (regs .entry)) (now (psw .entry)) (now (cex .entry)) (now (mem .entry))
-        (now (regs .exit)) (now (psw .exit)) (now (cex .exit)) (now (mem .exit)) r ⌝ }
+    ensures { λ r. ⌜ Taken free (decodeOf w)
+        (now (regs .entry))
+        (held (now (psw .entry)) (now (last .entry)) (now (sum .entry)) (now (over .entry)))
+        (now (cex .entry)) (now (mem .entry))
+        (now (regs .exit))
+        (held (now (psw .exit)) (now (last .exit)) (now (sum .exit)) (now (over .exit)))
+        (now (cex .exit)) (now (mem .exit)) r ⌝ }
 {
     match w / 64 {
-        0x100 => operation(regs, k, psw, pc, w, 0x100),
-        0x101 => operation(regs, k, psw, pc, w, 0x101),
-        0x102 => operation(regs, k, psw, pc, w, 0x102),
-        0x103 => operation(regs, k, psw, pc, w, 0x103),
-        0x104 => operation(regs, k, psw, pc, w, 0x104),
-        0x105 => operation(regs, k, psw, pc, w, 0x105),
-        0x106 => operation(regs, k, psw, pc, w, 0x106),
-        0x107 => operation(regs, k, psw, pc, w, 0x107),
-        0x108 => operation(regs, k, psw, pc, w, 0x108),
-        0x109 => operation(regs, k, psw, pc, w, 0x109),
-        0x10A => operation(regs, k, psw, pc, w, 0x10A),
-        0x10B => operation(regs, k, psw, pc, w, 0x10B),
-        0x10C => operation(regs, k, psw, pc, w, 0x10C),
-        0x10D => operation(regs, k, psw, pc, w, 0x10D),
-        0x10E => operation(regs, k, psw, pc, w, 0x10E),
-        0x10F => operation(regs, k, psw, pc, w, 0x10F),
-        0x110 => operation(regs, k, psw, pc, w, 0x110),
-        0x111 => operation(regs, k, psw, pc, w, 0x111),
-        0x112 => operation(regs, k, psw, pc, w, 0x112),
-        0x113 => operation(regs, k, psw, pc, w, 0x113),
-        0x114 => operation(regs, k, psw, pc, w, 0x114),
-        0x115 => operation(regs, k, psw, pc, w, 0x115),
-        0x116 => operation(regs, k, psw, pc, w, 0x116),
-        0x117 => operation(regs, k, psw, pc, w, 0x117),
-        _ => logic_word(regs, mem, k, psw, cex, pc, w),
+        0x100 => operation(regs, k, *psw, last, sum, over, pc, w, 0x100),
+        0x101 => operation(regs, k, *psw, last, sum, over, pc, w, 0x101),
+        0x102 => operation(regs, k, *psw, last, sum, over, pc, w, 0x102),
+        0x103 => operation(regs, k, *psw, last, sum, over, pc, w, 0x103),
+        0x104 => operation(regs, k, *psw, last, sum, over, pc, w, 0x104),
+        0x105 => operation(regs, k, *psw, last, sum, over, pc, w, 0x105),
+        0x106 => operation(regs, k, *psw, last, sum, over, pc, w, 0x106),
+        0x107 => operation(regs, k, *psw, last, sum, over, pc, w, 0x107),
+        0x108 => operation(regs, k, *psw, last, sum, over, pc, w, 0x108),
+        0x109 => operation(regs, k, *psw, last, sum, over, pc, w, 0x109),
+        0x10A => operation(regs, k, *psw, last, sum, over, pc, w, 0x10A),
+        0x10B => operation(regs, k, *psw, last, sum, over, pc, w, 0x10B),
+        0x10C => operation(regs, k, *psw, last, sum, over, pc, w, 0x10C),
+        0x10D => operation(regs, k, *psw, last, sum, over, pc, w, 0x10D),
+        0x10E => operation(regs, k, *psw, last, sum, over, pc, w, 0x10E),
+        0x10F => operation(regs, k, *psw, last, sum, over, pc, w, 0x10F),
+        0x110 => operation(regs, k, *psw, last, sum, over, pc, w, 0x110),
+        0x111 => operation(regs, k, *psw, last, sum, over, pc, w, 0x111),
+        0x112 => operation(regs, k, *psw, last, sum, over, pc, w, 0x112),
+        0x113 => operation(regs, k, *psw, last, sum, over, pc, w, 0x113),
+        0x114 => operation(regs, k, *psw, last, sum, over, pc, w, 0x114),
+        0x115 => operation(regs, k, *psw, last, sum, over, pc, w, 0x115),
+        0x116 => operation(regs, k, *psw, last, sum, over, pc, w, 0x116),
+        0x117 => operation(regs, k, *psw, last, sum, over, pc, w, 0x117),
+        _ => logic_word(regs, mem, k, psw, free, last, sum, over, cex, pc, w),
     }
 }

@@ -13,16 +13,16 @@ use Rattle.stretch_memory.proofs.load.Tie as tie
 
 with-low-requires : tie.Need-with-low-requires
 with-low-requires c κs =
-    let k : tie.After-slice-known = search in
+    let k = c .before .before .before .before .before .before in
     let a = k .before .args in
     let bytes : Bytes (now (a .mem)) = λ i. omega (arith, k .slice-known .given i) in
     value-lt (a .byte) (now (a .mem)) (a .at) _ bytes (c .before .before .before .before .load .ensures .0)
 
 returns : tie.Need-returns
 returns c =
-    let o : tie.After-load = search in
-    let start : tie.Start = search in
     let w = c .before .before in
+    let o = w .before .before .before .before .before in
+    let start = o .before .before .before in
     let a = start .args in (
       (λ psw cex.
           load-law (now (a .regs)) _ (now (a .mem)) psw cex cex (a .byte) (a .at) (a .dst) _ _ _

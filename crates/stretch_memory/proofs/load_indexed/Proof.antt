@@ -11,27 +11,27 @@ use Rattle.stretch_memory.proofs.load_indexed.Statement.{statement}
 use Rattle.stretch_memory.proofs.load_indexed.Tie as tie
 
 returns : tie.Need-returns
-returns c = λ psw cex. inl (refl, (refl, refl, refl, refl))
+returns c = λ free psw cex. inl (refl, (refl, refl, refl, refl))
 
 returns-2 : tie.Need-returns-2
-returns-2 c = λ psw cex. inl (refl, (refl, refl, refl, refl))
+returns-2 c = λ free psw cex. inl (refl, (refl, refl, refl, refl))
 
 returns-3 : tie.Need-returns-3
-returns-3 c = λ psw cex. inl (refl, (refl, refl, refl, refl))
+returns-3 c = λ free psw cex. inl (refl, (refl, refl, refl, refl))
 
 returns-4 : tie.Need-returns-4
 returns-4 c =
     let d : tie.After-adjust = search in
     let t : tie.After-aligned = search in
     let e : tie.Else2 = search in
-    let start : tie.Start = search in
-    let a = start .args in
+    let s : tie.Start = search in
+    let a = s .args in
     let o = c .before .before .load .ensures in
     let l = now (a .regs) in
     let stays = e .if2 .left in
-    λ psw cex.
+    λ free psw cex.
     inr
-    (served-load _ l _ (now (a .mem)) psw cex (a .pc) (start .pre .1) _ _ _ _ _
+    (served-load free _ l _ (now (a .mem)) psw cex (a .pc) (s .pre .1) _ _ _ _ _
     (load-effect l _ psw cex (a .prpo) (a .dec) (a .inc) (a .wb) (a .w / 8 % 8) stays (t .before .before .before .reg .ensures)
     (t .before .before .adjusted-by .ensures) (t .before .address .ensures) (d .adjust .ensures) (a .w % 8))
     (sym (t .aligned .ensures) ∙ not-false _ (d .before .before .if3 .left))

@@ -9,24 +9,27 @@ use Rattle.stretch_memory.proofs.load_relative.Statement.{statement}
 use Rattle.stretch_memory.proofs.load_relative.Tie as tie
 
 returns : tie.Need-returns
-returns c = λ psw cex. inl (refl, (refl, refl, refl, refl))
+returns c = λ free psw cex. inl (refl, (refl, refl, refl, refl))
 
 returns-2 : tie.Need-returns-2
-returns-2 c = λ psw cex. inl (refl, (refl, refl, refl, refl))
+returns-2 c = λ free psw cex. inl (refl, (refl, refl, refl, refl))
 
 returns-3 : tie.Need-returns-3
 returns-3 c =
-    let start : tie.Start = search in
-    let d : tie.Else2 = search in
+    let s : tie.Start = search in
+    let r : tie.After-reg = search in
+    let d : tie.After-relative = search in
     let t : tie.After-aligned = search in
-    let a = start .args in
-    let o = c .before .before .load .ensures in
+    let u : tie.Else2 = search in
+    let v : tie.After-load = search in
+    let a = s .args in
+    let o = v .load .ensures in
     let l = now (a .regs) in
-    λ psw cex.
+    λ free psw cex.
     inr
-    (served-load _ l l (now (a .mem)) psw cex (a .pc) (start .pre .1) _ _ _ _ _
-    (load-relative-effect l psw cex (a .wb) (a .w / 8 % 8) _ (t .before .before .reg .ensures) (t .before .relative .ensures) (a .w % 8))
-    (sym (t .aligned .ensures) ∙ not-false _ (d .if2 .left))
+    (served-load free _ l l (now (a .mem)) psw cex (a .pc) (s .pre .1) _ _ _ _ _
+    (load-relative-effect l psw cex (a .wb) (a .w / 8 % 8) _ (r .reg .ensures) (d .relative .ensures) (a .w % 8))
+    (sym (t .aligned .ensures) ∙ not-false _ (u .if2 .left))
     (o .0)
     (o .1 .0)
     (o .1 .1))

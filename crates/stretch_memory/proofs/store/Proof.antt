@@ -18,8 +18,8 @@ returns c = (λ e. refl, λ e. absurd (false≢true e))
 
 returns-2 : tie.Need-returns-2
 returns-2 c =
-    let i : tie.Else1 = search in
     let t = c .before .before .before .before .if2 .taken in
+    let i = c .before .before .before .before .before in
     let a = i .before .before .before .args in
     let m = now (a .mem) in
     let h = sym (i .before .inside .ensures) ∙ not-false _ (i .if1 .left) in (
@@ -35,16 +35,16 @@ returns-3 c = (λ e. refl, λ e. absurd (false≢true e))
 
 returns-4 : tie.Need-returns-4
 returns-4 c =
-    let i : tie.Else1 = search in
-    let t : tie.Else2 = search in
     let even = c .before .before .before .before .if3 .left in
+    let t = c .before .before .before .before .before .if2 .left in
+    let i = c .before .before .before .before .before .before in
     let a = i .before .before .before .args in
     let m = now (a .mem) in
     let h = sym (i .before .inside .ensures) ∙ not-false _ (i .if1 .left) in (
       λ e. absurd (true≢false e),
       λ e. (
-        and-both h (ap (λ (b : Bool). aligned? b (a .at)) (t .if2 .left) ∙ eq-eqb (a .at % 2) 0 (omega (arith, even))),
-        c .before .before .store2 .ensures ∙ ap (λ (b : Bool). commit (storeWrites b m (a .at) (a .v)) m) (sym (t .if2 .left)),
+        and-both h (ap (λ (b : Bool). aligned? b (a .at)) t ∙ eq-eqb (a .at % 2) 0 (omega (arith, even))),
+        c .before .before .store2 .ensures ∙ ap (λ (b : Bool). commit (storeWrites b m (a .at) (a .v)) m) (sym t),
       ),
     )
 

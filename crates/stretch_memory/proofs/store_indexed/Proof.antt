@@ -11,27 +11,26 @@ use Rattle.stretch_memory.proofs.store_indexed.Statement.{statement}
 use Rattle.stretch_memory.proofs.store_indexed.Tie as tie
 
 returns : tie.Need-returns
-returns c = λ psw cex. inl (refl, (refl, refl, refl, refl))
+returns c = λ free psw cex. inl (refl, (refl, refl, refl, refl))
 
 returns-2 : tie.Need-returns-2
 returns-2 c =
     let same = c .before .before .before .store .ensures .0 (not-true _ (c .if2 .taken)) in
-    λ psw cex. inl (refl, (refl, refl, refl, same))
+    λ free psw cex. inl (refl, (refl, refl, refl, same))
 
 returns-3 : tie.Need-returns-3
 returns-3 c =
-    let s : tie.After-store = search in
+    let v : tie.After-store = search in
     let t : tie.After-address = search in
     let i : tie.Else1 = search in
-    let start : tie.Start = search in
-    let e = c .before .before in
-    let a = start .args in
+    let s : tie.Start = search in
+    let a = s .args in
     let l = now (a .regs) in
     let stays = i .if1 .left in
-    let o = s .store .ensures .1 (not-false _ (e .if2 .left)) in
-    λ psw cex.
+    let o = v .store .ensures .1 (not-false _ (c .before .before .if2 .left)) in
+    λ free psw cex.
     inr
-    (served-store _ l _ (now (a .mem)) psw cex (a .pc) (start .pre .1) _ _ _ _
+    (served-store free _ l _ (now (a .mem)) psw cex (a .pc) (s .pre .1) _ _ _ _
     (store-effect l _ psw cex (a .prpo) (a .dec) (a .inc) (a .wb) (a .w % 8) stays (t .before .before .reg2 .ensures)
     (t .before .adjusted-by .ensures) (t .address .ensures) (c .adjust .ensures) (a .w / 8 % 8)
     (t .before .before .before .before .reg .ensures))

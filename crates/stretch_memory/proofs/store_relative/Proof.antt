@@ -11,21 +11,23 @@ use Rattle.stretch_memory.proofs.store_relative.Tie as tie
 returns : tie.Need-returns
 returns c =
     let same = c .before .before .before .store .ensures .0 (not-true _ (c .if1 .taken)) in
-    λ psw cex. inl (refl, (refl, refl, refl, same))
+    λ free psw cex. inl (refl, (refl, refl, refl, same))
 
 returns-2 : tie.Need-returns-2
 returns-2 c =
-    let s = c .before .before .before in
-    let t = s .before .before in
-    let start = t .before .before .before .before in
-    let a = start .args in
+    let s : tie.Start = search in
+    let r : tie.After-reg = search in
+    let d : tie.After-relative = search in
+    let f : tie.After-reg2 = search in
+    let v : tie.After-store = search in
+    let a = s .args in
     let l = now (a .regs) in
-    let o = s .store .ensures .1 (not-false _ (c .if1 .left)) in
-    λ psw cex.
+    let o = v .store .ensures .1 (not-false _ (c .if1 .left)) in
+    λ free psw cex.
     inr
-    (served-store _ l l (now (a .mem)) psw cex (a .pc) (start .pre .1) _ _ _ _
-    (store-relative-effect l psw cex (a .wb) (a .w % 8) _ (t .before .before .reg .ensures) (t .before .relative .ensures)
-    (a .w / 8 % 8) (t .reg2 .ensures))
+    (served-store free _ l l (now (a .mem)) psw cex (a .pc) (s .pre .1) _ _ _ _
+    (store-relative-effect l psw cex (a .wb) (a .w % 8) _ (r .reg .ensures) (d .relative .ensures)
+    (a .w / 8 % 8) (f .reg2 .ensures))
     (o .0)
     (o .1)
     refl)

@@ -7,6 +7,7 @@ use Prim.Native.Nat.{ℕ, _%_}
 use Rattle.word.specs.Width.{widthOf}
 use Rattle.alu.specs.declared.Computed.{Computed}
 use Rattle.alu.specs.Alu.{aluOf}
+use Rattle.flags.specs.Kept.{held}
 use borrow.Author.Needs.{needs}
 use Rattle.stretch_registers.proofs.compute.Statement.{statement}
 use Rattle.stretch_registers.proofs.compute.Tie as tie
@@ -16,15 +17,17 @@ returns c = inl (refl, refl, refl)
 
 returns-2 : tie.Need-returns-2
 returns-2 c =
-    let b = c .before .before in
-    let a = b .before .before .before .before .before .args in
-    let e =
-    b .alu .ensures ∙ ap (λ (d : ℕ). aluOf (a .op) (widthOf (a .byte)) d (a .s) (now (a .psw))) (b .before .before .reg .ensures) in
+    let s : tie.Start = search in
+    let r : tie.After-reg = search in
+    let k : tie.After-work = search in
+    let a = s .args in
+    let p = held (a .psw) (now (a .last)) (now (a .sum)) (now (a .over)) in
+    let e = ap (λ (d : ℕ). aluOf (a .op) (widthOf (a .byte)) d (a .s) p) (r .reg .ensures) in
     inr (
       omega arith,
       refl,
-      c .set-reg .ensures ∙ ap (λ (o : Computed). set (now (a .regs)) (a .w % 8) (o .value)) e,
-      ap (λ (o : Computed). o .psw) e,
+      c .set-reg .ensures ∙ ap (set (now (a .regs)) (a .w % 8)) (k .work .ensures .0 ∙ ap (λ (o : Computed). o .value) e),
+      k .work .ensures .1 ∙ ap (λ (o : Computed). o .psw) e,
     )
 
 pub compute-spec : {M : Type 1} → statement M

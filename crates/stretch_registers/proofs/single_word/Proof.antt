@@ -12,36 +12,36 @@ use Rattle.stretch_registers.proofs.single_word.Tie as tie
 returns : tie.Need-returns
 unfolding unaryOp
 returns c =
-    let m = c .before .before .before in
-    let start = m .before in
-    λ cex. unary-tried (now (start .args .regs)) _ cex _ (start .pre) _ 0 op.Sra (m .match .keys1) (omega arith) refl (c .compute .ensures)
+    let s : tie.Start = search in
+    let m : tie.At-match-keys1 = search in
+    λ cex. unary-tried (now (s .args .regs)) _ cex _ (s .pre) _ 0 op.Sra (m .match .keys1) (omega arith) refl (c .compute .ensures)
 
 returns-2 : tie.Need-returns-2
 unfolding unaryOp
 returns-2 c =
-    let m = c .before .before .before in
-    let start = m .before in
-    λ cex. unary-tried (now (start .args .regs)) _ cex _ (start .pre) _ 1 op.Rrc (m .match .keys2) (omega arith) refl (c .compute2 .ensures)
+    let s : tie.Start = search in
+    let m : tie.At-match-keys2 = search in
+    λ cex. unary-tried (now (s .args .regs)) _ cex _ (s .pre) _ 1 op.Rrc (m .match .keys2) (omega arith) refl (c .compute2 .ensures)
 
 returns-3 : tie.Need-returns-3
 unfolding unaryOp
 returns-3 c =
-    let m = c .before .before .before in
-    let start = m .before in
-    λ cex. unary-tried (now (start .args .regs)) _ cex _ (start .pre) _ 2 op.Comp (m .match .keys3) (omega arith) refl
+    let s : tie.Start = search in
+    let m : tie.At-match-keys3 = search in
+    λ cex. unary-tried (now (s .args .regs)) _ cex _ (s .pre) _ 2 op.Comp (m .match .keys3) (omega arith) refl
     (c .compute3 .ensures)
 
 returns-4 : tie.Need-returns-4
 returns-4 c =
-    let m = c .before .before .before in
-    let start = m .before in
-    λ cex. swpb-tried (now (start .args .regs)) _ cex _ (start .pre) _ (m .match .keys4) (c .compute4 .ensures)
+    let s : tie.Start = search in
+    let m : tie.At-match-keys4 = search in
+    λ cex. swpb-tried (now (s .args .regs)) _ cex _ (s .pre) _ (m .match .keys4) (c .compute4 .ensures)
 
 returns-5 : tie.Need-returns-5
 returns-5 c =
-    let m = c .before .before .before in
-    let start = m .before in
-    λ cex. sxt-tried (now (start .args .regs)) _ cex _ (start .pre) _ (m .match .keys5) (c .compute5 .ensures)
+    let s : tie.Start = search in
+    let m : tie.At-match-keys5 = search in
+    λ cex. sxt-tried (now (s .args .regs)) _ cex _ (s .pre) _ (m .match .keys5) (c .compute5 .ensures)
 
 returns-6 : tie.Need-returns-6
 returns-6 c = λ cex. inl (refl, refl, refl, refl)

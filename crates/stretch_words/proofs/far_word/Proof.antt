@@ -1,25 +1,30 @@
 use Rattle.stretch_words.proofs.Laws.{means, decode-immediate}
 use denote.Ref.{now}
+use Rattle.flags.specs.Kept.{held}
 use borrow.Author.Needs.{needs}
 use Rattle.stretch_words.proofs.far_word.Statement.{statement}
 use Rattle.stretch_words.proofs.far_word.Tie as tie
 
 returns : tie.Need-returns
-returns c = c .jump-word .ensures _
+returns c = λ free. c .jump-word .ensures free _
 
 returns-2 : tie.Need-returns-2
-returns-2 c = c .before .before .relative-word .ensures _ _
+returns-2 c = λ free. c .before .before .relative-word .ensures free _ _
 
 returns-3 : tie.Need-returns-3
 returns-3 c =
-    let d = c .before .before in
-    let s = d .before .before .before .before in
+    let s : tie.Start = search in
+    let t : tie.Else2 = search in
+    let d : tie.Then3 = search in
     let a = s .args in
-    means _ (a .w) (now (a .regs)) (now (a .mem)) _ (now (a .psw)) (now (a .cex)) (now (a .psw)) (now (a .cex)) _
-    (decode-immediate (a .w) (d .if3 .taken) (d .before .if2 .left)) (c .immediate-word .ensures (now (a .psw)) (now (a .cex)))
+    let p = held (a .psw) (now (a .last)) (now (a .sum)) (now (a .over)) in
+    let x = now (a .cex) in
+    λ free.
+    means free _ (a .w) (now (a .regs)) (now (a .mem)) _ p x p x _
+    (decode-immediate (a .w) (d .if3 .taken) (t .if2 .left)) (c .immediate-word .ensures p x)
 
 returns-4 : tie.Need-returns-4
-returns-4 c = c .single-word .ensures _
+returns-4 c = λ free. c .single-word .ensures free _
 
 pub far-word-spec : {M : Type 1} → statement M
 far-word-spec =

@@ -1,6 +1,7 @@
 use mathlib.Core.Logic.{inr}
 use denote.Ref.{now}
 use Rattle.stretch_words.proofs.Laws.{means, decode-link, low-half}
+use Rattle.flags.specs.Kept.{held}
 use borrow.Author.Needs.{needs}
 use Rattle.stretch_words.proofs.jump_word.Statement.{statement}
 use Rattle.stretch_words.proofs.jump_word.Tie as tie
@@ -12,9 +13,10 @@ returns-17 c =
     let b : tie.Else1 = search in
     let d : tie.At-match-rest = search in
     let a = s .args in
-    λ m.
-    means _ (a .w) (now (a .regs)) m _ (now (a .psw)) _ (now (a .psw)) _ _
-    (decode-link (a .w) (low-half (a .w) (b .if1 .left) (d .match .rest))) (inr (c .link-word .ensures (now (a .psw))))
+    let p = held (a .psw) (a .last) (a .sum) (a .over) in
+    λ free m.
+    means free _ (a .w) (now (a .regs)) m _ p _ p _ _
+    (decode-link (a .w) (low-half (a .w) (b .if1 .left) (d .match .rest))) (inr (c .link-word .ensures p))
 
 pub jump-word-spec : {M : Type 1} → statement M
 jump-word-spec =

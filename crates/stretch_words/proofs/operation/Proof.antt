@@ -1,6 +1,7 @@
 use denote.Ref.{now}
 use mathlib.Core.Path.{refl, sym}
 use Rattle.stretch_words.proofs.Laws.{computing, testing}
+use Rattle.flags.specs.Kept.{held}
 use borrow.Author.Needs.{needs}
 use Rattle.stretch_words.proofs.operation.Statement.{statement}
 use Rattle.stretch_words.proofs.operation.Tie as tie
@@ -13,8 +14,9 @@ returns c =
     let t : tie.Then1 = search in
     let a = s .args in
     let (past, _, e, lo, hi) = s .pre in
-    λ m cex.
-    testing (a .w) (a .row) e lo hi (now (a .regs)) m (now (a .psw)) cex (a .pc) past _ _ (sym (b .binary .ensures)) refl
+    let p = held (a .psw) (now (a .last)) (now (a .sum)) (now (a .over)) in
+    λ free m cex.
+    testing (a .w) (a .row) e lo hi free (now (a .regs)) m p cex (a .pc) past _ _ (sym (b .binary .ensures)) refl
     (o .operand .ensures) (t .if1 .taken) (c .test .ensures)
 
 returns-2 : tie.Need-returns-2
@@ -25,8 +27,9 @@ returns-2 c =
     let t : tie.Else1 = search in
     let a = s .args in
     let (past, _, e, lo, hi) = s .pre in
-    λ m cex.
-    computing (a .w) (a .row) e lo hi (now (a .regs)) m (now (a .psw)) cex (a .pc) past _ _ (sym (b .binary .ensures)) refl
+    let p = held (a .psw) (now (a .last)) (now (a .sum)) (now (a .over)) in
+    λ free m cex.
+    computing (a .w) (a .row) e lo hi free (now (a .regs)) m p cex (a .pc) past _ _ (sym (b .binary .ensures)) refl
     (o .operand .ensures) (t .if1 .left) (c .compute .ensures)
 
 pub operation-spec : {M : Type 1} → statement M

@@ -6,35 +6,39 @@ use Rattle.stretch_words.proofs.relative_word.Tie as tie
 
 returns : tie.Need-returns
 returns c =
-    let d = c .before .before .before .before .before in
-    let s = d .before .before .before in
+    let s : tie.Start = search in
+    let d : tie.Then2 = search in
+    let t : tie.Then1 = search in
     let a = s .args in
-    λ psw cex. rw (decode-ldr (a .w) (s .pre .1) 1 (eq-of (d .if2 .taken)) (d .before .if1 .taken))
-    (c .before .before .load-relative .ensures psw cex)
+    λ free psw cex. rw (decode-ldr (a .w) (s .pre .1) 1 (eq-of (d .if2 .taken)) (t .if1 .taken))
+    (c .before .before .load-relative .ensures free psw cex)
 
 returns-2 : tie.Need-returns-2
 returns-2 c =
-    let d = c .before .before .before .before .before in
-    let s = d .before .before .before in
+    let s : tie.Start = search in
+    let d : tie.Else2 = search in
+    let t : tie.Then1 = search in
     let a = s .args in
-    λ psw cex. rw (decode-ldr (a .w) (s .pre .1) 0 (bit-clear (a .w) (d .if2 .left)) (d .before .if1 .taken))
-    (c .before .before .load-relative2 .ensures psw cex)
+    λ free psw cex. rw (decode-ldr (a .w) (s .pre .1) 0 (bit-clear (a .w) (d .if2 .left)) (t .if1 .taken))
+    (c .before .before .load-relative2 .ensures free psw cex)
 
 returns-3 : tie.Need-returns-3
 returns-3 c =
-    let d = c .before .before .before .before .before in
-    let s = d .before .before .before in
+    let s : tie.Start = search in
+    let d : tie.Then3 = search in
+    let t : tie.Else1 = search in
     let a = s .args in
-    λ psw cex. rw (decode-str (a .w) (s .pre .1) 1 (eq-of (d .if3 .taken)) (d .before .if1 .left))
-    (c .before .before .store-relative .ensures psw cex)
+    λ free psw cex. rw (decode-str (a .w) (s .pre .1) 1 (eq-of (d .if3 .taken)) (t .if1 .left))
+    (c .before .before .store-relative .ensures free psw cex)
 
 returns-4 : tie.Need-returns-4
 returns-4 c =
-    let d = c .before .before .before .before .before in
-    let s = d .before .before .before in
+    let s : tie.Start = search in
+    let d : tie.Else3 = search in
+    let t : tie.Else1 = search in
     let a = s .args in
-    λ psw cex. rw (decode-str (a .w) (s .pre .1) 0 (bit-clear (a .w) (d .if3 .left)) (d .before .if1 .left))
-    (c .before .before .store-relative2 .ensures psw cex)
+    λ free psw cex. rw (decode-str (a .w) (s .pre .1) 0 (bit-clear (a .w) (d .if3 .left)) (t .if1 .left))
+    (c .before .before .store-relative2 .ensures free psw cex)
 
 pub relative-word-spec : {M : Type 1} → statement M
 relative-word-spec =

@@ -43,7 +43,7 @@ returns-4 c =
 
 returns-5 : tie.Need-returns-5
 returns-5 c =
-    let p = c .before .before .before .before .before in
+    let p : tie.After-magnitude = search in
     let z = p .before .args .off in
     let m : p .magnitude .result ≡ mag z = mag-back z (p .before .fits .off) (p .magnitude .ensures) in
     let h : mag z < 64 = omega arith in

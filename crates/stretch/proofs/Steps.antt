@@ -26,7 +26,7 @@ use Rattle.machine.specs.Cex.{skips?, lowered, loadedCex}
 use Rattle.machine.specs.Events.{Event}
 use Rattle.machine.specs.Devices.{deliver}
 use Rattle.machine.specs.Entry.{best, above}
-use Rattle.machine.specs.Effect.{Effect, effectOf, plainly, putCurrent}
+use Rattle.machine.specs.Effect.{effectOf}
 use Rattle.machine.specs.Step as step
 use Rattle.machine.specs.Step.{Plan, Interrupt, planned, chosen, returns?, interruptOf, advanced, allowed, granted}
 use Rattle.machine.specs.Step.{executed, instructionOf, planOf, perform, finished}
@@ -42,7 +42,8 @@ use Rattle.stretch_registers.specs.Effected.{leftAlone}
 use Rattle.stretch_memory.specs.Ordinary.{aligned?, inside?, ordinary?}
 use Rattle.stretch_memory.specs.Served.{running, carriedOut, Untouched, Served, Taken}
 use Rattle.stretch_memory.proofs.Laws.{ordinary-granted}
-use Rattle.stretch.specs.Stretch.{Undisturbed, Awake, NoneAbove, Passes, OneStep, Reaches, Goes, Stepped, Stepping, Walked}
+use Rattle.stretch.specs.Stretch.{Undisturbed, Awake, NoneAbove, FreeOf, Passes, OneStep, Reaches, Goes}
+use Rattle.stretch.specs.Stretch.{Stepped, Stepping, Walked}
 
 -- ---- an ordinary access
 
@@ -145,10 +146,14 @@ skipped l regs m psw cex v x even woken s ev ex q = (
   (λ n. ap (λ (p : Plan). uneventful? (p .act)) (passes-over regs m psw cex l even woken q s n)),
 )
 
+-- where no line waits, none is above any priority
+none-waits : (l p : ℕ) (m : List ℕ) → l ≡ 0 → NoneAbove m l p
+none-waits l p m e = line-isnt m l p 8 (line-no-lines m l p e) (omega arith)
+
 -- a word served
-module _ (regs m regs₁ m₁ : List ℕ) (psw cex w x y psw₁ cex₁ r : ℕ) (even : getD regs 7 0 % 2 ≡ 0) (woken : asleep? psw ≡ false)
+module _ (free : Bool) (regs m regs₁ m₁ : List ℕ) (psw cex w x y psw₁ cex₁ r : ℕ) (even : getD regs 7 0 % 2 ≡ 0) (woken : asleep? psw ≡ false)
     (ew : w ≡ wordAt m (getD regs 7 0)) (ex : x ≡ wrap (getD regs 7 0 + 2)) (s : skips? cex ≡ false) (ey : lowered cex ≡ y)
-    (v : Served (decodeOf w) (set regs 7 x) psw y m regs₁ psw₁ cex₁ m₁ r) where
+    (v : Served free (decodeOf w) (set regs 7 x) psw y m regs₁ psw₁ cex₁ m₁ r) where
   abbrev before : Core
   before = coreOf regs psw cex
 
@@ -161,20 +166,24 @@ module _ (regs m regs₁ m₁ : List ℕ) (psw cex w x y psw₁ cex₁ r : ℕ) 
       fetches regs m psw cex l even woken q s n
       ∙ sym (λ j. executed before (effectOf (coreOf (set regs 7 (ex j)) psw (sym ey j)) (decodeOf (ew j))) m)
 
-  none-above : (l : ℕ) → NoneAbove m l (current psw) → NoneAbove m₁ l (current psw₁)
-  none-above l q =
+  -- the priority stays, or no line waits
+  none-above : (l : ℕ) → FreeOf free l → NoneAbove m l (current psw) → NoneAbove m₁ l (current psw₁)
+  none-above l none q =
       let e = effectOf (coreOf (set regs 7 x) psw y) (decodeOf w) in
       let p = executed before e m in
       let ws = perform (p .act) (p .core) l m .writes in
       let f : m₁ ≡ commit ws m = ap (λ (s : State). s .mem) (v .1 before l 0) in
-      (λ i. above (f i) (best l (f i)) (v .3 .1 i))
+      bool-cases free
+      (λ h. none-waits l (current psw₁) m₁ (none h))
+      (λ h.
+      (λ i. above (f i) (best l (f i)) (v .3 .1 h i))
       ∙ above-kept ws m l (current psw) (granted-below before (e .core) (e .access) l m (v .6))
-      ∙ q
+      ∙ q)
 
-  pub step-served : (l : ℕ) → OneStep l regs psw cex m (set regs₁ 7 (r % 65536)) psw₁ cex₁ m₁
-  step-served l q =
+  pub step-served : (l : ℕ) → FreeOf free l → OneStep l regs psw cex m (set regs₁ 7 (r % 65536)) psw₁ cex₁ m₁
+  step-served l none q =
       let e = effectOf (coreOf (set regs 7 x) psw y) (decodeOf w) in (
-        none-above l q,
+        none-above l none q,
         (λ n. v .1 before l n ∙ ap (λ (p : Plan). carriedOut p l n m) (sym (plan-is l n q))),
         (λ n. ap (λ (p : Plan). uneventful? (p .act)) (plan-is l n q) ∙ granted-uneventful before (e .core) (e .access) m (v .6)),
       )
@@ -186,9 +195,9 @@ fetched m a e h = h ∙ ap (λ (k : ℕ). byteAt m (firstByte k) + 256 * byteAt 
 
 -- R7 is there after it
 served-eight :
-    (regs m regs₁ m₁ : List ℕ) (psw w x y psw₁ cex₁ r : ℕ) → Served (decodeOf w) (set regs 7 x) psw y m regs₁ psw₁ cex₁ m₁ r →
-    length regs₁ ≡ length regs
-served-eight regs m regs₁ m₁ psw w x y psw₁ cex₁ r v =
+    (free : Bool) (regs m regs₁ m₁ : List ℕ) (psw w x y psw₁ cex₁ r : ℕ) →
+    Served free (decodeOf w) (set regs 7 x) psw y m regs₁ psw₁ cex₁ m₁ r → length regs₁ ≡ length regs
+served-eight free regs m regs₁ m₁ psw w x y psw₁ cex₁ r v =
     let c = coreOf (set regs 7 x) psw y in
     let e = effectOf c (decodeOf w) in
     sym (length-set regs₁ 7 (r % 65536))
@@ -199,10 +208,10 @@ served-eight regs m regs₁ m₁ psw w x y psw₁ cex₁ r v =
 
 -- what the code of a step gives; k is where the PC in p is, and x past the word
 pub step-taken :
-    (p w x y psw psw₁ cex₁ r : ℕ) (regs m regs₁ m₁ : List ℕ) → Awake regs psw → p % 2 ≡ 0 → w ≡ wordAt m (p % 65536) →
-    x ≡ (p % 65536 + 2) % 65536 → Taken (decodeOf w) (set regs 7 x) psw y m regs₁ psw₁ cex₁ m₁ r →
-    Stepping p regs psw y m regs₁ psw₁ cex₁ m₁ r
-step-taken p w x y psw psw₁ cex₁ r regs m regs₁ m₁ a even ew ex =
+    (free : Bool) (p w x y psw psw₁ cex₁ r : ℕ) (regs m regs₁ m₁ : List ℕ) → Awake regs psw → p % 2 ≡ 0 → w ≡ wordAt m (p % 65536) →
+    x ≡ (p % 65536 + 2) % 65536 → Taken free (decodeOf w) (set regs 7 x) psw y m regs₁ psw₁ cex₁ m₁ r →
+    Stepping free p regs psw y m regs₁ psw₁ cex₁ m₁ r
+step-taken free p w x y psw psw₁ cex₁ r regs m regs₁ m₁ a even ew ex =
     ⊎-elim
     (λ u. inl (u .0, (u .1 .0 ∙ ap (set regs 7) ex, u .1 .1, u .1 .2, u .1 .3)))
     (λ v.
@@ -213,17 +222,17 @@ step-taken p w x y psw psw₁ cex₁ r regs m regs₁ m₁ a even ew ex =
     let evenly : getD here 7 0 % 2 ≡ 0 = rw at (omega arith) in
     let word : w ≡ wordAt m (getD here 7 0) = ew ∙ ap (wordAt m) (sym at) in
     let past : x ≡ wrap (getD here 7 0 + 2) = ex ∙ ap (λ (n : ℕ). wrap (n + 2)) (sym at) in
-    let v′ : Served (decodeOf w) (set here 7 x) psw y m regs₁ psw₁ cex₁ m₁ r =
-    subst (λ (l : List ℕ). Served (decodeOf w) l psw y m regs₁ psw₁ cex₁ m₁ r) (sym (set-set regs 7 k x)) v in
+    let v′ : Served free (decodeOf w) (set here 7 x) psw y m regs₁ psw₁ cex₁ m₁ r =
+    subst (λ (l : List ℕ). Served free (decodeOf w) l psw y m regs₁ psw₁ cex₁ m₁ r) (sym (set-set regs 7 k x)) v in
     inr (
       v .0,
       (
-        (λ l c s e. step-served here m regs₁ m₁ psw c w x y psw₁ cex₁ r evenly (a .0) word past s e v′ l),
+        (λ l c none s e. step-served free here m regs₁ m₁ psw c w x y psw₁ cex₁ r evenly (a .0) word past s e v′ l none),
         v .2,
         (
           v .3 .0 ∙ a .0,
           subst (λ (n : ℕ). 7 < n)
-              (sym (length-set regs 7 k) ∙ sym (served-eight here m regs₁ m₁ psw w x y psw₁ cex₁ r v′))
+              (sym (length-set regs 7 k) ∙ sym (served-eight free here m regs₁ m₁ psw w x y psw₁ cex₁ r v′))
               long,
         ),
         v .4,
@@ -300,17 +309,17 @@ open-none x h =
     let b : x % 8 ≡ 0 = omega arith in
     (rw (a, b) refl, rw (a, b) refl)
 
-module _ (regs₀ m₀ : List ℕ) (psw₀ x₀ : ℕ) where
+module _ (free : Bool) (regs₀ m₀ : List ℕ) (psw₀ x₀ : ℕ) where
   -- what has been walked, and one step more
   pub walked-next :
       (regs m regs₁ m₁ : List ℕ) (psw cex psw₁ cex₁ p r j n : ℕ) →
-      Walked regs₀ psw₀ x₀ m₀ (set regs 7 (p % 65536)) psw cex m j → (cex % 64 ≡ 0) ⊎ (n ≤ 1) → j < n →
-      Stepped p regs psw cex m regs₁ psw₁ cex₁ m₁ r →
-      Walked regs₀ psw₀ x₀ m₀ (set regs₁ 7 (r % 65536)) psw₁ cex₁ m₁ (j + 1)
+      Walked free regs₀ psw₀ x₀ m₀ (set regs 7 (p % 65536)) psw cex m j → (cex % 64 ≡ 0) ⊎ (n ≤ 1) → j < n →
+      Stepped free p regs psw cex m regs₁ psw₁ cex₁ m₁ r →
+      Walked free regs₀ psw₀ x₀ m₀ (set regs₁ 7 (r % 65536)) psw₁ cex₁ m₁ (j + 1)
   walked-next regs m regs₁ m₁ psw cex psw₁ cex₁ p r j n f b lt g =
       inr (
         omega arith,
-        (λ l c s e.
+        (λ l c none s e.
             ⊎-elim
             (λ u.
             let e₁ : j + 1 ≡ 1 = ap (λ (k : ℕ). k + 1) (u .0) in
@@ -319,13 +328,13 @@ module _ (regs₀ m₀ : List ℕ) (psw₀ x₀ : ℕ) where
             (subst (λ (k : List ℕ). OneStep l k psw₀ c m₀ (set regs₁ 7 (r % 65536)) psw₁ cex₁ m₁) (u .1 .0)
             (subst (λ (k : ℕ). OneStep l (set regs 7 (p % 65536)) k c m₀ (set regs₁ 7 (r % 65536)) psw₁ cex₁ m₁) (u .1 .1)
             (subst (λ (k : List ℕ). OneStep l (set regs 7 (p % 65536)) psw c k (set regs₁ 7 (r % 65536)) psw₁ cex₁ m₁) (u .1 .3)
-            (g .0 l c s (e ∙ sym (u .1 .2))))))))
+            (g .0 l c none s (e ∙ sym (u .1 .2))))))))
             (λ v.
             let pos = v .0 in
             let h = shut (v .0) in
             let o = open-none cex h in
-            goes-join l regs₀ m₀ psw₀ c (set regs 7 (p % 65536)) m (set regs₁ 7 (r % 65536)) m₁ psw cex psw₁ cex₁ j 1 (v .1 l c s e)
-            (goes-one l (set regs 7 (p % 65536)) m psw cex (set regs₁ 7 (r % 65536)) m₁ psw₁ cex₁ (g .0 l cex (o .0) (o .1))))
+            goes-join l regs₀ m₀ psw₀ c (set regs 7 (p % 65536)) m (set regs₁ 7 (r % 65536)) m₁ psw cex psw₁ cex₁ j 1 (v .1 l c none s e)
+            (goes-one l (set regs 7 (p % 65536)) m psw cex (set regs₁ 7 (r % 65536)) m₁ psw₁ cex₁ (g .0 l cex none (o .0) (o .1))))
             f),
       )
     where
@@ -333,14 +342,17 @@ module _ (regs₀ m₀ : List ℕ) (psw₀ x₀ : ℕ) where
       shut h = ⊎-elim (λ z. z) (λ z. absurd (omega arith)) b
 
   pub walked-start : (regs : List ℕ) (pc : ℕ) → regs ≡ regs₀ → pc ≡ getD regs₀ 7 0 → pc < 65536 →
-      Walked regs₀ psw₀ x₀ m₀ (set regs 7 (pc % 65536)) psw₀ x₀ m₀ 0
+      Walked free regs₀ psw₀ x₀ m₀ (set regs 7 (pc % 65536)) psw₀ x₀ m₀ 0
   walked-start regs pc e f lt =
       let k : pc % 65536 ≡ getD regs₀ 7 0 = mod-eq-of-lt lt ∙ f in
       inl (refl, ((λ i. set (e i) 7 (k i)) ∙ set-getD regs₀ 7 0, refl, refl, refl))
 
 -- a register file stays as long
+pub long-set : (regs : List ℕ) (v : ℕ) → 7 < length regs → 7 < length (set regs 7 v)
+long-set regs v = subst (λ (n : ℕ). 7 < n) (sym (length-set regs 7 v))
+
 pub awake-set : (regs : List ℕ) (psw v : ℕ) → Awake regs psw → Awake (set regs 7 v) psw
-awake-set regs psw v a = (a .0, subst (λ (n : ℕ). 7 < n) (sym (length-set regs 7 v)) (a .1))
+awake-set regs psw v a = (a .0, long-set regs v (a .1))
 
 -- PC put back before a word that was left alone
 back : (regs : List ℕ) (p : ℕ) → 7 < length regs →
@@ -358,21 +370,21 @@ back regs p h =
 
 -- R7 is there after a step, taken or not
 pub long :
-    (regs m regs₁ m₁ : List ℕ) (psw cex psw₁ cex₁ p r : ℕ) → Awake regs psw → Stepping p regs psw cex m regs₁ psw₁ cex₁ m₁ r
+    (free : Bool) (regs m regs₁ m₁ : List ℕ) (psw cex psw₁ cex₁ p r : ℕ) → Awake regs psw → Stepping free p regs psw cex m regs₁ psw₁ cex₁ m₁ r
     → 7 < length regs₁
-long regs m regs₁ m₁ psw cex psw₁ cex₁ p r a g =
+long free regs m regs₁ m₁ psw cex psw₁ cex₁ p r a g =
     ⊎-elim
     (λ u. rw (u .1 .0) (awake-set regs psw ((p % 65536 + 2) % 65536) a .1))
     (λ v. v .1 .2 .1)
     g
 
-module _ (regs₀ m₀ : List ℕ) (psw₀ x₀ : ℕ) (regs m regs₁ m₁ : List ℕ) (psw cex psw₁ cex₁ p r j n : ℕ) (a : Awake regs psw)
-    (f : Walked regs₀ psw₀ x₀ m₀ (set regs 7 (p % 65536)) psw cex m j) (b : (cex % 64 ≡ 0) ⊎ (n ≤ 1)) (lt : j < n)
-    (g : Stepping p regs psw cex m regs₁ psw₁ cex₁ m₁ r) where
+module _ (free : Bool) (regs₀ m₀ : List ℕ) (psw₀ x₀ : ℕ) (regs m regs₁ m₁ : List ℕ) (psw cex psw₁ cex₁ p r j n : ℕ) (a : Awake regs psw)
+    (f : Walked free regs₀ psw₀ x₀ m₀ (set regs 7 (p % 65536)) psw cex m j) (b : (cex % 64 ≡ 0) ⊎ (n ≤ 1)) (lt : j < n)
+    (g : Stepping free p regs psw cex m regs₁ psw₁ cex₁ m₁ r) where
   -- the loop goes on
   pub walked-on :
       r < leftAlone →
-      Awake regs₁ psw₁ × (r % 2 ≡ 0) × ((cex₁ % 64 ≡ 0) ⊎ (n ≤ 1)) × Walked regs₀ psw₀ x₀ m₀ (set regs₁ 7 (r % 65536)) psw₁ cex₁ m₁ (j + 1)
+      Awake regs₁ psw₁ × (r % 2 ≡ 0) × ((cex₁ % 64 ≡ 0) ⊎ (n ≤ 1)) × Walked free regs₀ psw₀ x₀ m₀ (set regs₁ 7 (r % 65536)) psw₁ cex₁ m₁ (j + 1)
   walked-on h =
       ⊎-elim
       (λ u. let e = u .0 in absurd (omega arith))
@@ -380,7 +392,7 @@ module _ (regs₀ m₀ : List ℕ) (psw₀ x₀ : ℕ) (regs m regs₁ m₁ : Li
         v .1 .2,
         v .1 .1 h,
         ⊎-elim (λ z. inl (v .1 .4 z)) (λ z. inr z) b,
-        walked-next regs₀ m₀ psw₀ x₀ regs m regs₁ m₁ psw cex psw₁ cex₁ p r j n f b lt (v .1),
+        walked-next free regs₀ m₀ psw₀ x₀ regs m regs₁ m₁ psw cex psw₁ cex₁ p r j n f b lt (v .1),
       ))
       g
 
@@ -388,7 +400,7 @@ module _ (regs₀ m₀ : List ℕ) (psw₀ x₀ : ℕ) (regs m regs₁ m₁ : Li
   pub walked-stop :
       (regs₂ : List ℕ) (s : ℕ) → (r ≡ leftAlone → (s ≡ 0) × (regs₂ ≡ set regs₁ 7 ((getD regs₁ 7 0 + 65534) % 65536))) →
       ((r ≡ leftAlone → ⊥) → (s ≡ 1) × (regs₂ ≡ set regs₁ 7 (r % 65536))) →
-      Walked regs₀ psw₀ x₀ m₀ regs₂ psw₁ cex₁ m₁ (j + s) × Awake regs₂ psw₁
+      Walked free regs₀ psw₀ x₀ m₀ regs₂ psw₁ cex₁ m₁ (j + s) × Awake regs₂ psw₁
   walked-stop regs₂ s k o =
       ⊎-elim
       (λ u.
@@ -401,7 +413,7 @@ module _ (regs₀ m₀ : List ℕ) (psw₀ x₀ : ℕ) (regs m regs₁ m₁ : Li
       (λ v.
       let t = o (v .0) in
       rw (t .0, t .1)
-      (walked-next regs₀ m₀ psw₀ x₀ regs m regs₁ m₁ psw cex psw₁ cex₁ p r j n f b lt (v .1), awake-set regs₁ psw₁ (r % 65536) (v .1 .2)))
+      (walked-next free regs₀ m₀ psw₀ x₀ regs m regs₁ m₁ psw cex psw₁ cex₁ p r j n f b lt (v .1), awake-set regs₁ psw₁ (r % 65536) (v .1 .2)))
       g
     where
       none : (q : ℕ) → q + 0 ≡ q
@@ -409,29 +421,46 @@ module _ (regs₀ m₀ : List ℕ) (psw₀ x₀ : ℕ) (regs m regs₁ m₁ : Li
 
 -- where no block is open, none is after a step
 pub stays-shut :
-    (regs m regs₁ m₁ : List ℕ) (psw cex psw₁ cex₁ p r : ℕ) → Stepping p regs psw cex m regs₁ psw₁ cex₁ m₁ r → cex % 64 ≡ 0 → cex₁ % 64 ≡ 0
-stays-shut regs m regs₁ m₁ psw cex psw₁ cex₁ p r g h =
+    (free : Bool) (regs m regs₁ m₁ : List ℕ) (psw cex psw₁ cex₁ p r : ℕ) → Stepping free p regs psw cex m regs₁ psw₁ cex₁ m₁ r → cex % 64 ≡ 0 → cex₁ % 64 ≡ 0
+stays-shut free regs m regs₁ m₁ psw cex psw₁ cex₁ p r g h =
     ⊎-elim (λ u. ap (λ (n : ℕ). n % 64) (u .1 .2) ∙ h) (λ v. v .1 .4 h) g
 
 -- ---- what was walked, from the CEX state before the count was lowered
 
-module _ (regs m regs₁ m₁ : List ℕ) (psw x psw₁ cex₁ j : ℕ) (f : Walked regs psw x m regs₁ psw₁ cex₁ m₁ j) (l : ℕ) where
+module _ (free : Bool) (regs m regs₁ m₁ : List ℕ) (psw x psw₁ cex₁ j : ℕ) (f : Walked free regs psw x m regs₁ psw₁ cex₁ m₁ j) where
   -- in no block
-  pub walked-shut : x % 64 ≡ 0 → Goes l regs psw x m regs₁ psw₁ cex₁ m₁ j
-  walked-shut h =
+  walked-shut : (l : ℕ) → FreeOf free l → x % 64 ≡ 0 → Goes l regs psw x m regs₁ psw₁ cex₁ m₁ j
+  walked-shut l none h =
       let o = open-none x h in
-      ⊎-elim (λ u. rw (u .0, u .1 .0, u .1 .1, u .1 .2, u .1 .3) (goes-none l regs m psw x)) (λ v. v .1 l x (o .0) (o .1)) f
+      ⊎-elim (λ u. rw (u .0, u .1 .0, u .1 .1, u .1 .2, u .1 .3) (goes-none l regs m psw x)) (λ v. v .1 l x none (o .0) (o .1)) f
 
   -- one step that a block covers, or none
-  pub walked-one : (c : ℕ) → skips? c ≡ false → lowered c ≡ x → (j ≡ 0 → ⊥) → Goes l regs psw c m regs₁ psw₁ cex₁ m₁ j
-  walked-one c s e n = ⊎-elim (λ u. absurd (n (u .0))) (λ v. v .1 l c s e) f
+  pub walked-one :
+      (l c : ℕ) → FreeOf free l → skips? c ≡ false → lowered c ≡ x → (j ≡ 0 → ⊥) → Goes l regs psw c m regs₁ psw₁ cex₁ m₁ j
+  walked-one l c none s e n = ⊎-elim (λ u. absurd (n (u .0))) (λ v. v .1 l c none s e) f
 
   pub walked-left : j ≡ 0 → Untouched regs psw x m regs₁ psw₁ cex₁ m₁
   walked-left e = ⊎-elim (λ u. u .1) (λ v. let h = v .0 in absurd (omega arith)) f
 
-  pub walked-none : (c : ℕ) → j ≡ 0 → Goes l regs psw c m regs₁ psw c m₁ 0
-  walked-none c e =
+  pub walked-none : (l c : ℕ) → j ≡ 0 → Goes l regs psw c m regs₁ psw c m₁ 0
+  walked-none l c e =
       ⊎-elim (λ u. rw (u .1 .0, u .1 .3) (goes-none l regs m psw c)) (λ v. let h = v .0 in absurd (omega arith)) f
+
+-- the lowered state of one with no count left has none
+pub lowered-shut : (x y : ℕ) → y ≡ lowered x → x % 64 ≡ 0 → y % 64 ≡ 0
+lowered-shut x y e h = ap (λ (n : ℕ). n % 64) (e ∙ open-none x h .1) ∙ h
+
+-- with no block open the CEX state x is not lowered, and all steps may be taken; of them d are left
+pub walked-free :
+    (free : Bool) (regs m regs₁ m₁ : List ℕ) (psw x y psw₁ cex₁ steps left r d : ℕ) → y ≡ lowered x → (x % 64 ≡ 0 → steps ≡ left) → r ≡ d →
+    x % 64 ≡ 0 → Walked free regs psw y m regs₁ psw₁ cex₁ m₁ (steps - r) → (l : ℕ) → FreeOf free l →
+    Goes l regs psw x m regs₁ psw₁ cex₁ m₁ (left - d)
+walked-free free regs m regs₁ m₁ psw x y psw₁ cex₁ steps left r d ey es er h f l none =
+    let e : y ≡ x = ey ∙ open-none x h .1 in
+    subst (λ (n : ℕ). Goes l regs psw x m regs₁ psw₁ cex₁ m₁ (n - d)) (es h)
+    (subst (λ (n : ℕ). Goes l regs psw x m regs₁ psw₁ cex₁ m₁ (steps - n)) er
+    (subst (λ (n : ℕ). Goes l regs psw n m regs₁ psw₁ cex₁ m₁ (steps - r)) e
+    (walked-shut free regs m regs₁ m₁ psw y psw₁ cex₁ (steps - r) f l none (lowered-shut x y ey h))))
 
 -- ---- CEX
 
@@ -463,58 +492,6 @@ cex-loaded l regs m psw cex w v x even woken s ew h ev ex q =
       (λ n. (λ j. running (set regs 7 (ev j)) psw (ex j) l (n + 1) m) ∙ ap (λ (p : Plan). carriedOut p l n m) (sym (plan n))),
       (λ n. ap (λ (p : Plan). uneventful? (p .act)) (plan n)),
     )
-
--- ---- SETPRI
-
-decode-priority : (w : ℕ) → w / 8 ≡ 0x9B0 → decodeOf w ≡ i.SetPri (w % 8)
-unfolding decodeOf
-decode-priority w h =
-    simp (
-      le-ltb w 0x2000 (omega arith),
-      le-ltb w 0x4000 (omega arith),
-      le-ltb w 0x4C00 (omega arith),
-      lt-ltb w 0x5000 (omega arith),
-      le-ltb w 0x4C80 (omega arith),
-      le-ltb w 0x4D00 (omega arith),
-      le-ltb w 0x4D80 (omega arith),
-      lt-ltb w 0x4E00 (omega arith),
-      lt-ltb w 0x4D88 (omega arith),
-    )
-
--- where no line waits, none is above any priority
-none-waits : (l p : ℕ) (m : List ℕ) → l ≡ 0 → NoneAbove m l p
-none-waits l p m e = line-isnt m l p 8 (line-no-lines m l p e) (omega arith)
-
--- the priority lowered, or left, while no line waits
-pub priority-lowered :
-    (l : ℕ) (regs m : List ℕ) (psw cex w v x p : ℕ) → getD regs 7 0 % 2 ≡ 0 → asleep? psw ≡ false → skips? cex ≡ false →
-    w ≡ wordAt m (getD regs 7 0) → w / 8 ≡ 0x9B0 → l ≡ 0 → w % 8 ≤ current psw → v ≡ wrap (getD regs 7 0 + 2) → x ≡ lowered cex →
-    p ≡ putCurrent psw (w % 8) → OneStep l regs psw cex m (set regs 7 v) p x m
-unfolding advanced effectOf granted perform commit
-priority-lowered l regs m psw cex w v x p even woken s ew h el hp ev ex ep q =
-    let c = coreOf (set regs 7 (wrap (getD regs 7 0 + 2))) psw (lowered cex) in
-    let d = coreOf (set regs 7 (wrap (getD regs 7 0 + 2))) (putCurrent psw (w % 8)) (lowered cex) in
-    let fits : effectOf c (i.SetPri (w % 8)) ≡ plainly d = rw (le-ltb (current psw) (w % 8) hp) refl in
-    let plan : (n : ℕ) → planOf (running regs psw cex l n m) ≡ planned d act.Plain =
-    λ n.
-    fetches regs m psw cex l even woken q s n
-    ∙ ap (λ (u : ℕ). executed (coreOf regs psw cex) (effectOf (advanced (coreOf regs psw cex)) (decodeOf u)) m) (sym ew)
-    ∙ ap (λ (u : Instr). executed (coreOf regs psw cex) (effectOf (advanced (coreOf regs psw cex)) u) m) (decode-priority w h)
-    ∙ ap (λ (e : Effect). executed (coreOf regs psw cex) e m) fits in (
-      none-waits l (current p) m el,
-      (λ n. (λ j. running (set regs 7 (ev j)) (ep j) (ex j) l (n + 1) m) ∙ ap (λ (p : Plan). carriedOut p l n m) (sym (plan n))),
-      (λ n. ap (λ (p : Plan). uneventful? (p .act)) (plan n)),
-    )
-
--- SLP stays
-pub awake-lowered : (regs : List ℕ) (psw level v p : ℕ) → p ≡ putCurrent psw level → Awake regs psw → Awake (set regs 7 v) p
-awake-lowered regs psw level v p e a = (rw e (slp ∙ a .0), awake-set regs psw v a .1)
-  where
-    same : (psw / 256 * 256 + level * 32 + psw % 32) / 8 % 2 ≡ psw / 8 % 2
-    same = omega arith
-
-    slp : asleep? (putCurrent psw level) ≡ asleep? psw
-    slp = ap (λ (n : ℕ). eqb n 1) same
 
 -- ---- sleep
 

@@ -1,7 +1,7 @@
 -- A stretch of uneventful steps in which no event is due and no line waits above the priority.
 -- Assumes nothing.
-use Prim.Native.Nat.{ℕ, _+_, _*_, _%_, _<_, _≤_}
-use mathlib.Core.Bool.{true, false}
+use Prim.Native.Nat.{ℕ, _+_, _*_, _-_, _%_, _<_, _≤_}
+use mathlib.Core.Bool.{Bool, true, false}
 use mathlib.Core.List.{List}
 use mathlib.Core.Logic.{_⊎_}
 use mathlib.Core.Path.{_≡_}
@@ -60,12 +60,16 @@ Goes l regs psw cex m regs′ psw′ cex′ m′ i =
     (r : List ℕ) (p x : ℕ) (o : List ℕ) (j : ℕ) → Reaches l r p x o regs psw cex m j →
     Reaches l r p x o regs′ psw′ cex′ m′ (j + i)
 
+-- `free` is true only where none of the lines l waits. [01 One step, in order, 3]
+abbrev pub FreeOf : (free : Bool) → (l : ℕ) → Type 0
+FreeOf free l = free ≡ true → l ≡ 0
+
 -- What the code of a step answers, PC being in pc and x the CEX state with its count lowered: left alone with PC past
 -- the word, or one step, whatever the lines and the CEX state before it. [01 One step, in order; 01 CEX]
 abbrev pub Stepped :
-    (pc : ℕ) (regs : List ℕ) (psw x : ℕ) (m regs′ : List ℕ) (psw′ cex′ : ℕ) → List ℕ → (r : ℕ) → Type 0
-Stepped pc regs psw x m regs′ psw′ cex′ m′ r =
-    ((l c : ℕ) → skips? c ≡ false → lowered c ≡ x →
+    (free : Bool) → (pc : ℕ) (regs : List ℕ) (psw x : ℕ) (m regs′ : List ℕ) (psw′ cex′ : ℕ) → List ℕ → (r : ℕ) → Type 0
+Stepped free pc regs psw x m regs′ psw′ cex′ m′ r =
+    ((l c : ℕ) → FreeOf free l → skips? c ≡ false → lowered c ≡ x →
     OneStep l (set regs 7 (pc % 65536)) psw c m (set regs′ 7 (r % 65536)) psw′ cex′ m′)
     × (r < leftAlone → r % 2 ≡ 0)
     × Awake regs′ psw′
@@ -73,14 +77,19 @@ Stepped pc regs psw x m regs′ psw′ cex′ m′ r =
     × (x % 64 ≡ 0 → cex′ % 64 ≡ 0)
 
 abbrev pub Stepping :
-    (pc : ℕ) (regs : List ℕ) (psw x : ℕ) (m regs′ : List ℕ) (psw′ cex′ : ℕ) → List ℕ → (r : ℕ) → Type 0
-Stepping pc regs psw x m regs′ psw′ cex′ m′ r =
+    (free : Bool) → (pc : ℕ) (regs : List ℕ) (psw x : ℕ) (m regs′ : List ℕ) (psw′ cex′ : ℕ) → List ℕ → (r : ℕ) → Type 0
+Stepping free pc regs psw x m regs′ psw′ cex′ m′ r =
     ((r ≡ leftAlone) × Untouched (set regs 7 ((pc % 65536 + 2) % 65536)) psw x m regs′ psw′ cex′ m′)
-    ⊎ ((r ≡ leftAlone → ⊥) × Stepped pc regs psw x m regs′ psw′ cex′ m′ r)
+    ⊎ ((r ≡ leftAlone → ⊥) × Stepped free pc regs psw x m regs′ psw′ cex′ m′ r)
 
 -- Some steps, the first from any CEX state that has x for its lowered one, or none.
 abbrev pub Walked :
-    (regs : List ℕ) (psw x : ℕ) (m regs′ : List ℕ) (psw′ cex′ : ℕ) → List ℕ → (j : ℕ) → Type 0
-Walked regs psw x m regs′ psw′ cex′ m′ j =
+    (free : Bool) → (regs : List ℕ) (psw x : ℕ) (m regs′ : List ℕ) (psw′ cex′ : ℕ) → List ℕ → (j : ℕ) → Type 0
+Walked free regs psw x m regs′ psw′ cex′ m′ j =
     ((j ≡ 0) × Untouched regs psw x m regs′ psw′ cex′ m′)
-    ⊎ ((0 < j) × ((l c : ℕ) → skips? c ≡ false → lowered c ≡ x → Goes l regs psw c m regs′ psw′ cex′ m′ j))
+    ⊎ ((0 < j)
+    × ((l c : ℕ) → FreeOf free l → skips? c ≡ false → lowered c ≡ x → Goes l regs psw c m regs′ psw′ cex′ m′ j))
+
+-- The next c words are skipped by the block of the CEX state x, and each takes u from it. [01 CEX]
+abbrev pub SkippedPart : (x c u : ℕ) → Type 0
+SkippedPart x c u = (j : ℕ) → j < c → (skips? (x - j * u) ≡ true) × (lowered (x - j * u) ≡ x - (j + 1) * u)

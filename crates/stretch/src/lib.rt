@@ -2,21 +2,23 @@
 // awake, PC even, no line waiting above the priority, no event due. Every step of it is uneventful.
 // A word that could end any of this is left to the general way: SETPRI upwards or while a line
 // waits, SVC, SLP, an odd word access, a store to the device bytes or to the vectors, a write to R7
-// other than BL, branches and MOV. Where a CEX block is open, the steps are taken one by one, and
-// CEX and SETPRI are left too.
+// other than BL, branches and MOV. Where a CEX block is open, the steps that it covers are taken one
+// by one, those that it skips at once, and a CEX in it is left too. The flags are kept as what they
+// come from (crate flags): the PSW is `psw` with those of `last`, `sum` and `over`.
 ghost use mathlib.Core.Bool.{true, false};
 ghost use mathlib.Core.List.{List};
 ghost use mathlib.Core.Logic.{_⊎_};
 ghost use mathlib.Core.Path.{_≡_};
-ghost use Prim.Native.Nat.{ℕ, _%_, _+_, _-_, _<_, _≤_};
+ghost use Prim.Native.Nat.{ℕ, _%_, _+_, _*_, _-_, _<_, _≤_};
 ghost use lib.ListN.{length, getD, set};
-ghost use Rattle.word.specs.Psw.{current};
-ghost use Rattle.machine.specs.Cex.{skips?, lowered};
+ghost use Rattle.word.specs.Psw.{asleep?, current};
+ghost use Rattle.machine.specs.Cex.{conditionOf, skips?, lowered};
 ghost use Rattle.machine.specs.Events.{Event};
+ghost use Rattle.flags.specs.Kept.{held};
 ghost use Rattle.stretch_memory.specs.Served.{running};
 ghost use Rattle.stretch_words.specs.Ready.{constants};
-ghost use Rattle.stretch.specs.Stretch.{Undisturbed, Awake, Fetching, NoneAbove};
-ghost use Rattle.stretch.specs.Stretch.{Passes, Goes, Stepping, Walked};
+ghost use Rattle.stretch.specs.Stretch.{Undisturbed, Awake, Fetching, NoneAbove, FreeOf};
+ghost use Rattle.stretch.specs.Stretch.{Passes, Goes, Stepping, Walked, SkippedPart};
 use machine::ByteAddr;
 use machine::Lines;
 use stretch_registers::LEFT_ALONE;
@@ -24,26 +26,32 @@ use stretch_registers::reg;
 use stretch_registers::set_reg;
 
 // One step from PC `pc`, the CEX count lowered already: the next PC, or LEFT_ALONE where its word
-// is for the general way; then nothing has changed but R7.
+// is for the general way; then nothing has changed but R7. `free` says that no line waits.
 fn take_step(
     regs: &mut [u16; 8],
     mem: &mut [u8],
     k: &[u16; 8],
     psw: &mut u16,
+    free: bool,
+    last: &mut u16,
+    sum: &mut u32,
+    over: &mut u32,
     cex: &mut u16,
     pc: usize,
 ) -> usize
     requires { ⌜ (length (now mem) ≡ 65536) × (now k ≡ constants) × (pc % 2 ≡ 0)
-        × Awake (now regs) (now psw) ⌝ }
-    ensures { λ r. ⌜ Stepping pc
-        (now (regs .entry)) (now (psw .entry)) (now (cex .entry)) (now (mem .entry))
-        (now (regs .exit)) (now (psw .exit)) (now (cex .exit)) (now (mem .exit)) r ⌝ }
+        × Awake (now regs) (held (now psw) (now last) (now sum) (now over)) ⌝ }
+    ensures { λ r. ⌜ Stepping free pc (now (regs .entry))
+        (held (now (psw .entry)) (now (last .entry)) (now (sum .entry)) (now (over .entry)))
+        (now (cex .entry)) (now (mem .entry)) (now (regs .exit))
+        (held (now (psw .exit)) (now (last .exit)) (now (sum .exit)) (now (over .exit)))
+        (now (cex .exit)) (now (mem .exit)) r ⌝ }
 {
     let at = memory::word_of(ByteAddr((pc % 65536) as u16));
     let w = memory::read_word(mem, at) as usize;
     let past = memory::byte_of(at).0 as usize + 2;
     set_reg(regs, 7, (past % 65536) as u16);
-    stretch_words::take_word(regs, mem, k, psw, cex, past, w)
+    stretch_words::take_word(regs, mem, k, psw, free, last, sum, over, cex, past, w)
 }
 
 // The PSW and the CEX state after some steps, and how many are left of those that might be taken.
@@ -63,36 +71,51 @@ fn step_back(regs: &mut [u16; 8])
     set_reg(regs, 7, v);
 }
 
+// The CEX state after some steps whose PSW is lent, and how many are left.
+struct Gone {
+    cex: u16,
+    left: u32,
+}
+
 // Up to n steps, fewer where a word is for the general way or PC is odd. The CEX count of the first
 // is lowered already; where a block is open, there is no second.
-fn take_steps(regs: &mut [u16; 8], mem: &mut [u8], psw: u16, cex: u16, n: u32) -> Progress
-    requires { ⌜ (length (now mem) ≡ 65536) × Fetching (now regs) psw
+fn take_steps(
+    regs: &mut [u16; 8],
+    mem: &mut [u8],
+    k: &[u16; 8],
+    psw: &mut u16,
+    free: bool,
+    last: &mut u16,
+    sum: &mut u32,
+    over: &mut u32,
+    cex: u16,
+    n: u32,
+) -> Gone
+    requires { ⌜ (length (now mem) ≡ 65536) × (now k ≡ constants)
+        × Fetching (now regs) (held (now psw) (now last) (now sum) (now over))
         × ((cex % 64 ≡ 0) ⊎ (n ≤ 1)) ⌝ }
-    ensures walked { λ r. ⌜ Walked (now (regs .entry)) psw cex (now (mem .entry))
-        (now (regs .exit)) (r .psw) (r .cex) (now (mem .exit)) (n - r .left) ⌝ }
+    ensures walked { λ r. ⌜ Walked free (now (regs .entry))
+        (held (now (psw .entry)) (now (last .entry)) (now (sum .entry)) (now (over .entry)))
+        cex (now (mem .entry)) (now (regs .exit))
+        (held (now (psw .exit)) (now (last .exit)) (now (sum .exit)) (now (over .exit)))
+        (r .cex) (now (mem .exit)) (n - r .left) ⌝ }
     ensures left { λ r. ⌜ (r .left ≤ n) × (length (now (mem .exit)) ≡ 65536)
-        × Awake (now (regs .exit)) (r .psw) ⌝ }
+        × Awake (now (regs .exit))
+        (held (now (psw .exit)) (now (last .exit)) (now (sum .exit)) (now (over .exit))) ⌝ }
     ensures shut { λ r. ⌜ (cex % 64 ≡ 0 → r .cex % 64 ≡ 0) ⌝ }
 {
-    let k: [u16; 8] = [0, 1, 2, 4, 8, 16, 32, 0xFFFF];
-    let mut p = psw;
     let mut x = cex;
     let mut pc = reg(regs, 7) as usize;
     let mut left = n;
     while 0 < left {
-        let r = take_step(regs, mem, &k, &mut p, &mut x, pc);
+        let r = take_step(regs, mem, k, psw, free, last, sum, over, &mut x, pc);
         if LEFT_ALONE <= r {
             if r == LEFT_ALONE {
                 step_back(regs);
-                return Progress {
-                    psw: p,
-                    cex: x,
-                    left,
-                };
+                return Gone { cex: x, left };
             }
             set_reg(regs, 7, (r % 65536) as u16);
-            return Progress {
-                psw: p,
+            return Gone {
                 cex: x,
                 left: left - 1,
             };
@@ -101,11 +124,7 @@ fn take_steps(regs: &mut [u16; 8], mem: &mut [u8], psw: u16, cex: u16, n: u32) -
         left -= 1;
     }
     set_reg(regs, 7, (pc % 65536) as u16);
-    Progress {
-        psw: p,
-        cex: x,
-        left: 0,
-    }
+    Gone { cex: x, left: 0 }
 }
 
 // How the CEX state bears on the next step: itself with the count lowered, and how many steps may
@@ -144,101 +163,177 @@ fn covered(x: u16, left: u32) -> Ahead
 
 // What a turn of the walk comes to, and whether another may follow it.
 struct Turned {
-    psw: u16,
     cex: u16,
     left: u32,
     more: bool,
 }
 
-// Where no block is open: CEX, and SETPRI that is no fault while no line waits; one step, or none.
-fn control(regs: &mut [u16; 8], mem: &[u8], psw: u16, cex: u16, lines: Lines, left: u32) -> Turned
-    requires { ⌜ (length (now mem) ≡ 65536) × Awake (now regs) psw × (cex % 64 ≡ 0)
-        × (0 < left) ⌝ }
-    ensures goes { λ r. ⌜ Goes lines (now (regs .entry)) psw cex (now (mem .entry))
-        (now (regs .exit)) (r .psw) (r .cex) (now (mem .entry)) (left - r .left) ⌝ }
-    ensures left { λ r. ⌜ (r .left ≤ left) × (r .more ≡ true → r .left < left)
-        × Awake (now (regs .exit)) (r .psw) ⌝ }
+// The words that an open block skips next: how many, and what each of them takes from its CEX
+// state.
+struct Part {
+    count: u16,
+    unit: u16,
+}
+
+fn skipped_part(x: u16) -> Part
+    requires { ⌜ skips? x ≡ true ⌝ }
+    ensures skips { λ r. ⌜ SkippedPart x (r .count) (r .unit) ⌝ }
+    ensures fits { λ r. ⌜ (r .count * r .unit ≤ x) × (0 < r .count) × (r .count < 8) ⌝ }
 {
-    let pc = reg(regs, 7);
-    let none = Turned {
-        psw,
-        cex,
-        left,
-        more: false,
-    };
-    if pc % 2 == 1 {
-        return none;
-    }
-    let w = memory::read_word(mem, memory::word_of(ByteAddr(pc)));
-    let next = std::num::wrapping_add_u16(pc, 2);
-    if w / 1024 == 20 {
-        let n = (w / 64 % 16) as u8;
-        let x = operands::loaded_cex(n, (w / 8 % 8) as u8, (w % 8) as u8, psw);
-        set_reg(regs, 7, next);
-        return Turned {
-            psw,
-            cex: x,
-            left: left - 1,
-            more: true,
+    if x / 8 % 8 == 0 {
+        return Part {
+            count: x % 8,
+            unit: 1,
         };
     }
-    if w / 8 != 0x9B0 {
-        return none;
+    Part {
+        count: x / 8 % 8,
+        unit: 8,
     }
-    if (lines != 0) | (word::current_priority(psw) < w % 8) {
-        return none;
-    }
-    set_reg(regs, 7, next);
+}
+
+// The lesser of two numbers.
+fn least(n: u32, c: u16) -> u16
+    ensures { λ r. ⌜ (r ≤ n) × (r ≤ c) × (0 < n → 0 < c → 0 < r) ⌝ }
+{
+    if n < c as u32 { n as u16 } else { c }
+}
+
+// Where a block skips the next word: all words that it skips, or as many as are left.
+fn skipping(regs: &mut [u16; 8], cex: u16, left: u32) -> Turned
+    requires { ⌜ (getD (now regs) 7 0 % 2 ≡ 0) × (7 < length (now regs)) × (skips? cex ≡ true)
+        × (0 < left) ⌝ }
+    ensures goes { λ r. ⌜ ((l p : ℕ) (m : List ℕ) → asleep? p ≡ false →
+        Goes l (now (regs .entry)) p cex m (now (regs .exit)) p (r .cex) m (left - r .left)) ⌝ }
+    ensures left { λ r. ⌜ (r .left < left) × (7 < length (now (regs .exit))) ⌝ }
+{
+    let p = skipped_part(cex);
+    let j = least(left, p.count);
+    let pc = std::num::wrapping_add_u16(reg(regs, 7), 2 * j);
+    set_reg(regs, 7, pc);
     Turned {
-        psw: operands::priority_put(psw, w % 8),
-        cex,
+        cex: cex - j * p.unit,
+        left: left - j as u32,
+        more: true,
+    }
+}
+
+// Does the condition of number 2 * k hold?
+fn even_condition(k: u8, last: u16, sum: u32, over: u32) -> bool
+    ensures { λ r. ⌜ ((p : ℕ) → r ≡ conditionOf (2 * k) (held p last sum over)) ⌝ }
+{
+    match k {
+        0 => last == 0,
+        1 => sum / 65536 % 2 == 1,
+        2 => sum / 32768 % 2 == 1,
+        3 => over / 32768 % 2 == 1,
+        4 => (sum / 65536 % 2 == 1) & (last != 0),
+        5 => (sum / 32768 % 2 == 1) == (over / 32768 % 2 == 1),
+        6 => (last != 0) & ((sum / 32768 % 2 == 1) == (over / 32768 % 2 == 1)),
+        7 => true,
+        _ => false,
+    }
+}
+
+// Does CEX's condition of this number hold? An odd one holds where the one before it does not.
+fn condition(n: u8, last: u16, sum: u32, over: u32) -> bool
+    requires { ⌜ n < 16 ⌝ }
+    ensures { λ r. ⌜ ((p : ℕ) → r ≡ conditionOf n (held p last sum over)) ⌝ }
+{
+    even_condition(n / 2, last, sum, over) != (n % 2 == 1)
+}
+
+// Where no block is open: CEX; one step, or none.
+fn control(
+    regs: &mut [u16; 8],
+    mem: &[u8],
+    last: u16,
+    sum: u32,
+    over: u32,
+    cex: u16,
+    left: u32,
+) -> Turned
+    requires { ⌜ (length (now mem) ≡ 65536) × (7 < length (now regs)) × (cex % 64 ≡ 0)
+        × (0 < left) ⌝ }
+    ensures goes { λ r. ⌜ ((l p : ℕ) → asleep? (held p last sum over) ≡ false →
+        Goes l (now (regs .entry)) (held p last sum over) cex (now (mem .entry))
+        (now (regs .exit)) (held p last sum over) (r .cex) (now (mem .entry)) (left - r .left)) ⌝ }
+    ensures left { λ r. ⌜ (r .left ≤ left) × (r .more ≡ true → r .left < left)
+        × (7 < length (now (regs .exit))) ⌝ }
+{
+    let pc = reg(regs, 7);
+    if pc % 2 == 1 {
+        return Turned {
+            cex,
+            left,
+            more: false,
+        };
+    }
+    let w = memory::read_word(mem, memory::word_of(ByteAddr(pc)));
+    if w / 1024 != 20 {
+        return Turned {
+            cex,
+            left,
+            more: false,
+        };
+    }
+    let holds = word::flag(condition((w / 64 % 16) as u8, last, sum, over));
+    set_reg(regs, 7, std::num::wrapping_add_u16(pc, 2));
+    Turned {
+        cex: w % 64 + 64 * holds,
         left: left - 1,
         more: true,
     }
 }
 
-// One turn: a step that the open block skips or covers, or steps with no block open and the word
-// that ended them.
-fn turn(regs: &mut [u16; 8], mem: &mut [u8], psw: u16, cex: u16, lines: Lines, left: u32) -> Turned
-    requires { ⌜ (length (now mem) ≡ 65536) × Fetching (now regs) psw × (0 < left) ⌝ }
-    ensures goes { λ r. ⌜ Goes lines (now (regs .entry)) psw cex (now (mem .entry))
-        (now (regs .exit)) (r .psw) (r .cex) (now (mem .exit)) (left - r .left) ⌝ }
+// One turn: steps that the open block skips, one that it covers, or steps with no block open and
+// the word that ended them.
+fn turn(
+    regs: &mut [u16; 8],
+    mem: &mut [u8],
+    k: &[u16; 8],
+    psw: &mut u16,
+    free: bool,
+    last: &mut u16,
+    sum: &mut u32,
+    over: &mut u32,
+    cex: u16,
+    left: u32,
+) -> Turned
+    requires { ⌜ (length (now mem) ≡ 65536) × (now k ≡ constants)
+        × Fetching (now regs) (held (now psw) (now last) (now sum) (now over)) × (0 < left) ⌝ }
+    ensures goes { λ r. ⌜ ((l : ℕ) → FreeOf free l → Goes l (now (regs .entry))
+        (held (now (psw .entry)) (now (last .entry)) (now (sum .entry)) (now (over .entry)))
+        cex (now (mem .entry)) (now (regs .exit))
+        (held (now (psw .exit)) (now (last .exit)) (now (sum .exit)) (now (over .exit)))
+        (r .cex) (now (mem .exit)) (left - r .left)) ⌝ }
     ensures left { λ r. ⌜ (r .left ≤ left) × (r .more ≡ true → r .left < left)
-        × (length (now (mem .exit)) ≡ 65536) × Awake (now (regs .exit)) (r .psw) ⌝ }
+        × (length (now (mem .exit)) ≡ 65536) × Awake (now (regs .exit))
+        (held (now (psw .exit)) (now (last .exit)) (now (sum .exit)) (now (over .exit))) ⌝ }
 {
     let c = covered(cex, left);
     if c.steps == 0 {
-        let pc = reg(regs, 7);
-        set_reg(regs, 7, std::num::wrapping_add_u16(pc, 2));
-        return Turned {
-            psw,
-            cex: c.cex,
-            left: left - 1,
-            more: true,
-        };
+        return skipping(regs, cex, left);
     }
-    let a = take_steps(regs, mem, psw, c.cex, c.steps);
+    let a = take_steps(regs, mem, k, psw, free, last, sum, over, c.cex, c.steps);
     if cex % 64 == 0 {
         if a.left == 0 {
             return Turned {
-                psw: a.psw,
                 cex: a.cex,
                 left: 0,
                 more: false,
             };
         }
-        return control(regs, mem, a.psw, a.cex, lines, a.left);
+        return control(regs, mem, *last, *sum, *over, a.cex, a.left);
     }
     if a.left == 1 {
         return Turned {
-            psw: a.psw,
             cex,
             left,
             more: false,
         };
     }
     Turned {
-        psw: a.psw,
         cex: a.cex,
         left: left - 1,
         more: true,
@@ -252,8 +347,14 @@ fn walk(regs: &mut [u16; 8], mem: &mut [u8], psw: u16, cex: u16, lines: Lines, n
         (now (regs .exit)) (r .psw) (r .cex) (now (mem .exit)) (n - r .left) ⌝ }
     ensures left { λ r. ⌜ r .left ≤ n ⌝ }
 {
+    let k: [u16; 8] = [0, 1, 2, 4, 8, 16, 32, 0xFFFF];
+    let f = flags::apart(psw);
+    let mut p = psw;
+    let mut last = f.last;
+    let mut sum = f.sum;
+    let mut over = f.over;
+    let free = lines == 0;
     let mut t = Turned {
-        psw,
         cex,
         left: n,
         more: true,
@@ -262,10 +363,21 @@ fn walk(regs: &mut [u16; 8], mem: &mut [u8], psw: u16, cex: u16, lines: Lines, n
         if reg(regs, 7) % 2 == 1 {
             break;
         }
-        t = turn(regs, mem, t.psw, t.cex, lines, t.left);
+        t = turn(
+            regs,
+            mem,
+            &k,
+            &mut p,
+            free,
+            &mut last,
+            &mut sum,
+            &mut over,
+            t.cex,
+            t.left,
+        );
     }
     Progress {
-        psw: t.psw,
+        psw: flags::together(p, last, sum, over),
         cex: t.cex,
         left: t.left,
     }

@@ -1,16 +1,16 @@
--- Neither word, or one step of CEX or SETPRI, with no block open before it. Assumes nothing.
-use Prim.Native.Nat.{ℕ, _+_, _-_, _%_, _≤_}
+-- No CEX, or one step of it, with no block open before it. Its outcome is the condition's of the flags as they are kept.
+-- Assumes nothing.
+use Prim.Native.Nat.{ℕ, _+_, _-_, _*_, _/_, _%_}
 use native.Mathlib.Omega.{arith}
-use mathlib.Core.Bool.{not, false≢true}
-use mathlib.Core.Path.{_≡_, sym, ap, subst, _∙_}
-use mathlib.Mathlib.Data.Bool.Basic.{or-eq-false-eq-eq-false-and-eq-false}
+use mathlib.Core.Bool.{false≢true}
+use mathlib.Core.Path.{_≡_, sym, ap, _∙_}
 use denote.Ref.{now}
-use lib.Dec.{eqb, ltb}
 use lib.ListN.{set}
-use borrow.Author.Tests.{eqb-true, ltb-false, not-false}
+use Rattle.word.specs.Width.{bit}
+use Rattle.flags.specs.Kept.{held}
 use Rattle.machine.specs.Memory.{wordAt}
 use Rattle.stretch.specs.Stretch.{Goes}
-use Rattle.stretch.proofs.Steps.{goes-none, goes-one, open-none, fetched, cex-loaded, priority-lowered, awake-set, awake-lowered}
+use Rattle.stretch.proofs.Steps.{goes-none, goes-one, open-none, fetched, cex-loaded, long-set}
 use borrow.Author.Needs.{needs}
 use Rattle.stretch.proofs.control.Statement.{statement}
 use Rattle.stretch.proofs.control.Tie as tie
@@ -18,96 +18,67 @@ use Rattle.stretch.proofs.control.Tie as tie
 even : (v : ℕ) → (v % 2 ≡ 1 → ⊥) → v % 2 ≡ 0
 even v n = omega arith
 
-one : (c : tie.Start) → let a = c .args in a .left - (a .left - 1) ≡ 1
-one c = omega (arith, c .pre .3)
-
 -- no step
-none : (c : tie.Start)
+none : (c : tie.Start) (l p : ℕ)
     → let a = c .args in
     let r = now (a .regs) in
     let m = now (a .mem) in
-    Goes (a .lines) r (a .psw) (a .cex) m r (a .psw) (a .cex) m (a .left - a .left)
-none c =
+    Goes l r p (a .cex) m r p (a .cex) m (a .left - a .left)
+none c l p =
     let a = c .args in
     let e : a .left - a .left ≡ 0 = omega arith in
-    rw e (goes-none (a .lines) (now (a .regs)) (now (a .mem)) (a .psw) (a .cex))
+    rw e (goes-none l (now (a .regs)) (now (a .mem)) p (a .cex))
 
 returns : tie.Need-returns
 returns c =
-    let t = c .before .before .before .before in
-    (none t, (omega arith, (λ e. absurd (false≢true e)), t .pre .1))
+    let s : tie.Start = search in
+    ((λ l p woken. none s l _), (omega arith, (λ e. absurd (false≢true e)), s .pre .1))
 
 returns-2 : tie.Need-returns-2
 returns-2 c =
-    let r = c .before .before .before .before .before in
-    let f = r .read-word in
-    let n = r .before .word-of in
-    let i = r .before .before in
-    let g = i .before .reg in
-    let t = i .before .before .before .before in
-    let a = t .args in
-    let l = now (a .regs) in
-    let m = now (a .mem) in
-    let v = c .before .before .before .before .wrapping-add-u16 in
-    let x = c .before .before .loaded-cex in
-    rw (c .set-reg .ensures, one t) (
-      goes-one (a .lines) l m (a .psw) (a .cex) (set l 7 (v .result)) m (a .psw) (x .result)
-          (cex-loaded (a .lines) l m (a .psw) (a .cex) (f .result) (v .result) (x .result)
-          (ap (λ (n : ℕ). n % 2) (sym (g .ensures)) ∙ even (g .result) (i .if1 .left)) (t .pre .1 .0)
-          (open-none (a .cex) (t .pre .2) .0) (fetched m (g .result) (n .ensures .0) (f .ensures) ∙ ap (wordAt m) (g .ensures))
-          (c .before .before .before .if2 .taken)
-          (v .ensures ∙ ap (λ (n : ℕ). (n + 2) % 65536) (g .ensures)) (x .ensures)),
-      (omega (arith, t .pre .3), (λ e. omega (arith, t .pre .3)), awake-set l (a .psw) (v .result) (t .pre .1)),
-    )
+    let s : tie.Start = search in
+    ((λ l p woken. none s l _), (omega arith, (λ e. absurd (false≢true e)), s .pre .1))
+
+-- the word's counts are its low six bits
+counts : (w h b : ℕ) → h ≡ b → w % 64 + 64 * h ≡ w % 8 + 8 * (w / 8 % 8) + 64 * b
+counts w h b e = omega arith
 
 returns-3 : tie.Need-returns-3
 returns-3 c =
-    let t = c .before .before .before .before .before .before .before .before .before in
-    (none t, (omega arith, (λ e. absurd (false≢true e)), t .pre .1))
-
-returns-4 : tie.Need-returns-4
-returns-4 c =
-    let t = c .before .before .before .before .before .before .before .before .before .before .before in
-    (none t, (omega arith, (λ e. absurd (false≢true e)), t .pre .1))
-
-returns-5 : tie.Need-returns-5
-returns-5 c =
-    let q = c .before .before .before .before .current-priority in
-    let r = c .before .before .before .before .before .before .before .before in
-    let f = r .read-word in
-    let n = r .before .word-of in
-    let i = r .before .before in
-    let g = i .before .reg in
-    let t = i .before .before .before .before in
-    let a = t .args in
-    let l = now (a .regs) in
+    let s : tie.Start = search in
+    let g : tie.After-reg = search in
+    let i : tie.Else1 = search in
+    let n : tie.After-word-of = search in
+    let f : tie.After-read-word = search in
+    let t : tie.Else2 = search in
+    let h : tie.After-condition = search in
+    let b : tie.After-flag = search in
+    let v : tie.After-wrapping-add-u16 = search in
+    let r : tie.After-set-reg = search in
+    let a = s .args in
+    let regs = now (a .regs) in
     let m = now (a .mem) in
-    let v = c .before .before .before .before .before .before .before .wrapping-add-u16 in
-    let p = c .priority-put in
-    let o = open-none (a .cex) (t .pre .2) in
-    let tests =
-    or-eq-false-eq-eq-false-and-eq-false (not (eqb (a .lines) 0)) (ltb (q .result) (f .result % 8)) .0
-    (c .before .before .before .if4 .left) in
-    let level : f .result % 8 ≤ q .result = ltb-false _ _ (tests .1) in
-    rw (c .before .set-reg2 .ensures, one t) (
-      goes-one (a .lines) l m (a .psw) (a .cex) (set l 7 (v .result)) m (p .result) (a .cex)
-          (priority-lowered (a .lines) l m (a .psw) (a .cex) (f .result) (v .result) (a .cex) (p .result)
-          (ap (λ (n : ℕ). n % 2) (sym (g .ensures)) ∙ even (g .result) (i .if1 .left)) (t .pre .1 .0)
-          (o .0) (fetched m (g .result) (n .ensures .0) (f .ensures) ∙ ap (wordAt m) (g .ensures))
-          (c .before .before .before .before .before .if3 .left)
-          (eqb-true _ _ (not-false _ (tests .0)))
-          (subst (λ (n : ℕ). f .result % 8 ≤ n) (q .ensures .0) level)
-          (v .ensures ∙ ap (λ (n : ℕ). (n + 2) % 65536) (g .ensures)) (sym (o .1)) (p .ensures)),
-      (
-        omega (arith, t .pre .3),
-        (λ e. omega (arith, t .pre .3)),
-        awake-lowered l (a .psw) (f .result % 8) (v .result) _ (p .ensures) (t .pre .1),
-      ),
+    let w = f .read-word .result in
+    let pc = g .reg .ensures in
+    let next = v .wrapping-add-u16 in
+    let one : a .left - (a .left - 1) ≡ 1 = omega (arith, s .pre .3) in
+    let x = w % 64 + 64 * b .flag .result in
+    rw (r .set-reg .ensures, one) (
+      (λ l p woken.
+          let q = held p (a .last) (a .sum) (a .over) in
+          goes-one l regs m q (a .cex) (set regs 7 (next .result)) m q x
+          (cex-loaded l regs m q (a .cex) w (next .result) x
+          (ap (λ (k : ℕ). k % 2) (sym pc) ∙ even (g .reg .result) (i .if1 .left)) woken
+          (open-none (a .cex) (s .pre .2) .0)
+          (fetched m (g .reg .result) (n .word-of .ensures .0) (f .read-word .ensures) ∙ ap (wordAt m) pc)
+          (t .if2 .left) (next .ensures ∙ ap (λ (k : ℕ). (k + 2) % 65536) pc)
+          (counts w (b .flag .result) _ (b .flag .ensures .0 ∙ ap bit (h .condition .ensures p))))),
+      (omega (arith, s .pre .3), (λ e. omega (arith, s .pre .3)), long-set regs (next .result) (s .pre .1)),
     )
 
 pub control-spec : {M : Type 1} → statement M
 control-spec =
     tie.close
-    (tie.spec (λ c κs. search needs) returns (λ c κs. search needs) (λ c κs. search needs) (λ c κs. search needs) (λ c. search needs)
-    (λ c. search needs) (λ c. search needs) (λ c κs. search needs) (λ c κs. search needs) (λ c. search needs) returns-2 returns-3
-    (λ c κs. search needs) returns-4 (λ c κs. search needs) (λ c κs. search needs) (λ c. search needs) returns-5)
+    (tie.spec (λ c κs. search needs) returns (λ c κs. search needs) (λ c κs. search needs) returns-2 (λ c. search needs)
+    (λ c κs. search needs) (λ c κs. search needs) (λ c κs. search needs) (λ c κs. search needs) (λ c. search needs) (λ c. search needs)
+    (λ c. search needs) returns-3)

@@ -1,4 +1,5 @@
--- The ways through the call: a line above the priority, asleep, PC 0, steps. Assumes nothing.
+-- The ways through the call: a line above the priority, asleep, PC 0, steps. Past the first no line is above the priority, and that
+-- is what each of the others needs. Assumes nothing.
 use Prim.Native.Nat.{_-_}
 use native.Mathlib.Omega.{arith}
 use mathlib.Core.Path.{sym, _∙_}
@@ -13,45 +14,61 @@ use Rattle.stretch.proofs.stretch.Tie as tie
 
 returns : tie.Need-returns
 returns c =
-    let a = c .before .before .before .before .args in
+    let s : tie.Start = search in
+    let a = s .args in
     ((λ ev k u. stretch-none ev (now (a .regs)) (now (a .mem)) (a .psw) (a .cex) (a .lines) k (a .n)), omega arith)
 
-none-above : (c : tie.Else1) → let a = c .before .before .before .before .args in NoneAbove (now (a .mem)) (a .lines) (current (a .psw))
+-- a way back to the start
+start : tie.Else1 → tie.Start
+start c = search
+
+none-above : (c : tie.Else1) → let a = start c .args in NoneAbove (now (a .mem)) (a .lines) (current (a .psw))
+unfolding start
 none-above c = c .before .unasked .ensures (not-false _ (c .if1 .left))
 
 returns-2 : tie.Need-returns-2
+unfolding start
 returns-2 c =
-    let a = c .before .before .before .before .before .before .args in (
+    let quiet : tie.Else1 = search in
+    let a = start quiet .args in (
       (λ ev k u.
           stretch-asleep ev (now (a .regs)) (now (a .mem)) (a .psw) (a .cex) (a .lines) k (a .n)
-          (sym (c .before .asleep .ensures) ∙ c .if2 .taken) (none-above (c .before .before)) u),
+          (sym (c .before .asleep .ensures) ∙ c .if2 .taken) (none-above quiet) u),
       omega arith,
     )
 
 returns-3 : tie.Need-returns-3
+unfolding start
 returns-3 c =
-    let a = c .before .before .before .before .before .before .before .before .before .args in
+    let quiet : tie.Else1 = search in
+    let a = start quiet .args in
     ((λ ev k u. stretch-none ev (now (a .regs)) (now (a .mem)) (a .psw) (a .cex) (a .lines) k (a .n)), omega arith)
 
 walk-requires : tie.Need-walk-requires
+unfolding start
 walk-requires c κs =
-    let v = c .before .before .before .reg in
-    let i = c .before .before .before .before .before in (
+    let some : tie.Else3 = search in
+    let at-reg : tie.After-reg = search in
+    let woken : tie.Else2 = search in
+    let quiet : tie.Else1 = search in
+    let v = at-reg .reg in (
       omega arith,
       (
-        sym (i .before .asleep .ensures) ∙ i .if2 .left,
-        there (now (i .before .before .before .before .before .before .args .regs)) (v .result) (v .ensures) (c .before .before .if3 .left),
+        sym (woken .before .asleep .ensures) ∙ woken .if2 .left,
+        there (now (start quiet .args .regs)) (v .result) (v .ensures) (some .if3 .left),
       ),
     )
 
 returns-4 : tie.Need-returns-4
+unfolding start
 returns-4 c =
-    let a = c .before .before .before .before .before .before .before .before .before .before .before .before .before .before .args in
-    let w = c .before .before .walk in
-    let above = none-above (c .before .before .before .before .before .before .before .before .before .before) in (
+    let at-walk : tie.After-walk = search in
+    let quiet : tie.Else1 = search in
+    let a = start quiet .args in
+    let w = at-walk .walk in (
       (λ ev k u.
           stretch-done ev (now (a .regs)) (now (a .mem)) (a .psw) (a .cex) (a .lines) k (a .n) _ _ _ _ (a .n - w .result .left)
-          above (omega arith) (w .ensures .0) u),
+          (none-above quiet) (omega arith) (w .ensures .0) u),
       w .ensures .1,
     )
 

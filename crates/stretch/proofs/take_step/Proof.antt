@@ -1,5 +1,7 @@
--- The word at PC is fetched and PC is past it; then the word is taken. Assumes nothing.
+-- The word at PC is fetched and PC is past it; then the word is taken. PC is even, so that the first byte of the word is at PC.
+-- Assumes nothing.
 use Rattle.stretch.proofs.Steps.{fetched, step-taken}
+use Rattle.flags.specs.Kept.{held}
 use lib.Seq.{getD-set-same}
 use lib.ListN.{getD}
 use mathlib.Core.List.{List}
@@ -50,7 +52,8 @@ returns c =
     let r : tie.After-set-reg = search in
     let s = start r in
     let a = s .args in
-    step-taken (a .pc) _ _ (now (a .cex)) (now (a .psw)) _ _ _ (now (a .regs)) (now (a .mem)) _ _ (s .pre .3) (s .pre .2)
+    step-taken (a .free) (a .pc) _ _ (now (a .cex)) (held (now (a .psw)) (now (a .last)) (now (a .sum)) (now (a .over))) _ _ _
+    (now (a .regs)) (now (a .mem)) _ _ (s .pre .3) (s .pre .2)
     (fetched (now (a .mem)) (a .pc % 65536) (found r .word-of .ensures .0) (read r .read-word .ensures))
     (ap (λ (n : ℕ). (n + 2) % 65536) (first r)) (rw (r .set-reg .ensures) at (t .take-word .ensures))
 

@@ -1,5 +1,8 @@
+-- The loop's invariant: the steps taken so far lead from the start to where it is, PC being in `pc`. A word that was left alone adds
+-- none, any other one more. Assumes nothing.
 use Rattle.stretch.proofs.Steps.{awake-set, long, walked-start, walked-on, walked-stop, stays-shut}
 use Rattle.stretch.specs.Stretch.{Awake, Walked}
+use Rattle.flags.specs.Kept.{held}
 use Rattle.stretch_registers.specs.Effected.{leftAlone}
 use Rattle.stretch_words.specs.Ready.{constants}
 use lib.ListN.{length, set}
@@ -12,19 +15,22 @@ use Rattle.stretch.proofs.take_steps.Statement.{statement}
 use Rattle.stretch.proofs.take_steps.Tie as tie
 
 abbrev Inv-loop : tie.InvT-loop
-Inv-loop regs₀ mem₀ psw cex n k p₀ x₀ pc₀ left₀ regs mem p x pc left =
-    (left ≤ n)
-    × (length mem ≡ length mem₀)
-    × (k ≡ constants)
-    × Awake regs p
-    × (pc % 2 ≡ 0)
-    × (pc < leftAlone)
-    × ((x % 64 ≡ 0) ⊎ (n ≤ 1))
-    × Walked regs₀ psw cex mem₀ (set regs 7 (pc % 65536)) p x mem (n - left)
-    × (cex % 64 ≡ 0 → x % 64 ≡ 0)
+Inv-loop regs₀ mem₀ k psw₀ free last₀ sum₀ over₀ cex n x₀ pc₀ left₀ regs mem psw last sum over x pc left =
+    record {
+      within : left ≤ n;
+      size : length mem ≡ length mem₀;
+      table : k ≡ constants;
+      awake : Awake regs (held psw last sum over);
+      even : pc % 2 ≡ 0;
+      low : pc < leftAlone;
+      few : (x % 64 ≡ 0) ⊎ (n ≤ 1);
+      walked : Walked free regs₀ (held psw₀ last₀ sum₀ over₀) cex mem₀ (set regs 7 (pc % 65536)) (held psw last sum over) x mem
+          (n - left);
+      shut : cex % 64 ≡ 0 → x % 64 ≡ 0;
+    }
 
 abbrev μ-loop : tie.MeasureT-loop
-μ-loop regs₀ mem₀ psw cex n k p₀ x₀ pc₀ left₀ regs mem p x pc left = left
+μ-loop regs₀ mem₀ k psw₀ free last₀ sum₀ over₀ cex n x₀ pc₀ left₀ regs mem psw last sum over x pc left = left
 
 -- of k that were left, s are taken
 more : (n k s : ℕ) → s ≤ k → k ≤ n → n - (k - s) ≡ n - k + s
@@ -32,87 +38,125 @@ more n k s h g = omega arith
 
 loop-holds : tie.Need-loop-holds Inv-loop μ-loop
 loop-holds c =
-    let s = c .before .before .before in
-    let a = s .args in
+    let at-start : tie.Start Inv-loop μ-loop = search in
+    let a = at-start .args in
+    let (size, table, fetching, few) = at-start .pre in
     let e = c .reg .ensures in
-    let even = s .pre .1 .0 in
-    let none : a .n - a .n ≡ 0 = omega arith in (
-      omega arith,
-      refl,
-      refl,
-      s .pre .1 .1,
-      omega arith,
-      omega arith,
-      s .pre .2,
-      rw none (walked-start (now (a .regs)) (now (a .mem)) (a .psw) (a .cex) (now (a .regs)) _ refl e (omega arith)),
-      (λ h. h),
-    )
+    let even = fetching .0 in
+    let none : a .n - a .n ≡ 0 = omega arith in
+    record {
+      within = omega arith;
+      size = refl;
+      table = table;
+      awake = fetching .1;
+      even = omega arith;
+      low = omega arith;
+      few = few;
+      walked =
+          rw none (walked-start (a .free) (now (a .regs)) (now (a .mem)) (held (now (a .psw)) (now (a .last)) (now (a .sum)) (now (a .over)))
+          (a .cex) (now (a .regs)) _ refl e (omega arith));
+      shut = λ h. h;
+    }
 
 take-step-requires : tie.Need-take-step-requires Inv-loop μ-loop
 take-step-requires c κs =
-    let l = c .before .before .before .before .before .before .loop in
-    (omega arith, l .inv .2, l .inv .4, l .inv .3)
+    let at-loop : tie.At-loop Inv-loop μ-loop = search in
+    let i = at-loop .loop .inv in
+    (omega arith, i .table, i .even, i .awake)
+
+-- the PSW of the loop
+abbrev kept : tie.At-loop Inv-loop μ-loop → ℕ
+kept c = let l = c .loop in held (l .psw) (l .last) (l .sum) (l .over)
+
+-- and that before it
+abbrev first : tie.Start Inv-loop μ-loop → ℕ
+first c = let a = c .args in held (now (a .psw)) (now (a .last)) (now (a .sum)) (now (a .over))
 
 step-back-requires : tie.Need-step-back-requires Inv-loop μ-loop
 step-back-requires c κs =
-    let l = c .before .before .before .before .before .before .before .before .before .before .before .before .loop in
-    long (l .regs) (l .mem) _ _ (l .p) (l .x) _ _ (l .pc) _ (l .inv .3) (c .before .before .before .before .before .take-step .ensures)
+    let at-step : tie.After-take-step Inv-loop μ-loop = search in
+    let at-loop : tie.At-loop Inv-loop μ-loop = search in
+    let l = at-loop .loop in
+    long _ (l .regs) (l .mem) _ _ (kept at-loop) (l .x) _ _ (l .pc) _ (l .inv .awake) (at-step .take-step .ensures)
 
 returns : tie.Need-returns Inv-loop μ-loop
 returns c =
-    let i = c .before .before .before .before .before .before .before .before .before .before .before .before .before in
-    let l = i .loop in
-    let a = i .before .before .before .before .args in
-    let g = c .before .before .before .before .before .before .take-step .ensures in
-    let some = c .before .before .before .before .before .before .before .before .before .before .before .before .loop-test .taken in
-    let w = walked-stop (now (a .regs)) (now (a .mem)) (a .psw) (a .cex) (l .regs) (l .mem) _ _ (l .p) (l .x) _ _ (l .pc) _ (a .n - l .left)
-    (a .n) (l .inv .3) (l .inv .7) (l .inv .6) (omega (arith, l .inv .0)) g _ 0
-    (λ e. (refl, c .step-back .ensures)) (λ n. absurd (n (c .before .before .if2 .taken))) in
+    let at-step : tie.After-take-step Inv-loop μ-loop = search in
+    let at-loop-test : tie.In-loop Inv-loop μ-loop = search in
+    let at-loop : tie.At-loop Inv-loop μ-loop = search in
+    let at-start : tie.Start Inv-loop μ-loop = search in
+    let at-left : tie.Then2 Inv-loop μ-loop = search in
+    let at-back : tie.After-step-back Inv-loop μ-loop = search in
+    let l = at-loop .loop in
+    let i = l .inv in
+    let a = at-start .args in
+    let g = at-step .take-step .ensures in
+    let some = at-loop-test .loop-test .taken in
+    let w = walked-stop (a .free) (now (a .regs)) (now (a .mem)) (first at-start) (a .cex) (l .regs) (l .mem) _ _ (kept at-loop) (l .x) _ _
+    (l .pc) _ (a .n - l .left) (a .n) (i .awake) (i .walked) (i .few) (omega (arith, i .within)) g _ 0
+    (λ e. (refl, at-back .step-back .ensures)) (λ n. absurd (n (at-left .if2 .taken))) in
     let none : a .n - l .left ≡ a .n - l .left + 0 = omega arith in
-    let still = stays-shut (l .regs) (l .mem) _ _ (l .p) (l .x) _ _ (l .pc) _ g in
-    (rw none (w .0), ((omega (arith, l .inv .0), omega arith, w .1), (λ h. still (l .inv .8 h))))
+    let still = stays-shut (a .free) (l .regs) (l .mem) _ _ (kept at-loop) (l .x) _ _ (l .pc) _ g in
+    (rw none (w .0), ((omega (arith, i .within), omega arith, w .1), (λ h. still (i .shut h))))
 
 returns-2 : tie.Need-returns-2 Inv-loop μ-loop
 returns-2 c =
-    let i = c .before .before .before .before .before .before .before .before .before .before .before .before .before in
-    let l = i .loop in
-    let a = i .before .before .before .before .args in
-    let g = c .before .before .before .before .before .before .take-step .ensures in
-    let some = c .before .before .before .before .before .before .before .before .before .before .before .before .loop-test .taken in
-    let w = walked-stop (now (a .regs)) (now (a .mem)) (a .psw) (a .cex) (l .regs) (l .mem) _ _ (l .p) (l .x) _ _ (l .pc) _ (a .n - l .left)
-    (a .n) (l .inv .3) (l .inv .7) (l .inv .6) (omega (arith, l .inv .0)) g _ 1
-    (λ e. absurd (c .before .before .if2 .left e)) (λ n. (refl, c .set-reg .ensures)) in
-    let still = stays-shut (l .regs) (l .mem) _ _ (l .p) (l .x) _ _ (l .pc) _ g in (
-      rw (more (a .n) (l .left) 1 (omega arith) (l .inv .0)) (w .0),
-      ((omega (arith, l .inv .0), omega arith, w .1), (λ h. still (l .inv .8 h))),
+    let at-step : tie.After-take-step Inv-loop μ-loop = search in
+    let at-loop-test : tie.In-loop Inv-loop μ-loop = search in
+    let at-loop : tie.At-loop Inv-loop μ-loop = search in
+    let at-start : tie.Start Inv-loop μ-loop = search in
+    let at-taken : tie.Else2 Inv-loop μ-loop = search in
+    let at-set : tie.After-set-reg Inv-loop μ-loop = search in
+    let l = at-loop .loop in
+    let i = l .inv in
+    let a = at-start .args in
+    let g = at-step .take-step .ensures in
+    let some = at-loop-test .loop-test .taken in
+    let w = walked-stop (a .free) (now (a .regs)) (now (a .mem)) (first at-start) (a .cex) (l .regs) (l .mem) _ _ (kept at-loop) (l .x) _ _
+    (l .pc) _ (a .n - l .left) (a .n) (i .awake) (i .walked) (i .few) (omega (arith, i .within)) g _ 1
+    (λ e. absurd (at-taken .if2 .left e)) (λ n. (refl, at-set .set-reg .ensures)) in
+    let still = stays-shut (a .free) (l .regs) (l .mem) _ _ (kept at-loop) (l .x) _ _ (l .pc) _ g in (
+      rw (more (a .n) (l .left) 1 (omega arith) (i .within)) (w .0),
+      ((omega (arith, i .within), omega arith, w .1), (λ h. still (i .shut h))),
     )
 
 loop-again : tie.Need-loop-again Inv-loop μ-loop
 loop-again c =
-    let l = c .before .before .before .before .before .before .before .before .before .before .loop in
-    let a = c .before .before .before .before .before .before .before .before .before .before .before .before .before .before .args in
-    let t = c .before .before .before .before .before .before .before .before .before .loop-test .taken in
-    let some = l .inv .0 in
-    let w = walked-on (now (a .regs)) (now (a .mem)) (a .psw) (a .cex) (l .regs) (l .mem) _ _ (l .p) (l .x) _ _ (l .pc) _ (a .n - l .left)
-    (a .n) (l .inv .3) (l .inv .7) (l .inv .6) (omega arith) (c .before .before .before .take-step .ensures) (c .if1 .left) in (
-      omega arith,
-      omega arith,
-      l .inv .2,
-      w .0,
-      w .1,
-      c .if1 .left,
-      w .2,
-      rw (more (a .n) (l .left) 1 (omega arith) some) (w .3),
-      (λ h. stays-shut (l .regs) (l .mem) _ _ (l .p) (l .x) _ _ (l .pc) _ (c .before .before .before .take-step .ensures) (l .inv .8 h)),
-    )
+    let at-step : tie.After-take-step Inv-loop μ-loop = search in
+    let at-loop-test : tie.In-loop Inv-loop μ-loop = search in
+    let at-loop : tie.At-loop Inv-loop μ-loop = search in
+    let at-start : tie.Start Inv-loop μ-loop = search in
+    let l = at-loop .loop in
+    let i = l .inv in
+    let a = at-start .args in
+    let g = at-step .take-step .ensures in
+    let t = at-loop-test .loop-test .taken in
+    let some = i .within in
+    let w = walked-on (a .free) (now (a .regs)) (now (a .mem)) (first at-start) (a .cex) (l .regs) (l .mem) _ _ (kept at-loop) (l .x) _ _
+    (l .pc) _ (a .n - l .left) (a .n) (i .awake) (i .walked) (i .few) (omega arith) g (c .if1 .left) in
+    record {
+      within = omega arith;
+      size = omega arith;
+      table = i .table;
+      awake = w .0;
+      even = w .1;
+      low = c .if1 .left;
+      few = w .2;
+      walked = rw (more (a .n) (l .left) 1 (omega arith) some) (w .3);
+      shut = λ h. stays-shut (a .free) (l .regs) (l .mem) _ _ (kept at-loop) (l .x) _ _ (l .pc) _ g (i .shut h);
+    }
 
 returns-3 : tie.Need-returns-3 Inv-loop μ-loop
 returns-3 c =
-    let l = c .before .before .before .loop in
-    let a = c .before .before .before .before .before .before .before .args in
+    let at-loop : tie.At-loop Inv-loop μ-loop = search in
+    let at-start : tie.Start Inv-loop μ-loop = search in
+    let at-set : tie.After-set-reg2 Inv-loop μ-loop = search in
+    let l = at-loop .loop in
+    let i = l .inv in
+    let a = at-start .args in
     let e : a .n - 0 ≡ a .n - l .left = omega arith in
-    rw (c .set-reg2 .ensures, e)
-    (l .inv .7, ((omega arith, omega arith, awake-set (l .regs) (l .p) (l .pc % 65536) (l .inv .3)), l .inv .8))
+    rw (at-set .set-reg2 .ensures, e)
+    (i .walked, ((omega arith, omega arith, awake-set (l .regs) (kept at-loop) (l .pc % 65536) (i .awake)), i .shut))
 
 pub take-steps-spec : {M : Type 1} → statement M
 take-steps-spec =

@@ -7,7 +7,7 @@ use machine::Act;
 use machine::Depth;
 
 // An entry has pushed.
-fn pushed(p: Depth) -> Depth
+pub fn pushed(p: Depth) -> Depth
     requires { ⌜ p .opened < 4294967295 ⌝ }
     ensures { λ r. ⌜ r ≡ deeper p ⌝ }
 {
@@ -25,7 +25,7 @@ fn pushed(p: Depth) -> Depth
 }
 
 // A return has pulled; with none open it counts nothing.
-fn pulled(p: Depth) -> Depth
+pub fn pulled(p: Depth) -> Depth
     ensures { λ r. ⌜ r ≡ shallower p ⌝ }
 {
     if p.opened == 0 {

@@ -96,7 +96,8 @@ plan-traps regs m psw cex n w woken even shut ew h low =
     plan-fetches regs m psw cex n w woken even shut ew
     ∙ ap (λ (u : Instr). executed c (effectOf x u) m) (decode-trap w h)
     ∙ granted-even c x (asks.Trap (w % 16)) m refl
-    ∙ ap (λ (b : Bool). cond b (planned x (act.Trap (w % 16))) (faulting c (advanced c) 10)) (lt-ltb (current psw) (priority m (w % 16)) low)
+    ∙ ap (λ (b : Bool). cond b (planned x (act.Trap (w % 16))) (faulting c (advanced c) 10))
+    (lt-ltb (current psw) (priority m (w % 16)) low)
 
 -- ---- the steps
 

@@ -1,8 +1,8 @@
 -- A word that asks for a store, as a step. With no line waiting, SLP clear, PC even and no block open, the plan is what the word asks
 -- for; a store that is no odd word's is granted, so the step is its writes, and its records are what the store shows. Assumes nothing.
-use Prim.Native.Nat.{ℕ, _+_, _*_, _/_, _%_, _≤_}
+use Prim.Native.Nat.{ℕ, _+_, _*_, _/_, _%_, _<_, _≤_}
 use native.Mathlib.Omega.{arith}
-use mathlib.Core.Bool.{Bool, false, not, _&&_, _||_}
+use mathlib.Core.Bool.{Bool, false, cond, not, _&&_, _||_}
 use mathlib.Core.List.{List}
 use mathlib.Core.Path.{_≡_, refl, sym, ap, _∙_}
 use mathlib.Mathlib.Data.Bool.Basic.{or-eq-false-eq-eq-false-and-eq-false}
@@ -15,19 +15,20 @@ use Rattle.word.specs.Offset.{signedOf}
 use Rattle.isa.specs.declared.Instr.{Instr}
 use Rattle.isa.specs.Decode.{decodeOf}
 use Rattle.machine.specs.declared.Access.the-variants as asks
-use Rattle.machine.specs.State.{State, coreOf, wrap, moved}
+use Rattle.machine.specs.State.{State, coreOf, wrap, down, moved}
 use Rattle.machine.specs.Memory.{wordAt, commit}
 use Rattle.machine.specs.Devices.{storeWrites}
-use Rattle.machine.specs.Effect.{Effect, effect, effectOf, byteAddr}
+use Rattle.machine.specs.Effect.{Effect, effect, effectOf, byteAddr, sizeOf, moves?, adjusted}
 use Rattle.machine.specs.Step.{Plan, planned, advanced, executed, perform, planOf}
 use Rattle.machine.specs.Log.{loggedOf, logBytes}
 use Rattle.machine.specs.Depth.{depthAfter}
+use Rattle.machine_laws.proofs.Cases.{bool-cases}
 use Rattle.machine_laws.proofs.Plans.{granted-even}
 use Rattle.output_log.specs.declared.Showing.{Showing}
 use Rattle.output_log.specs.Showing.{listed}
 use Rattle.stretch_memory.specs.Served.{running, carriedOut}
-use Rattle.stretch_memory.proofs.Laws.{store-relative-effect}
-use Rattle.stretch_words.proofs.Laws.{decode-str}
+use Rattle.stretch_memory.proofs.Laws.{store-effect, store-relative-effect}
+use Rattle.stretch_words.proofs.Laws.{decode-store, decode-str}
 use Rattle.stretch.proofs.Steps.{fetches, none-waits, open-none}
 use Rattle.show_step.specs.Stored.{storing, Stored}
 use Rattle.show_step.specs.Steps.{Steps}
@@ -109,4 +110,31 @@ str-effect regs w {p} {a} {at} {v} h ep ev ea et psw cex =
     let l = set regs 7 p in
     store-relative-effect l psw cex (w / 64 % 2) (w % 8) (signedOf 64 (w / 128 % 128)) ea et (w / 8 % 8) ev
     ∙ ap (λ (i : Instr). effectOf (coreOf l psw cex) i) (sym (decode-str w (omega arith) (w / 64 % 2) refl h))
+    ∙ ap (λ (q : ℕ). effectOf (coreOf (set regs 7 q) psw cex) (decodeOf w)) ep
+
+-- an index register that is not moved is written as it stands
+settled : (l : List ℕ) (i dec inc wb : ℕ) {a b : ℕ} → a ≡ getD l i 0 → b ≡ adjusted a dec inc wb →
+    set l i b ≡ cond (moves? dec inc) (set l i b) l
+settled l i dec inc wb {a} {b} ea eb =
+    bool-cases (moves? dec inc)
+    (λ q. ap (λ (m : Bool). cond m (set l i b) l) (sym q))
+    (λ q.
+    ap (set l i) (eb ∙ ap (λ (m : Bool). cond m (cond (eqb inc 1) (wrap (a + sizeOf wb)) (down a (sizeOf wb))) a) q ∙ ea)
+    ∙ set-getD l i 0
+    ∙ ap (λ (m : Bool). cond m (set l i b) l) (sym q))
+
+-- ST, R7 being p, past its word, and b the index register after it
+pub st-effect :
+    (regs : List ℕ) (w : ℕ) {p a b at v : ℕ} → 0x5C00 ≤ w → w < 0x6000 →
+    moves? (w / 64 / 4 % 2) (w / 64 / 2 % 2) && eqb (w % 8) 7 ≡ false → p ≡ wrap (getD regs 7 0 + 2) →
+    v ≡ getD (set regs 7 p) (w / 8 % 8) 0 → a ≡ getD (set regs 7 p) (w % 8) 0 →
+    b ≡ adjusted a (w / 64 / 4 % 2) (w / 64 / 2 % 2) (w / 64 % 2) → at ≡ cond (eqb (w / 64 / 8 % 2) 1) b a → (psw cex : ℕ) →
+    effect (coreOf (set (set regs 7 p) (w % 8) b) psw cex) (asks.Store (eqb (w / 64 % 2) 1) (byteAddr at) v)
+    ≡ effectOf (coreOf (set regs 7 (wrap (getD regs 7 0 + 2))) psw cex) (decodeOf w)
+st-effect regs w {p} {a} {b} {at} {v} lo hi h ep ev ea eb et psw cex =
+    let row = w / 64 in
+    let l = set regs 7 p in
+    store-effect l (set l (w % 8) b) psw cex (row / 8 % 2) (row / 4 % 2) (row / 2 % 2) (row % 2) (w % 8) h ea eb et
+    (settled l (w % 8) (row / 4 % 2) (row / 2 % 2) (row % 2) ea eb) (w / 8 % 8) ev
+    ∙ ap (λ (i : Instr). effectOf (coreOf l psw cex) i) (sym (decode-store w row refl (omega arith) (omega arith)))
     ∙ ap (λ (q : ℕ). effectOf (coreOf (set regs 7 q) psw cex) (decodeOf w)) ep

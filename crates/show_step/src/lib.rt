@@ -1,9 +1,11 @@
 // A store to a device's bytes, taken at once as a step where no line waits: what it shows is added
 // to the log, if there is room. Else nothing has changed, and the step is for the general way.
-ghost use mathlib.Core.Bool.{true, false};
+ghost use mathlib.Core.Bool.{true, false, cond};
 ghost use mathlib.Core.Path.{_≡_};
-ghost use Prim.Native.Nat.{_/_, _≤_};
+ghost use Prim.Native.Nat.{_/_, _%_, _<_, _≤_};
+ghost use lib.Dec.{eqb};
 ghost use lib.ListN.{length};
+ghost use Rattle.machine.specs.Effect.{adjusted};
 ghost use Rattle.show_step.specs.Stored.{Stored};
 ghost use Rattle.show_step.specs.Steps.{Fetched, Steps, Same};
 use machine::Act;
@@ -80,6 +82,64 @@ pub fn show(
     let at = operands::offset_from(base, word::signed(64, w / 128 % 128));
     let r = store(mem, log, count, w / 64 % 2 == 1, at, value, added);
     if !r.taken {
+        regs[7] = pc;
+    }
+    r
+}
+
+// The address of ST, and its index register after the adjustment.
+struct Index {
+    at: u16,
+    to: u16,
+}
+
+// The index register being a, by the word's bits from bit 6 on.
+fn index_of(a: u16, row: u16) -> Index
+    ensures to { λ r. ⌜ r .to ≡ adjusted a (row / 4 % 2) (row / 2 % 2) (row % 2) ⌝ }
+    ensures at { λ r. ⌜ r .at ≡ cond (eqb (row / 8 % 2) 1) (r .to) a ⌝ }
+{
+    let dec = (row / 4 % 2) as u8;
+    let inc = (row / 2 % 2) as u8;
+    let to = operands::adjusted_by(a, dec, inc, (row % 2) as u8);
+    Index {
+        at: operands::address((row / 8 % 2) as u8, a, to),
+        to,
+    }
+}
+
+// 5C00 to 5FFF: ST, w being its word; an adjustment of R7 is for the general way.
+pub fn show_indexed(
+    regs: &mut [u16; 8],
+    mem: &mut [u8],
+    log: &mut [u8],
+    count: u32,
+    w: u16,
+    added: usize,
+) -> Shown
+    requires { ⌜ Fetched w (now regs) (now mem) (now log) added × (0x5C00 ≤ w) × (w < 0x6000) ⌝ }
+    ensures taken { λ r. ⌜ (r .taken ≡ true → Steps
+        (now (regs .entry)) (now (mem .entry)) (now (log .entry)) count added
+        (now (regs .exit)) (now (mem .exit)) (now (log .exit)) (r .added)) ⌝ }
+    ensures left { λ r. ⌜ (r .taken ≡ false → Same
+        (now (regs .entry)) (now (mem .entry)) (now (log .entry)) added
+        (now (regs .exit)) (now (mem .exit)) (now (log .exit)) (r .added)) ⌝ }
+{
+    let row = w / 64;
+    let i = (w % 8) as usize;
+    if (row / 4 % 2 != row / 2 % 2) & (i == 7) {
+        return Shown {
+            added,
+            taken: false,
+        };
+    }
+    let pc = regs[7];
+    regs[7] = std::num::wrapping_add_u16(pc, 2);
+    let value = operands::get(regs, (w / 8 % 8) as u8);
+    let x = index_of(operands::get(regs, (w % 8) as u8), row);
+    let r = store(mem, log, count, row % 2 == 1, x.at, value, added);
+    if r.taken {
+        regs[i] = x.to;
+    } else {
         regs[7] = pc;
     }
     r

@@ -10,7 +10,7 @@ use lib.Dec.{eqb, ltb, leb}
 use lib.ListN.{length, getD, set}
 use lib.Seq.{sets, set-set, set-getD}
 use borrow.Author.Tests.{ltb-false}
-use Rattle.word.specs.Psw.{asleep?, current}
+use Rattle.word.specs.Psw.{asleep?}
 use Rattle.word.specs.Offset.{signedOf}
 use Rattle.isa.specs.declared.Instr.{Instr}
 use Rattle.isa.specs.Decode.{decodeOf}
@@ -19,7 +19,7 @@ use Rattle.machine.specs.State.{State, coreOf, wrap, down, moved}
 use Rattle.machine.specs.Memory.{wordAt, commit}
 use Rattle.machine.specs.Devices.{storeWrites}
 use Rattle.machine.specs.Effect.{Effect, effect, effectOf, byteAddr, sizeOf, moves?, adjusted}
-use Rattle.machine.specs.Step.{Plan, planned, advanced, executed, perform, planOf}
+use Rattle.machine.specs.Step.{Plan, planned, executed, perform, planOf}
 use Rattle.machine.specs.Log.{loggedOf, logBytes}
 use Rattle.machine.specs.Depth.{depthAfter}
 use Rattle.machine_laws.proofs.Cases.{bool-cases}
@@ -29,7 +29,7 @@ use Rattle.output_log.specs.Showing.{listed}
 use Rattle.stretch_memory.specs.Served.{running, carriedOut}
 use Rattle.stretch_memory.proofs.Laws.{store-effect, store-relative-effect}
 use Rattle.stretch_words.proofs.Laws.{decode-store, decode-str}
-use Rattle.stretch.proofs.Steps.{fetches, none-waits, open-none}
+use Rattle.frame_step.proofs.Laws.{plan-fetches}
 use Rattle.show_step.specs.Stored.{storing, Stored}
 use Rattle.show_step.specs.Steps.{Steps}
 
@@ -74,13 +74,9 @@ module _ (regs k m m′ log log′ : List ℕ) (w n added added′ at v : ℕ) (
     ≡ effectOf (coreOf (set regs 7 (wrap (getD regs 7 0 + 2))) psw cex) (decodeOf w)) where
   plan : (psw cex : ℕ) → asleep? psw ≡ false → cex % 64 ≡ 0 →
       planOf (running regs psw cex 0 n m) ≡ planned (coreOf k psw cex) (storing byte at v)
-  unfolding advanced
   plan psw cex woken shut =
       let c = coreOf regs psw cex in
-      let o = open-none cex shut in
-      fetches regs m psw cex 0 even woken (none-waits 0 (current psw) m refl) (o .0) n
-      ∙ ap (λ (u : ℕ). executed c (effectOf (advanced c) (decodeOf u)) m) (sym ew)
-      ∙ ap (λ (x : ℕ). executed c (effectOf (coreOf (set regs 7 (wrap (getD regs 7 0 + 2))) psw x) (decodeOf w)) m) (o .1)
+      plan-fetches regs m psw cex n w woken even shut ew
       ∙ ap (λ (x : Effect). executed c x m) (sym (e psw cex))
       ∙ granted-even c (coreOf k psw cex) (asks.Store byte (byteAddr at) v) m (st .granted)
 

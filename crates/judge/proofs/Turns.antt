@@ -8,14 +8,13 @@ use mathlib.Core.List.{List, []}
 use mathlib.Core.Path.{_≡_, refl, sym, ap, subst, _∙_}
 use lib.Dec.{eqb}
 use lib.ListN.{replicate}
-use Rattle.machine.specs.State.{State}
+use Rattle.machine.specs.State.{State, stateWith}
 use Rattle.machine.specs.Events.{Event}
 use Rattle.machine.specs.Devices.{deliver}
 use Rattle.machine.specs.declared.Act.{Act}
 use Rattle.machine.specs.Step.{planOf, finished, stepOf}
 use Rattle.machine_laws.proofs.Cases.{bool-cases, eq-of}
 use Rattle.machine.specs.declared.Rest.{Rest}
-use Rattle.machine.specs.Rest.{stateWith}
 use Rattle.soundness.specs.Findings.{handler, findAfter}
 use Rattle.soundness.specs.Watch.{Watch, unwatched, openIn, seenBy, watchAfter}
 use Rattle.soundness.specs.Judge.{Judging, begun, holds?, tooDeep?, over?, onward, judgedRun, findingsBytes}
@@ -154,36 +153,28 @@ carried {t = t} em er eb h =
     }
 
 -- before the first step
-pub start-law : (ev : List Event) (s₀ s : State) → s₀ ≡ s → (c : ℕ) (o : Open) (l p v w f : List ℕ)
+pub start-law : (ev : List Event) (s : State) (c : ℕ) (o : Open) (l p v w f : List ℕ)
     → (o .owns ≡ 0) × (o .held ≡ 0) × (handlerOf (o .oldest) ≡ handler 0 16 16) → w ≡ replicate 65536 0
     → f ≡ findingsBytes c (toldBy s (begun s))
-    → Reaches s₀ c (judgedRun ev s₀ 0) s₀ 0 (watchWith o l p v w) f false
-start-law ev s₀ s e c o l p v w f eo ew ef =
+    → Reaches s c (judgedRun ev s 0) s 0 (watchWith o l p v w) f false
+start-law ev s c o l p v w f eo ew ef =
     let rows : heldRows l p v (o .held) ≡ [] = ap (heldRows l p v) (eo .1) in
     let carries : watchWith o l p v w ≡ unwatched =
     λ i. record { owns = eo .0 i; devices = rows i; oldest = eo .2 i; writers = ew i } in
-    reaches-start ev s₀ c (watchWith o l p v w) f
-    (record {
-      state = refl;
-      steps = refl;
-      watch = carries;
-      told = ef ∙ sym (λ i. findingsBytes c (toldBy (e i) (begun (e i))));
-      stopped = refl;
-    })
+    reaches-start ev s c (watchWith o l p v w) f
+    (record { state = refl; steps = refl; watch = carries; told = ef; stopped = refl })
 
 -- what is told at the end
-pub end-law : (ev : List Event) (s₀ s₀′ : State) → s₀ ≡ s₀′ → (n c : ℕ) (s s′ : State) → s′ ≡ s
-    → (done : ℕ) (o : Open) (l p v w f : List ℕ) (deep : Bool)
+pub end-law : (ev : List Event) (s₀ : State) (n c : ℕ) (s : State) (done : ℕ) (o : Open) (l p v w f : List ℕ) (deep : Bool)
     → Reaches s₀ c (judgedRun ev s₀ n) s done (watchWith o l p v w) f deep
-    → JudgedIs s₀′ c (judgedRun ev s₀′ n) s′ done o deep w f
-end-law ev s₀ s₀′ e n c s s′ es done o l p v w f deep h =
-    subst (λ z. JudgedIs z c (judgedRun ev z n) s′ done o deep w f) e
-    (record {
-      state = es ∙ h .state;
+    → JudgedIs s₀ c (judgedRun ev s₀ n) s done o deep w f
+end-law ev s₀ n c s done o l p v w f deep h =
+    record {
+      state = h .state;
       steps = h .steps;
       none = sym (ap (λ k. eqb (o .owns + k) 0) (held-length l p v (o .held))) ∙ ap (λ x. eqb (openIn x) 0) (h .watch);
       oldest = ap (λ (x : Watch). x .oldest) (h .watch);
       stopped = h .stopped;
       marks = ap (λ (x : Watch). x .writers) (h .watch);
       told = h .told;
-    })
+    }

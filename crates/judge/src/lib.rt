@@ -1,14 +1,12 @@
 // A judged run: the steps of a run, each watched, and the whole judge call on its raw buffers.
 ghost use mathlib.Core.Path.{_≡_};
 ghost use mathlib.Core.Bool.{true, false, cond, _&&_};
-ghost use mathlib.Core.List.{List};
-ghost use Prim.Native.Nat.{ℕ, _+_, _<_, _≤_};
+ghost use Prim.Native.Nat.{_+_, _<_, _≤_};
 ghost use lib.Dec.{eqb};
 ghost use lib.ListN.{length, replicate};
-ghost use Rattle.machine.specs.State.{State, stateOf};
+ghost use Rattle.machine.specs.State.{State, stateOf, stateWith};
 ghost use Rattle.machine.specs.Events.{eventsOf, eventCount};
 ghost use Rattle.machine.specs.Refusal.{eventsFitBelow};
-ghost use Rattle.machine.specs.Rest.{stateWith};
 ghost use Rattle.machine.specs.Step.{planOf};
 ghost use Rattle.step.specs.Planned.{planWith, Within};
 ghost use Rattle.devices.specs.Cursor.{Ordered};
@@ -116,19 +114,19 @@ pub fn judge_run(
     findings: &mut [u8],
     n: u32,
 ) -> Judged
-    requires { ⌜ (length (now memory) ≡ 65536) × (m .count + n ≤ 4294967295) × Ordered (now events)
+    requires { ⌜ (length (now memory) ≡ 65536) × (m .rest .count + n ≤ 4294967295) × Ordered (now events)
         × (eventsFitBelow (now events) (eventCount (now events)) ≡ true) × (n ≤ 1000000)
         × (now writers ≡ replicate 65536 0) × (length (now findings) ≡ 144)
-        × (now findings ≡ findingsBytes (m .count)
+        × (now findings ≡ findingsBytes (m .rest .count)
         (toldBy (stateOf m (now memory)) (begun (stateOf m (now memory))))) ⌝ }
-    ensures { λ r. ⌜ JudgedIs (stateOf m (now (memory .entry))) (m .count)
+    ensures { λ r. ⌜ JudgedIs (stateOf m (now (memory .entry))) (m .rest .count)
         (judgedRun (eventsOf (now (events .entry))) (stateOf m (now (memory .entry))) n)
         (stateOf (r .machine) (now (memory .exit))) (r .steps) (r .frames) (r .deep)
         (now (writers .exit)) (now (findings .exit)) ⌝ }
 {
-    let start = m.count;
+    let start = m.rest.count;
     let mut regs = m.regs;
-    let mut t = turn::rest_of(m);
+    let mut t = m.rest;
     let mut devices: [u8; 16] = [0; 16];
     let mut kept: [u16; 3584] = [0; 3584];
     let mut opened: [u32; 256] = [0; 256];
@@ -142,7 +140,7 @@ pub fn judge_run(
         let full = o.held == 256;
         output_log::keep(memory, full, &mut devices);
         let d = turn::deliver_due(memory, events, at, t.count, t.lines);
-        let p = step::plan(&mut regs, memory, turn::with_lines(t, d.lines));
+        let p = step::plan(&mut regs, memory, t, d.lines);
         let act = p.act;
         if too_deep(act, o) {
             regs = before;
@@ -172,7 +170,7 @@ pub fn judge_run(
         done += 1;
     }
     Judged {
-        machine: turn::machine_of(regs, t),
+        machine: Machine { regs, rest: t },
         frames: o,
         deep,
         steps: done,

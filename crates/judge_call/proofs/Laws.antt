@@ -98,7 +98,7 @@ start-passed k v b e h = sym (ap (λ t. cond (not t) v (cond b 0 20)) (is-eq {m 
 module _
     (memory r events : List ℕ) (n : ℕ) (m : Machine) (read : (mem : List ℕ) → stateOf m mem ≡ stateIn r mem)
     (l : Machine) (memory′ : List ℕ) (steps : ℕ) (o : Open) (deep : Bool) (writers told : List ℕ)
-    (J : JudgedIs (stateOf m memory) (m .count) (judgedRun (eventsOf events) (stateOf m memory) n) (stateOf l memory′) steps o deep
+    (J : JudgedIs (stateOf m memory) (m .rest .count) (judgedRun (eventsOf events) (stateOf m memory) n) (stateOf l memory′) steps o deep
     writers told) where
   abbrev s : State
   s = stateOf m memory
@@ -111,21 +111,21 @@ module _
 
   -- what is told at the close
   pub told-close : (findings : List ℕ)
-      → ((t : State) (y : Judging) → told ≡ findingsBytes (m .count) (toldBy t y)
+      → ((t : State) (y : Judging) → told ≡ findingsBytes (m .rest .count) (toldBy t y)
       → eqb (o .owns + o .held) 0 ≡ eqb (openIn (y .watch)) 0 → handlerOf (o .oldest) ≡ y .watch .oldest
-      → findings ≡ findingsBytes (m .count) (closingTold t y))
-      → findings ≡ findingsBytes (m .count) (closingTold s x)
+      → findings ≡ findingsBytes (m .rest .count) (closingTold t y))
+      → findings ≡ findingsBytes (m .rest .count) (closingTold s x)
   told-close findings h = h s x (J .told) (J .none) (J .oldest)
 
-  pub answer : (findings : List ℕ) → findings ≡ findingsBytes (m .count) (closingTold s x)
+  pub answer : (findings : List ℕ) → findings ≡ findingsBytes (m .rest .count) (closingTold s x)
       → (r′ : List ℕ) → ((mem : List ℕ) → r′ ≡ recordOf (stateOf l mem))
       → (kinds : ℕ) → ((c : ℕ) (f : Kind → Finding) → findings ≡ findingsBytes c f → kinds ≡ kindsFound f)
-      → (reply : ℕ) → reply ≡ replyNumber 0 (cond deep 2 (cond (l .halted) 1 0)) steps kinds
+      → (reply : ℕ) → reply ≡ replyNumber 0 (cond deep 2 (cond (l .rest .halted) 1 0)) steps kinds
       → left reply memory′ r′ writers findings ≡ judgeAccepted (stateIn r memory) (judgedOn memory r events n)
   answer findings ef r′ write kinds count reply e =
       (λ i. left
       ((e ∙ (λ j. replyNumber 0 (cond (J .stopped j) 2 (cond (J .state j .halted) 1 0)) (J .steps j)
-      (count (m .count) (closingTold s x) ef j))) i)
+      (count (m .rest .count) (closingTold s x) ef j))) i)
       (J .state i .mem)
       ((write memory′ ∙ ap recordOf (J .state)) i)
       (J .marks i)

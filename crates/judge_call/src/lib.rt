@@ -60,14 +60,15 @@ fn flag(b: bool) -> u8
 fn start_faults(m: Machine) -> u8
     ensures { λ r. ⌜ ((mem : List ℕ) → r ≡ startFaults (stateOf m mem)) ⌝ }
 {
-    flag(word::asleep(m.psw)) + 2 * flag(m.halted) + 4 * flag(m.lines != 0)
+    let t = m.rest;
+    flag(word::asleep(t.psw)) + 2 * flag(t.halted) + 4 * flag(t.lines != 0)
 }
 
 // The start told, in findings that are clear.
 pub fn tell_start(findings: &mut [u8], m: Machine)
     requires { ⌜ now findings ≡ replicate 144 0 ⌝ }
     ensures { λ _. ⌜ ((mem : List ℕ) → now (findings .exit)
-        ≡ findingsBytes (m .count) (toldBy (stateOf m mem) (begun (stateOf m mem)))) ⌝ }
+        ≡ findingsBytes (m .rest .count) (toldBy (stateOf m mem) (begun (stateOf m mem)))) ⌝ }
 {
     let x = start_faults(m);
     if x == 0 {
@@ -76,7 +77,7 @@ pub fn tell_start(findings: &mut [u8], m: Machine)
     let o = open_frames::none_open();
     let h = o.oldest;
     let regs = m.regs;
-    findings::note(findings, 0, m.count, 0, x, regs[7], h);
+    findings::note(findings, 0, m.rest.count, 0, x, regs[7], h);
 }
 
 // Every byte zero.
@@ -140,9 +141,14 @@ fn judged(
     let m = state_record::read_record(state);
     tell_start(findings, m);
     let r = judge::judge_run(m, memory, events, writers, findings, n);
-    tell_close(findings, m.count, r.frames);
+    tell_close(findings, m.rest.count, r.frames);
     state_record::write_record(state, r.machine);
-    reply_of(r.deep, r.machine.halted, r.steps, findings::kinds(findings))
+    reply_of(
+        r.deep,
+        r.machine.rest.halted,
+        r.steps,
+        findings::kinds(findings),
+    )
 }
 
 // The first rule that a call breaks, by its number; 0 if it breaks none.

@@ -1,5 +1,4 @@
 pub mod State
-pub mod Rest
 pub mod Memory
 pub mod Record
 pub mod Events

@@ -7,6 +7,7 @@ use lib.Dec.{eqb}
 use lib.IntN.{ℤ, pos, negsuc}
 use lib.ListN.{getD, set}
 use Rattle.machine.specs.declared.Machine.{Machine}
+use Rattle.machine.specs.declared.Rest.{Rest}
 
 -- what an instruction works on: the eight registers, the PSW and the CEX state. [01 State and memory]
 pub record Core : Type 0 where
@@ -22,19 +23,21 @@ pub record State : Type 0 where
   pub count : ℕ
   pub mem : List ℕ
 
--- a core from its parts; a machine as the code holds it, with its memory. [01 State and memory]
+-- a core from its parts. [01 State and memory]
 abbrev pub coreOf : List ℕ → ℕ → ℕ → Core
 coreOf regs psw cex = record { regs = regs; psw = psw; cex = cex }
 
+-- the core of a machine whose registers are lent, and its whole state. [01 State and memory]
+abbrev pub coreWith : List ℕ → Rest → Core
+coreWith regs t = coreOf regs (t .psw) (t .cex)
+
+abbrev pub stateWith : List ℕ → Rest → List ℕ → State
+stateWith regs t mem =
+    record { core = coreWith regs t; lines = t .lines; halted = t .halted; count = t .count; mem = mem }
+
+-- a machine as the code holds it, with its memory. [01 State and memory]
 abbrev pub stateOf : Machine → List ℕ → State
-stateOf m mem =
-    record {
-      core = coreOf (m .regs) (m .psw) (m .cex);
-      lines = m .lines;
-      halted = m .halted;
-      count = m .count;
-      mem = mem;
-    }
+stateOf m mem = stateWith (m .regs) (m .rest) mem
 
 -- register i; R5 is LR, R6 SP, R7 PC. [01 State and memory; 003 5]
 abbrev pub reg : Core → ℕ → ℕ

@@ -5,10 +5,8 @@
 // The lines: eight counts of waiting events, four bits each, device 0 lowest.
 pub type Lines = u32;
 
-// One machine: eight registers (R5 is LR, R6 SP, R7 PC), PSW, CEX state, lines, halted mark and
-// step count. Memory is lent beside it.
-pub struct Machine {
-    pub regs: [u16; 8],
+// What a machine has beside its registers: PSW, CEX state, lines, halted mark and step count.
+pub struct Rest {
     pub psw: u16,
     pub cex: u16,
     pub lines: Lines,
@@ -16,13 +14,11 @@ pub struct Machine {
     pub count: u32,
 }
 
-// A machine without its registers, where those are lent.
-pub struct Rest {
-    pub psw: u16,
-    pub cex: u16,
-    pub lines: Lines,
-    pub halted: bool,
-    pub count: u32,
+// One machine: eight registers (R5 is LR, R6 SP, R7 PC) and the rest. Where a machine is at work the
+// registers are lent and the rest goes by value. Memory is lent beside it.
+pub struct Machine {
+    pub regs: [u16; 8],
+    pub rest: Rest,
 }
 
 // A byte's place in memory, and a word's: word w is bytes 2 * w and 2 * w + 1.

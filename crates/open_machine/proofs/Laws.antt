@@ -6,9 +6,16 @@ use mathlib.Core.List.{List}
 use mathlib.Core.Logic.{_≢_}
 use mathlib.Core.Path.{_≡_, refl, sym, ap, _∙_}
 use native.Mathlib.Omega.{arith}
-use mir.Val.{boolByte}
+use mir.Val.{Val, boolByte}
 use lib.ListN.{length}
+use denote.Laws.{Is}
+use denote.Struct.Laws as LL
+use Rattle.machine.proofs.Machine as T
+use Rattle.machine.proofs.Machine.Laws as T′
+use Rattle.machine.proofs.Rest as R
+use Rattle.machine.proofs.Rest.Laws as R′
 use Rattle.machine.specs.declared.Depth.{Depth}
+use Rattle.machine.specs.declared.Machine.{Machine}
 use Rattle.machine.specs.declared.Reason.{Reason}
 use Rattle.machine.specs.declared.Reason.the-variants.{Done, Halted}
 use Rattle.machine.specs.declared.Verdict.{Verdict}
@@ -31,6 +38,11 @@ use Rattle.open_machine.specs.Advance.{Advance, leftAlone, advancedBy, a
 use Rattle.open_machine.specs.Advance.{Taken, stepFor, stepAdvance}
 
 -- ---- the step count
+
+-- a machine's count has 32 bits
+pub count-small : (m : Machine) (vs : List Val) → Is T.the-row m vs → m .rest .count < 2 ^ 32
+count-small m vs is =
+    LL.owed R.the-type R′.the-laws (m .rest) _ (LL.owed T.the-type T′.the-laws m vs is .1 .0) .1 .1 .1 .1 .0 .1
 
 record-count : (s : State) → s .count < 2 ^ 32 → fourAt (recordOf s) 22 ≡ s .count
 unfolding recordOf

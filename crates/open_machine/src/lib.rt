@@ -72,8 +72,8 @@ pub fn step_by_value(m: Machine, memory: &mut [u8], events: &[u8]) -> Advanced
     }
     let x = step::step(m, memory, events, 0);
     let after = x.machine;
-    let taken = !m.halted;
-    let reply = 256 * after.halted as u64 + 65536 * taken as u64;
+    let taken = !m.rest.halted;
+    let reply = 256 * after.rest.halted as u64 + 65536 * taken as u64;
     Advanced {
         machine: after,
         reply,

@@ -9,17 +9,15 @@ use native.Mathlib.Omega.{arith}
 use lib.Dec.{eqb}
 use lib.ListN.{length, take, drop, getD}
 use lib.Seq.{sets, sets-eq, length-sets, take-at, getD-append-add, getD-drop}
-use Rattle.machine.specs.declared.Machine.{Machine}
 use Rattle.machine.specs.declared.Rest.{Rest}
-use Rattle.machine.specs.State.{State, stateOf}
-use Rattle.machine.specs.Rest.{stateWith}
+use Rattle.machine.specs.State.{State, stateWith}
 use Rattle.machine.specs.Record.{recordOf}
 use Rattle.machine.specs.Events.{Event}
 use Rattle.machine.specs.Devices.{deliver}
 use Rattle.machine.specs.Step.{Plan, planOf}
 use Rattle.machine.specs.Run.{runOf}
 use Rattle.machine_laws.proofs.Cases.{bool-cases}
-use Rattle.journal.specs.Record.{addressBy, addressIn, bytesFrom, fieldsOf, journalRecord}
+use Rattle.journal.specs.Record.{addressBy, bytesFrom, fieldsOf, journalRecord}
 use Rattle.journal.specs.Ring.{Journal, keep, journalAfter}
 use Rattle.journal_record.specs.declared.Ring.{Ring}
 use Rattle.journal_record.specs.Ring.{journalWith, keptIn}
@@ -94,13 +92,9 @@ before-kept d m ed em =
     }
 
 -- that of the state, once its memory is the one before the events
-pub record-kept : (ev : List Event) (regs : List ℕ) (t : Rest) (mem : List ℕ) (held : Machine)
-    → ((n : List ℕ) → stateOf held n ≡ stateWith regs t n)
-    → (b : List ℕ) → b ≡ mem → (q : Plan) → q ≡ planOf (deliver ev (stateWith regs t mem))
-    → fieldsOf (recordOf (stateOf held b)) (bytesFrom b 0 16) (addressBy q) (bytesFrom b (addressBy q) 8)
+pub record-kept : (ev : List Event) (regs : List ℕ) (t : Rest) (mem b : List ℕ) → b ≡ mem → (q : Plan) → q ≡ planOf (deliver ev (stateWith regs t mem))
+    → fieldsOf (recordOf (stateWith regs t b)) (bytesFrom b 0 16) (addressBy q) (bytesFrom b (addressBy q) 8)
     ≡ journalRecord ev (stateWith regs t mem)
 unfolding journalRecord
-record-kept ev regs t mem held is b eb q eq =
-    let a = addressIn ev (stateWith regs t mem) in
-    (λ i. fieldsOf (recordOf (stateOf held (eb i))) (bytesFrom (eb i) 0 16) (addressBy (eq i)) (bytesFrom (eb i) (addressBy (eq i)) 8))
-    ∙ ap (λ u. fieldsOf (recordOf u) (bytesFrom mem 0 16) a (bytesFrom mem a 8)) (is mem)
+record-kept ev regs t mem b eb q eq i =
+    fieldsOf (recordOf (stateWith regs t (eb i))) (bytesFrom (eb i) 0 16) (addressBy (eq i)) (bytesFrom (eb i) (addressBy (eq i)) 8)

@@ -11,11 +11,9 @@ use lib.ListN.{length, take, length-append}
 use lib.Seq.{sets, length-sets}
 use mathlib.Mathlib.Data.Bool.Basic.{or-eq-false-eq-eq-false-and-eq-false}
 use Rattle.machine.specs.declared.Depth.{Depth}
-use Rattle.machine.specs.declared.Machine.{Machine}
 use Rattle.machine.specs.declared.Rest.{Rest}
-use Rattle.machine.specs.State.{Core, State, stateOf}
+use Rattle.machine.specs.State.{Core, State, coreWith, stateWith}
 use Rattle.machine.specs.Record.{recordOf}
-use Rattle.machine.specs.Rest.{coreWith, stateWith}
 use Rattle.machine.specs.Events.{Event, eventCount, eventsOf}
 use Rattle.machine.specs.Devices.{deliver, deliverAt}
 use Rattle.machine.specs.Step.{Plan, planOf, perform, closed, finished}
@@ -162,8 +160,7 @@ module _
     (live : t .halted ≡ false)
     (l : ℕ) (m : List ℕ)
     (delivered : (c : Core) (b : Bool) → stateFrom c l b (t .count) m ≡ deliverAt (t .count) ev (stateFrom c (t .lines) b (t .count) mem))
-    (w : Rest) (lines : w ≡ record { psw = t .psw; cex = t .cex; lines = l; halted = t .halted; count = t .count })
-    (q : Plan) (planned : q ≡ planOf (stateWith regs w m))
+    (q : Plan) (planned : q ≡ planOf (stateFrom (coreWith regs t) l (t .halted) (t .count) m))
     (x : Showing) (shows : (s : State) → s .mem ≡ m → listed (s .count) x ≡ loggedOf (q .act) s)
     (lacks : Bool) (test : (n : ℕ) → lacks ≡ ltb k (added + length (listed n x))) where
   abbrev begun : State
@@ -172,11 +169,8 @@ module _
   begun-is : begun ≡ deliver ev (stateWith regs t mem)
   begun-is = delivered (coreWith regs t) (t .halted)
 
-  plan-is : q ≡ planOf begun
-  plan-is = planned ∙ ap (λ v. planOf (stateWith regs v m)) lines
-
   told : listed (t .count) x ≡ loggedOf (planOf begun .act) begun
-  told = shows begun refl ∙ ap (λ v. loggedOf (v .act) begun) plan-is
+  told = shows begun refl ∙ ap (λ v. loggedOf (v .act) begun) planned
 
   -- taken
   pub step-taken : (u : State) → u ≡ closed (perform (q .act) (q .core) l m) (t .count) m → lacks ≡ false
@@ -185,11 +179,11 @@ module _
       → Reached (runLogged ev s₀ k (done + 1)) lent u (done + 1) added′ log′ false
   step-taken u e b added′ ea log′ el =
       reached-step ev s₀ k lent (stateWith regs t mem) done added log h live begun begun-is (listed (t .count) x) told lacks
-      (test (t .count)) u (e ∙ ap (λ (v : Plan). closed (perform (v .act) (v .core) l m) (t .count) m) plan-is) b added′ ea log′ el
+      (test (t .count)) u (e ∙ ap (λ (v : Plan). closed (perform (v .act) (v .core) l m) (t .count) m) planned) b added′ ea log′ el
 
   -- the depth that its act leaves
   act-is : q .act ≡ nextAct ev (stateWith regs t mem)
-  act-is = ap (λ (v : Plan). v .act) plan-is ∙ ap (λ v. planOf v .act) begun-is
+  act-is = ap (λ (v : Plan). v .act) planned ∙ ap (λ v. planOf v .act) begun-is
 
   pub step-depth : (p d d′ : Depth) → d ≡ depthFrom ev s₀ p done → d′ ≡ depthAfter (q .act) d → d′ ≡ depthFrom ev s₀ p (done + 1)
   step-depth p d d′ e f =
@@ -201,19 +195,18 @@ module _
   pub step-kept : Each OfDevice ev → 16 ≤ length mem
       → (b : List ℕ) (r : Ring) (here first wanted : Bool) → here ≡ not (eqb (length b) 0) → wanted ≡ here || first
       → (kept : List ℕ) → (wanted ≡ true → kept ≡ take 16 mem)
-      → (held : Machine) → ((n : List ℕ) → stateOf held n ≡ stateWith regs t n)
       → (j : List ℕ) (v : Ring) → journalWith j v ≡ keptOver b r ev s₀ done
-      → (y : Journal) → y ≡ keptIn j v (fieldsOf (recordOf (stateOf held (sets m 0 kept))) (bytesFrom (sets m 0 kept) 0 16) (addressBy q)
+      → (y : Journal) → y ≡ keptIn j v (fieldsOf (recordOf (stateWith regs t (sets m 0 kept))) (bytesFrom (sets m 0 kept) 0 16) (addressBy q)
       (bytesFrom (sets m 0 kept) (addressBy q) 8))
       → y ≡ keptOver b r ev s₀ (done + 1)
-  step-kept devices size b r here first wanted eh ew kept keeps held is j v ej y ey =
+  step-kept devices size b r here first wanted eh ew kept keeps j v ej y ey =
       let s = stateWith regs t mem in
       kept-next b r ev s₀ done s (state-is ev s₀ k lent s done added log h) j v ej _
       (λ e.
       let there : here ≡ true = eh ∙ ap not e in
       let back : sets m 0 kept ≡ mem =
       (λ i. sets (begun-is i .mem) 0 (keeps (ew ∙ ap (λ c. c || first) there) i)) ∙ given-back ev s devices size in
-      record-kept ev regs t mem held is (sets m 0 kept) back q (plan-is ∙ ap planOf begun-is))
+      record-kept ev regs t mem (sets m 0 kept) back q (planned ∙ ap planOf begun-is))
       y ey
 
   -- given up
@@ -254,8 +247,7 @@ module _
     (l : ℕ) (m : List ℕ)
     (delivered : (c : Core) (g : Bool)
     → stateFrom c l g (t .count) m ≡ deliverAt (t .count) (eventsOf b) (stateFrom c (t .lines) g (t .count) mem))
-    (w : Rest) (lines : w ≡ record { psw = t .psw; cex = t .cex; lines = l; halted = t .halted; count = t .count })
-    (q : Plan) (planned : q ≡ planOf (stateWith regs w m))
+    (q : Plan) (planned : q ≡ planOf (stateFrom (coreWith regs t) l (t .halted) (t .count) m))
     (x : Showing) (shows : (s : State) → s .mem ≡ m → listed (s .count) x ≡ loggedOf (q .act) s)
     (lacks : Bool) (test : (n : ℕ) → lacks ≡ ltb k (added + length (listed n x)))
     (up : lacks ≡ true)
@@ -266,14 +258,14 @@ module _
   pub undone-memory : cond wanted (sets m 0 kept) m ≡ mem
   undone-memory =
       let ev = eventsOf b in
-      let full = step-full ev s₀ k lent regs t mem done added log h live l m delivered w lines q planned x shows lacks test up in
+      let full = step-full ev s₀ k lent regs t mem done added log h live l m delivered q planned x shows lacks test up in
       restored b next due (stateWith regs t mem) awaits ordered fits size wanted
       (λ q. late-of here (eqb added k) due (t .count) full (sym wants ∙ q)) kept m keeps
-      (step-memory ev s₀ k lent regs t mem done added log h live l m delivered w lines q planned x shows lacks test)
+      (step-memory ev s₀ k lent regs t mem done added log h live l m delivered q planned x shows lacks test)
 
   pub undone : (n : ℕ) → done < n → Reached (runLogged (eventsOf b) s₀ k n) lent (stateWith regs t mem) done added log true
   undone n d =
-      step-short (eventsOf b) s₀ k lent regs t mem done added log h live l m delivered w lines q planned x shows lacks test n d up
+      step-short (eventsOf b) s₀ k lent regs t mem done added log h live l m delivered q planned x shows lacks test n d up
 
 -- what is shown has room
 pub room-for : (n : ℕ) (x : Showing) (added : ℕ) (lent log : List ℕ) (lacks : Bool)

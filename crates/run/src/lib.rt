@@ -1,11 +1,9 @@
 // A run of n steps with an output log, and the whole run call on its raw buffers.
 ghost use mathlib.Core.Path.{_≡_};
-ghost use mathlib.Core.Bool.{true, cond, _&&_, _||_};
-ghost use mathlib.Core.List.{List};
-ghost use Prim.Native.Nat.{ℕ, _+_, _-_, _≤_};
+ghost use mathlib.Core.Bool.{true, _&&_, _||_};
+ghost use Prim.Native.Nat.{_+_, _-_, _≤_};
 ghost use lib.Dec.{leb};
 ghost use lib.ListN.{length};
-ghost use Rattle.machine.specs.declared.Reason.the-variants.{Done, Halted, NoRoom};
 ghost use Rattle.machine.specs.State.{stateOf};
 ghost use Rattle.machine.specs.Events.{eventsOf, eventCount};
 ghost use Rattle.machine.specs.Refusal.{eventsFitBelow};
@@ -14,7 +12,6 @@ ghost use Rattle.machine.specs.Logged.{runLogged, reasonLogged};
 ghost use Rattle.machine.specs.Call.{replyNumber, roomOf, logAfter, runCallOf};
 ghost use Rattle.machine.specs.Depth.{depthFrom, callDeepest};
 ghost use Rattle.devices.specs.Cursor.{Behind, Ordered};
-ghost use Rattle.machine.specs.Rest.{stateWith};
 ghost use Rattle.journal_record.specs.Ring.{Lends, journalWith};
 ghost use Rattle.run.specs.Kept.{keptOver};
 use journal_record::Ring;
@@ -22,7 +19,6 @@ use journal_record::keep_step;
 use machine::Depth;
 use machine::Machine;
 use machine::Reason;
-use machine::Rest;
 
 // The machine that a run leaves, why it ended, the steps done, the log records added, the first
 // event record that is not behind, how deep the run is and went, and the journal's two numbers.
@@ -34,33 +30,6 @@ pub struct Ran {
     pub next: usize,
     pub depth: Depth,
     pub ring: Ring,
-}
-
-// What a run leaves: the machine put together again, and why it ended.
-fn ended(
-    regs: [u16; 8],
-    t: Rest,
-    short: bool,
-    done: u32,
-    added: usize,
-    next: usize,
-    depth: Depth,
-    ring: Ring,
-) -> Ran
-    ensures machine { λ r. ⌜ ((mem : List ℕ) → stateOf (r .machine) mem ≡ stateWith regs t mem) ⌝ }
-    ensures reason { λ r. ⌜ r .reason ≡ cond short NoRoom (cond (t .halted) Halted Done) ⌝ }
-    ensures numbers { λ r. ⌜ (r .steps ≡ done) × (r .added ≡ added) × (r .next ≡ next)
-        × (r .depth ≡ depth) × (r .ring ≡ ring) ⌝ }
-{
-    Ran {
-        machine: turn::machine_of(regs, t),
-        reason: turn::reason_of(t.halted, short),
-        steps: done,
-        added,
-        next,
-        depth,
-        ring,
-    }
 }
 
 // Are the device bytes before a step wanted: for its record, or because it may be given up after
@@ -93,9 +62,9 @@ pub fn run_kept(
     begins: Ring,
     n: u32,
 ) -> Ran
-    requires { ⌜ (length (now memory) ≡ 65536) × (m .count + n ≤ 4294967295) × Ordered (now events)
+    requires { ⌜ (length (now memory) ≡ 65536) × (m .rest .count + n ≤ 4294967295) × Ordered (now events)
         × (eventsFitBelow (now events) (eventCount (now events)) ≡ true)
-        × Behind (now events) from (m .count) × (begun .opened + n ≤ 4294967295)
+        × Behind (now events) from (m .rest .count) × (begun .opened + n ≤ 4294967295)
         × Lends (now journal) begins ⌝ }
     ensures state { λ r. ⌜ stateOf (r .machine) (now (memory .exit))
         ≡ runLogged (eventsOf (now (events .entry))) (stateOf m (now (memory .entry)))
@@ -112,7 +81,7 @@ pub fn run_kept(
     ensures log { λ r. ⌜ now (log .exit) ≡ logAfter (now (log .entry))
         (runLogged (eventsOf (now (events .entry))) (stateOf m (now (memory .entry)))
         (roomOf (now (log .entry))) n) ⌝ }
-    ensures next { λ r. ⌜ Behind (now (events .entry)) (r .next) (r .machine .count) ⌝ }
+    ensures next { λ r. ⌜ Behind (now (events .entry)) (r .next) (r .machine .rest .count) ⌝ }
     ensures depth { λ r. ⌜ r .depth ≡ depthFrom (eventsOf (now (events .entry)))
         (stateOf m (now (memory .entry))) begun (runLogged (eventsOf (now (events .entry)))
         (stateOf m (now (memory .entry))) (roomOf (now (log .entry))) n .steps) ⌝ }
@@ -124,7 +93,7 @@ pub fn run_kept(
     let room = log.len() / 8;
     let lent = journal.len() != 0;
     let mut regs = m.regs;
-    let mut t = turn::rest_of(m);
+    let mut t = m.rest;
     let mut devices: [u8; 16] = [0; 16];
     let mut at = turn::awaiting(events, from);
     let mut done: u32 = 0;
@@ -133,11 +102,11 @@ pub fn run_kept(
     let mut ring = begins;
     let mut short = false;
     while (done < n) & !t.halted {
-        let held = turn::machine_of(regs, t);
+        let held = Machine { regs, rest: t };
         let wanted = wants(lent, added == room, at.due, t.count);
         output_log::keep(memory, wanted, &mut devices);
         let d = turn::deliver_due(memory, events, at, t.count, t.lines);
-        let p = step::plan(&mut regs, memory, turn::with_lines(t, d.lines));
+        let p = step::plan(&mut regs, memory, t, d.lines);
         let act = p.act;
         let shown = output_log::shown_by(memory, act);
         if output_log::lacks_room(shown, added, room) {
@@ -159,34 +128,14 @@ pub fn run_kept(
             done += u - q.left;
         }
     }
-    ended(regs, t, short, done, added, at.next, depth, ring)
-}
-
-// A run after as many steps that showed nothing.
-fn after_steps(done: u32, r: Ran) -> Ran
-    requires { ⌜ done + r .steps ≤ 4294967295 ⌝ }
-    ensures { λ x. ⌜ x ≡ record {
-      machine = r .machine;
-      reason = r .reason;
-      steps = done + r .steps;
-      added = r .added;
-      next = r .next;
-      depth = r .depth;
-      ring = r .ring;
-    } ⌝ }
-{
-    let machine = r.machine;
-    let reason = r.reason;
-    let depth = r.depth;
-    let kept = r.ring;
     Ran {
-        machine,
-        reason,
-        steps: done + r.steps,
-        added: r.added,
-        next: r.next,
+        machine: Machine { regs, rest: t },
+        reason: turn::reason_of(t.halted, short),
+        steps: done,
+        added,
+        next: at.next,
         depth,
-        ring: kept,
+        ring,
     }
 }
 
@@ -200,9 +149,9 @@ pub fn run(
     begun: Depth,
     n: u32,
 ) -> Ran
-    requires { ⌜ (length (now memory) ≡ 65536) × (m .count + n ≤ 4294967295) × Ordered (now events)
+    requires { ⌜ (length (now memory) ≡ 65536) × (m .rest .count + n ≤ 4294967295) × Ordered (now events)
         × (eventsFitBelow (now events) (eventCount (now events)) ≡ true)
-        × Behind (now events) from (m .count) × (begun .opened + n ≤ 4294967295) ⌝ }
+        × Behind (now events) from (m .rest .count) × (begun .opened + n ≤ 4294967295) ⌝ }
     ensures state { λ r. ⌜ stateOf (r .machine) (now (memory .exit))
         ≡ runLogged (eventsOf (now (events .entry))) (stateOf m (now (memory .entry)))
         (roomOf (now (log .entry))) n .state ⌝ }
@@ -218,7 +167,7 @@ pub fn run(
     ensures log { λ r. ⌜ now (log .exit) ≡ logAfter (now (log .entry))
         (runLogged (eventsOf (now (events .entry))) (stateOf m (now (memory .entry)))
         (roomOf (now (log .entry))) n) ⌝ }
-    ensures next { λ r. ⌜ Behind (now (events .entry)) (r .next) (r .machine .count) ⌝ }
+    ensures next { λ r. ⌜ Behind (now (events .entry)) (r .next) (r .machine .rest .count) ⌝ }
     ensures depth { λ r. ⌜ r .depth ≡ depthFrom (eventsOf (now (events .entry)))
         (stateOf m (now (memory .entry))) begun (runLogged (eventsOf (now (events .entry)))
         (stateOf m (now (memory .entry))) (roomOf (now (log .entry))) n .steps) ⌝ }
@@ -226,16 +175,24 @@ pub fn run(
     let mut nowhere: [u8; 0] = [0; 0];
     let none = Ring { kept: 0, place: 0 };
     let mut regs = m.regs;
-    let t = turn::rest_of(m);
+    let t = m.rest;
     let u = turn::at_once(t.halted, t.count, turn::due_at(events, from), n);
     let p = stretch::stretch(&mut regs, memory, t.psw, t.cex, t.lines, u);
     let done = u - p.left;
     let s = turn::gone_on(t, u, p);
     if done == n {
-        return ended(regs, s, false, n, 0, from, begun, none);
+        return Ran {
+            machine: Machine { regs, rest: s },
+            reason: turn::reason_of(s.halted, false),
+            steps: n,
+            added: 0,
+            next: from,
+            depth: begun,
+            ring: none,
+        };
     }
-    let r = run_kept(
-        turn::machine_of(regs, s),
+    let mut r = run_kept(
+        Machine { regs, rest: s },
         memory,
         events,
         from,
@@ -245,7 +202,8 @@ pub fn run(
         none,
         n - done,
     );
-    after_steps(done, r)
+    r.steps += done;
+    r
 }
 
 // What a run replies: reason, steps and log records, each in its bits.

@@ -88,7 +88,7 @@ pub run-ready : (b : List ℕ) (m : Machine) {r e : List ℕ} {n : ℕ} → Read
     → r ≡ recordIn b
     → ((a : List ℕ) → stateOf m a ≡ stateIn r a)
     → e ≡ take (length b - 65572) (drop 65572 b)
-    → (m .count + n ≤ 4294967295) × (inOrderBelow e (eventCount e) ≡ true) × (eventsFitBelow e (eventCount e) ≡ true)
+    → (m .rest .count + n ≤ 4294967295) × (inOrderBelow e (eventCount e) ≡ true) × (eventsFitBelow e (eventCount e) ≡ true)
 run-ready b m rb en er es ee =
     let p = rb .rules in
     let state : (a : List ℕ) → stateOf m a ≡ stateIn (recordIn b) a = λ a. es a ∙ ap (λ (l : List ℕ). stateIn l a) er in

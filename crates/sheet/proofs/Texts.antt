@@ -47,17 +47,17 @@ words-text p a b c d ea eb ec ed = rw (ed, ec, eb, ea) (simp append-assoc)
 pub machine-text : (p : List ℕ) (m : Machine) {x y z w u : List ℕ}
     → x ≡ p ++ wordsText (getD (m .regs) 0 0) (getD (m .regs) 1 0) (getD (m .regs) 2 0) (getD (m .regs) 3 0)
     → y ≡ x ++ wordsText (getD (m .regs) 4 0) (getD (m .regs) 5 0) (getD (m .regs) 6 0) (getD (m .regs) 7 0)
-    → z ≡ y ++ spaced (hexOf 4 (m .psw))
-    → w ≡ z ++ spaced (hexOf 2 (m .cex))
-    → u ≡ w ++ spaced (hexOf 8 (m .lines))
+    → z ≡ y ++ spaced (hexOf 4 (m .rest .psw))
+    → w ≡ z ++ spaced (hexOf 2 (m .rest .cex))
+    → u ≡ w ++ spaced (hexOf 8 (m .rest .lines))
     → u ≡ p ++ machineText m
 unfolding machineText
 machine-text p m ea eb ec ed ee =
     let first : List ℕ = field m 0 ++ field m 1 ++ field m 2 ++ field m 3 in
     let second : List ℕ = field m 4 ++ field m 5 ++ field m 6 ++ field m 7 in
-    let psw : List ℕ = spaced (hexOf 4 (m .psw)) in
-    let cex : List ℕ = spaced (hexOf 2 (m .cex)) in
-    let lines : List ℕ = spaced (hexOf 8 (m .lines)) in
+    let psw : List ℕ = spaced (hexOf 4 (m .rest .psw)) in
+    let cex : List ℕ = spaced (hexOf 2 (m .rest .cex)) in
+    let lines : List ℕ = spaced (hexOf 8 (m .rest .lines)) in
     five p first second psw cex lines ea eb ec ed ee
     ∙ ap (λ (t : List ℕ). p ++ (t ++ cex ++ lines))
     (flat (field m 0) (field m 1) (field m 2) (field m 3) (field m 4) (field m 5) (field m 6) (field m 7) psw)
@@ -72,7 +72,7 @@ reason-fits true = fits-lit tt
 reason-fits false = fits-lit tt
 
 pub line-text : (m : Machine) (steps deepest : ℕ) {x y z w u : List ℕ}
-    → x ≡ (48 + boolByte (m .halted)) ∷ []
+    → x ≡ (48 + boolByte (m .rest .halted)) ∷ []
     → y ≡ x ++ spaced (decimalOf 6 steps)
     → z ≡ y ++ machineText m
     → w ≡ z ++ spaced (decimalOf 6 deepest)
@@ -80,10 +80,10 @@ pub line-text : (m : Machine) (steps deepest : ℕ) {x y z w u : List ℕ}
     → (mem : List ℕ) → u ≡ lineOf (ran (stateOf m mem) steps) deepest
 unfolding lineOf machineText
 line-text m steps deepest ea eb ec ed ee mem =
-    rw (ee, ed, ec, eb, ea ∙ reason-text (m .halted))
-    (line (decimalOf 6 (reasonNumber (cond (m .halted) Halted Done))) (spaced (decimalOf 6 steps))
+    rw (ee, ed, ec, eb, ea ∙ reason-text (m .rest .halted))
+    (line (decimalOf 6 (reasonNumber (cond (m .rest .halted) Halted Done))) (spaced (decimalOf 6 steps))
     (field m 0) (field m 1) (field m 2) (field m 3) (field m 4) (field m 5) (field m 6) (field m 7)
-    (spaced (hexOf 4 (m .psw))) (spaced (hexOf 2 (m .cex))) (spaced (hexOf 8 (m .lines)))
+    (spaced (hexOf 4 (m .rest .psw))) (spaced (hexOf 2 (m .rest .cex))) (spaced (hexOf 8 (m .rest .lines)))
     (spaced (decimalOf 6 deepest)) (10 ∷ []))
 
 pub refusal-text : (n : ℕ) {x y z : List ℕ}

@@ -24,9 +24,9 @@ fn put_machine(out: &mut [u8], at: usize, m: Machine) -> usize
     let regs = m.regs;
     let r4 = put_words(out, at, regs[0], regs[1], regs[2], regs[3]);
     let psw = put_words(out, r4, regs[4], regs[5], regs[6], regs[7]);
-    let cex = put_field(out, psw, 4, m.psw as u32);
-    let lines = put_field(out, cex, 2, m.cex as u32);
-    put_field(out, lines, 8, m.lines)
+    let cex = put_field(out, psw, 4, m.rest.psw as u32);
+    let lines = put_field(out, cex, 2, m.rest.cex as u32);
+    put_field(out, lines, 8, m.rest.lines)
 }
 
 // The line of a run that reached machine m in so many steps, with so many frames open at the most.
@@ -38,7 +38,7 @@ pub fn put_line(out: &mut [u8], m: Machine, steps: u32, deepest: u32) -> usize
     ensures kept { λ r. ⌜ drop r (now (out .exit)) ≡ drop r (now (out .entry)) ⌝ }
     ensures fits { λ r. ⌜ r ≤ 80 ⌝ }
 {
-    let first = put(out, 0, 48 + m.halted as u8);
+    let first = put(out, 0, 48 + m.rest.halted as u8);
     let second = put_number(out, first, steps);
     let last = put_machine(out, second, m);
     let end = put_number(out, last, deepest);

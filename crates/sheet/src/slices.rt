@@ -36,7 +36,7 @@ fn out_of_room(x: Reason) -> bool
 // A run of n steps, fewer if the machine halts. Each slice goes on at the event record that the one
 // before it had reached, and as deep as it was.
 pub fn run_whole(m: Machine, memory: &mut [u8], events: &[u8], n: u32) -> Whole
-    requires { ⌜ (length (now memory) ≡ 65536) × (m .count + n ≤ 4294967295) × Ordered (now events)
+    requires { ⌜ (length (now memory) ≡ 65536) × (m .rest .count + n ≤ 4294967295) × Ordered (now events)
         × (eventsFitBelow (now events) (eventCount (now events)) ≡ true) ⌝ }
     ensures run { λ r. ⌜ ran (stateOf (r .machine) (now (memory .exit))) (r .steps)
         ≡ runOf (eventsOf (now (events .entry))) (stateOf m (now (memory .entry))) n ⌝ }

@@ -29,8 +29,8 @@ halves n l =
 
 pub whole-record : (l a b c : List ℕ) (m : Machine) (mem : List ℕ) → length l ≡ 32
     → a ≡ sets l 0 (registerBytes (m .regs))
-    → b ≡ sets a 16 (statusBytes (m .psw) (m .cex) (m .halted))
-    → c ≡ sets b 22 (countsBytes (m .count) (m .lines))
+    → b ≡ sets a 16 (statusBytes (m .rest .psw) (m .rest .cex) (m .rest .halted))
+    → c ≡ sets b 22 (countsBytes (m .rest .count) (m .rest .lines))
     → c ≡ recordOf (stateOf m mem)
 unfolding recordOf
 whole-record l a b c m mem h e1 e2 e3 =

@@ -13,6 +13,7 @@ use little_endian::put_two;
 use little_endian::two_at;
 use machine::Lines;
 use machine::Machine;
+use machine::Rest;
 
 // The machine that a record of 32 bytes holds. Bytes 20, 30 and 31 are not looked at, nor is byte
 // 21 beyond being 1.
@@ -30,14 +31,14 @@ pub fn read_record(r: &[u8]) -> Machine
         two_at(r, 12),
         two_at(r, 14),
     ];
-    Machine {
-        regs: regs,
+    let rest = Rest {
         psw: two_at(r, 16),
         cex: two_at(r, 18),
         lines: four_at(r, 26),
         halted: r[21] == 1,
         count: four_at(r, 22),
-    }
+    };
+    Machine { regs, rest }
 }
 
 // Bytes 0-15, the registers; 16-21, from PSW to the halted mark; 22-31, the step count, the lines
@@ -82,6 +83,7 @@ pub fn write_record(r: &mut [u8], m: Machine)
 {
     let regs = m.regs;
     put_registers(r, regs);
-    put_status(r, m.psw, m.cex, m.halted);
-    put_counts(r, m.count, m.lines);
+    let t = m.rest;
+    put_status(r, t.psw, t.cex, t.halted);
+    put_counts(r, t.count, t.lines);
 }

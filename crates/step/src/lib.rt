@@ -5,7 +5,7 @@ ghost use mathlib.Core.Bool.{true, false};
 ghost use mathlib.Core.List.{List};
 ghost use Prim.Native.Nat.{ℕ, _+_, _<_, _≤_};
 ghost use lib.ListN.{length, getD, set};
-ghost use Rattle.machine.specs.State.{Core, coreOf, stateOf};
+ghost use Rattle.machine.specs.State.{Core, coreOf, stateOf, coreWith, stateWith};
 ghost use Rattle.machine.specs.Memory.{commit, valueAt};
 ghost use Rattle.machine.specs.Devices.{fallen, loadWrites};
 ghost use Rattle.machine.specs.Cex.{skips?, lowered};
@@ -17,8 +17,7 @@ ghost use Rattle.machine.specs.Step.{Plan, advanced, faulting, allowed, odd?};
 ghost use Rattle.machine.specs.Step.{instructionOf, chosen, planOf};
 ghost use Rattle.machine.specs.Step.{outcome, entered, chained, perform, closed, stepOf};
 ghost use Rattle.machine_laws.specs.Bounds.{Quits};
-ghost use Rattle.devices.specs.Cursor.{Behind, Ordered};
-ghost use Rattle.machine.specs.Rest.{coreWith, stateWith};
+ghost use Rattle.devices.specs.Cursor.{Behind, Ordered, stateFrom};
 ghost use Rattle.step.specs.Planned.{planWith, Asked, Within};
 ghost use Rattle.step.specs.Interrupt.{leaving};
 use execute::Executed;
@@ -203,18 +202,20 @@ fn leave(mem: &[u8], lines: Lines, psw: u16, cex: u16) -> Planned
     }
 }
 
-// Points 2 to 7 of a machine that is not halted, its due events applied: what its step does. Memory
-// is only read; the registers become those that the act starts from.
-pub fn plan(regs: &mut [u16; 8], mem: &[u8], t: Rest) -> Planned
+// Points 2 to 7 of a machine that is not halted, its due events applied, with the lines that they
+// leave: what its step does. Memory is only read; the registers become those that the act starts
+// from.
+pub fn plan(regs: &mut [u16; 8], mem: &[u8], t: Rest, lines: Lines) -> Planned
     requires { ⌜ (length (now mem) ≡ 65536) × (t .halted ≡ false) ⌝ }
     ensures plan { λ r. ⌜ planWith (now (regs .exit)) r ≡
-        planOf (stateWith (now (regs .entry)) t (now (mem .entry))) ⌝ }
+        planOf (stateFrom (coreWith (now (regs .entry)) t) lines (t .halted) (t .count)
+        (now (mem .entry))) ⌝ }
     ensures within { λ r. ⌜ Within (r .act) ⌝ }
 {
     if !word::asleep(t.psw) & (regs[7] == 0xFFFF) {
-        return leave(mem, t.lines, t.psw, t.cex);
+        return leave(mem, lines, t.psw, t.cex);
     }
-    let d = entry::line_above(mem, t.lines, word::current_priority(t.psw));
+    let d = entry::line_above(mem, lines, word::current_priority(t.psw));
     if d < 8 {
         return Planned {
             psw: t.psw,
@@ -313,36 +314,23 @@ pub struct Stepped {
 
 // One step of a machine by value, with its event list.
 pub fn step(m: Machine, memory: &mut [u8], events: &[u8], next: usize) -> Stepped
-    requires { ⌜ (length (now memory) ≡ 65536) × (m .count < 4294967295) ×
-        (Behind (now events) next (m .count)) × (Ordered (now events)) ×
+    requires { ⌜ (length (now memory) ≡ 65536) × (m .rest .count < 4294967295) ×
+        (Behind (now events) next (m .rest .count)) × (Ordered (now events)) ×
         (eventsFitBelow (now events) (eventCount (now events)) ≡ true) ⌝ }
     ensures state { λ r. ⌜ stateOf (r .machine) (now (memory .exit)) ≡
         stepOf (eventsOf (now (events .entry))) (stateOf m (now (memory .entry))) ⌝ }
-    ensures behind { λ r. ⌜ Behind (now (events .entry)) (r .next) (m .count + 1) ⌝ }
+    ensures behind { λ r. ⌜ Behind (now (events .entry)) (r .next) (m .rest .count + 1) ⌝ }
 {
-    if m.halted {
+    let t = m.rest;
+    if t.halted {
         return Stepped { machine: m, next };
     }
-    let due = devices::deliver(memory, events, next, m.count, m.lines);
-    let t = Rest {
-        psw: m.psw,
-        cex: m.cex,
-        lines: due.lines,
-        halted: false,
-        count: m.count,
-    };
+    let due = devices::deliver(memory, events, next, t.count, t.lines);
     let mut regs = m.regs;
-    let p = plan(&mut regs, memory, t);
-    let x = perform(&mut regs, memory, due.lines, m.count, p);
+    let p = plan(&mut regs, memory, t, due.lines);
+    let rest = perform(&mut regs, memory, due.lines, t.count, p);
     Stepped {
-        machine: Machine {
-            regs,
-            psw: x.psw,
-            cex: x.cex,
-            lines: x.lines,
-            halted: x.halted,
-            count: x.count,
-        },
+        machine: Machine { regs, rest },
         next: due.next,
     }
 }

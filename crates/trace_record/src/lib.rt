@@ -47,10 +47,10 @@ pub fn start_of(m: Machine) -> Before
 {
     let regs = m.regs;
     Before {
-        step: m.count,
+        step: m.rest.count,
         pc: regs[7],
         sp: regs[6],
-        psw: m.psw,
+        psw: m.rest.psw,
     }
 }
 

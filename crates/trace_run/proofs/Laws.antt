@@ -13,8 +13,7 @@ use lib.Seq.{sets, length-sets}
 use borrow.Author.Tests.{not-true}
 use Rattle.word.specs.Psw.{bitOf}
 use Rattle.machine.specs.declared.Rest.{Rest}
-use Rattle.machine.specs.State.{State}
-use Rattle.machine.specs.Rest.{stateWith}
+use Rattle.machine.specs.State.{State, stateWith}
 use Rattle.machine.specs.Events.{Event, eventAt, eventsFrom, eventCount, eventsOf}
 use Rattle.machine.specs.Devices.{deliver}
 use Rattle.machine.specs.Step.{finished}

@@ -9,8 +9,7 @@ use lib.Dec.{ltb, leb}
 use lib.ListN.{length, take}
 use lib.Seq.{sets}
 use Rattle.machine.specs.declared.Rest.{Rest}
-use Rattle.machine.specs.State.{Core, State, pc, sp}
-use Rattle.machine.specs.Rest.{coreWith, stateWith}
+use Rattle.machine.specs.State.{Core, State, pc, sp, coreWith, stateWith}
 use Rattle.machine.specs.Events.{Event, eventCount, eventsOf}
 use Rattle.machine.specs.Devices.{deliver, deliverAt}
 use Rattle.machine.specs.Refusal.{eventsFitBelow}
@@ -38,8 +37,7 @@ module _
     (l : ℕ) (m : List ℕ)
     (delivered : (c : Core) (h : Bool)
     → stateFrom c l h (t .count) m ≡ deliverAt (t .count) (eventsOf b) (stateFrom c (t .lines) h (t .count) mem))
-    (w : Rest) (lines : w ≡ record { psw = t .psw; cex = t .cex; lines = l; halted = t .halted; count = t .count })
-    (q : Plan) (planned : q ≡ planOf (stateWith regs w m))
+    (q : Plan) (planned : q ≡ planOf (stateFrom (coreWith regs t) l (t .halted) (t .count) m))
     (ks room added more : ℕ)
     (counted : (x : Before) (k : List ℕ) (j y p u : ℕ) → x .step ≡ t .count
     → more ≡ length (stepWritten x ks wanted k j (eventsOf b) (q .act) y p u))
@@ -56,11 +54,8 @@ module _
   begun-is : begun ≡ deliver ev stands
   begun-is = delivered (coreWith regs t) (t .halted)
 
-  plan-is : q ≡ planOf begun
-  plan-is = planned ∙ ap (λ x. planOf (stateWith regs x m)) lines
-
   act-is : q .act ≡ nextAct ev stands
-  act-is = ap (λ (x : Plan). x .act) plan-is ∙ ap (λ x. planOf x .act) begun-is
+  act-is = ap (λ (x : Plan). x .act) planned ∙ ap (λ x. planOf x .act) begun-is
 
   mem-is : m ≡ deliver ev stands .mem
   mem-is = ap (λ (x : State). x .mem) begun-is
@@ -109,7 +104,7 @@ module _
     step-is : stateWith regs′ u m′ ≡ stepOf ev stands
     step-is =
         performed
-        ∙ ap (λ (z : Plan). closed (perform (z .act) (z .core) l m) (t .count) m) plan-is
+        ∙ ap (λ (z : Plan). closed (perform (z .act) (z .core) l m) (t .count) m) planned
         ∙ ap finished begun-is
         ∙ sym (step-live ev stands live)
 

@@ -5,8 +5,7 @@ ghost use mathlib.Core.List.{List};
 ghost use Prim.Native.Nat.{ℕ, _+_, _*_, _<_, _≤_};
 ghost use lib.Dec.{ltb};
 ghost use lib.ListN.{length};
-ghost use Rattle.machine.specs.State.{stateOf};
-ghost use Rattle.machine.specs.Rest.{stateWith};
+ghost use Rattle.machine.specs.State.{stateOf, stateWith};
 ghost use Rattle.machine.specs.Events.{eventsOf, eventCount};
 ghost use Rattle.machine.specs.Refusal.{eventsFitBelow};
 ghost use Rattle.devices.specs.Cursor.{Ordered};
@@ -98,7 +97,7 @@ fn step_traced(
     let wanted = at.due <= t.count as u64;
     output_log::keep(memory, wanted, &mut bytes);
     let d = turn::deliver_due(memory, events, at, t.count, t.lines);
-    let p = step::plan(regs, memory, turn::with_lines(t, d.lines));
+    let p = step::plan(regs, memory, t, d.lines);
     let act = p.act;
     let more = trace_record::needed(kinds, wanted, events, at.next, t.count, act);
     if lacks(room, added, more) {
@@ -156,7 +155,7 @@ pub fn run_traced(
 ) -> Ran
     requires { ⌜ record {
       size : length (now memory) ≡ 65536;
-      counts : m .count + n ≤ 4294967295;
+      counts : m .rest .count + n ≤ 4294967295;
       ordered : Ordered (now events);
       fit : eventsFitBelow (now events) (eventCount (now events)) ≡ true;
       apart : Apart (eventsOf (now events));
@@ -180,13 +179,13 @@ pub fn run_traced(
     let room = trace.len() / 16;
     let quiet = sparse(kinds);
     let mut regs = m.regs;
-    let mut t = turn::rest_of(m);
+    let mut t = m.rest;
     let mut at = turn::awaiting(events, 0);
     let mut done: u32 = 0;
     let mut added: usize = 0;
     let mut short = false;
     while (done < n) & !t.halted {
-        let held = turn::machine_of(regs, t);
+        let held = Machine { regs, rest: t };
         let b = trace_record::start_of(held);
         let x = step_traced(
             &mut regs,
@@ -217,7 +216,7 @@ pub fn run_traced(
         }
     }
     Ran {
-        machine: turn::machine_of(regs, t),
+        machine: Machine { regs, rest: t },
         reason: turn::reason_of(t.halted, short),
         steps: done,
         added,

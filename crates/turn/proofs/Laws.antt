@@ -11,9 +11,8 @@ use lib.Seq.{sets}
 use borrow.Author.Tests.{lt-ltb}
 use Rattle.machine.specs.declared.Machine.{Machine}
 use Rattle.machine.specs.declared.Rest.{Rest}
-use Rattle.machine.specs.State.{State, coreOf, stateOf}
+use Rattle.machine.specs.State.{State, coreOf, stateOf, stateWith}
 use Rattle.machine.specs.Record.{fourAt, stateIn}
-use Rattle.machine.specs.Rest.{stateWith}
 use Rattle.machine.specs.Events.{Event, eventAt, eventsFrom, eventCount, eventsOf}
 use Rattle.machine.specs.Devices.{deliver}
 use Rattle.machine.specs.Run.{ran, runOf}
@@ -172,9 +171,9 @@ module _ (memory r events : List ℕ) (n : ℕ) (p : Passed memory r events n) w
   unfolding inOrder
   events-ordered = ordered-below events (eventCount events) (λ k h. is-le (p .in-order k (suc k) (omega arith) h))
 
-  pub count-fits : (m : Machine) → ((mem : List ℕ) → stateOf m mem ≡ stateIn r mem) → m .count + n ≤ 4294967295
+  pub count-fits : (m : Machine) → ((mem : List ℕ) → stateOf m mem ≡ stateIn r mem) → m .rest .count + n ≤ 4294967295
   unfolding stateIn
   count-fits m e =
-      let k : m .count ≡ fourAt r 22 = ap (λ (s : State). s .count) (e memory) in
+      let k : m .rest .count ≡ fourAt r 22 = ap (λ (s : State). s .count) (e memory) in
       let l : fourAt r 22 + n ≤ 4294967295 = p .count-fits in
       rw k l

@@ -1,22 +1,18 @@
-// What one turn of a run's loop is made of: the event that it awaits and the events due at a step, the
-// machine taken apart where the loop begins and put together where it ends, how many steps a stretch
-// may do at once, and why a run ended.
+// What one turn of a run's loop is made of: the event that it awaits and the events due at a step, how
+// many steps a stretch may do at once and the machine after it, and why a run ended.
 ghost use mathlib.Core.Path.{_≡_};
 ghost use mathlib.Core.Bool.{Bool, true, cond};
-ghost use mathlib.Core.List.{List};
-ghost use Prim.Native.Nat.{ℕ, _+_, _-_, _≤_};
+ghost use Prim.Native.Nat.{_+_, _-_, _≤_};
 ghost use lib.ListN.{length};
 ghost use Rattle.machine.specs.declared.Reason.the-variants.{Done, Halted, NoRoom};
-ghost use Rattle.machine.specs.State.{Core, stateOf};
+ghost use Rattle.machine.specs.State.{Core};
 ghost use Rattle.machine.specs.Events.{eventsOf, eventCount};
 ghost use Rattle.machine.specs.Devices.{deliverAt};
 ghost use Rattle.machine.specs.Refusal.{eventsFitBelow};
-ghost use Rattle.machine.specs.Rest.{stateWith};
 ghost use Rattle.machine.specs.Run.{reasonNumber};
 ghost use Rattle.devices.specs.Cursor.{Ordered, stateFrom};
 ghost use Rattle.turn.specs.Due.{dueOf, Awaits};
 use machine::Lines;
-use machine::Machine;
 use machine::Reason;
 use machine::Rest;
 use stretch::Progress;
@@ -77,52 +73,6 @@ pub fn deliver_due(
     Delivery {
         lines: d.lines,
         at: next,
-    }
-}
-
-// A machine taken apart: all but its registers.
-pub fn rest_of(m: Machine) -> Rest
-    ensures { λ r. ⌜ ((mem : List ℕ) → stateWith (m .regs) r mem ≡ stateOf m mem) ⌝ }
-{
-    Rest {
-        psw: m.psw,
-        cex: m.cex,
-        lines: m.lines,
-        halted: m.halted,
-        count: m.count,
-    }
-}
-
-// The same machine with other lines.
-pub fn with_lines(t: Rest, lines: Lines) -> Rest
-    ensures { λ r. ⌜ r ≡ record {
-      psw = t .psw;
-      cex = t .cex;
-      lines = lines;
-      halted = t .halted;
-      count = t .count;
-    } ⌝ }
-{
-    Rest {
-        psw: t.psw,
-        cex: t.cex,
-        lines,
-        halted: t.halted,
-        count: t.count,
-    }
-}
-
-// The machine put together again.
-pub fn machine_of(regs: [u16; 8], t: Rest) -> Machine
-    ensures { λ r. ⌜ ((mem : List ℕ) → stateOf r mem ≡ stateWith regs t mem) ⌝ }
-{
-    Machine {
-        regs,
-        psw: t.psw,
-        cex: t.cex,
-        lines: t.lines,
-        halted: t.halted,
-        count: t.count,
     }
 }
 

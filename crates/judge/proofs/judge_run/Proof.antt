@@ -1,7 +1,6 @@
 -- The loop's invariant: what it holds is the definition's judged run of as many steps, the count has gained them, the index awaits the
 -- next event, and the frames have their places. A step that is taken keeps it.
 -- Assumes nothing.
-use Rattle.machine.specs.Rest.{coreWith, stateWith}
 use Rattle.machine.specs.Step.{planOf}
 use Rattle.devices.specs.Cursor.{stateFrom}
 use Rattle.step.specs.Planned.{planWith}
@@ -13,13 +12,10 @@ use Rattle.turn.proofs.Laws.{behind-none, awaits-from, awaits-later, goes-on, a
 use Rattle.judge.proofs.Turns.{start-law, end-law, carried, deep-is, reaches-step, reaches-deep, reaches-left}
 use borrow.Author.Needs.{needs}
 use Prim.Native.Nat.{ℕ, _+_, _-_, _<_, _≤_}
-use mathlib.Core.List.{[]}
-use mathlib.Core.Logic.{⊎-elim}
 use mathlib.Core.Path.{_≡_, refl, sym, ap, _∙_}
 use native.Mathlib.Omega.{arith}
 use denote.Ref.{now}
-use Rattle.machine.specs.declared.Rest.{Rest}
-use Rattle.machine.specs.State.{State}
+use Rattle.machine.specs.State.{State, coreWith, stateWith}
 use Rattle.machine.specs.Events.{eventsOf}
 use Rattle.soundness.specs.Judge.{judgedRun}
 use Rattle.turn.specs.Due.{Awaits}
@@ -60,7 +56,7 @@ loop-holds c =
       refl,
       omega arith,
       awaits-from _ _ _ _ _ (behind-none _ _) (c .awaiting .ensures),
-      start-law _ _ _ (c .before .before .rest-of .ensures (now (s .args .memory))) _ _ _ _ _ _ _ (c .before .none-open .ensures)
+      start-law _ _ _ _ _ _ _ _ _ (c .before .none-open .ensures)
           (s .pre .5) (s .pre .7),
       refl,
       refl,
@@ -84,7 +80,7 @@ plan-of c = c .before .before .before .before .before .before .before .before .b
     .before .before .before .before .before .before .before .before
 
 abbrev delivery-of : tie.After-plan Inv-loop μ-loop → tie.After-deliver-due Inv-loop μ-loop
-delivery-of c = c .before .before .before .before .before .before
+delivery-of c = c .before .before .before .before .before
 
 abbrev keep-of : tie.After-plan Inv-loop μ-loop → tie.After-keep Inv-loop μ-loop
 keep-of c = delivery-of c .before .before .before
@@ -120,8 +116,8 @@ plan-requires : tie.Need-plan-requires Inv-loop μ-loop
 plan-requires c κs =
     let i : tie.Then1 Inv-loop μ-loop = search in
     let l = loop-of i in (
-      omega (arith, start l .pre .0, l .loop .inv .1, c .before .before .before .before .memory .given),
-      ap (λ (x : Rest). x .halted) (c .with-lines .ensures) ∙ on i .0,
+      omega (arith, start l .pre .0, l .loop .inv .1, c .before .before .before .memory .given),
+      on i .0,
     )
 
 slice-aggregate-put-back : tie.Need-slice-aggregate-put-back Inv-loop μ-loop
@@ -157,7 +153,6 @@ take-requires c κs =
     let i = turn-of p in
     let l = loop-of i in
     let s = start l in
-    let e = ap (λ (x : State). x .count) (l .before .before .before .rest-of .ensures []) in
     let w = ap length (s .pre .5) ∙ length-replicate {A = ℕ} 65536 0 in (
       plan-requires (p .before) (p .plan .lifetimes) .0,
       l .loop .inv .7,
@@ -165,7 +160,7 @@ take-requires c κs =
       l .loop .inv .11 ∙ s .pre .6,
       l .loop .inv .8,
       omega (arith, l .loop .inv .9, on i .1, s .pre .4),
-      omega (arith, on i .1, l .loop .inv .2, s .pre .1, e),
+      omega (arith, on i .1, l .loop .inv .2, s .pre .1),
       p .plan .ensures .1,
       sym (at-too-deep .too-deep .ensures) ∙ at-if2 .if2 .left,
     )
@@ -187,11 +182,7 @@ begins c =
 
 planned : (c : tie.After-at Inv-loop μ-loop)
     → planWith (plan-of c .plan .last .0) (plan-of c .plan .result) ≡ planOf (begins c)
-planned c =
-    let p = plan-of c in
-    let d = delivery-of p in
-    p .plan .ensures .0
-    ∙ ap (λ v. planOf (stateWith (turned d .loop .regs) v (d .deliver-due .last .0))) (p .before .with-lines .ensures)
+planned c = plan-of c .plan .ensures .0
 
 loop-again : tie.Need-loop-again Inv-loop μ-loop
 loop-again c =
@@ -203,7 +194,7 @@ loop-again c =
     let at-take : tie.After-take Inv-loop μ-loop = search in
     let at-if2 = at-take .before .before .before .before .before .before .before .before .before in
     let at-too-deep = at-if2 .before in
-    let at-memory = at-too-deep .before .before .before .before .before .before in
+    let at-memory = at-too-deep .before .before .before .before .before in
     let at-deliver-due = at-memory .before in
     let at-keep = at-deliver-due .before .before .before in
     let i = at-keep .before .before .before .before in
@@ -236,70 +227,80 @@ loop-again c =
       omega (arith, c .before .before .before .before .findings .given, l .loop .inv .11),
     )
 
--- the two ways out: no turn is begun, a step not taken
-exits : (c : tie.Joined1 Inv-loop μ-loop)
-    → let x = c .if1 in
-    let l = c .before .before .loop in
-    let s = start (c .before .before) .args in
-    let s₀ = stateWith (s .m .regs) (c .before .before .before .before .before .rest-of .result) (now (s .memory)) in
-    Reaches s₀ (s .m .count) (judgedRun (eventsOf (now (s .events))) s₀ (s .n)) (stateWith (x .regs) (l .t) (x .memory)) (l .done)
-    (watchWith (l .o) (l .kept) (l .opened) (l .vectors) (l .writers)) (l .findings) (x .deep)
-    × (length (x .memory) ≡ length (l .memory))
-exits c =
-    let l = c .before .before .loop in
-    let s = start (c .before .before) in
-    let a = s .args in
-    let e = now (a .events) in
-    ⊎-elim
-    (λ w. (
-      carried (w .1) (w .2) (w .3 ∙ l .inv .5)
-          (reaches-left _ _ _ _ _ _ _ (l .inv .4) (a .n) (l .inv .0) (all-done (l .t .halted) (l .done) (a .n) (l .inv .0) (w .0 .left))),
-      ap length (w .1),
-    ))
-    (λ w.
-    let more = goes-on (l .t .halted) (l .done) (a .n) (w .0 .taken) in
-    let core = coreWith (l .regs) (l .t) in
-    let due-state = w .7 .ensures .0 core (l .t .halted) in
-    let plan = w .13 .ensures .0 ∙ ap (λ v. planOf (stateWith (l .regs) v (w .7 .last .0))) (w .12 .ensures) in
-    let full = and-left (eqb (l .o .held) 256) _ (sym (w .14 .ensures) ∙ w .15 .taken) in
-    let back =
-    restored e (l .at .next) (l .at .due) (stateWith (l .regs) (l .t) (l .memory)) (l .inv .3) (s .pre .2) (s .pre .3)
-    (omega (arith, s .pre .0, l .inv .1)) (eqb (l .o .held) 256) (λ q. absurd (false≢true (sym q ∙ full))) _ _ (w .4 .ensures .0)
-    (ap (λ (z : State). z .mem) due-state) in
-    let mem = w .21 ∙ w .18 .ensures ∙ back in (
-      carried mem (w .22) (w .23)
-          (reaches-deep _ _ _ _ _ _ _ (l .inv .4) (more .0)
-          (stateFrom core (w .7 .result .lines) (l .t .halted) (l .t .count) (w .7 .last .0)) due-state
-          (deep-is (l .o) (l .kept) (l .opened) (l .vectors) (l .writers) _ _ (ap (λ q. q .act) plan) _ (w .14 .ensures) ∙ w .15 .taken)
-          (a .n) (more .1)),
-      ap length mem,
-    ))
-    (c .if1 .came)
-
+-- no turn is begun
 same-length : tie.Need-same-length Inv-loop μ-loop
-same-length c = omega (arith, exits (c .before) .1, c .before .before .before .loop .inv .1)
+same-length c = c .before .before .loop .inv .1
 
 same-length-2 : tie.Need-same-length-2 Inv-loop μ-loop
-same-length-2 c = c .before .before .before .loop .inv .10
+same-length-2 c = c .before .before .loop .inv .10
 
 same-length-3 : tie.Need-same-length-3 Inv-loop μ-loop
-same-length-3 c = c .before .before .before .loop .inv .11
+same-length-3 c = c .before .before .loop .inv .11
 
 returns : tie.Need-returns Inv-loop μ-loop
 returns c =
-    let at-rest-of : tie.After-rest-of Inv-loop μ-loop = search in
-    let at-start : tie.Start Inv-loop μ-loop = search in
-    let s = at-start .args in
-    let l = c .before .before .before .loop in
-    let x = c .before .if1 in
-    end-law (eventsOf (now (s .events))) _ _ (at-rest-of .rest-of .ensures (now (s .memory))) (s .n) (s .m .count) _ _
-    (c .machine-of .ensures (x .memory)) (l .done) (l .o) (l .kept) (l .opened) (l .vectors) (l .writers) (l .findings) (x .deep)
-    (exits (c .before) .0)
+    let l = c .before .before .loop in
+    let n = start (c .before .before) .args .n in
+    end-law _ _ n _ _ _ (l .o) (l .kept) (l .opened) (l .vectors) (l .writers) _ _
+    (carried refl refl (l .inv .5)
+    (reaches-left _ _ _ _ _ _ _ (l .inv .4) n (l .inv .0) (all-done (l .t .halted) (l .done) n (l .inv .0) (c .if1 .left))))
+
+-- a step not taken: memory is put back
+abbrev planned-of : tie.After-put-back Inv-loop μ-loop → tie.After-plan Inv-loop μ-loop
+planned-of c = c .before .before .before .before .before
+
+undone : (c : tie.After-put-back Inv-loop μ-loop) → c .put-back .last .0 ≡ loop-of (turn-of (planned-of c)) .loop .memory
+undone c =
+    let at-if2 : tie.Then2 Inv-loop μ-loop = search in
+    let at-too-deep : tie.After-too-deep Inv-loop μ-loop = search in
+    let p = planned-of c in
+    let l = loop-of (turn-of p) .loop in
+    let s = start (loop-of (turn-of p)) in
+    let full = and-left (eqb (l .o .held) 256) _ (sym (at-too-deep .too-deep .ensures) ∙ at-if2 .if2 .taken) in
+    c .put-back .ensures
+    ∙ restored (now (s .args .events)) (l .at .next) (l .at .due) (stateWith (l .regs) (l .t) (l .memory)) (l .inv .3) (s .pre .2) (s .pre .3)
+    (omega (arith, s .pre .0, l .inv .1)) (eqb (l .o .held) 256) (λ q. absurd (false≢true (sym q ∙ full))) _ _
+    (keep-of p .keep .ensures .0)
+    (ap (λ (z : State). z .mem) (delivery-of p .deliver-due .ensures .0 (coreWith (l .regs) (l .t)) (l .t .halted)))
+
+same-length-4 : tie.Need-same-length-4 Inv-loop μ-loop
+same-length-4 c =
+    let b : tie.After-put-back Inv-loop μ-loop = search in
+    ap length (undone b) ∙ loop-of (turn-of (planned-of b)) .loop .inv .1
+
+same-length-5 : tie.Need-same-length-5 Inv-loop μ-loop
+same-length-5 c =
+    let b : tie.After-put-back Inv-loop μ-loop = search in
+    loop-of (turn-of (planned-of b)) .loop .inv .10
+
+same-length-6 : tie.Need-same-length-6 Inv-loop μ-loop
+same-length-6 c =
+    let b : tie.After-put-back Inv-loop μ-loop = search in
+    loop-of (turn-of (planned-of b)) .loop .inv .11
+
+returns-2 : tie.Need-returns-2 Inv-loop μ-loop
+returns-2 c =
+    let b : tie.After-put-back Inv-loop μ-loop = search in
+    let at-if2 : tie.Then2 Inv-loop μ-loop = search in
+    let at-too-deep : tie.After-too-deep Inv-loop μ-loop = search in
+    let p = planned-of b in
+    let i = turn-of p in
+    let l = loop-of i .loop in
+    let n = start (loop-of i) .args .n in
+    let d = delivery-of p .deliver-due in
+    let core = coreWith (l .regs) (l .t) in
+    end-law _ _ n _ _ _ (l .o) (l .kept) (l .opened) (l .vectors) (l .writers) _ _
+    (carried (undone b) refl refl
+    (reaches-deep _ _ _ _ _ _ _ (l .inv .4) (on i .0) (stateFrom core (d .result .lines) (l .t .halted) (l .t .count) (d .last .0))
+    (d .ensures .0 core (l .t .halted))
+    (deep-is (l .o) (l .kept) (l .opened) (l .vectors) (l .writers) _ _ (ap (λ q. q .act) (p .plan .ensures .0)) _
+    (at-too-deep .too-deep .ensures) ∙ at-if2 .if2 .taken)
+    n (on i .1)))
 
 pub judge-run-spec : {M : Type 1} → statement M
 judge-run-spec =
     tie.close
-    (tie.spec Inv-loop μ-loop (λ c κs. search needs) (λ c κs. search needs) (λ c κs. search needs) loop-holds slice-aggregate-keep
-    keep-requires deliver-due-requires (λ c κs. search needs) plan-requires (λ c κs. search needs) slice-aggregate-put-back
+    (tie.spec Inv-loop μ-loop (λ c κs. search needs) (λ c κs. search needs) loop-holds slice-aggregate-keep
+    keep-requires deliver-due-requires plan-requires (λ c κs. search needs) slice-aggregate-put-back
     put-back-requires slice-aggregate-take slice-aggregate-take-2 slice-aggregate-take-3 take-requires add-done loop-less loop-again
-    (λ c κs. search needs) same-length same-length-2 same-length-3 returns)
+    same-length same-length-2 same-length-3 returns same-length-4 same-length-5 same-length-6 returns-2)

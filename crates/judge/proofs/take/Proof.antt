@@ -4,8 +4,7 @@ use Rattle.judge.proofs.Laws.{within-traps, begins-law, leaves-law, wat
 use Rattle.judge.specs.Taken.{watchWith}
 use Rattle.soundness.specs.Watch.{seenBy}
 use Rattle.machine.specs.Step.{planOf}
-use Rattle.machine.specs.Rest.{stateWith}
-use Rattle.machine.specs.State.{coreOf}
+use Rattle.machine.specs.State.{coreOf, stateWith}
 use denote.Ref.{now}
 use mathlib.Core.Path.{refl, sym}
 use native.Mathlib.Omega.{arith}

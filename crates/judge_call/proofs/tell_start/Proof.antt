@@ -11,7 +11,7 @@ use Rattle.judge_call.proofs.tell_start.Tie as tie
 returns : tie.Need-returns
 returns c mem =
     let s = c .before .before .before in
-    start-none (s .args .m .count) (stateOf (s .args .m) mem) _ (s .pre) (sym (c .before .start-faults .ensures mem) ∙ c .if1 .taken)
+    start-none (s .args .m .rest .count) (stateOf (s .args .m) mem) _ (s .pre) (sym (c .before .start-faults .ensures mem) ∙ c .if1 .taken)
 
 note-requires : tie.Need-note-requires
 note-requires c κs =
@@ -24,7 +24,7 @@ returns-2 c mem =
     let at-if1 : tie.Else1 = search in
     let at-start-faults : tie.After-start-faults = search in
     let s : tie.Start = search in
-    start-some (s .args .m .count) (stateOf (s .args .m) mem) (handlerOf (at-none-open .none-open .result .oldest)) _ _ _ _ (s .pre)
+    start-some (s .args .m .rest .count) (stateOf (s .args .m) mem) (handlerOf (at-none-open .none-open .result .oldest)) _ _ _ _ (s .pre)
     (at-start-faults .start-faults .ensures mem) (at-if1 .if1 .left) refl (at-none-open .none-open .ensures .2)
     (c .before .before .note .ensures)
 

@@ -5,14 +5,12 @@ use mathlib.Core.List.{[]}
 use mathlib.Core.Path.{ap, sym, subst}
 use native.Mathlib.Omega.{arith}
 use denote.Ref.{now}
-use denote.Struct.Laws as LL
 use borrow.Author.Needs.{needs}
 use Rattle.machine.specs.State.{stateOf}
-use Rattle.machine.proofs.Machine as T
-use Rattle.machine.proofs.Machine.Laws as T′
 use Rattle.turn.proofs.Laws.{behind-none, events-fit, events-ordered}
 use Rattle.run.proofs.Calls.{call-passed}
-use Rattle.open_machine.proofs.Laws.{count-fits, advance-refused, advance-ran, few-steps, few-records, figure-kept, figure-ran}
+use Rattle.open_machine.proofs.Laws.{count-small, count-fits, advance-refused, advance-ran, few-steps, few-records}
+use Rattle.open_machine.proofs.Laws.{figure-kept, figure-ran}
 use Rattle.open_machine.proofs.advance_by_value.Statement.{statement}
 use Rattle.open_machine.proofs.advance_by_value.Tie as tie
 
@@ -41,7 +39,7 @@ run-requires c κs =
     let v = c .before .before .before .before .call-verdict .ensures in
     let k = c .before .before .before .refusal-number .ensures .0 in
     let p = call-passed _ _ _ _ _ _ _ v k (c .before .before .if1 .left) in
-    let o = LL.owed T.the-type T′.the-laws (g .args .m) _ (g .good .0) .1 .1 .1 .1 .1 .0 .1 in (
+    let o = count-small (g .args .m) _ (g .good .0) in (
       p .memory-size,
       count-fits (stateOf (g .args .m) []) _ _ _ _ p (a-write .write-record .ensures []) o,
       events-ordered _ _ _ _ p,

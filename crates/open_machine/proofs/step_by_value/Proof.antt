@@ -5,14 +5,11 @@ use mathlib.Core.List.{[]}
 use mathlib.Core.Path.{ap}
 use native.Mathlib.Omega.{arith}
 use denote.Ref.{now}
-use denote.Struct.Laws as LL
 use borrow.Author.Needs.{needs}
 use Rattle.word.proofs.Laws.{bit-le}
 use Rattle.machine.specs.State.{stateOf}
-use Rattle.machine.proofs.Machine as T
-use Rattle.machine.proofs.Machine.Laws as T′
 use Rattle.turn.proofs.Laws.{events-fit, events-ordered}
-use Rattle.open_machine.proofs.Laws.{count-fits, step-passed, step-refused, step-ran, run-one}
+use Rattle.open_machine.proofs.Laws.{count-small, count-fits, step-passed, step-refused, step-ran, run-one}
 use Rattle.open_machine.proofs.step_by_value.Statement.{statement}
 use Rattle.open_machine.proofs.step_by_value.Tie as tie
 
@@ -33,7 +30,7 @@ step-requires c κs =
     let p =
     step-passed (stateOf (a .m) (now (a .memory))) _ _ _ _ (at-write-record .write-record .ensures _)
     (f .before .before .verdict .ensures) (f .before .refusal-number .ensures .0) (f .if1 .left) in
-    let k = LL.owed T.the-type T′.the-laws (g .args .m) _ (g .good .0) .1 .1 .1 .1 .1 .0 .1 in
+    let k = count-small (g .args .m) _ (g .good .0) in
     let w = at-write-record .write-record .ensures [] in
     let h = count-fits (stateOf (g .args .m) []) _ _ _ _ p w k in (
       p .memory-size,
@@ -46,22 +43,22 @@ step-requires c κs =
 mul-reply : tie.Need-mul-reply
 mul-reply c =
     let at-step : tie.After-step = search in
-    let h = bit-le (at-step .step .result .machine .halted) in
+    let h = bit-le (at-step .step .result .machine .rest .halted) in
     omega arith
 
 mul-reply-2 : tie.Need-mul-reply-2
 mul-reply-2 c =
     let a-step : tie.After-step = search in
     let s = a-step .before .before .before .before .before .before .before .before .before .before .before .before in
-    let h = bit-le (not (s .args .m .halted)) in
+    let h = bit-le (not (s .args .m .rest .halted)) in
     omega arith
 
 add-reply : tie.Need-add-reply
 add-reply c =
     let a-step : tie.After-step = search in
     let s = a-step .before .before .before .before .before .before .before .before .before .before .before .before in
-    let h = bit-le (a-step .step .result .machine .halted) in
-    let k = bit-le (not (s .args .m .halted)) in
+    let h = bit-le (a-step .step .result .machine .rest .halted) in
+    let k = bit-le (not (s .args .m .rest .halted)) in
     omega arith
 
 returns-2 : tie.Need-returns-2

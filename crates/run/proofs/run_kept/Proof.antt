@@ -6,7 +6,7 @@ use Prim.Native.Nat.{ℕ, _+_, _-_, _/_, _<_, _≤_}
 use mathlib.Core.Bool.{false, cond, not, _&&_}
 use mathlib.Core.List.{[]}
 use mathlib.Core.Logic.{⊎-elim}
-use mathlib.Core.Path.{_≡_, refl, sym, ap, subst, _∙_}
+use mathlib.Core.Path.{_≡_, refl, sym, ap, _∙_}
 use native.Mathlib.Omega.{arith}
 use denote.Ref.{now}
 use lib.Dec.{eqb, leb}
@@ -14,14 +14,12 @@ use lib.ListN.{length}
 use borrow.Author.Needs.{needs}
 use Rattle.machine.specs.declared.Reason.the-variants.{Done, Halted, NoRoom}
 use Rattle.machine.specs.declared.Rest.{Rest}
-use Rattle.machine.specs.State.{State}
+use Rattle.machine.specs.State.{State, stateWith, stateOf}
 use Rattle.machine.specs.Events.{eventsOf}
 use Rattle.machine.specs.Logged.{runLogged}
-use Rattle.machine.specs.Rest.{stateWith}
 use Rattle.machine.specs.Depth.{depthFrom}
 use Rattle.run_laws.proofs.Depth.{depth-start}
 use Rattle.stretch.specs.Stretch.{Passes}
-use Rattle.devices.specs.Cursor.{Behind}
 use Rattle.journal.specs.Ring.{Journal}
 use Rattle.journal_record.specs.Ring.{Lends, journalWith}
 use Rattle.turn.specs.Due.{Awaits}
@@ -59,13 +57,11 @@ abbrev μ-loop : tie.MeasureT-loop
 
 loop-holds : tie.Need-loop-holds Inv-loop μ-loop
 loop-holds c =
-    let s : tie.Start Inv-loop μ-loop = search in
-    let e = ap (λ (x : State). x .count) (c .before .rest-of .ensures []) in
-    let begins = subst (Behind _ _) (sym e) (s .pre .4) in record {
+    let s : tie.Start Inv-loop μ-loop = search in record {
       some = omega arith;
       size = refl;
       counts = omega arith;
-      awaits = awaits-from _ _ _ _ _ begins (c .awaiting .ensures);
+      awaits = awaits-from _ _ _ _ _ (s .pre .4) (c .awaiting .ensures);
       reached = reached-start _ _ _ _;
       whole = refl;
       sixteen = refl;
@@ -83,13 +79,13 @@ abbrev loop-of : tie.Then1 Inv-loop μ-loop → tie.At-loop Inv-loop μ-loop
 loop-of c = c .before .before
 
 abbrev turn-of : tie.After-plan Inv-loop μ-loop → tie.Then1 Inv-loop μ-loop
-turn-of c = c .before .before .before .before .before .before .before .before .before .before .before .before .before .before
+turn-of c = c .before .before .before .before .before .before .before .before .before .before .before .before
 
 abbrev keep-of : tie.After-plan Inv-loop μ-loop → tie.After-keep Inv-loop μ-loop
-keep-of c = c .before .before .before .before .before .before .before .before .before
+keep-of c = c .before .before .before .before .before .before .before .before
 
 abbrev due-of : tie.After-plan Inv-loop μ-loop → tie.After-deliver-due Inv-loop μ-loop
-due-of c = c .before .before .before .before .before .before
+due-of c = c .before .before .before .before .before
 
 abbrev plan-of : tie.After-add Inv-loop μ-loop → tie.After-plan Inv-loop μ-loop
 plan-of c = c .before .before .before .before .before .before
@@ -117,11 +113,11 @@ on : (c : tie.Then1 Inv-loop μ-loop)
 on c = let l = loop-of c in goes-on (l .loop .t .halted) (l .loop .done) (start l .args .n) (c .if1 .taken)
 
 slice-aggregate-keep : tie.Need-slice-aggregate-keep Inv-loop μ-loop
-slice-aggregate-keep c = omega (arith, loop-of (c .before .before .before .before) .loop .inv .sixteen)
+slice-aggregate-keep c = omega (arith, loop-of (c .before .before .before) .loop .inv .sixteen)
 
 keep-requires : tie.Need-keep-requires Inv-loop μ-loop
 keep-requires c κs =
-    let l = loop-of (c .before .before .before .before) in
+    let l = loop-of (c .before .before .before) in
     (omega (arith, start l .pre .0, l .loop .inv .size), omega (arith, l .loop .inv .sixteen))
 
 deliver-due-requires : tie.Need-deliver-due-requires Inv-loop μ-loop
@@ -133,9 +129,9 @@ deliver-due-requires c κs =
 
 plan-requires : tie.Need-plan-requires Inv-loop μ-loop
 plan-requires c κs =
-    let i = c .before .before .before .before .before .before .before .before .before .before .before .before .before in
+    let i : tie.Then1 Inv-loop μ-loop = search in
     let l = loop-of i in
-    (omega (arith, start l .pre .0, l .loop .inv .size), ap (λ (x : Rest). x .halted) (c .with-lines .ensures) ∙ on i .0)
+    (omega (arith, start l .pre .0, l .loop .inv .size), on i .0)
 
 shown-by-requires : tie.Need-shown-by-requires Inv-loop μ-loop
 shown-by-requires c κs = plan-requires (c .before .before) (c .before .plan .lifetimes) .0
@@ -182,10 +178,9 @@ perform-requires c κs =
     let p = plan-of at-add in
     let i = turn-of p in
     let l = loop-of i in
-    let s = start l in
-    let e = ap (λ (x : State). x .count) (l .before .before .rest-of .ensures []) in (
+    let s = start l in (
       plan-requires (p .before) (p .plan .lifetimes) .0,
-      omega (arith, on i .1, l .loop .inv .counts, s .pre .1, e),
+      omega (arith, on i .1, l .loop .inv .counts, s .pre .1),
       p .plan .ensures .1,
     )
 
@@ -201,7 +196,7 @@ stepped : (c : tie.After-at Inv-loop μ-loop)
     let k = keep-of p .keep in
     let q = c .before .before .before .perform in
     Inv-loop (now (s .memory)) (now (s .events)) (s .from) (now (s .log)) (now (s .journal)) (s .n) (length (now (s .log)) / 8)
-    (not (eqb (length (now (s .journal))) 0)) (s .m .regs) (l .before .before .rest-of .result) [] (d .at) 0 0 (s .begun) (s .begins) false
+    (not (eqb (length (now (s .journal))) 0)) (s .m .regs) (s .m .rest) [] (d .at) 0 0 (s .begun) (s .begins) false
     (q .last .1 .0) (a .add .last .0) (y .keep-step .last .0) (q .last .0) (q .result) (k .last .1 .1 .0) (d .at)
     (l .loop .done + 1) (a .add .result) v (y .keep-step .result) (l .loop .short)
 stepped c =
@@ -213,13 +208,11 @@ stepped c =
     let l = loop-of i in
     let s = start l in
     let d = due-of p .deliver-due in
-    let w = p .before .with-lines in
     let x = a .before .before .before .before .shown-by in
     let r = a .before .before .before .lacks-room in
     let j = a .before .before .if2 in
     let v = y .before .before .before .before .moved in
     let q = c .before .before .before .perform in
-    let held = k .before .before .before .before .machine-of in
     let wanted = k .before .before .before .wants in
     let b = now (s .args .events) in
     let n = l .loop .t .count in
@@ -233,15 +226,15 @@ stepped c =
       size = omega (arith, size, s .pre .0);
       counts = omega (arith, one, l .loop .inv .counts);
       awaits = awaits-later b (d .result .at .next) (d .result .at .due) (n + 1) (d .ensures .1) _ (omega (arith, one));
-      reached = step-taken _ _ _ _ _ _ _ _ _ _ h (on i .0) _ _ (d .ensures .0) _ (w .ensures) _ (p .plan .ensures .0) (x .result)
+      reached = step-taken _ _ _ _ _ _ _ _ _ _ h (on i .0) _ _ (d .ensures .0) _ (p .plan .ensures .0) (x .result)
           (x .ensures) _ (r .ensures) _ (q .ensures) (j .left) _ (a .add .ensures .0) _ (a .add .ensures .1);
       whole = l .loop .inv .whole;
       sixteen = omega (arith, k .keep .ensures .1);
-      deep = step-depth _ _ _ _ _ _ _ _ _ _ h (on i .0) _ _ (d .ensures .0) _ (w .ensures) _ (p .plan .ensures .0) (x .result) (x .ensures)
+      deep = step-depth _ _ _ _ _ _ _ _ _ _ h (on i .0) _ _ (d .ensures .0) _ (p .plan .ensures .0) (x .result) (x .ensures)
           _ (r .ensures) _ _ _ (l .loop .inv .deep) (v .ensures);
-      kept = step-kept _ _ _ _ _ _ _ _ _ _ h (on i .0) _ _ (d .ensures .0) _ (w .ensures) _ (p .plan .ensures .0) (x .result) (x .ensures)
+      kept = step-kept _ _ _ _ _ _ _ _ _ _ h (on i .0) _ _ (d .ensures .0) _ (p .plan .ensures .0) (x .result) (x .ensures)
           _ (r .ensures) (of-devices b (s .pre .3)) (omega (arith, s .pre .0, l .loop .inv .size)) b₀ (s .args .begins)
-          lent full (wanted .result) refl (wanted .ensures) _ (k .keep .ensures .0) _ (held .ensures) _ _ (l .loop .inv .kept) _
+          lent full (wanted .result) refl (wanted .ensures) _ (k .keep .ensures .0) _ _ (l .loop .inv .kept) _
           (y .keep-step .ensures .0 _ _ (before-kept _ _ (k .keep .ensures .1) size) refl);
       lends = y .keep-step .ensures .1;
     }
@@ -264,9 +257,8 @@ gone-on-requires c κs =
     let i : tie.After-at Inv-loop μ-loop = search in
     let h = stepped i in
     let l = loop-of (turn-of (plan-of (add-of i))) in
-    let e = ap (λ (x : State). x .count) (l .before .before .rest-of .ensures []) in
     let u = at-at-once .at-once .ensures .0 in
-    (c .before .before .stretch .ensures .1, omega (arith, u, h .some, h .counts, start l .pre .1, e))
+    (c .before .before .stretch .ensures .1, omega (arith, u, h .some, h .counts, start l .pre .1))
 
 sub-done : tie.Need-sub-done Inv-loop μ-loop
 sub-done c = omega (arith, c .before .before .before .before .stretch .ensures .1)
@@ -333,7 +325,7 @@ exits : (c : tie.Joined1 Inv-loop μ-loop)
     let l = c .before .before .loop in
     let s = start (c .before .before) in
     let b = now (s .args .events) in
-    let s₀ = stateWith (s .args .m .regs) (c .before .before .before .before .rest-of .result) (now (s .args .memory)) in
+    let s₀ = stateOf (s .args .m) (now (s .args .memory)) in
     Reached (runLogged (eventsOf b) s₀ (length (now (s .args .log)) / 8) (s .args .n)) (now (s .args .log))
     (stateWith (x .regs) (l .t) (x .memory)) (l .done) (l .added) (l .log) (x .short)
     × (length (x .memory) ≡ length (l .memory))
@@ -353,15 +345,14 @@ exits c =
     (λ w.
     let more = goes-on (l .t .halted) (l .done) (a .n) (w .0 .taken) in
     let back =
-    undone-memory b _ _ _ _ _ _ _ _ _ (l .inv .reached) (more .0) _ _ (w .8 .ensures .0) _ (w .13 .ensures) _ (w .14 .ensures .0)
-    (w .16 .result) (w .16 .ensures) _ (w .17 .ensures) (w .18 .taken) (l .at .next) (l .at .due) (l .inv .awaits) (s .pre .2) (s .pre .3)
-    (omega (arith, s .pre .0, l .inv .size)) lent _ (w .2 .ensures) _ (w .5 .ensures .0) in
-    let mem = w .25 ∙ w .22 .ensures ∙ back in
-    let regs = w .26 ∙ ap (λ (z : State). z .core .regs) (w .1 .ensures []) in (
-      carried mem regs (w .27)
-          (undone b _ _ _ _ _ _ _ _ _ (l .inv .reached) (more .0) _ _ (w .8 .ensures .0) _ (w .13 .ensures) _ (w .14 .ensures .0)
-          (w .16 .result) (w .16 .ensures) _ (w .17 .ensures) (w .18 .taken) (l .at .next) (l .at .due) (l .inv .awaits) (s .pre .2)
-          (s .pre .3) (omega (arith, s .pre .0, l .inv .size)) lent _ (w .2 .ensures) _ (w .5 .ensures .0) (a .n) (more .1)),
+    undone-memory b _ _ _ _ _ _ _ _ _ (l .inv .reached) (more .0) _ _ (w .7 .ensures .0) _ (w .12 .ensures .0)
+    (w .14 .result) (w .14 .ensures) _ (w .15 .ensures) (w .16 .taken) (l .at .next) (l .at .due) (l .inv .awaits) (s .pre .2) (s .pre .3)
+    (omega (arith, s .pre .0, l .inv .size)) lent _ (w .1 .ensures) _ (w .4 .ensures .0) in
+    let mem = w .23 ∙ w .20 .ensures ∙ back in (
+      carried mem (w .24) (w .25)
+          (undone b _ _ _ _ _ _ _ _ _ (l .inv .reached) (more .0) _ _ (w .7 .ensures .0) _ (w .12 .ensures .0)
+          (w .14 .result) (w .14 .ensures) _ (w .15 .ensures) (w .16 .taken) (l .at .next) (l .at .due) (l .inv .awaits) (s .pre .2)
+          (s .pre .3) (omega (arith, s .pre .0, l .inv .size)) lent _ (w .1 .ensures) _ (w .4 .ensures .0) (a .n) (more .1)),
       ap length mem,
     ))
     (c .if1 .came)
@@ -379,43 +370,31 @@ same-length-3 : tie.Need-same-length-3 Inv-loop μ-loop
 same-length-3 c =
     let l = c .before .before .before in
     let a = start l .args in
-    let s₀ = stateWith (a .m .regs) (l .before .before .rest-of .result) (now (a .memory)) in
+    let s₀ = stateOf (a .m) (now (a .memory)) in
     ap (λ (z : Journal). length (z .bytes)) (l .loop .inv .kept)
     ∙ kept-size (now (a .journal)) (a .begins) (eventsOf (now (a .events))) s₀ (l .loop .done)
 
 returns : tie.Need-returns Inv-loop μ-loop
 returns c =
-    let at-rest-of : tie.After-rest-of Inv-loop μ-loop = search in
-    let x = c .before .if1 in
     let l = c .before .before .before .loop in
-    let s = start (c .before .before .before) in
-    let a = s .args in
+    let a = start (c .before .before .before) .args in
     let b = now (a .events) in
-    let g = exits (c .before) in
-    let e = at-rest-of .rest-of .ensures (now (a .memory)) in
-    let h =
-    subst (λ (z : State). Reached (runLogged (eventsOf b) z (length (now (a .log)) / 8) (a .n)) (now (a .log))
-    (stateWith (x .regs) (l .t) (x .memory)) (l .done) (l .added) (l .log) (x .short)) e (g .0) in
-    let r = c .ended .ensures in
-    let p = r .0 (x .memory) in
-    let k = r .1 .1 in (
-      p ∙ h .state,
+    let s₀ = stateOf (a .m) (now (a .memory)) in
+    let h = exits (c .before) .0 in (
+      h .state,
       (
-        r .1 .0 ∙ (λ i. cond (h .short i) NoRoom (cond (h .state i .halted) Halted Done)),
+        c .reason-of .ensures ∙ (λ i. cond (h .short i) NoRoom (cond (h .state i .halted) Halted Done)),
         (
-          k .0 ∙ h .steps,
+          h .steps,
           (
-            k .1 ∙ h .added,
+            h .added,
             (
               h .log,
               (
-                subst (λ i. Behind b i (c .ended .result .machine .count)) (sym (k .2))
-                    (subst (Behind b (l .at .next)) (sym (ap (λ (z : State). z .count) p)) (l .inv .awaits .0)),
+                l .inv .awaits .0,
                 (
-                  k .3 ∙ l .inv .deep ∙ (λ i. depthFrom (eventsOf b) (e i) (a .begun) (h .steps i)),
-                  ap (journalWith (l .journal)) (k .4)
-                      ∙ l .inv .kept
-                      ∙ (λ i. keptOver (now (a .journal)) (a .begins) (eventsOf b) (e i) (h .steps i)),
+                  l .inv .deep ∙ ap (depthFrom (eventsOf b) s₀ (a .begun)) (h .steps),
+                  l .inv .kept ∙ ap (keptOver (now (a .journal)) (a .begins) (eventsOf b) s₀) (h .steps),
                 ),
               ),
             ),
@@ -427,8 +406,8 @@ returns c =
 pub run-kept-spec : {M : Type 1} → statement M
 run-kept-spec =
     tie.close
-    (tie.spec Inv-loop μ-loop (λ c κs. search needs) (λ c κs. search needs) loop-holds (λ c κs. search needs) (λ c κs. search needs)
-    slice-aggregate-keep keep-requires deliver-due-requires (λ c κs. search needs) plan-requires shown-by-requires lacks-room-requires
+    (tie.spec Inv-loop μ-loop (λ c κs. search needs) loop-holds (λ c κs. search needs)
+    slice-aggregate-keep keep-requires deliver-due-requires plan-requires shown-by-requires lacks-room-requires
     slice-aggregate-put-back put-back-requires add-requires moved-requires (λ c. search needs) keep-step-requires perform-requires add-done
     sub-at-once (λ c κs. search needs) stretch-requires gone-on-requires sub-done add-done-2 loop-less loop-again loop-less-2 loop-again-2
     (λ c κs. search needs) same-length same-length-2 same-length-3 returns)

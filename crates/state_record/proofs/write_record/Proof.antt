@@ -8,9 +8,10 @@ returns : tie.Need-returns
 returns c =
     let s : tie.Start = search in
     let at-put-status : tie.After-put-status = search in
+    let at-put-registers : tie.After-put-registers = search in
     λ mem.
     whole-record (now (s .args .r)) _ _ _ (s .args .m) mem (s .pre)
-    (at-put-status .before .before .before .before .put-registers .ensures) (at-put-status .put-status .ensures)
+    (at-put-registers .put-registers .ensures) (at-put-status .put-status .ensures)
     (c .before .before .put-counts .ensures)
 
 pub write-record-spec : {M : Type 1} → statement M

@@ -3,23 +3,20 @@
 -- Assumes nothing.
 use Prim.Native.Nat.{ℕ, _+_, _-_, _/_, _<_, _≤_}
 use mathlib.Core.Bool.{false, true, cond, not}
-use mathlib.Core.List.{[]}
 use mathlib.Core.Logic.{⊎-elim}
-use mathlib.Core.Path.{_≡_, refl, sym, ap, subst, _∙_}
+use mathlib.Core.Path.{_≡_, refl, sym, ap, _∙_}
 use native.Mathlib.Omega.{arith}
 use denote.Ref.{now}
 use lib.ListN.{length}
 use borrow.Author.Needs.{needs}
 use Rattle.machine.specs.declared.Reason.the-variants.{Done, Halted, NoRoom}
 use Rattle.machine.specs.declared.Rest.{Rest}
-use Rattle.machine.specs.State.{State}
-use Rattle.machine.specs.Rest.{stateWith}
+use Rattle.machine.specs.State.{State, stateWith, stateOf}
 use Rattle.machine.specs.Events.{eventsOf}
 use Rattle.machine_laws.proofs.Steps.{step-count}
 use Rattle.stretch.specs.Stretch.{Passes}
 use Rattle.turn.specs.Due.{Awaits}
 use Rattle.turn.proofs.Laws.{behind-none, awaits-from, awaits-later, undisturbed, goes-on, all-done, halts-none, stretch-passes}
-use Rattle.trace.specs.Trace.{entry}
 use Rattle.trace.specs.Traced.{runTraced}
 use Rattle.trace_run.specs.Reached.{Reached}
 use Rattle.trace_run.proofs.Laws.{reached-start, added-fit, trace-size, reached-stretch, reached-left, turn-on, turn-off, turn-kept}
@@ -53,17 +50,13 @@ abbrev loop-of : tie.Then1 Inv-loop μ-loop → tie.At-loop Inv-loop μ-loop
 loop-of c = c .before .before
 
 abbrev turn-of : tie.Else2 Inv-loop μ-loop → tie.Then1 Inv-loop μ-loop
-turn-of c = c .before .before .before .before .before .before .before .before .before .before .before
+turn-of c = c .before .before .before .before .before .before .before .before .before .before
 
 abbrev taken-of : tie.After-at-once Inv-loop μ-loop → tie.Else2 Inv-loop μ-loop
 taken-of c = c .before .before .before .before
 
 abbrev once-of : tie.After-struct-known3 Inv-loop μ-loop → tie.After-at-once Inv-loop μ-loop
 once-of c = c .before .before .before .before .before .before .before .before
-
--- the count of the machine taken apart
-count-is : (c : tie.At-loop Inv-loop μ-loop) → c .before .before .rest-of .result .count ≡ start c .args .m .count
-count-is c = ap (λ (x : State). x .count) (c .before .before .rest-of .ensures [])
 
 loop-holds : tie.Need-loop-holds Inv-loop μ-loop
 loop-holds c =
@@ -91,9 +84,8 @@ step-traced-requires c κs =
     record {
       size = omega (arith, s .pre .size, i .size);
       live = on t .0;
-      counts = omega (arith, s .pre .counts, i .counts, on t .1, count-is l);
-      starts = λ y k n a z. c .before .before .before .start-of .ensures y k n a z
-          ∙ ap (λ (x : State). entry x k n a z) (c .before .before .before .before .machine-of .ensures y);
+      counts = omega (arith, s .pre .counts, i .counts, on t .1);
+      starts = c .before .before .before .start-of .ensures;
       awaits = i .awaits;
       ordered = s .pre .ordered;
       fit = s .pre .fit;
@@ -108,7 +100,7 @@ stepped : (c : tie.Else2 Inv-loop μ-loop)
     let s = start l .args in
     let q = c .before .before .before .before .before .step-traced in
     Inv-loop (now (s .memory)) (now (s .events)) (now (s .trace)) (s .kinds) (s .n) (length (now (s .trace)) / 16) true (s .m .regs)
-    (l .before .before .rest-of .result) (q .result .at) 0 0 false (q .last .1 .1 .1 .0) (q .last .1 .1 .1 .1 .1 .1 .0) (q .last .0)
+    (s .m .rest) (q .result .at) 0 0 false (q .last .1 .1 .1 .0) (q .last .1 .1 .1 .1 .1 .1 .0) (q .last .0)
     (q .result .rest) (q .result .at) (l .loop .done + 1) (q .result .added) (l .loop .short)
 stepped c =
     let at-step-traced : tie.After-step-traced Inv-loop μ-loop = search in
@@ -150,7 +142,7 @@ gone-on-requires c κs =
     let k = taken-of o in
     let h = stepped k in
     let l = loop-of (turn-of k) in
-    (c .before .before .stretch .ensures .1, omega (arith, h .counts, h .some, start l .pre .counts, count-is l, o .at-once .ensures .0))
+    (c .before .before .stretch .ensures .1, omega (arith, h .counts, h .some, start l .pre .counts, o .at-once .ensures .0))
 
 sub-done : tie.Need-sub-done Inv-loop μ-loop
 sub-done c = omega (arith, c .before .before .before .before .stretch .ensures .1)
@@ -220,7 +212,7 @@ exits : (c : tie.Joined1 Inv-loop μ-loop)
     let l = c .before .before in
     let a = start l .args in
     Reached
-    (runTraced (a .kinds) (eventsOf (now (a .events))) (stateWith (a .m .regs) (l .before .before .rest-of .result) (now (a .memory)))
+    (runTraced (a .kinds) (eventsOf (now (a .events))) (stateOf (a .m) (now (a .memory)))
     (length (now (a .trace)) / 16) (a .n))
     (now (a .trace)) (stateWith (x .regs) (l .loop .t) (x .memory)) (l .loop .done) (l .loop .added) (x .trace) (x .short)
     × (length (x .memory) ≡ length (l .loop .memory))
@@ -240,13 +232,12 @@ exits c =
     ))
     (λ w.
     let go = goes-on (l .loop .t .halted) (l .loop .done) (a .n) (w .0 .taken) in
-    let x = w .6 .ensures .0 in
-    let same = turn-kept _ _ _ _ _ _ _ _ _ (i .reached) (go .0) _ _ _ _ x (w .11 .taken) in
-    let memory = w .13 ∙ same .0 in
-    let trace = w .14 ∙ same .1 in
-    let regs = w .15 ∙ ap (λ (z : State). z .core .regs) (w .1 .ensures []) in (
-      carried memory regs trace (w .16)
-          (turn-off _ _ _ _ _ _ _ _ _ (i .reached) (go .0) _ _ _ _ x (w .11 .taken) (a .n) (go .1)),
+    let x = w .5 .ensures .0 in
+    let same = turn-kept _ _ _ _ _ _ _ _ _ (i .reached) (go .0) _ _ _ _ x (w .10 .taken) in
+    let memory = w .12 ∙ same .0 in
+    let trace = w .13 ∙ same .1 in (
+      carried memory (w .14) trace (w .15)
+          (turn-off _ _ _ _ _ _ _ _ _ (i .reached) (go .0) _ _ _ _ x (w .10 .taken) (a .n) (go .1)),
       ap length memory,
       ap length trace,
     ))
@@ -254,28 +245,20 @@ exits c =
 
 same-length : tie.Need-same-length Inv-loop μ-loop
 same-length c =
-    let e = exits (c .before .before) .1 in
-    let i = c .before .before .before .before .loop .inv .size in
+    let e = exits (c .before) .1 in
+    let i = c .before .before .before .loop .inv .size in
     omega (arith, e, i)
 
 same-length-2 : tie.Need-same-length-2 Inv-loop μ-loop
 same-length-2 c =
-    let e = exits (c .before .before) .2 in
-    let i = trace-size _ _ _ _ _ _ _ _ _ (c .before .before .before .before .loop .inv .reached) in
+    let e = exits (c .before) .2 in
+    let i = trace-size _ _ _ _ _ _ _ _ _ (c .before .before .before .loop .inv .reached) in
     omega (arith, e, i)
 
 returns : tie.Need-returns Inv-loop μ-loop
 returns c =
-    let l = c .before .before .before .before in
-    let x = c .before .before .if1 in
-    let a = start l .args in
-    let e = l .before .before .rest-of .ensures (now (a .memory)) in
-    let h =
-    subst (λ (z : State). Reached
-    (runTraced (a .kinds) (eventsOf (now (a .events))) z (length (now (a .trace)) / 16) (a .n)) (now (a .trace))
-    (stateWith (x .regs) (l .loop .t) (x .memory)) (l .loop .done) (l .loop .added) (x .trace) (x .short)) e
-    (exits (c .before .before) .0) in (
-      c .before .machine-of2 .ensures (x .memory) ∙ h .state,
+    let h = exits (c .before) .0 in (
+      h .state,
       (
         c .reason-of .ensures ∙ (λ i. cond (h .short i) NoRoom (cond (h .state i .halted) Halted Done)),
         (h .steps, (h .added, h .trace)),
@@ -285,7 +268,6 @@ returns c =
 pub run-traced-spec : {M : Type 1} → statement M
 run-traced-spec =
     tie.close
-    (tie.spec Inv-loop μ-loop (λ c κs. search needs) (λ c κs. search needs) (λ c κs. search needs) loop-holds (λ c κs. search needs)
-    (λ c κs. search needs) step-traced-requires add-done sub-at-once (λ c κs. search needs) stretch-requires gone-on-requires sub-done
-    add-done-2 loop-less loop-again loop-less-2 loop-again-2 (λ c κs. search needs) (λ c κs. search needs) same-length same-length-2
-    returns)
+    (tie.spec Inv-loop μ-loop (λ c κs. search needs) (λ c κs. search needs) loop-holds (λ c κs. search needs) step-traced-requires
+    add-done sub-at-once (λ c κs. search needs) stretch-requires gone-on-requires sub-done add-done-2 loop-less loop-again loop-less-2
+    loop-again-2 (λ c κs. search needs) same-length same-length-2 returns)

@@ -2,12 +2,11 @@
 -- nothing else has changed; else what is written is what the step adds (Step, given-up and taken-is).
 -- Assumes nothing.
 use Prim.Native.Nat.{_+_}
-use mathlib.Core.Path.{_≡_, refl, sym, ap, subst, _∙_}
+use mathlib.Core.Path.{_≡_, refl, sym, ap, subst}
 use native.Mathlib.Omega.{arith}
 use denote.Ref.{now}
 use lib.ListN.{length}
 use borrow.Author.Needs.{needs}
-use Rattle.machine.specs.declared.Rest.{Rest}
 use Rattle.machine.specs.State.{State}
 use Rattle.devices.specs.Cursor.{Behind}
 use Rattle.turn.specs.Due.{Awaits}
@@ -20,13 +19,13 @@ use Rattle.trace_run.proofs.step_traced.Tie as tie
 -- the step to that test
 abbrev start : tie.After-plan → tie.Start
 start c = c .before .before .before .before .before .before .before .before .before .before .before .before .before .before .before
-    .before .before
+    .before
 
 abbrev keep-of : tie.After-plan → tie.After-keep
-keep-of c = c .before .before .before .before .before .before .before .before .before
+keep-of c = c .before .before .before .before .before .before .before .before
 
 abbrev due-of : tie.After-plan → tie.After-deliver-due
-due-of c = c .before .before .before .before .before .before
+due-of c = c .before .before .before .before .before
 
 abbrev plan-of : tie.After-lacks → tie.After-plan
 plan-of c = c .before .before
@@ -37,7 +36,7 @@ else-of c = c .before .before .before .before .before .before
 plan-requires : tie.Need-plan-requires
 plan-requires c κs =
     let s : tie.Start = search in
-    (omega (arith, s .pre .size), ap (λ (x : Rest). x .halted) (c .with-lines .ensures) ∙ s .pre .live)
+    (omega (arith, s .pre .size), s .pre .live)
 
 needed-requires : tie.Need-needed-requires
 needed-requires c κs = let s = start c in (s .pre .awaits .0, s .pre .ordered)
@@ -63,7 +62,7 @@ returns c =
     let d = due-of p .deliver-due in (
       given-up (now (s .args .events)) (now (s .args .regs)) (s .args .t) (now (s .args .memory)) (s .pre .live) (s .pre .size)
           (s .args .at .next) (s .args .at .due) (s .pre .awaits) (s .pre .ordered) (s .pre .fit) (s .pre .apart)
-          _ refl _ (k .ensures .0) _ _ (d .ensures .0) _ (p .before .with-lines .ensures) _ (p .plan .ensures .0)
+          _ refl _ (k .ensures .0) _ _ (d .ensures .0) _ (p .plan .ensures .0)
           (s .args .kinds) (s .args .room) (s .args .added) (at-lacks .before .needed .result) (at-lacks .before .needed .ensures)
           (at-lacks .lacks .result) (at-lacks .lacks .ensures) _ (c .before .before .put-back .ensures)
           (at-if1 .if1 .taken) _ _,
@@ -101,7 +100,7 @@ add-step-requires c κs =
       omega (arith, k .ensures .1),
       has-room (now (s .args .events)) (now (s .args .regs)) (s .args .t) (now (s .args .memory)) (s .pre .live) (s .pre .size)
           (s .args .at .next) (s .args .at .due) (s .pre .awaits) (s .pre .ordered) (s .pre .fit) (s .pre .apart)
-          _ refl _ (k .ensures .0) _ _ (d .ensures .0) _ (p .before .with-lines .ensures) _ (p .plan .ensures .0)
+          _ refl _ (k .ensures .0) _ _ (d .ensures .0) _ (p .plan .ensures .0)
           (s .args .kinds) (s .args .room) (s .args .added) (at-lacks .before .needed .result) (at-lacks .before .needed .ensures)
           (at-lacks .lacks .result) (at-lacks .lacks .ensures) (at-if1 .if1 .left) _ _ _
           (at-perform .perform .ensures)
@@ -132,7 +131,7 @@ returns-2 c =
     let n : at-perform .perform .result .count ≡ s .args .t .count + 1 = ap (λ (x : State). x .count) (at-perform .perform .ensures) in (
       taken-is (now (s .args .events)) (now (s .args .regs)) (s .args .t) (now (s .args .memory)) (s .pre .live) (s .pre .size)
           (s .args .at .next) (s .args .at .due) (s .pre .awaits) (s .pre .ordered) (s .pre .fit) (s .pre .apart)
-          _ refl _ (k .ensures .0) _ _ (d .ensures .0) _ (p .before .with-lines .ensures) _ (p .plan .ensures .0)
+          _ refl _ (k .ensures .0) _ _ (d .ensures .0) _ (p .plan .ensures .0)
           (s .args .kinds) (s .args .room) (s .args .added) (at-lacks .before .needed .result) (at-lacks .before .needed .ensures)
           (at-lacks .lacks .result) (at-lacks .lacks .ensures) (at-if1 .if1 .left) _ _ _
           (at-perform .perform .ensures)
@@ -144,6 +143,6 @@ returns-2 c =
 pub step-traced-spec : {M : Type 1} → statement M
 step-traced-spec =
     tie.close
-    (tie.spec (λ c. search needs) (λ c. search needs) (λ c κs. search needs) (λ c κs. search needs) (λ c κs. search needs) plan-requires
+    (tie.spec (λ c. search needs) (λ c. search needs) (λ c κs. search needs) (λ c κs. search needs) plan-requires
     needed-requires lacks-requires (λ c. search needs) put-back-requires (λ c. search needs) returns seen-by-requires perform-requires
     slice-aggregate-add-step (λ c. search needs) add-step-requires same-length-2 (λ c. search needs) returns-2)

@@ -6,7 +6,7 @@ use Rattle.sheet.proofs.line.put_line.Statement.{statement}
 use Rattle.sheet.proofs.line.put_line.Tie as tie
 
 add-put : tie.Need-add-put
-add-put c = reason-fits (c .before .before .before .args .m .halted)
+add-put c = reason-fits (c .before .before .before .args .m .rest .halted)
 
 returns : tie.Need-returns
 returns c =

@@ -25,7 +25,7 @@ Inv-loop memory₀ events n log₀ machine₀ next₀ depth₀ done₀ memory lo
   some : done ≤ n;
   size : length memory ≡ length memory₀;
   short : length log ≡ 512;
-  behind : Behind events next (machine .count);
+  behind : Behind events next (machine .rest .count);
   reached : ran (stateOf machine memory) done ≡ runOf (eventsOf events) (stateOf machine₀ memory₀) done;
   deep : d ≡ depthFrom (eventsOf events) (stateOf machine₀ memory₀) (depth 0 0) done;
 }

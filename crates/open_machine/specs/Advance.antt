@@ -3,7 +3,8 @@
 -- Assumes nothing.
 use Prim.Native.Nat.{ℕ}
 use mathlib.Core.Bool.{cond}
-use mathlib.Core.List.{List, []}
+use mathlib.Core.List.{List}
+use mathlib.Core.Path.{_≡_}
 use Rattle.machine.specs.declared.Verdict.{Verdict}
 use Rattle.machine.specs.State.{State}
 use Rattle.machine.specs.Record.{recordOf}
@@ -46,6 +47,14 @@ advanceDeepest s events log n number =
     cond (accepted? (callVerdict (s .mem) (recordOf s) events log n))
     (deepestFrom (eventsOf events) s (runLogged (eventsOf events) s (roomOf log) n .steps))
     number
+
+-- What an advance leaves: its reply, the state, the log, and the number lent for the figure. [02 §1; 02 §10]
+pub record AdvanceLeaves
+    (s : State) (events lent : List ℕ) (n number answer : ℕ) (after : State) (filled : List ℕ) (figure : ℕ) : Type 0 where
+  pub reply : answer ≡ advanceOf s events lent n .reply
+  pub state : after ≡ advanceOf s events lent n .state
+  pub log : filled ≡ advanceOf s events lent n .log
+  pub deepest : figure ≡ advanceDeepest s events lent n number
 
 -- One step of the by-value machine, with no log lent to it: the reply says nothing of records. [01 State and memory]
 pub record Taken : Type 0 where

@@ -2,7 +2,7 @@
 // the log lent to it: by value, and in place.
 ghost use mathlib.Core.Path.{_≡_};
 ghost use Rattle.machine.specs.State.{stateOf};
-ghost use Rattle.open_machine.specs.Advance.{advanceOf, advanceDeepest, stepAdvance};
+ghost use Rattle.open_machine.specs.Advance.{AdvanceLeaves, stepAdvance};
 use machine::Depth;
 use machine::Machine;
 
@@ -24,14 +24,9 @@ pub fn advance_by_value(
     deepest: &mut u32,
     n: u64,
 ) -> Advanced
-    ensures { λ r. ⌜ (r .reply ≡ advanceOf (stateOf m (now (memory .entry)))
-        (now (events .entry)) (now (log .entry)) n .reply)
-        × (stateOf (r .machine) (now (memory .exit)) ≡ advanceOf (stateOf m (now (memory .entry)))
-        (now (events .entry)) (now (log .entry)) n .state)
-        × (now (log .exit) ≡ advanceOf (stateOf m (now (memory .entry)))
-        (now (events .entry)) (now (log .entry)) n .log)
-        × (now (deepest .exit) ≡ advanceDeepest (stateOf m (now (memory .entry)))
-        (now (events .entry)) (now (log .entry)) n (now (deepest .entry))) ⌝ }
+    ensures { λ r. ⌜ AdvanceLeaves (stateOf m (now (memory .entry))) (now (events .entry))
+        (now (log .entry)) n (now (deepest .entry)) (r .reply)
+        (stateOf (r .machine) (now (memory .exit))) (now (log .exit)) (now (deepest .exit)) ⌝ }
 {
     let mut record: [u8; 32] = [0; 32];
     state_record::write_record(&mut record, m);
@@ -90,15 +85,9 @@ pub fn advance(
     deepest: &mut u32,
     n: u64,
 ) -> u64
-    ensures { λ r. ⌜ (r ≡ advanceOf (stateOf (now (m .entry)) (now (memory .entry)))
-        (now (events .entry)) (now (log .entry)) n .reply)
-        × (stateOf (now (m .exit)) (now (memory .exit))
-        ≡ advanceOf (stateOf (now (m .entry)) (now (memory .entry))) (now (events .entry))
-        (now (log .entry)) n .state)
-        × (now (log .exit) ≡ advanceOf (stateOf (now (m .entry)) (now (memory .entry)))
-        (now (events .entry)) (now (log .entry)) n .log)
-        × (now (deepest .exit) ≡ advanceDeepest (stateOf (now (m .entry)) (now (memory .entry)))
-        (now (events .entry)) (now (log .entry)) n (now (deepest .entry))) ⌝ }
+    ensures { λ r. ⌜ AdvanceLeaves (stateOf (now (m .entry)) (now (memory .entry)))
+        (now (events .entry)) (now (log .entry)) n (now (deepest .entry)) r
+        (stateOf (now (m .exit)) (now (memory .exit))) (now (log .exit)) (now (deepest .exit)) ⌝ }
 {
     let r = advance_by_value(*m, memory, events, log, deepest, n);
     *m = r.machine;

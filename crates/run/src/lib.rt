@@ -8,12 +8,12 @@ ghost use Rattle.machine.specs.State.{stateOf};
 ghost use Rattle.machine.specs.Events.{eventsOf, eventCount};
 ghost use Rattle.machine.specs.Refusal.{eventsFitBelow};
 ghost use Rattle.machine.specs.Run.{reasonNumber};
-ghost use Rattle.machine.specs.Logged.{runLogged, reasonLogged};
-ghost use Rattle.machine.specs.Call.{replyNumber, roomOf, logAfter, runCallOf};
-ghost use Rattle.machine.specs.Depth.{depthFrom, callDeepest};
+ghost use Rattle.machine.specs.Call.{replyNumber, runCallOf};
+ghost use Rattle.machine.specs.Depth.{callDeepest};
 ghost use Rattle.devices.specs.Cursor.{Behind, Ordered};
 ghost use Rattle.journal_record.specs.Ring.{Lends, journalWith};
 ghost use Rattle.run.specs.Kept.{keptOver};
+ghost use Rattle.run.specs.Leaves.{RunLeaves, runLent};
 use journal_record::Ring;
 use journal_record::keep_step;
 use machine::Depth;
@@ -66,29 +66,12 @@ pub fn run_kept(
         × (eventsFitBelow (now events) (eventCount (now events)) ≡ true)
         × Behind (now events) from (m .rest .count) × (begun .opened + n ≤ 4294967295)
         × Lends (now journal) begins ⌝ }
-    ensures state { λ r. ⌜ stateOf (r .machine) (now (memory .exit))
-        ≡ runLogged (eventsOf (now (events .entry))) (stateOf m (now (memory .entry)))
-        (roomOf (now (log .entry))) n .state ⌝ }
-    ensures reason { λ r. ⌜ r .reason
-        ≡ reasonLogged (runLogged (eventsOf (now (events .entry)))
-        (stateOf m (now (memory .entry))) (roomOf (now (log .entry))) n) ⌝ }
-    ensures steps { λ r. ⌜ r .steps
-        ≡ runLogged (eventsOf (now (events .entry))) (stateOf m (now (memory .entry)))
-        (roomOf (now (log .entry))) n .steps ⌝ }
-    ensures added { λ r. ⌜ r .added
-        ≡ length (runLogged (eventsOf (now (events .entry))) (stateOf m (now (memory .entry)))
-        (roomOf (now (log .entry))) n .records) ⌝ }
-    ensures log { λ r. ⌜ now (log .exit) ≡ logAfter (now (log .entry))
-        (runLogged (eventsOf (now (events .entry))) (stateOf m (now (memory .entry)))
-        (roomOf (now (log .entry))) n) ⌝ }
-    ensures next { λ r. ⌜ Behind (now (events .entry)) (r .next) (r .machine .rest .count) ⌝ }
-    ensures depth { λ r. ⌜ r .depth ≡ depthFrom (eventsOf (now (events .entry)))
-        (stateOf m (now (memory .entry))) begun (runLogged (eventsOf (now (events .entry)))
-        (stateOf m (now (memory .entry))) (roomOf (now (log .entry))) n .steps) ⌝ }
+    ensures run { λ r. ⌜ RunLeaves (now (events .entry)) (stateOf m (now (memory .entry)))
+        (now (log .entry)) begun n r (now (memory .exit)) (now (log .exit)) ⌝ }
     ensures journal { λ r. ⌜ journalWith (now (journal .exit)) (r .ring)
         ≡ keptOver (now (journal .entry)) begins (eventsOf (now (events .entry)))
-        (stateOf m (now (memory .entry))) (runLogged (eventsOf (now (events .entry)))
-        (stateOf m (now (memory .entry))) (roomOf (now (log .entry))) n .steps) ⌝ }
+        (stateOf m (now (memory .entry))) (runLent (now (events .entry))
+        (stateOf m (now (memory .entry))) (now (log .entry)) n .steps) ⌝ }
 {
     let room = log.len() / 8;
     let lent = journal.len() != 0;
@@ -152,25 +135,8 @@ pub fn run(
     requires { ⌜ (length (now memory) ≡ 65536) × (m .rest .count + n ≤ 4294967295) × Ordered (now events)
         × (eventsFitBelow (now events) (eventCount (now events)) ≡ true)
         × Behind (now events) from (m .rest .count) × (begun .opened + n ≤ 4294967295) ⌝ }
-    ensures state { λ r. ⌜ stateOf (r .machine) (now (memory .exit))
-        ≡ runLogged (eventsOf (now (events .entry))) (stateOf m (now (memory .entry)))
-        (roomOf (now (log .entry))) n .state ⌝ }
-    ensures reason { λ r. ⌜ r .reason
-        ≡ reasonLogged (runLogged (eventsOf (now (events .entry)))
-        (stateOf m (now (memory .entry))) (roomOf (now (log .entry))) n) ⌝ }
-    ensures steps { λ r. ⌜ r .steps
-        ≡ runLogged (eventsOf (now (events .entry))) (stateOf m (now (memory .entry)))
-        (roomOf (now (log .entry))) n .steps ⌝ }
-    ensures added { λ r. ⌜ r .added
-        ≡ length (runLogged (eventsOf (now (events .entry))) (stateOf m (now (memory .entry)))
-        (roomOf (now (log .entry))) n .records) ⌝ }
-    ensures log { λ r. ⌜ now (log .exit) ≡ logAfter (now (log .entry))
-        (runLogged (eventsOf (now (events .entry))) (stateOf m (now (memory .entry)))
-        (roomOf (now (log .entry))) n) ⌝ }
-    ensures next { λ r. ⌜ Behind (now (events .entry)) (r .next) (r .machine .rest .count) ⌝ }
-    ensures depth { λ r. ⌜ r .depth ≡ depthFrom (eventsOf (now (events .entry)))
-        (stateOf m (now (memory .entry))) begun (runLogged (eventsOf (now (events .entry)))
-        (stateOf m (now (memory .entry))) (roomOf (now (log .entry))) n .steps) ⌝ }
+    ensures { λ r. ⌜ RunLeaves (now (events .entry)) (stateOf m (now (memory .entry)))
+        (now (log .entry)) begun n r (now (memory .exit)) (now (log .exit)) ⌝ }
 {
     let mut nowhere: [u8; 0] = [0; 0];
     let none = Ring { kept: 0, place: 0 };

@@ -51,7 +51,7 @@ use Rattle.machine.specs.State.{stateOf}
 use Rattle.machine.proofs.Machine as T
 use Rattle.machine.proofs.Machine.Laws as T′
 use Rattle.open_machine.specs.declared.Advanced.{Advanced}
-use Rattle.open_machine.specs.Advance.{advanceOf, advanceDeepest}
+use Rattle.open_machine.specs.Advance.{AdvanceLeaves}
 use Rattle.open_machine.proofs.Advanced as N
 use Rattle.open_machine.proofs.Advanced.Laws as N′
 use Rattle.open_machine.proofs.advance_by_value as value
@@ -144,11 +144,7 @@ module _
 
   -- what the callee says of its result, of the last memory, of the last log and of the last figure
   abbrev Told : Advanced → (zs gs : List ℕ) (d : ℕ) → Type 0
-  Told r zs gs d =
-      (r .reply ≡ advanceOf (stateOf h ys) (y .now) ls n .reply)
-      × (stateOf (r .machine) zs ≡ advanceOf (stateOf h ys) (y .now) ls n .state)
-      × (gs ≡ advanceOf (stateOf h ys) (y .now) ls n .log)
-      × (d ≡ advanceDeepest (stateOf h ys) (y .now) ls n f)
+  Told r zs gs d = AdvanceLeaves (stateOf h ys) (y .now) ls n f (r .reply) (stateOf (r .machine) zs) gs d
 
   -- what the callee's triple binds outside
   abbrev to-value : Value 𝓤 H A at-mem run .Ghost

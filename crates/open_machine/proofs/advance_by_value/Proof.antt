@@ -22,7 +22,7 @@ returns c =
     let k = c .before .refusal-number .ensures .0 in
     let e = advance-refused _ _ _ _ _ _ _ w v k (c .if1 .taken) in
     let f = figure-kept _ _ _ _ _ _ _ w v k (c .if1 .taken) _ in
-    (ap (λ x. x .reply) e, ap (λ x. x .state) e, ap (λ x. x .log) e, f)
+    record { reply = ap (λ x. x .reply) e; state = ap (λ x. x .state) e; log = ap (λ x. x .log) e; deepest = f }
 
 cast-run : tie.Need-cast-run
 cast-run c =
@@ -54,15 +54,15 @@ reply-of-requires c κs =
     let a-verdict : tie.After-call-verdict = search in
     let a-write = a-verdict .before .before .before .before .before in
     let at-start = a-write .before .before .before .before .before in
-    let (_, (_, (steps, (added, _)))) = a-run .run .ensures in
+    let l = a-run .run .ensures in
     let i = a-run .before .before .before .if1 .left in
     let k = a-run .before .before .before .before .refusal-number .ensures .0 in
     let v = a-verdict .call-verdict .ensures in
     let a = at-start .args in
     let s = stateOf (a .m) (now (a .memory)) in
     let w = a-write .write-record .ensures (now (a .memory)) in (
-      subst (λ j. j ≤ 1000000) (sym steps) (few-steps s _ _ _ _ _ _ w v k i),
-      subst (λ j. j ≤ 1000000) (sym added) (few-records s _ _ _ _ _ _ w v k i),
+      subst (λ j. j ≤ 1000000) (sym (l .steps)) (few-steps s _ _ _ _ _ _ w v k i),
+      subst (λ j. j ≤ 1000000) (sym (l .added)) (few-records s _ _ _ _ _ _ w v k i),
     )
 
 returns-2 : tie.Need-returns-2
@@ -71,7 +71,7 @@ returns-2 c =
     let a-verdict : tie.After-call-verdict = search in
     let a-write = a-verdict .before .before .before .before .before in
     let at-start = a-write .before .before .before .before .before in
-    let (state, (reason, (steps, (added, (log, (_, deep)))))) = a-run .run .ensures in
+    let l = a-run .run .ensures in
     let i = a-run .before .before .before .if1 .left in
     let k = a-run .before .before .before .before .refusal-number .ensures .0 in
     let v = a-verdict .call-verdict .ensures in
@@ -80,9 +80,9 @@ returns-2 c =
     let w = a-write .write-record .ensures (now (a .memory)) in
     let e =
     advance-ran s _ _ _ _ _ _ w v k i
-    _ _ _ _ _ _ state reason steps added log (c .reply-of .ensures) in
-    let f = figure-ran s _ _ _ _ _ _ w v k i _ _ deep in
-    (ap (λ x. x .reply) e, ap (λ x. x .state) e, ap (λ x. x .log) e, f)
+    _ _ _ _ _ _ (l .state) (l .reason) (l .steps) (l .added) (l .log) (c .reply-of .ensures) in
+    let f = figure-ran s _ _ _ _ _ _ w v k i _ _ (l .depth) in
+    record { reply = ap (λ x. x .reply) e; state = ap (λ x. x .state) e; log = ap (λ x. x .log) e; deepest = f }
 
 pub advance-by-value-spec : {M : Type 1} → statement M
 advance-by-value-spec =

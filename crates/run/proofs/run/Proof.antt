@@ -78,26 +78,16 @@ returns c =
     let v = stateWith (f .last .0) (i .gone-on .result) (f .last .1 .0) in
     let s₀ = stateOf (a .m) (now (a .memory)) in
     let p : Passes (eventsOf b) s₀ v (a .n) = subst (Passes (eventsOf b) s₀ v) (c .before .if1 .taken) (passed i) in
-    let x = sym (passed-run (eventsOf b) s₀ v (a .n) p (roomOf (now (a .log)))) in (
-      ap (λ (y : Logged). y .state) x,
-      (
-        c .reason-of .ensures ∙ ap reasonLogged x,
-        (
-          ap (λ (y : Logged). y .steps) x,
-          (
-            ap (λ (y : Logged). length (y .records)) x,
-            (
-              ap (logAfter (now (a .log))) x,
-              (
-                behind-later b (a .from) (a .m .rest .count) _ (omega (arith, count-on i)) (s .pre .4),
-                sym (passed-depth (eventsOf b) s₀ v (a .n) p (roomOf (now (a .log))) (a .begun))
-                    ∙ ap (λ (y : Logged). depthFrom (eventsOf b) s₀ (a .begun) (y .steps)) x,
-              ),
-            ),
-          ),
-        ),
-      ),
-    )
+    let x = sym (passed-run (eventsOf b) s₀ v (a .n) p (roomOf (now (a .log)))) in record {
+      state = ap (λ (y : Logged). y .state) x;
+      reason = c .reason-of .ensures ∙ ap reasonLogged x;
+      steps = ap (λ (y : Logged). y .steps) x;
+      added = ap (λ (y : Logged). length (y .records)) x;
+      log = ap (logAfter (now (a .log))) x;
+      next = behind-later b (a .from) (a .m .rest .count) _ (omega (arith, count-on i)) (s .pre .4);
+      depth = sym (passed-depth (eventsOf b) s₀ v (a .n) p (roomOf (now (a .log))) (a .begun))
+          ∙ ap (λ (y : Logged). depthFrom (eventsOf b) s₀ (a .begun) (y .steps)) x;
+    }
 
 run-kept-requires : tie.Need-run-kept-requires
 run-kept-requires c κs =
@@ -120,7 +110,7 @@ add-r c =
     let i : tie.After-gone-on = search in
     let r = at-run-kept .run-kept in
     let n = start i .args .n in
-    let l : r .result .steps ≤ n - did i = subst (λ k. k ≤ n - did i) (sym (r .ensures .1 .1 .0)) (logged-le _ _ _ _) in
+    let l : r .result .steps ≤ n - did i = subst (λ k. k ≤ n - did i) (sym (r .ensures .0 .steps)) (logged-le _ _ _ _) in
     omega (arith, l, few i, start i .pre .1)
 
 same-length-2 : tie.Need-same-length-2
@@ -144,23 +134,16 @@ returns-2 c =
     let v = stateWith (f .last .0) (i .gone-on .result) (f .last .1 .0) in
     let x = sym (run-on ev s₀ v j (passed i) k (a .n) (few i)) in
     let o = at-run-kept .run-kept in
-    let (state, (reason, (steps, (added, (log, (next, (deep, _))))))) = o .ensures in
-    let all : o .result .steps + j ≡ j + runLogged ev v k (a .n - j) .steps = omega (arith, steps) in (
-      state ∙ ap (λ (y : Logged). y .state) x,
-      (
-        reason ∙ ap reasonLogged x,
-        (
-          all ∙ ap (λ (y : Logged). y .steps) x,
-          (
-            added ∙ ap (λ (y : Logged). length (y .records)) x,
-            (
-              log ∙ ap (logAfter (now (a .log))) x,
-              (next, deep ∙ depth-run-on ev s₀ v j (passed i) k (a .begun) (a .n) (few i)),
-            ),
-          ),
-        ),
-      ),
-    )
+    let l = o .ensures .0 in
+    let all : o .result .steps + j ≡ j + runLogged ev v k (a .n - j) .steps = omega (arith, l .steps) in record {
+      state = l .state ∙ ap (λ (y : Logged). y .state) x;
+      reason = l .reason ∙ ap reasonLogged x;
+      steps = all ∙ ap (λ (y : Logged). y .steps) x;
+      added = l .added ∙ ap (λ (y : Logged). length (y .records)) x;
+      log = l .log ∙ ap (logAfter (now (a .log))) x;
+      next = l .next;
+      depth = l .depth ∙ depth-run-on ev s₀ v j (passed i) k (a .begun) (a .n) (few i);
+    }
 
 pub run-spec : {M : Type 1} → statement M
 run-spec =

@@ -53,29 +53,29 @@ reply-of-requires : tie.Need-reply-of-requires
 reply-of-requires c κs =
     let a : tie.After-run = search in
     let e = a .before .before .before .before .before in
-    let (_, (_, (steps, (added, _)))) = a .run .ensures in
+    let l = a .run .ensures in
     let m = a .before .before .before .read-record in
     let i = e .if1 .left in
     let k = e .before .refusal-number .ensures .0 in
     let v = e .before .before .call-verdict .ensures in (
-      subst (λ j. j ≤ 1000000) (sym steps) (few-steps _ _ _ _ _ _ _ v k i (m .result) (m .ensures)),
-      subst (λ j. j ≤ 1000000) (sym added) (few-records _ _ _ _ _ _ _ v k i (m .result) (m .ensures)),
+      subst (λ j. j ≤ 1000000) (sym (l .steps)) (few-steps _ _ _ _ _ _ _ v k i (m .result) (m .ensures)),
+      subst (λ j. j ≤ 1000000) (sym (l .added)) (few-records _ _ _ _ _ _ _ v k i (m .result) (m .ensures)),
     )
 
 returns-2 : tie.Need-returns-2
 returns-2 c =
     let a : tie.After-run = search in
     let o = a .before .before .before .before .before in
-    let (state, (reason, (steps, (added, (log, (_, deep)))))) = a .run .ensures in
+    let l = a .run .ensures in
     let m = a .before .before .before .read-record in
     let i = o .if1 .left in
     let k = o .before .refusal-number .ensures .0 in
     let v = o .before .before .call-verdict .ensures in
     let e =
     call-ran _ _ _ _ _ _ _ v k i (m .result) (m .ensures)
-    _ _ _ _ _ _ _ _ state reason steps added log (c .before .before .before .write-record .ensures)
+    _ _ _ _ _ _ _ _ (l .state) (l .reason) (l .steps) (l .added) (l .log) (c .before .before .before .write-record .ensures)
     (c .reply-of .ensures) in
-    let f = figure-ran _ _ _ _ _ _ _ v k i (m .result) (m .ensures) _ _ deep in
+    let f = figure-ran _ _ _ _ _ _ _ v k i (m .result) (m .ensures) _ _ (l .depth) in
     (ap (λ x. x .reply) e, (ap (λ x. x .memory) e, (ap (λ x. x .state) e, (ap (λ x. x .log) e, f))))
 
 pub run-call-spec : {M : Type 1} → statement M

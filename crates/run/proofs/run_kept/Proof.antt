@@ -381,26 +381,16 @@ returns c =
     let b = now (a .events) in
     let s₀ = stateOf (a .m) (now (a .memory)) in
     let h = exits (c .before) .0 in (
-      h .state,
-      (
-        c .reason-of .ensures ∙ (λ i. cond (h .short i) NoRoom (cond (h .state i .halted) Halted Done)),
-        (
-          h .steps,
-          (
-            h .added,
-            (
-              h .log,
-              (
-                l .inv .awaits .0,
-                (
-                  l .inv .deep ∙ ap (depthFrom (eventsOf b) s₀ (a .begun)) (h .steps),
-                  l .inv .kept ∙ ap (keptOver (now (a .journal)) (a .begins) (eventsOf b) s₀) (h .steps),
-                ),
-              ),
-            ),
-          ),
-        ),
-      ),
+      record {
+        state = h .state;
+        reason = c .reason-of .ensures ∙ (λ i. cond (h .short i) NoRoom (cond (h .state i .halted) Halted Done));
+        steps = h .steps;
+        added = h .added;
+        log = h .log;
+        next = l .inv .awaits .0;
+        depth = l .inv .deep ∙ ap (depthFrom (eventsOf b) s₀ (a .begun)) (h .steps);
+      },
+      l .inv .kept ∙ ap (keptOver (now (a .journal)) (a .begins) (eventsOf b) s₀) (h .steps),
     )
 
 pub run-kept-spec : {M : Type 1} → statement M

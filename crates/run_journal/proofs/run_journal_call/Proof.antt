@@ -83,11 +83,11 @@ reply-of-requires c κs =
     let v = at-journal-verdict .journal-verdict .ensures in
     let k = at-refusal-number .refusal-number .ensures .0 in
     let i = at-if1 .if1 .left in
-    let (_, (_, (steps, (added, _)))) = at-run-kept .run-kept .ensures in
+    let l = at-run-kept .run-kept .ensures .0 in
     let m = at-read-record .read-record
     in (
-      subst (λ x. x ≤ 1000000) (sym steps) (steps-few _ _ _ _ _ _ _ _ v k i (m .result) (m .ensures)),
-      subst (λ x. x ≤ 1000000) (sym added) (records-few _ _ _ _ _ _ _ _ v k i (m .result) (m .ensures)),
+      subst (λ x. x ≤ 1000000) (sym (l .steps)) (steps-few _ _ _ _ _ _ _ _ v k i (m .result) (m .ensures)),
+      subst (λ x. x ≤ 1000000) (sym (l .added)) (records-few _ _ _ _ _ _ _ _ v k i (m .result) (m .ensures)),
     )
 
 returns-2 : tie.Need-returns-2
@@ -101,14 +101,15 @@ returns-2 c =
     let v = at-journal-verdict .journal-verdict .ensures in
     let k = at-refusal-number .refusal-number .ensures .0 in
     let i = at-if1 .if1 .left in
-    let (state, (reason, (steps, (added, (log, (_, (deep, journal))))))) = at-run-kept .run-kept .ensures in
+    let l = at-run-kept .run-kept .ensures .0 in
     let m = at-read-record .read-record in
     let e =
-    closing-ran _ _ _ _ _ _ _ _ v k i (m .result) (m .ensures) _ _ _ _ _ _ _ _ state reason steps added log
+    closing-ran _ _ _ _ _ _ _ _ v k i (m .result) (m .ensures) _ _ _ _ _ _ _ _ (l .state) (l .reason) (l .steps)
+    (l .added) (l .log)
     (c .before .before .before .write-record .ensures) (c .reply-of .ensures) in
     let some = some-length _ _ _ _ _ _ _ _ v k (now (s .args .journal)) _ refl i in
     let j = journal-ran _ _ _ _ _ _ _ _ v k i (m .result) (m .ensures) (now (s .args .journal)) _ _ _ refl some
-    journal in (
+    (at-run-kept .run-kept .ensures .1) in (
       ap (λ x. x .reply) e,
       (
         ap (λ x. x .memory) e,
@@ -116,7 +117,7 @@ returns-2 c =
           ap (λ x. x .state) e,
           (
             ap (λ x. x .log) e,
-            (figure-ran _ _ _ _ _ _ _ _ v k i (m .result) (m .ensures) _ _ deep, j),
+            (figure-ran _ _ _ _ _ _ _ _ v k i (m .result) (m .ensures) _ _ (l .depth), j),
           ),
         ),
       ),

@@ -63,35 +63,35 @@ add-done : tie.Need-add-done Inv-loop μ-loop
 add-done c =
     let at-run : tie.After-run Inv-loop μ-loop = search in
     let at-loop : tie.At-loop Inv-loop μ-loop = search in
-    let (state, (reason, (steps, _))) = at-run .run .ensures in
+    let r = at-run .run .ensures in
     let l = at-loop .loop in
-    let i = slice-le _ _ _ _ (l .inv .reached) _ _ _ _ _ state reason steps in
+    let i = slice-le _ _ _ _ (l .inv .reached) _ _ _ _ _ (r .state) (r .reason) (r .steps) in
     omega (arith, i, l .inv .some)
 
 loop-less : tie.Need-loop-less Inv-loop μ-loop
 loop-less c =
     let at-run : tie.After-run Inv-loop μ-loop = search in
     let at-loop : tie.At-loop Inv-loop μ-loop = search in
-    let (state, (reason, (steps, _))) = at-run .run .ensures in
+    let r = at-run .run .ensures in
     let l = at-loop .loop in
     let b = sym (c .before .out-of-room .ensures) ∙ not-false _ (c .if1 .left) in
-    let i = slice-le _ _ _ _ (l .inv .reached) _ _ _ _ _ state reason steps in
-    let j = slice-some _ _ _ _ (l .inv .reached) _ _ _ _ _ state reason steps (omega (arith, l .inv .short)) b in
+    let i = slice-le _ _ _ _ (l .inv .reached) _ _ _ _ _ (r .state) (r .reason) (r .steps) in
+    let j = slice-some _ _ _ _ (l .inv .reached) _ _ _ _ _ (r .state) (r .reason) (r .steps) (omega (arith, l .inv .short)) b in
     omega (arith, i, j, l .inv .some)
 
 loop-again : tie.Need-loop-again Inv-loop μ-loop
 loop-again c =
     let at-run : tie.After-run Inv-loop μ-loop = search in
     let at-loop : tie.At-loop Inv-loop μ-loop = search in
-    let (state, (reason, (steps, (_, (log, (next, deep)))))) = at-run .run .ensures in
+    let r = at-run .run .ensures in
     let l = at-loop .loop in
-    let i = slice-le _ _ _ _ (l .inv .reached) _ _ _ _ _ state reason steps in record {
+    let i = slice-le _ _ _ _ (l .inv .reached) _ _ _ _ _ (r .state) (r .reason) (r .steps) in record {
       some = omega (arith, i, l .inv .some);
       size = omega (arith, l .inv .size);
-      short = ap length log ∙ length-sets _ 0 (logBytes _) ∙ l .inv .short;
-      behind = next;
-      reached = slice-on _ _ _ _ (l .inv .reached) _ _ _ _ _ state reason steps;
-      deep = slice-depth _ _ _ _ (l .inv .reached) _ _ _ _ _ state reason steps _ _ (l .inv .deep) deep;
+      short = ap length (r .log) ∙ length-sets _ 0 (logBytes _) ∙ l .inv .short;
+      behind = r .next;
+      reached = slice-on _ _ _ _ (l .inv .reached) _ _ _ _ _ (r .state) (r .reason) (r .steps);
+      deep = slice-depth _ _ _ _ (l .inv .reached) _ _ _ _ _ (r .state) (r .reason) (r .steps) _ _ (l .inv .deep) (r .depth);
     }
 
 same-length : tie.Need-same-length Inv-loop μ-loop
@@ -112,11 +112,11 @@ returns-2 : tie.Need-returns-2 Inv-loop μ-loop
 returns-2 c =
     let at-run : tie.After-run Inv-loop μ-loop = search in
     let at-loop : tie.At-loop Inv-loop μ-loop = search in
-    let (state, (reason, (steps, (_, (_, (_, deep)))))) = at-run .run .ensures in
+    let r = at-run .run .ensures in
     let l = at-loop .loop in
     let b = sym (c .before .out-of-room .ensures) ∙ not-true _ (c .if1 .taken) in
-    let d = slice-depth _ _ _ _ (l .inv .reached) _ _ _ _ _ state reason steps _ _ (l .inv .deep) deep in
-    (slice-ends _ _ _ _ (l .inv .reached) _ _ _ _ _ state reason steps (l .inv .some) b, ap (λ (p : Depth). p .deepest) d)
+    let d = slice-depth _ _ _ _ (l .inv .reached) _ _ _ _ _ (r .state) (r .reason) (r .steps) _ _ (l .inv .deep) (r .depth) in
+    (slice-ends _ _ _ _ (l .inv .reached) _ _ _ _ _ (r .state) (r .reason) (r .steps) (l .inv .some) b, ap (λ (p : Depth). p .deepest) d)
 
 pub run-whole-spec : {M : Type 1} → statement M
 run-whole-spec =

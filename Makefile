@@ -92,7 +92,7 @@ replay: $(if $(FOUND),$(ARCHIVE))
 	@[ -n $(call quoted,$(FOUND)) ] || { echo 'make replay: FOUND=build/fuzz/.. is missing: a saved difference' >&2; exit 2; }
 	@scripts/oracle.sh fuzz replay $(call quoted,$(FOUND))
 
-bench: $(ARCHIVE) target/staticlib/libprobe.a build/libxm23_fast.a build/layouts/libxm23_layouts.a build/srec build/xm23
+bench: $(ARCHIVE) target/staticlib/libalu_probe.a build/libxm23_fast.a build/layouts/libxm23_layouts.a build/srec build/xm23
 	@cargo bench $(ORACLE) --bench decode
 	@cargo bench $(ORACLE) --bench operations
 	@cargo bench $(ORACLE) --bench run
@@ -135,7 +135,7 @@ folders = $(shell tac crates.txt | awk -F '[: ]+' -v crate=$1 'BEGIN { on[crate]
 sources = crates.txt $(shell find $(folders) ! -path '*/must-fail*')
 
 target/staticlib/libxm23.a: $(call sources,xm23) $(call sources,xm23_judge) $(call sources,xm23_run) $(call sources,xm23_trace)
-target/staticlib/libprobe.a: $(call sources,probe)
+target/staticlib/libalu_probe.a: $(call sources,alu_probe)
 target/bin/print_state: $(call sources,print_state)
 
 # What the desk program needs besides is looked for before anything is proved for it.

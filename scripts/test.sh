@@ -172,7 +172,7 @@ rm -f target/staticlib/*.made
 part 'static library xm23' count_status scripts/prove.py archive xm23
 part 'what the tables show' count_line python3 -B scripts/tables_test.py
 part 'tables of the decoder' count_line python3 -B scripts/tables.py
-part 'static library probe' count_status rt staticlib probe
+part 'static library alu_probe' count_status rt staticlib alu_probe
 part 'oracle' count_cargo \
     cargo test --offline --locked --release --manifest-path oracle/Cargo.toml --target-dir oracle/target
 part 'host in C' count_line host_c

@@ -5,7 +5,7 @@ use oracle::random::Random;
 
 mod timing;
 
-#[link(name = "probe", kind = "static")]
+#[link(name = "alu_probe", kind = "static")]
 extern "C" {
     fn probe_alu(op: u8, byte: u8, dst: u16, src: u16, psw: u16) -> u64;
 }

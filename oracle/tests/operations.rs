@@ -1,9 +1,9 @@
-//! libprobe.a beside the oracle: every operation at both widths.
+//! libalu_probe.a beside the oracle: every operation at both widths.
 
 use oracle::alu;
 use oracle::random::Random;
 
-#[link(name = "probe", kind = "static")]
+#[link(name = "alu_probe", kind = "static")]
 extern "C" {
     fn probe_alu(op: u8, byte: u8, dst: u16, src: u16, psw: u16) -> u64;
 }

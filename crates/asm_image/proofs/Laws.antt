@@ -9,8 +9,8 @@ use lib.Dec.{eqb, ltb}
 use lib.ListN.{length, drop, set}
 use lib.Seq.{sets}
 use borrow.Author.Tests.{eq-eqb, ne-eqb, lt-ltb, ltb-false}
-use Rattle.lines.specs.Lines.{linesOf, LineAt}
-use Rattle.lines.proofs.Laws.{lines-end}
+use Rattle.text_lines.specs.Lines.{linesOf, LineAt}
+use Rattle.text_lines.proofs.Laws.{lines-end}
 use Rattle.asm_value.specs.declared.Value.{Value}
 use Rattle.asm_fits.specs.declared.Fit.{Fit}
 use Rattle.asm_fits.specs.declared.Fit.the-variants.{Number, Unknown, Outside}

@@ -94,7 +94,7 @@ pub fn image(memory: &mut [u8], source: &[u8], places: &[usize], keys: &[u32], v
     let mut at = 0;
     let mut p: u32 = 0;
     while at < source.len() {
-        let l = lines::line_at(source, at);
+        let l = text_lines::line_at(source, at);
         let stop = l.stop;
         let next = l.next;
         let part = &source[at..stop];

@@ -4,7 +4,7 @@ use mathlib.Core.Bool.{false}
 use mathlib.Core.List.{[], _∷_}
 use lib.IntN.{pos}
 use Rattle.isa.specs.Encode.{encodeOf}
-use Rattle.lines.specs.Lines.{linesOf}
+use Rattle.text_lines.specs.Lines.{linesOf}
 use Rattle.asm_value.specs.declared.Value.the-variants.{Known}
 use Rattle.asm_value.specs.Value.{fitted, applied, joined}
 use Rattle.asm_text.specs.Text.{ascii, blank?, letter?, nameByte?, digitOf, digit?, span, after, numeral, word, same, lookUp}

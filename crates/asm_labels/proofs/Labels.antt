@@ -8,7 +8,7 @@ use lib.Dec.{leb}
 use lib.IntN.{ℤ, pos, negsuc}
 use lib.ListN.{length, drop, length-append}
 use borrow.Author.Tests.{eq-eqb}
-use Rattle.lines.specs.Lines.{linesOf}
+use Rattle.text_lines.specs.Lines.{linesOf}
 use Rattle.asm_value.specs.declared.Value.{Value}
 use Rattle.asm_value.specs.declared.Value.the-variants.{Known, Unknown, Outside}
 use Rattle.asm_text.specs.Text.{word, same, lookUp}

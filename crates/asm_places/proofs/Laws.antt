@@ -13,8 +13,8 @@ use mir.Val.{boolByte}
 use borrow.Author.Tests.{eq-eqb, ne-eqb, lt-ltb, le-ltb}
 use Rattle.stores.proofs.Laws.{sets-append}
 use Rattle.word.proofs.Laws.{bool-cases}
-use Rattle.lines.specs.Lines.{linesOf, LineAt}
-use Rattle.lines.proofs.Laws.{lines-end}
+use Rattle.text_lines.specs.Lines.{linesOf, LineAt}
+use Rattle.text_lines.proofs.Laws.{lines-end}
 use Rattle.asm_value.specs.declared.Value.{Value}
 use Rattle.asm_text.specs.Text.{lookUpAt}
 use Rattle.asm_line.specs.declared.Statement.{Statement}

@@ -186,7 +186,7 @@ fn list_lines(list: &mut [u8], source: &[u8], places: &[usize], keys: &[u32], va
     let mut p: u32 = 0;
     let mut i = 0;
     while at < source.len() {
-        let l = lines::line_at(source, at);
+        let l = text_lines::line_at(source, at);
         let stop = l.stop;
         let next = l.next;
         let part = &source[at..stop];

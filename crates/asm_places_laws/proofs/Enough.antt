@@ -10,7 +10,7 @@ use lib.ListN.{length, length-append}
 use lib.Seq.{sets}
 use borrow.Author.Tests.{eqb-true, le-ltb}
 use Rattle.word.proofs.Laws.{bool-cases}
-use Rattle.lines.specs.Lines.{startsCrLf, onto, linesOf}
+use Rattle.text_lines.specs.Lines.{startsCrLf, onto, linesOf}
 use Rattle.asm_value.specs.declared.Value.{Value}
 use Rattle.asm_line.specs.declared.Reading.{Reading}
 use Rattle.asm_line.specs.declared.Reading.the-variants.{Line, Fault}

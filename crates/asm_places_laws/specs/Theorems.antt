@@ -9,7 +9,7 @@ use lib.Dec.{eqb}
 use lib.ListN.{length, drop, getD}
 use lib.Seq.{sets}
 use mir.Val.{boolByte}
-use Rattle.lines.specs.Lines.{linesOf}
+use Rattle.text_lines.specs.Lines.{linesOf}
 use Rattle.asm_text.specs.Text.{ascii}
 use Rattle.asm_value.specs.declared.Value.{Value}
 use Rattle.asm_line.specs.Line.{lineOf}

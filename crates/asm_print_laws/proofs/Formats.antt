@@ -19,7 +19,7 @@ use Rattle.isa.specs.Fields.{Fields}
 use Rattle.isa.proofs.Laws.{decode-fields}
 use Rattle.isa_laws.proofs.EncodeDecode.{signed-bits}
 use Rattle.isa_laws.proofs.DecodeEncode.{decode-encode}
-use Rattle.lines.proofs.Laws.{Plain}
+use Rattle.text_lines.proofs.Laws.{Plain}
 use Rattle.asm_value.specs.declared.Value.{Value}
 use Rattle.asm_value.specs.declared.Value.the-variants.{Known}
 use Rattle.asm_text.specs.Text.{ascii, nameByte?}

@@ -12,7 +12,7 @@ use lib.Signed.{mag}
 use borrow.Author.Tests.{ltb-true, ltb-false}
 use Rattle.word.proofs.Laws.{bool-cases}
 use Rattle.text.specs.Text.{hexOf, decimalOf}
-use Rattle.lines.proofs.Laws.{Plain}
+use Rattle.text_lines.proofs.Laws.{Plain}
 use Rattle.isa.specs.declared.Instr.{Instr}
 use Rattle.isa.specs.declared.Encoded.the-variants as e
 use Rattle.isa.specs.Encode.{encodeOf}

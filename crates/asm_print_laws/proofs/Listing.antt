@@ -8,9 +8,9 @@ use lib.IntN.{pos}
 use lib.ListN.{length, set}
 use lib.Seq.{sets}
 use borrow.Author.Tests.{le-ltb, ne-eqb}
-use Rattle.lines.specs.Lines as lines
-use Rattle.lines.specs.Lines.{linesOf}
-use Rattle.lines.proofs.Laws.{Plain, AllPlain, lines-text}
+use Rattle.text_lines.specs.Lines as lines
+use Rattle.text_lines.specs.Lines.{linesOf}
+use Rattle.text_lines.proofs.Laws.{Plain, AllPlain, lines-text}
 use Rattle.asm_value.specs.declared.Value.{Value}
 use Rattle.asm_value.specs.declared.Value.the-variants.{Known}
 use Rattle.asm_text.specs.Text.{ascii, lookUp}

@@ -5,7 +5,7 @@ use mathlib.Core.Bool.{false}
 use mathlib.Core.List.{List, [], _∷_}
 use lib.ListN.{length}
 use lib.Seq.{sets}
-use Rattle.lines.specs.Lines as lines
+use Rattle.text_lines.specs.Lines as lines
 use Rattle.asm_value.specs.declared.Value.{Value}
 use Rattle.asm_text.specs.Text.{ascii}
 use Rattle.asm_fits.specs.declared.Fit.the-variants.{Number}

@@ -9,8 +9,8 @@ use lib.Dec.{eqb}
 use lib.IntN.{ℤ}
 use lib.ListN.{length, take, drop}
 use borrow.Author.Tests.{eq-eqb, ne-eqb, eqb-false}
-use Rattle.lines.specs.Lines.{linesOf, LineAt}
-use Rattle.lines.proofs.Laws.{lines-end}
+use Rattle.text_lines.specs.Lines.{linesOf, LineAt}
+use Rattle.text_lines.proofs.Laws.{lines-end}
 use Rattle.asm_value.specs.declared.Value.{Value}
 use Rattle.asm_text.specs.Text.{lookUpAt, word, namesAt}
 use Rattle.asm_line.specs.declared.Reading.{Reading}

@@ -11,8 +11,8 @@ use lib.IntN.{ℤ}
 use lib.ListN.{length, take, drop, set, getD, length-set, length-map, length-drop}
 use lib.Seq.{take-suc-set, length-take-le, drop-drop, getD-drop}
 use borrow.Author.Tests.{le-leb, lt-leb, eqb-true}
-use Rattle.lines.specs.Lines.{linesOf, LineAt, startsLf, startsCrLf, onto, none}
-use Rattle.lines.proofs.Laws.{lines-none}
+use Rattle.text_lines.specs.Lines.{linesOf, LineAt, startsLf, startsCrLf, onto, none}
+use Rattle.text_lines.proofs.Laws.{lines-none}
 use Rattle.asm_value.specs.declared.Value.{Value}
 use Rattle.asm_value.specs.declared.Value.the-variants.{Known, Unknown, Outside}
 use Rattle.asm_text.specs.Text.{word, keyOf, nameByte?, namesAt, lookUp, lookUpAt}

@@ -187,7 +187,7 @@ pub fn form(source: &[u8]) -> u64
     let mut at = 0;
     let mut number: u64 = 1;
     while at < source.len() {
-        let l = lines::line_at(source, at);
+        let l = text_lines::line_at(source, at);
         let stop = l.stop;
         let next = l.next;
         let part = &source[at..stop];
@@ -333,7 +333,7 @@ pub fn collect(source: &[u8], places: &mut [usize], keys: &mut [u32], values: &m
         outside: 0,
     };
     while at < source.len() {
-        let l = lines::line_at(source, at);
+        let l = text_lines::line_at(source, at);
         let stop = l.stop;
         let next = l.next;
         let r = name_line(source, places, keys, values, t, at, stop);
@@ -432,7 +432,7 @@ pub fn uses(source: &[u8], places: &[usize], keys: &[u32], values: &[i32]) -> Ta
         outside: 0,
     };
     while at < source.len() {
-        let l = lines::line_at(source, at);
+        let l = text_lines::line_at(source, at);
         let stop = l.stop;
         let next = l.next;
         let part = &source[at..stop];

@@ -12,7 +12,7 @@ use lib.Signed.{mag}
 use borrow.Author.Tests.{eq-eqb, ltb-true, ltb-false}
 use Rattle.isa.specs.declared.Instr.the-variants as i
 use Rattle.isa.specs.Encode.{encodeOf}
-use Rattle.lines.specs.Lines.{linesOf}
+use Rattle.text_lines.specs.Lines.{linesOf}
 use Rattle.asm_value.specs.declared.Value.{Value}
 use Rattle.asm_value.specs.declared.Value.the-variants as v
 use Rattle.asm_value.specs.Value.{fitted, applied, joined}

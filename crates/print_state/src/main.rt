@@ -24,7 +24,7 @@ fn main() {
     }
     let mut memory = [0u8; 65536];
     let mut out = [0u8; 80];
-    let length = sheet::sheet(&input[..n], &mut memory, &mut out);
+    let length = printed_line::sheet(&input[..n], &mut memory, &mut out);
     if !io::write_all(STDOUT_FILENO, &out[..length]) {
         say(b"print_state: the line cannot be written, or not whole\n");
     }

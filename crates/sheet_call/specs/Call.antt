@@ -6,7 +6,7 @@ use mathlib.Core.List.{List}
 use lib.Dec.{ltb}
 use lib.ListN.{length}
 use lib.Seq.{sets}
-use Rattle.sheet.specs.Sheet.{sheetOf}
+use Rattle.printed_line.specs.Sheet.{sheetOf}
 
 pub record Sheeted : Type 0 where
   pub reply : ℕ

@@ -29,7 +29,7 @@ pub fn sheet_call(input: &[u8], line: &mut [u8]) -> u32
     }
     let mut memory = [0u8; 65536];
     let mut out = [0u8; 80];
-    let n = sheet::sheet(input, &mut memory, &mut out);
+    let n = printed_line::sheet(input, &mut memory, &mut out);
     put_bytes(line, &out[..n]);
     256 * (n as u32)
 }

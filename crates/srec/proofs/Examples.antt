@@ -2,7 +2,7 @@
 use Prim.Native.Nat.{ℕ}
 use mathlib.Core.Path.{_≡_, refl}
 use mathlib.Core.List.{List, [], _∷_, _++_}
-use Rattle.lines.specs.Lines.{linesOf}
+use Rattle.text_lines.specs.Lines.{linesOf}
 use Rattle.srec.specs.declared.Refusal.the-variants.{Accepted, Form}
 use Rattle.srec.specs.Load.{verdict, verdictOf, verdictFrom, storedOf, memoryAfter}
 use Rattle.srec.specs.Digits.{digitsOf, isDigit, digitOf, allDigits, pairsOf, sumOf}
@@ -20,7 +20,7 @@ later : List ℕ
 later = 83 ∷ 49 ∷ 48 ∷ 52 ∷ 48 ∷ 48 ∷ 48 ∷ 48 ∷ 48 ∷ 57 ∷ 70 ∷ 50 ∷ []
 
 text-of-three : spanText (1 ∷ 2 ∷ 3 ∷ 4 ∷ []) 0 3 256 ≡ first ++ (10 ∷ second) ++ (10 ∷ [])
-unfolding first second lineOf dataLines digitsOf sumOf Rattle.lines.specs.Lines.textOf
+unfolding first second lineOf dataLines digitsOf sumOf Rattle.text_lines.specs.Lines.textOf
 text-of-three = refl
 
 -- CR LF, and no ending of the last line

@@ -12,7 +12,7 @@ use lib.ListN.{length, getD, take, drop, length-append, length-drop, drop-of-len
 use lib.Seq.{getD-drop, drop-cons, length-take-le}
 use borrow.Author.Tests.{eqb-true, ltb-false, leb-true, eq-eqb, ne-eqb}
 use Rattle.word.proofs.Laws.{bool-cases}
-use Rattle.lines.specs.Lines.{textOf, none}
+use Rattle.text_lines.specs.Lines.{textOf, none}
 use Rattle.srec.specs.Digits.{digitsOf, digitOf, allDigits, pairsOf, sumOf}
 use Rattle.srec.specs.declared.Refusal.the-variants.{Accepted, Form, Checksum, Room}
 use Rattle.srec.specs.Record.{isAccepted, bytesOf, kindOf, countOf, addressOf, known, shapedOf, summedOf, passesOf, faultOf, Loadable}

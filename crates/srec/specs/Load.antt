@@ -5,7 +5,7 @@ use mathlib.Core.Bool.{cond}
 use mathlib.Core.List.{List, [], _∷_}
 use lib.Dec.{eqb}
 use lib.Seq.{sets}
-use Rattle.lines.specs.Lines.{linesOf, none}
+use Rattle.text_lines.specs.Lines.{linesOf, none}
 use Rattle.srec.specs.declared.Verdict.{Verdict}
 use Rattle.srec.specs.declared.Refusal.{Refusal}
 use Rattle.srec.specs.declared.Refusal.the-variants.{Accepted, Form}

@@ -3,7 +3,7 @@
 use Prim.Native.Nat.{ℕ, zero, suc, _+_, _-_, _*_, _/_, _%_, min}
 use mathlib.Core.List.{List, [], _∷_, _++_}
 use lib.ListN.{length, take, drop}
-use Rattle.lines.specs.Lines.{textOf}
+use Rattle.text_lines.specs.Lines.{textOf}
 use Rattle.srec.specs.Digits.{digitsOf, sumOf}
 
 -- bytes and their checksum: the sum of all is #FF modulo 256. [02 §2]

@@ -7,7 +7,7 @@ use native.Mathlib.Omega.{arith}
 use lib.ListN.{length}
 use lib.Seq.{sets}
 use borrow.Author.Tests.{eq-eqb, ne-eqb, lt-ltb, le-ltb}
-use Rattle.lines.specs.Lines.{linesOf}
+use Rattle.text_lines.specs.Lines.{linesOf}
 use Rattle.srec.specs.declared.Verdict.{Verdict}
 use Rattle.srec.specs.Record.{isAccepted, refusalNumber}
 use Rattle.srec.specs.Load.{verdictOf, memoryAfter, pcAfter, Sound}

@@ -9,7 +9,7 @@ use lib.Dec.{eqb, ltb}
 use lib.ListN.{length, getD, take, drop}
 use lib.Seq.{sets, sets-eq, take-at, drop-at}
 use borrow.Author.Tests.{eqb-true, ltb-false}
-use Rattle.lines.specs.Lines.{linesOf}
+use Rattle.text_lines.specs.Lines.{linesOf}
 use Rattle.srec.specs.declared.Refusal.{Refusal}
 use Rattle.srec.specs.declared.Refusal.the-variants.{Accepted, MemoryLength, Form, Checksum, Room}
 use Rattle.srec.specs.Record.{isAccepted, refusalNumber}

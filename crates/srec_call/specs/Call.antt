@@ -7,7 +7,7 @@ use mathlib.Core.List.{List}
 use lib.Dec.{eqb, ltb}
 use lib.ListN.{length}
 use lib.Seq.{sets}
-use Rattle.lines.specs.Lines.{linesOf}
+use Rattle.text_lines.specs.Lines.{linesOf}
 use Rattle.srec.specs.declared.Verdict.{Verdict}
 use Rattle.srec.specs.declared.Refusal.{Refusal}
 use Rattle.srec.specs.declared.Refusal.the-variants.{Accepted, MemoryLength, Room}

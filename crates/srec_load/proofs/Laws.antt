@@ -10,8 +10,8 @@ use lib.Dec.{eqb, ltb, leb}
 use lib.ListN.{length, getD, take, drop, set, length-drop, drop-of-length-le}
 use lib.Seq.{sets, drop-cons, drop-nil, getD-drop, getD-take, length-take-le}
 use borrow.Author.Tests.{eq-eqb, ne-eqb}
-use Rattle.lines.specs.Lines.{linesOf, none, LineAt}
-use Rattle.lines.proofs.Laws.{lines-end, lines-none}
+use Rattle.text_lines.specs.Lines.{linesOf, none, LineAt}
+use Rattle.text_lines.proofs.Laws.{lines-end, lines-none}
 use Rattle.srec.specs.Digits.{isDigit, allDigits}
 use Rattle.srec.specs.declared.Refusal.{Refusal}
 use Rattle.srec.specs.declared.Refusal.the-variants.{Accepted, Form, Checksum, Room}

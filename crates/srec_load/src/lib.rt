@@ -4,7 +4,7 @@ mod line;
 
 ghost use mathlib.Core.Path.{_≡_};
 ghost use lib.ListN.{length};
-ghost use Rattle.lines.specs.Lines.{linesOf};
+ghost use Rattle.text_lines.specs.Lines.{linesOf};
 ghost use Rattle.srec.specs.Load.{verdictOf, memoryAfter, pcAfter, Sound};
 use srec::Refusal;
 use srec::Verdict;
@@ -16,7 +16,7 @@ pub fn judge(text: &[u8]) -> Verdict
     let mut at = 0;
     let mut number: u64 = 1;
     while at < text.len() {
-        let l = lines::line_at(text, at);
+        let l = text_lines::line_at(text, at);
         let stop = l.stop;
         let next = l.next;
         let part = &text[at..stop];
@@ -52,7 +52,7 @@ pub fn load(memory: &mut [u8], text: &[u8], pc: u16) -> u16
     let mut at = 0;
     let mut last = pc;
     while at < text.len() {
-        let l = lines::line_at(text, at);
+        let l = text_lines::line_at(text, at);
         let stop = l.stop;
         let next = l.next;
         let part = &text[at..stop];

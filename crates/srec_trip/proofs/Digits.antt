@@ -10,7 +10,7 @@ use lib.ListN.{take, drop}
 use borrow.Author.Tests.{lt-ltb, le-ltb, ltb-true, ltb-false}
 use Rattle.word.proofs.Laws.{bool-cases}
 use Rattle.text.specs.Text.{glyph}
-use Rattle.lines.proofs.Laws.{Plain}
+use Rattle.text_lines.proofs.Laws.{Plain}
 use Rattle.srec.specs.Digits.{digitsOf, digitOf, isDigit, allDigits, pairsOf, sumOf}
 use Rattle.srec_trip.specs.Trip.{Bytes}
 

@@ -9,7 +9,7 @@ use lib.Dec.{eqb, ltb, leb}
 use lib.ListN.{length, getD, drop, length-append}
 use lib.Seq.{take-at}
 use borrow.Author.Tests.{le-ltb, le-leb, eq-eqb}
-use Rattle.lines.proofs.Laws.{Plain}
+use Rattle.text_lines.proofs.Laws.{Plain}
 use Rattle.srec.specs.Digits.{allDigits, sumOf}
 use Rattle.srec.specs.declared.Refusal.the-variants.{Accepted}
 use Rattle.srec.specs.Record.{bytesOf, kindOf, countOf, addressOf, dataOf, known, shapedOf, summedOf, faultOf}

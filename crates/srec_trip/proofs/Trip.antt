@@ -9,8 +9,8 @@ use lib.ListN.{length, getD, take, drop, length-drop}
 use lib.Seq.{sets, length-sets, length-take-le, take-add, drop-drop, getD-drop, getD-take}
 use borrow.Author.Tests.{ltb-true, ltb-false}
 use Rattle.word.proofs.Laws.{bool-cases}
-use Rattle.lines.specs.Lines.{linesOf, none}
-use Rattle.lines.proofs.Laws.{AllPlain, lines-text}
+use Rattle.text_lines.specs.Lines.{linesOf, none}
+use Rattle.text_lines.proofs.Laws.{AllPlain, lines-text}
 use Rattle.srec.specs.declared.Refusal.the-variants.{Accepted}
 use Rattle.srec.specs.Record.{isAccepted}
 use Rattle.srec.specs.Load.{verdict, verdictFrom, verdictOf, storedOf, memoryAfter, pcAt, pcAfter}

@@ -11,7 +11,7 @@ use lib.Seq.{sets, drop-cons}
 use borrow.Author.Tests.{ltb-true, ltb-false}
 use Rattle.word.proofs.Laws.{bool-cases}
 use Rattle.text.specs.Text.{glyph}
-use Rattle.lines.specs.Lines.{textOf}
+use Rattle.text_lines.specs.Lines.{textOf}
 use Rattle.srec.specs.Digits.{digitsOf, sumOf}
 use Rattle.srec.specs.Write.{lineOf, dataLines, spanText, spanLength}
 use Rattle.stores.proofs.Laws.{sets-then}

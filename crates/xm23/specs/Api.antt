@@ -43,7 +43,7 @@ pub use Rattle.asm_places.specs.Call.{Recorded, placesCallOf}
 pub use Rattle.asm_print.specs.Print.{textAt}
 pub use Rattle.asm_printer.specs.Call.{Printed, textCallOf, TextStands}
 -- xm23_sheet replies and leaves what sheetCallOf gives: sheetOf is the printed line of an input. [call sheet]
-pub use Rattle.sheet.specs.Sheet.{sheetOf}
+pub use Rattle.printed_line.specs.Sheet.{sheetOf}
 pub use Rattle.sheet_call.specs.Call.{Sheeted, sheetCallOf}
 
 -- xm23_version replies versionNumber: major, minor and patch, which are those of the header.

@@ -170,7 +170,7 @@ pub extern "C" fn xm23_back(
         (journalOf (now (journal .entry)) (now (kept .entry)) (now (place .entry))))
         .lent .journal .place ⌝ }
 {
-    back::back_call(memory, state, journal, kept, place, k)
+    going_back::back_call(memory, state, journal, kept, place, k)
 }
 
 // The text of S-records loaded into memory: refusal in bits 7-0, PC in bits 31-16, the line at

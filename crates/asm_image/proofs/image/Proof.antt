@@ -3,7 +3,7 @@
 use Rattle.asm_image.proofs.Laws.{store-end, store-more, image-last}
 use Rattle.asm_image.specs.Image.{placedFrom, placedOf, imageOf}
 use Rattle.asm_text.specs.Text.{lookUpAt}
-use Rattle.lines.specs.Lines.{linesOf}
+use Rattle.text_lines.specs.Lines.{linesOf}
 use lib.ListN.{length, drop}
 use borrow.Author.Needs.{needs}
 use native.Mathlib.Omega.{arith}

@@ -5,7 +5,7 @@ use Rattle.asm_sweeps.proofs.Laws.{collect-end, collect-more, table-las
 use Rattle.asm_sweeps.specs.Places.{tableFrom, tableOf}
 use Rattle.asm_sweeps.specs.Held.{tableAt, Holds}
 use Rattle.asm_sweeps.specs.declared.Tally.{Tally}
-use Rattle.lines.specs.Lines.{linesOf}
+use Rattle.text_lines.specs.Lines.{linesOf}
 use lib.ListN.{length, drop}
 use native.Mathlib.Omega.{arith}
 use Prim.Native.Nat.{_+_, _-_, _≤_}

@@ -2,7 +2,7 @@
 -- end of the source without END is the line after the last.
 use Rattle.asm_sweeps.proofs.Laws.{form-fault, form-end, form-more, form-last}
 use Rattle.asm_sweeps.specs.Form.{formFrom, formOf}
-use Rattle.lines.specs.Lines.{linesOf}
+use Rattle.text_lines.specs.Lines.{linesOf}
 use lib.ListN.{length, drop}
 use borrow.Author.Needs.{needs}
 use native.Mathlib.Omega.{arith}

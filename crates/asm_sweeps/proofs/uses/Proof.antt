@@ -4,7 +4,7 @@ use Rattle.asm_sweeps.proofs.Laws.{use-all-end, use-all-more, uses-last
 use Rattle.asm_sweeps.specs.Uses.{usesFrom, usesOf}
 use Rattle.asm_sweeps.specs.declared.Tally.{Tally}
 use Rattle.asm_text.specs.Text.{lookUpAt}
-use Rattle.lines.specs.Lines.{linesOf}
+use Rattle.text_lines.specs.Lines.{linesOf}
 use lib.ListN.{length, drop}
 use borrow.Author.Needs.{needs}
 use native.Mathlib.Omega.{arith}

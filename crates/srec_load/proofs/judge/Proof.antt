@@ -6,8 +6,8 @@ use native.Mathlib.Omega.{arith}
 use lib.ListN.{length, drop}
 use borrow.Author.Needs.{needs}
 use borrow.Author.Tests.{not-true, not-false}
-use Rattle.lines.specs.Lines.{linesOf}
-use Rattle.lines.proofs.Laws.{lines-end}
+use Rattle.text_lines.specs.Lines.{linesOf}
+use Rattle.text_lines.proofs.Laws.{lines-end}
 use Rattle.srec.specs.Record.{isAccepted}
 use Rattle.srec.specs.Load.{verdictFrom, verdictOf}
 use Rattle.srec.proofs.Laws.{verdict-missing, fault-none}

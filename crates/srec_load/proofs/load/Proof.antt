@@ -6,7 +6,7 @@ use mathlib.Core.List.{List}
 use native.Mathlib.Omega.{arith}
 use lib.ListN.{length, drop}
 use borrow.Author.Needs.{needs}
-use Rattle.lines.specs.Lines.{linesOf}
+use Rattle.text_lines.specs.Lines.{linesOf}
 use Rattle.srec.specs.Load.{memoryAfter, pcAfter, Sound}
 use Rattle.srec_load.proofs.Laws.{memory-end, pc-end, sound-here, memory-here, pc-here}
 use Rattle.srec_load.proofs.load.Statement.{statement}

@@ -72,6 +72,16 @@ fn fetched(
             taken: f.taken,
         };
     }
+    if w / 1024 == 23 {
+        let x = show_step::show_indexed(regs, mem, log, count, w, added);
+        return Went {
+            psw,
+            cex,
+            depth,
+            added: x.added,
+            taken: x.taken,
+        };
+    }
     Went {
         psw,
         cex,

@@ -1,6 +1,7 @@
--- `free_run::fetched` meets its contract: STR and SVC by the crates that take them, every other word left alone. Assumes nothing.
+-- `free_run::fetched` meets its contract: STR, SVC and ST by the crates that take them, every other word left alone. Assumes nothing.
 use Prim.Native.Nat.{_/_}
 use mathlib.Core.Path.{_≡_, refl}
+use native.Mathlib.Omega.{arith}
 use denote.Ref.{now}
 use lib.ListN.{length, getD}
 use borrow.Author.Needs.{needs}
@@ -56,11 +57,32 @@ returns-2 c =
       none = λ t. let s = e .1 t in ((λ i. running (s .0 i) (s .2 i) (s .3 i) 0 (a .count) (s .1 i)), s .4, refl, refl);
     }
 
+show-indexed-requires : tie.Need-show-indexed-requires
+show-indexed-requires c κs =
+    let at-start : tie.Start = search in
+    let at-read-word : tie.After-read-word = search in
+    let at-if3 : tie.Then3 = search in
+    let (size, open-fits, room, even, shut, woken) = at-start .pre in
+    let row = at-if3 .if3 .taken in
+    ((size, word-is at-read-word, even, room), omega (arith, row), omega (arith, row))
+
 returns-3 : tie.Need-returns-3
-returns-3 c = tried-none _ _ _ _ _
+returns-3 c =
+    let at-show : tie.After-show-indexed = search in
+    let at-start : tie.Start = search in
+    let a = at-start .args in
+    let (size, open-fits, room, even, shut, woken) = at-start .pre in
+    let e = at-show .show-indexed .ensures in record {
+      step = λ t. e .0 t (a .psw) (a .cex) (a .depth) woken shut;
+      none = λ t. let s = e .1 t in ((λ i. running (s .0 i) (a .psw) (a .cex) 0 (a .count) (s .1 i)), refl, s .3, s .2);
+    }
+
+returns-4 : tie.Need-returns-4
+returns-4 c = tried-none _ _ _ _ _
 
 pub fetched-spec : {M : Type 1} → statement M
 fetched-spec =
     tie.close
     (tie.spec (λ c. search needs) (λ c κs. search needs) (λ c κs. search needs) show-requires (λ c. search needs) (λ c. search needs)
-    returns trap-requires (λ c. search needs) returns-2 (λ c. search needs) returns-3)
+    returns trap-requires (λ c. search needs) returns-2 show-indexed-requires (λ c. search needs) (λ c. search needs) returns-3
+    (λ c. search needs) returns-4)

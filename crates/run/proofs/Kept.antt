@@ -1,4 +1,4 @@
--- The journal that a run keeps, as its loop goes: one step, whose record is that of the state before its events, and a stretch, which is
+-- The journal that a run keeps, as its loop goes: one step, whose record is that of the state before its events, and a free run, which is
 -- empty where a journal is lent. Assumes nothing.
 use Prim.Native.Nat.{ℕ, zero, suc, _+_, _-_, _*_}
 use mathlib.Core.Bool.{false, cond}
@@ -41,10 +41,10 @@ module _ (b : List ℕ) (r : Ring) (ev : List Event) (s : State) where
   pub kept-size : (n : ℕ) → length (keptOver b r ev s n .bytes) ≡ length b
   kept-size n = bool-cases (eqb (length b) 0) (λ q. rw q refl) (λ q. rw q (journal-size ev s (journalWith b r) n))
 
-  -- a stretch
-  pub kept-stretch : (n j : ℕ) → (eqb (length b) 0 ≡ false → j ≡ 0)
+  -- a free run
+  pub kept-free : (n j : ℕ) → (eqb (length b) 0 ≡ false → j ≡ 0)
       → (x : Journal) → x ≡ keptOver b r ev s n → x ≡ keptOver b r ev s (n + j)
-  kept-stretch n j none x f =
+  kept-free n j none x f =
       f
       ∙ bool-cases (eqb (length b) 0)
       (λ q. rw q refl)

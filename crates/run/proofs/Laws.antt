@@ -1,144 +1,47 @@
--- A run with its log and its journal as its loop goes: steps with no event due, one step that is taken or given up, a stretch, and
--- the ways in which it ends; and a run that begins with a stretch. Assumes nothing.
-use Prim.Native.Nat.{ℕ, suc, _+_, _-_, _*_, _/_, _<_, _≤_}
+-- A run with its log and its journal as its loop goes: one step that is taken or given up, a free run; and a run that begins with a
+-- stretch. What has been reached and its laws are free_run's. Assumes nothing.
+use Prim.Native.Nat.{ℕ, _+_, _-_, _*_, _/_, _<_, _≤_}
 use mathlib.Core.Bool.{Bool, true, false, cond, not, _&&_, _||_}
 use mathlib.Core.List.{List, []}
 use mathlib.Core.Path.{_≡_, refl, sym, ap, subst, _∙_}
-use native.Mathlib.Numerals.{add-one}
 use native.Mathlib.Omega.{arith}
 use lib.Dec.{eqb, ltb, leb}
-use lib.ListN.{length, take, length-append}
-use lib.Seq.{sets, length-sets}
+use lib.ListN.{length, take}
+use lib.Seq.{sets}
 use mathlib.Mathlib.Data.Bool.Basic.{or-eq-false-eq-eq-false-and-eq-false}
 use Rattle.machine.specs.declared.Depth.{Depth}
 use Rattle.machine.specs.declared.Rest.{Rest}
-use Rattle.machine.specs.State.{Core, State, coreWith, stateWith}
+use Rattle.machine.specs.State.{Core, State, coreOf, coreWith, stateWith}
 use Rattle.machine.specs.Record.{recordOf}
 use Rattle.machine.specs.Events.{Event, eventCount, eventsOf}
 use Rattle.machine.specs.Devices.{deliver, deliverAt}
-use Rattle.machine.specs.Step.{Plan, planOf, perform, closed, finished}
-use Rattle.machine.specs.Run.{ran, runOf}
-use Rattle.machine.specs.Log.{Shown, loggedOf, logBytes}
+use Rattle.machine.specs.Step.{Plan, planOf, perform, closed}
+use Rattle.machine.specs.Log.{loggedOf, logBytes}
 use Rattle.machine.specs.Logged.{Logged, logged, runLogged, joined}
 use Rattle.machine.specs.Refusal.{eventsFitBelow}
-use Rattle.machine.specs.Uneventful.{nextAct, Uneventful}
+use Rattle.machine.specs.Uneventful.{nextAct}
 use Rattle.machine.specs.Depth.{depthAfter, depthFrom}
 use Rattle.machine_laws.specs.Bounds.{Each}
-use Rattle.machine_laws.proofs.Cases.{bool-cases, eq-of, is-eq, gt-of, lt-of, ge-of}
-use Rattle.run_laws.proofs.Room.{logged-one, logged-run, logged-le, logged-slices, records-fit}
-use Rattle.run_laws.proofs.LogBytes.{log-stored}
-use Rattle.run_laws.proofs.Turns.{turn-start, turn-taken, turn-short, turn-stretch, turn-full, turn-halted, OfDevice, given-back}
-use Rattle.run_laws.proofs.Turns.{uneventful-run}
-use Rattle.run_laws.proofs.Depth.{depth-next, depth-stretch, depth-slice, uneventful-depth, open-le}
+use Rattle.machine_laws.proofs.Cases.{bool-cases, gt-of, ge-of}
+use Rattle.run_laws.proofs.Room.{logged-le, logged-slices, records-fit}
+use Rattle.run_laws.proofs.Turns.{OfDevice, given-back, uneventful-run}
+use Rattle.run_laws.proofs.Depth.{depth-next, depth-slice, uneventful-depth, open-le}
 use Rattle.output_log.specs.declared.Showing.{Showing}
 use Rattle.output_log.specs.Showing.{listed}
 use Rattle.devices.specs.Cursor.{Ordered, stateFrom}
-use Rattle.stretch.specs.Stretch.{Passes}
+use Rattle.stretch_memory.specs.Served.{running}
+use Rattle.stretch.specs.Stretch.{Undisturbed, Passes}
+use Rattle.free_run.specs.Reached.{Reached}
+use Rattle.free_run.specs.Free.{Along, Goes}
+use Rattle.free_run.proofs.Laws.{log-size, reached-step, reached-short, short-full, state-is}
 use Rattle.journal.specs.Record.{addressBy, bytesFrom, fieldsOf}
 use Rattle.journal.specs.Ring.{Journal}
 use Rattle.journal_record.specs.declared.Ring.{Ring}
 use Rattle.journal_record.specs.Ring.{journalWith, keptIn}
 use Rattle.turn.specs.Due.{Awaits}
 use Rattle.turn.proofs.Laws.{restored}
-use Rattle.run.specs.Reached.{Reached}
 use Rattle.run.specs.Kept.{keptOver}
 use Rattle.run.proofs.Kept.{kept-next, record-kept}
-
--- ---- what the loop holds
-
-module _ (ev : List Event) (s₀ : State) (k : ℕ) (lent : List ℕ) where
-  abbrev at : ℕ → Logged
-  at n = runLogged ev s₀ k n
-
-  pub reached-start : Reached (at 0) lent s₀ 0 0 lent false
-  unfolding logBytes
-  reached-start =
-      subst (λ x. Reached x lent s₀ 0 0 lent false) (turn-start ev s₀ k)
-      (record { state = refl; steps = refl; added = refl; log = refl; short = refl })
-
-  module _ (s : State) (done added : ℕ) (log : List ℕ) (h : Reached (at done) lent s done added log false) where
-    -- it is the definition's run itself
-    abbrev held : Logged
-    held = logged s done (at done .records) false
-
-    held-is : held ≡ at done
-    held-is = λ i. logged (h .state i) (h .steps i) (at done .records) (h .short i)
-
-    as-held : Reached held lent s done added log false
-    as-held = record { state = refl; steps = refl; added = h .added; log = h .log; short = refl }
-
-    -- the records fit the room, and the log keeps its length
-    pub added-fit : added ≤ k
-    added-fit = let f = records-fit ev s₀ k done in let e = h .added in omega arith
-
-    pub log-size : length log ≡ length lent
-    log-size = ap length (h .log) ∙ length-sets lent 0 (logBytes (at done .records))
-
-    -- a stretch of j steps
-    pub reached-stretch : (v : State) (j : ℕ) → ran v j ≡ runOf ev s j → Uneventful ev s j
-        → Reached (at (done + j)) lent v (done + j) added log false
-    reached-stretch v j e f =
-        subst (λ x. Reached x lent v (done + j) added log false) (turn-stretch ev s₀ k held held-is refl v j e f)
-        (record { state = refl; steps = refl; added = h .added; log = h .log; short = refl })
-
-    -- its state is that of the run with no log; a stretch leaves the depth of the run
-    state-is : s ≡ runOf ev s₀ done .state
-    state-is = h .state ∙ ap (λ r. r .state) (logged-run ev s₀ k done) ∙ ap (λ i. runOf ev s₀ i .state) (sym (h .steps))
-
-    pub depth-on : (p d : Depth) → d ≡ depthFrom ev s₀ p done → (j : ℕ) → Uneventful ev s j → d ≡ depthFrom ev s₀ p (done + j)
-    depth-on p d e j f = e ∙ sym (depth-stretch ev s₀ p done j s state-is f)
-
-    -- all steps done, or halted before that
-    reached-full : (n : ℕ) → done ≤ n → n ≤ done → Reached (at n) lent s done added log false
-    reached-full n l m =
-        subst (λ x. Reached x lent s done added log false) (turn-full ev s₀ k held held-is refl n l m) as-held
-
-    pub reached-left : (n : ℕ) → done ≤ n → (s .halted || eqb done n) ≡ true → Reached (at n) lent s done added log false
-    reached-left n l b =
-        bool-cases (s .halted)
-        (λ q. subst (λ x. Reached x lent s done added log false) (turn-halted ev s₀ k held held-is refl n l q) as-held)
-        (λ q.
-        let e : done ≡ n = eq-of (sym (ap (λ (c : Bool). c || eqb done n) q) ∙ b) in
-        reached-full n l (omega arith))
-
-    -- one step: its events, what it shows, and whether there is room for that
-    module _
-        (live : s .halted ≡ false) (t : State) (delivered : t ≡ deliver ev s) (xs : List Shown)
-        (told : xs ≡ loggedOf (planOf t .act) t) (lacks : Bool) (test : lacks ≡ ltb k (added + length xs)) where
-      fits-is : added + length xs ≡ length (held .records) + length xs
-      fits-is = ap (λ i. i + length xs) (h .added)
-
-      -- it is taken
-      pub reached-step : (u : State) → u ≡ finished t → lacks ≡ false → (added′ : ℕ) → added′ ≡ added + length xs
-          → (log′ : List ℕ) → log′ ≡ sets log (8 * added) (logBytes xs)
-          → Reached (at (done + 1)) lent u (done + 1) added′ log′ false
-      reached-step u e b added′ ea log′ el =
-          let fits : length (held .records) + length xs ≤ k = subst (λ i. i ≤ k) fits-is (ge-of (sym test ∙ b)) in
-          let w = turn-taken ev s₀ k held held-is refl live t delivered xs told u e fits in
-          rw (add-one done)
-          (subst (λ x. Reached x lent u (suc done) added′ log′ false) w
-          (record {
-            state = refl;
-            steps = refl;
-            added = ea ∙ fits-is ∙ sym (length-append (held .records) xs);
-            log = el ∙ (λ i. sets (h .log i) (8 * h .added i) (logBytes xs)) ∙ log-stored lent (held .records) xs;
-            short = refl;
-          }))
-
-      -- it is not taken: the run ends with what it was before
-      pub reached-short : (n : ℕ) → done < n → lacks ≡ true → Reached (at n) lent s done added log true
-      reached-short n l b =
-          let past : k < length (held .records) + length xs = subst (λ i. k < i) fits-is (lt-of (sym test ∙ b)) in
-          subst (λ x. Reached x lent s done added log true) (turn-short ev s₀ k held held-is refl live t delivered xs told n l past)
-          (record { state = refl; steps = refl; added = h .added; log = h .log; short = refl })
-
-      -- and the log is full
-      pub short-full : lacks ≡ true → eqb added k ≡ true
-      short-full b =
-          let past : k < added + length xs = lt-of (sym test ∙ b) in
-          let one : length xs ≤ 1 = subst (λ ys. length ys ≤ 1) (sym told) (logged-one (planOf t .act) t) in
-          let fit = added-fit in
-          is-eq {m = added} {n = k} (omega arith)
 
 -- ---- one step of the loop, in the order of its calls
 
@@ -275,12 +178,50 @@ room-for n x added lent log lacks e b size =
     let fits : added + length (listed n x) ≤ length lent / 8 = ge-of (sym e ∙ b) in
     omega arith
 
--- ---- a stretch
+-- ---- a free run
 
 -- none is done where a journal is lent
 pub lends-none : (b : List ℕ) (halted : Bool) (u left : ℕ) → (not (eqb (length b) 0) || halted ≡ true → u ≡ 0)
     → eqb (length b) 0 ≡ false → u - left ≡ 0
 lends-none b halted u left none q = let z : u ≡ 0 = none (ap (λ c. not c || halted) q) in omega arith
+
+-- frames opened before the run, one at most for each step done, and one for each step of the free run
+pub opened-left : (ev : List Event) (s : State) (p d : Depth) (k u n : ℕ) → d ≡ depthFrom ev s p k → k + u ≤ n → p .opened + n ≤ 4294967295
+    → d .opened + u ≤ 4294967295
+opened-left ev s p d k u n e h l =
+    let o = open-le ev s p k in
+    let q : d .opened ≡ depthFrom ev s p k .opened = ap (λ (x : Depth). x .opened) e in
+    omega arith
+
+-- its records fit the log as it is now
+pub room-now : (ev : List Event) (s₀ : State) (lent : List ℕ) (s : State) (done added : ℕ) (log : List ℕ)
+    → Reached (runLogged ev s₀ (length lent / 8) done) lent s done added log false → length lent / 8 ≡ length log / 8
+room-now ev s₀ lent s done added log h = ap (λ (j : ℕ). j / 8) (sym (log-size ev s₀ (length lent / 8) lent s done added log h))
+
+-- What a free run of at most u steps, one at least, from a machine taken apart leaves, no event being due in them and none being done
+-- by a machine that is halted: the run has come to it.
+pub free-along :
+    (ev : List Event) (s₀ : State) (k : ℕ) (lent : List ℕ) (p : Depth) (regs : List ℕ) (t : Rest) (mem : List ℕ) (d : Depth) (added : ℕ)
+    (log : List ℕ) (done : ℕ) → Along ev s₀ k lent p (stateWith regs t mem) d added log done
+    → (u due : ℕ) → 0 < u → (t .halted ≡ true → u ≡ 0) → Undisturbed ev (t .count) due → u ≤ due - t .count → k ≡ length log / 8
+    → (regs′ mem′ log′ : List ℕ) (psw cex j : ℕ) (d′ : Depth) (added′ : ℕ)
+    → Goes u (running regs (t .psw) (t .cex) (t .lines) (t .count) mem) d added log
+    (running regs′ psw cex (t .lines) (t .count + j) mem′) d′ added′ log′ j
+    → (v : Rest) → v ≡ record { psw = psw; cex = cex; lines = t .lines; halted = t .halted; count = t .count + j }
+    → Along ev s₀ k lent p (stateWith regs′ v mem′) d′ added′ log′ (done + j)
+free-along ev s₀ k lent p regs t mem d added log done h u due some none undue few room regs′ mem′ log′ psw cex j d′ added′ goes v on =
+    let live : t .halted ≡ false = bool-cases (t .halted) (λ q. let z = none q in absurd (omega arith)) (λ q. q) in
+    let core = coreWith regs t in
+    let begun : Along ev s₀ k lent p (running regs (t .psw) (t .cex) (t .lines) (t .count) mem) d added log done =
+    subst
+    (λ (b : Bool). Along ev s₀ k lent p
+    (record { core = core; lines = t .lines; halted = b; count = t .count; mem = mem }) d added log done) live h in
+    let came = goes .on ev s₀ k lent p done (λ i a b s. undue i a (omega arith) s) room begun in
+    subst (λ (w : Rest). Along ev s₀ k lent p (stateWith regs′ w mem′) d′ added′ log′ (done + j)) (sym on)
+    (subst
+    (λ (b : Bool). Along ev s₀ k lent p
+    (record { core = coreOf regs′ psw cex; lines = t .lines; halted = b; count = t .count + j; mem = mem′ }) d′ added′ log′ (done + j))
+    (sym live) came)
 
 -- ---- a run whose first j steps are a stretch
 

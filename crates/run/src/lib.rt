@@ -19,6 +19,7 @@ use journal_record::keep_step;
 use machine::Depth;
 use machine::Machine;
 use machine::Reason;
+use stretch::Progress;
 
 // The machine that a run leaves, why it ended, the steps done, the log records added, the first
 // event record that is not behind, how deep the run is and went, and the journal's two numbers.
@@ -48,9 +49,9 @@ fn wants(lent: bool, full: bool, due: u64, count: u32) -> bool
 
 // A run of n steps, fewer if the machine halts or the log has no room for what a step would show,
 // each step kept in the journal, if one is lent. The machine is taken apart where the loop begins
-// and put together where it ends. Each turn is one step and then, where it may, a stretch, which
-// shows nothing. A step that is not taken gives back the registers that its plan changed and the
-// device bytes that its events changed.
+// and put together where it ends. Each turn is one step and then, where it may, a free run: no
+// journal is lent then, and no event is due in it. A step that is not taken gives back the
+// registers that its plan changed and the device bytes that its events changed.
 pub fn run_kept(
     m: Machine,
     memory: &mut [u8],
@@ -106,8 +107,29 @@ pub fn run_kept(
         done += 1;
         let u = turn::at_once(lent | t.halted, t.count, at.due, n - done);
         if 0 < u {
-            let q = stretch::stretch(&mut regs, memory, t.psw, t.cex, t.lines, u);
-            t = turn::gone_on(t, u, q);
+            let q = free_run::run_free(
+                &mut regs,
+                memory,
+                log,
+                t.psw,
+                t.cex,
+                t.lines,
+                t.count,
+                depth,
+                added,
+                u,
+            );
+            t = turn::gone_on(
+                t,
+                u,
+                Progress {
+                    psw: q.psw,
+                    cex: q.cex,
+                    left: q.left,
+                },
+            );
+            depth = q.depth;
+            added = q.added;
             done += u - q.left;
         }
     }

@@ -1,6 +1,6 @@
 -- The loop's invariant: what it holds is the definition's run of as many steps with the log's room, the count has gained them,
 -- the index awaits the next event, the depth is the one carried over them, and the journal is the one that they leave. A turn's step
--- keeps it, and its stretch, if it has one, keeps it again.
+-- keeps it, and its free run, if it has one, keeps it again.
 -- Assumes nothing.
 use Prim.Native.Nat.{ℕ, _+_, _-_, _/_, _<_, _≤_}
 use mathlib.Core.Bool.{false, cond, not, _&&_}
@@ -19,17 +19,17 @@ use Rattle.machine.specs.Events.{eventsOf}
 use Rattle.machine.specs.Logged.{runLogged}
 use Rattle.machine.specs.Depth.{depthFrom}
 use Rattle.run_laws.proofs.Depth.{depth-start}
-use Rattle.stretch.specs.Stretch.{Passes}
+use Rattle.free_run.specs.Reached.{Reached}
+use Rattle.free_run.specs.Free.{Along}
+use Rattle.free_run.proofs.Laws.{reached-start, reached-left, added-fit, log-size}
 use Rattle.journal.specs.Ring.{Journal}
 use Rattle.journal_record.specs.Ring.{Lends, journalWith}
 use Rattle.turn.specs.Due.{Awaits}
-use Rattle.turn.proofs.Laws.{awaits-from, awaits-later, undisturbed, of-devices, goes-on, all-done, stretch-passes, halts-none}
+use Rattle.turn.proofs.Laws.{awaits-from, awaits-later, undisturbed, of-devices, goes-on, all-done, halts-none}
 use Rattle.run.specs.Kept.{keptOver}
-use Rattle.run.specs.Reached.{Reached}
-use Rattle.run.proofs.Kept.{kept-start, kept-size, kept-stretch, before-kept}
-use Rattle.run.proofs.Laws.{reached-start, added-fit, log-size, reached-stretch}
-use Rattle.run.proofs.Laws.{reached-left, carried, step-taken, undone-memory, undone, room-for}
-use Rattle.run.proofs.Laws.{depth-on, step-depth, opened-fits, step-kept, lends-none}
+use Rattle.run.proofs.Kept.{kept-start, kept-size, kept-free, before-kept}
+use Rattle.run.proofs.Laws.{carried, step-taken, step-depth, step-kept, undone-memory, undone, room-for, opened-fits}
+use Rattle.run.proofs.Laws.{lends-none, opened-left, room-now, free-along}
 use Rattle.run.proofs.run_kept.Statement.{statement}
 use Rattle.run.proofs.run_kept.Tie as tie
 
@@ -71,7 +71,7 @@ loop-holds c =
     }
 
 -- ways back: from the loop to the start, from a turn to the loop, from a plan to its turn and to what was kept and delivered before it,
--- from the end of the step to its plan, from the end of the stretch to that of the step
+-- from the end of the step to its plan, from a free run to the end of the step, and from the machine after it to the free run
 abbrev start : tie.At-loop Inv-loop μ-loop → tie.Start Inv-loop μ-loop
 start c = c .before .before .before .before .before .before .before .before
 
@@ -96,15 +96,18 @@ add-of c = c .before .before .before .before .before .before .before .before .be
 abbrev kept-of : tie.After-at Inv-loop μ-loop → tie.After-keep-step Inv-loop μ-loop
 kept-of c = c .before .before .before .before .before .before .before .before
 
-abbrev step-of : tie.After-struct-known3 Inv-loop μ-loop → tie.After-at Inv-loop μ-loop
-step-of c = c .before .before .before .before .before .before .before .before .before .before
+abbrev step-of : tie.After-run-free Inv-loop μ-loop → tie.After-at Inv-loop μ-loop
+step-of c = c .before .before .before .before .before .before .before
 
-abbrev once-of : tie.After-struct-known3 Inv-loop μ-loop → tie.After-at-once Inv-loop μ-loop
-once-of c = c .before .before .before .before .before .before .before .before
+abbrev once-of : tie.After-run-free Inv-loop μ-loop → tie.After-at-once Inv-loop μ-loop
+once-of c = c .before .before .before .before .before
 
--- the steps that a stretch did
-abbrev did : tie.After-struct-known3 Inv-loop μ-loop → ℕ
-did c = once-of c .at-once .result - c .before .before .before .before .stretch .result .left
+abbrev free-of : tie.After-gone-on Inv-loop μ-loop → tie.After-run-free Inv-loop μ-loop
+free-of c = c .before .before .before .before .before
+
+-- the steps that a free run did
+abbrev did : tie.After-run-free Inv-loop μ-loop → ℕ
+did c = once-of c .at-once .result - c .run-free .result .left
 
 -- a turn that is begun is of a machine not halted, with steps to do
 on : (c : tie.Then1 Inv-loop μ-loop)
@@ -245,71 +248,106 @@ add-done c = let i = turn-of (plan-of (add-of c)) in omega (arith, on i .1, star
 sub-at-once : tie.Need-sub-at-once Inv-loop μ-loop
 sub-at-once c = omega (arith, stepped (c .before) .some)
 
-stretch-requires : tie.Need-stretch-requires Inv-loop μ-loop
-stretch-requires c κs =
+run-free-requires : tie.Need-run-free-requires Inv-loop μ-loop
+run-free-requires c κs =
+    let z : tie.After-at-once Inv-loop μ-loop = search in
     let i : tie.After-at Inv-loop μ-loop = search in
+    let h = stepped i in
     let s = start (loop-of (turn-of (plan-of (add-of i)))) in
-    omega (arith, stepped i .size, s .pre .0)
+    let few = z .at-once .ensures .0 in
+    let room = room-now _ _ _ _ _ _ _ (h .reached) in (
+      omega (arith, h .size, s .pre .0),
+      omega (arith, few, h .some, h .counts, s .pre .1),
+      opened-left _ _ _ _ _ _ (s .args .n) (h .deep) (omega (arith, few, h .some)) (s .pre .5),
+      omega (arith, added-fit _ _ _ _ _ _ _ _ (h .reached), room),
+    )
 
 gone-on-requires : tie.Need-gone-on-requires Inv-loop μ-loop
 gone-on-requires c κs =
-    let at-at-once : tie.After-at-once Inv-loop μ-loop = search in
-    let i : tie.After-at Inv-loop μ-loop = search in
+    let f : tie.After-run-free Inv-loop μ-loop = search in
+    let i = step-of f in
     let h = stepped i in
     let l = loop-of (turn-of (plan-of (add-of i))) in
-    let u = at-at-once .at-once .ensures .0 in
-    (c .before .before .stretch .ensures .1, omega (arith, u, h .some, h .counts, start l .pre .1))
+    let u = once-of f .at-once .ensures .0 in
+    (f .run-free .ensures .1, omega (arith, u, h .some, h .counts, start l .pre .1))
 
 sub-done : tie.Need-sub-done Inv-loop μ-loop
-sub-done c = omega (arith, c .before .before .before .before .stretch .ensures .1)
+sub-done c =
+    let f : tie.After-run-free Inv-loop μ-loop = search in
+    omega (arith, f .run-free .ensures .1)
 
--- the steps of a stretch are not past those of the run
-within : (c : tie.After-struct-known3 Inv-loop μ-loop)
+-- the steps of a free run are not past those of the run
+within : (c : tie.After-run-free Inv-loop μ-loop)
     → let l = loop-of (turn-of (plan-of (add-of (step-of c)))) in
     l .loop .done + 1 + did c ≤ start l .args .n
 within c = omega (arith, stepped (step-of c) .some, once-of c .at-once .ensures .0)
 
 add-done-2 : tie.Need-add-done-2 Inv-loop μ-loop
-add-done-2 c = omega (arith, within c, start (loop-of (turn-of (plan-of (add-of (step-of c))))) .pre .1)
+add-done-2 c =
+    let f : tie.After-run-free Inv-loop μ-loop = search in
+    omega (arith, within f, start (loop-of (turn-of (plan-of (add-of (step-of f))))) .pre .1)
 
 loop-less : tie.Need-loop-less Inv-loop μ-loop
-loop-less c = omega (arith, within c, on (turn-of (plan-of (add-of (step-of c)))) .1)
+loop-less c =
+    let f : tie.After-run-free Inv-loop μ-loop = search in
+    omega (arith, within f, on (turn-of (plan-of (add-of (step-of f)))) .1)
 
--- and the invariant holds after it
+-- what the run has come to after it
+freed : (c : tie.After-gone-on Inv-loop μ-loop)
+    → let r = free-of c in
+    let f = r .run-free in
+    let l = loop-of (turn-of (plan-of (add-of (step-of r)))) in
+    let a = start l .args in
+    Along (eventsOf (now (a .events))) (stateOf (a .m) (now (a .memory))) (length (now (a .log)) / 8) (now (a .log)) (a .begun)
+    (stateWith (f .last .0) (c .gone-on .result) (f .last .1 .0)) (f .result .depth) (f .result .added) (f .last .1 .1 .0)
+    (l .loop .done + 1 + did r)
+freed c =
+    let r = free-of c in
+    let i = step-of r in
+    let h = stepped i in
+    let p = plan-of (add-of i) in
+    let s = start (loop-of (turn-of p)) in
+    let q = i .before .before .before .perform in
+    let d = due-of p .deliver-due .result in
+    let z = once-of r .at-once in
+    let f = r .run-free in
+    let b = now (s .args .events) in
+    let lent = not (eqb (length (now (s .args .journal))) 0) in
+    let j = r .before .before .before .before in
+    free-along (eventsOf b) _ _ _ _ (q .last .0) (q .result) (q .last .1 .0) _ _ _ _ (record { reached = h .reached; depth = h .deep })
+    (z .result) (d .at .due) (j .if3 .taken) (halts-none lent (q .result .halted) (z .result) (z .ensures .2))
+    (undisturbed b (d .at .next) (d .at .due) (q .result .count) (h .awaits) (s .pre .2)) (z .ensures .1)
+    (room-now _ _ _ _ _ _ _ (h .reached)) (f .last .0) (f .last .1 .0) (f .last .1 .1 .0) _ _ (did r) _ _ (f .ensures .0)
+    (c .gone-on .result) (c .gone-on .ensures)
+
+-- and the invariant holds
 loop-again : tie.Need-loop-again Inv-loop μ-loop
 loop-again c =
-    let i = step-of c in
+    let g : tie.After-gone-on Inv-loop μ-loop = search in
+    let r = free-of g in
+    let i = step-of r in
     let h = stepped i in
-    let a = add-of i in
-    let p = plan-of a in
+    let p = plan-of (add-of i) in
     let l = loop-of (turn-of p) in
     let s = start l in
     let q = i .before .before .before .perform in
     let d = due-of p .deliver-due .result in
-    let z = once-of c .at-once in
-    let f = c .before .before .before .before .stretch in
-    let g = c .before .gone-on in
+    let z = once-of r .at-once in
     let b = now (s .args .events) in
     let b₀ = now (s .args .journal) in
-    let lent = not (eqb (length b₀) 0) in
-    let j = did c in
-    let n : g .result .count ≡ q .result .count + j = ap (λ (x : Rest). x .count) (g .ensures) in
-    let e : Passes (eventsOf b) (stateWith (q .last .0) (q .result) (q .last .1 .0))
-    (stateWith (f .last .0) (g .result) (f .last .1 .0)) j =
-    stretch-passes (eventsOf b) (q .last .0) (q .result) (q .last .1 .0) (f .last .0) (f .result) (f .last .1 .0) (z .result) (d .at .due)
-    (halts-none lent (q .result .halted) (z .result) (z .ensures .2))
-    (undisturbed b (d .at .next) (d .at .due) (q .result .count) (h .awaits) (s .pre .2)) (z .ensures .1) (f .ensures .0) (g .result)
-    (g .ensures) in record {
-      some = omega (arith, within c);
-      size = omega (arith, h .size);
+    let j = did r in
+    let n : g .gone-on .result .count ≡ q .result .count + j = ap (λ (x : Rest). x .count) (g .gone-on .ensures) in
+    let w = freed g in record {
+      some = omega (arith, within r);
+      size = omega (arith, h .size, r .run-free .kept .1 .0);
       counts = omega (arith, n, h .counts);
       awaits = awaits-later b (d .at .next) (d .at .due) (q .result .count) (h .awaits) _ (omega (arith, n));
-      reached = reached-stretch _ _ _ _ _ _ _ _ (h .reached) _ _ (e .0) (e .1);
+      reached = w .reached;
       whole = h .whole;
       sixteen = h .sixteen;
-      deep = depth-on _ _ _ _ _ _ _ _ (h .reached) _ _ (h .deep) _ (e .1);
-      kept = kept-stretch b₀ (s .args .begins) (eventsOf b) _ (l .loop .done + 1) j
-          (lends-none b₀ (q .result .halted) (z .result) (f .result .left) (z .ensures .2)) _ (h .kept);
+      deep = w .depth;
+      kept = kept-free b₀ (s .args .begins) (eventsOf b) _ (l .loop .done + 1) j
+          (lends-none b₀ (q .result .halted) (z .result) (r .run-free .result .left) (z .ensures .2)) _ (h .kept);
       lends = h .lends;
     }
 
@@ -399,5 +437,5 @@ run-kept-spec =
     (tie.spec Inv-loop μ-loop (λ c κs. search needs) loop-holds (λ c κs. search needs)
     slice-aggregate-keep keep-requires deliver-due-requires plan-requires shown-by-requires lacks-room-requires
     slice-aggregate-put-back put-back-requires add-requires moved-requires (λ c. search needs) keep-step-requires perform-requires add-done
-    sub-at-once (λ c κs. search needs) stretch-requires gone-on-requires sub-done add-done-2 loop-less loop-again loop-less-2 loop-again-2
+    sub-at-once (λ c κs. search needs) run-free-requires gone-on-requires sub-done add-done-2 loop-less loop-again loop-less-2 loop-again-2
     (λ c κs. search needs) same-length same-length-2 same-length-3 returns)

@@ -92,7 +92,8 @@ before-kept d m ed em =
     }
 
 -- that of the state, once its memory is the one before the events
-pub record-kept : (ev : List Event) (regs : List ℕ) (t : Rest) (mem b : List ℕ) → b ≡ mem → (q : Plan) → q ≡ planOf (deliver ev (stateWith regs t mem))
+pub record-kept : (ev : List Event) (regs : List ℕ) (t : Rest) (mem b : List ℕ) → b ≡ mem
+    → (q : Plan) → q ≡ planOf (deliver ev (stateWith regs t mem))
     → fieldsOf (recordOf (stateWith regs t b)) (bytesFrom b 0 16) (addressBy q) (bytesFrom b (addressBy q) 8)
     ≡ journalRecord ev (stateWith regs t mem)
 unfolding journalRecord

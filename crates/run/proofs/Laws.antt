@@ -99,8 +99,8 @@ module _
       → (b : List ℕ) (r : Ring) (here first wanted : Bool) → here ≡ not (eqb (length b) 0) → wanted ≡ here || first
       → (kept : List ℕ) → (wanted ≡ true → kept ≡ take 16 mem)
       → (j : List ℕ) (v : Ring) → journalWith j v ≡ keptOver b r ev s₀ done
-      → (y : Journal) → y ≡ keptIn j v (fieldsOf (recordOf (stateWith regs t (sets m 0 kept))) (bytesFrom (sets m 0 kept) 0 16) (addressBy q)
-      (bytesFrom (sets m 0 kept) (addressBy q) 8))
+      → (y : Journal) → y ≡ keptIn j v (fieldsOf (recordOf (stateWith regs t (sets m 0 kept))) (bytesFrom (sets m 0 kept) 0 16)
+      (addressBy q) (bytesFrom (sets m 0 kept) (addressBy q) 8))
       → y ≡ keptOver b r ev s₀ (done + 1)
   step-kept devices size b r here first wanted eh ew kept keeps j v ej y ey =
       let s = stateWith regs t mem in

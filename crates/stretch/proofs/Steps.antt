@@ -151,8 +151,9 @@ none-waits : (l p : ℕ) (m : List ℕ) → l ≡ 0 → NoneAbove m l p
 none-waits l p m e = line-isnt m l p 8 (line-no-lines m l p e) (omega arith)
 
 -- a word served
-module _ (free : Bool) (regs m regs₁ m₁ : List ℕ) (psw cex w x y psw₁ cex₁ r : ℕ) (even : getD regs 7 0 % 2 ≡ 0) (woken : asleep? psw ≡ false)
-    (ew : w ≡ wordAt m (getD regs 7 0)) (ex : x ≡ wrap (getD regs 7 0 + 2)) (s : skips? cex ≡ false) (ey : lowered cex ≡ y)
+module _ (free : Bool) (regs m regs₁ m₁ : List ℕ) (psw cex w x y psw₁ cex₁ r : ℕ) (even : getD regs 7 0 % 2 ≡ 0)
+    (woken : asleep? psw ≡ false) (ew : w ≡ wordAt m (getD regs 7 0)) (ex : x ≡ wrap (getD regs 7 0 + 2))
+    (s : skips? cex ≡ false) (ey : lowered cex ≡ y)
     (v : Served free (decodeOf w) (set regs 7 x) psw y m regs₁ psw₁ cex₁ m₁ r) where
   abbrev before : Core
   before = coreOf regs psw cex
@@ -370,8 +371,8 @@ back regs p h =
 
 -- R7 is there after a step, taken or not
 pub long :
-    (free : Bool) (regs m regs₁ m₁ : List ℕ) (psw cex psw₁ cex₁ p r : ℕ) → Awake regs psw → Stepping free p regs psw cex m regs₁ psw₁ cex₁ m₁ r
-    → 7 < length regs₁
+    (free : Bool) (regs m regs₁ m₁ : List ℕ) (psw cex psw₁ cex₁ p r : ℕ) → Awake regs psw
+    → Stepping free p regs psw cex m regs₁ psw₁ cex₁ m₁ r → 7 < length regs₁
 long free regs m regs₁ m₁ psw cex psw₁ cex₁ p r a g =
     ⊎-elim
     (λ u. rw (u .1 .0) (awake-set regs psw ((p % 65536 + 2) % 65536) a .1))
@@ -384,7 +385,8 @@ module _ (free : Bool) (regs₀ m₀ : List ℕ) (psw₀ x₀ : ℕ) (regs m reg
   -- the loop goes on
   pub walked-on :
       r < leftAlone →
-      Awake regs₁ psw₁ × (r % 2 ≡ 0) × ((cex₁ % 64 ≡ 0) ⊎ (n ≤ 1)) × Walked free regs₀ psw₀ x₀ m₀ (set regs₁ 7 (r % 65536)) psw₁ cex₁ m₁ (j + 1)
+      Awake regs₁ psw₁ × (r % 2 ≡ 0) × ((cex₁ % 64 ≡ 0) ⊎ (n ≤ 1))
+      × Walked free regs₀ psw₀ x₀ m₀ (set regs₁ 7 (r % 65536)) psw₁ cex₁ m₁ (j + 1)
   walked-on h =
       ⊎-elim
       (λ u. let e = u .0 in absurd (omega arith))
@@ -412,8 +414,10 @@ module _ (free : Bool) (regs₀ m₀ : List ℕ) (psw₀ x₀ : ℕ) (regs m reg
       rw (e, u .1 .1, u .1 .2, u .1 .3, z) (f, awake-set regs psw (p % 65536) a))
       (λ v.
       let t = o (v .0) in
-      rw (t .0, t .1)
-      (walked-next free regs₀ m₀ psw₀ x₀ regs m regs₁ m₁ psw cex psw₁ cex₁ p r j n f b lt (v .1), awake-set regs₁ psw₁ (r % 65536) (v .1 .2)))
+      rw (t .0, t .1) (
+        walked-next free regs₀ m₀ psw₀ x₀ regs m regs₁ m₁ psw cex psw₁ cex₁ p r j n f b lt (v .1),
+        awake-set regs₁ psw₁ (r % 65536) (v .1 .2),
+      ))
       g
     where
       none : (q : ℕ) → q + 0 ≡ q
@@ -421,7 +425,8 @@ module _ (free : Bool) (regs₀ m₀ : List ℕ) (psw₀ x₀ : ℕ) (regs m reg
 
 -- where no block is open, none is after a step
 pub stays-shut :
-    (free : Bool) (regs m regs₁ m₁ : List ℕ) (psw cex psw₁ cex₁ p r : ℕ) → Stepping free p regs psw cex m regs₁ psw₁ cex₁ m₁ r → cex % 64 ≡ 0 → cex₁ % 64 ≡ 0
+    (free : Bool) (regs m regs₁ m₁ : List ℕ) (psw cex psw₁ cex₁ p r : ℕ) → Stepping free p regs psw cex m regs₁ psw₁ cex₁ m₁ r
+    → cex % 64 ≡ 0 → cex₁ % 64 ≡ 0
 stays-shut free regs m regs₁ m₁ psw cex psw₁ cex₁ p r g h =
     ⊎-elim (λ u. ap (λ (n : ℕ). n % 64) (u .1 .2) ∙ h) (λ v. v .1 .4 h) g
 

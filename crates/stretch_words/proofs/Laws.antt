@@ -66,7 +66,8 @@ module _ (w row : ℕ) (h : w / 64 ≡ row) (lo : 0x100 ≤ row) (hi : row < 0x1
       simp (le-ltb w 0x2000 (omega arith), le-ltb w 0x4000 (omega arith), lt-ltb w 0x4C00 (omega arith), a, b, c)
 
   module _ (free : Bool) (l m : List ℕ) (p x pc : ℕ) (past : Past pc l) (b : Op) (byte : Bool) {s : ℕ}
-      (hb : binaryOp (row / 4 % 16) ≡ b) (ht : eqb (row % 2) 1 ≡ byte) (hs : s ≡ cond (eqb (row / 2 % 2) 1) (constantOf (w / 8 % 8)) (getD l (w / 8 % 8) 0)) where
+      (hb : binaryOp (row / 4 % 16) ≡ b) (ht : eqb (row % 2) 1 ≡ byte)
+      (hs : s ≡ cond (eqb (row / 2 % 2) 1) (constantOf (w / 8 % 8)) (getD l (w / 8 % 8) 0)) where
     abbrev meant : Instr
     meant = i.Alu (row / 4 % 16) (row / 2 % 2) (row % 2) (w / 8 % 8) (w % 8)
 

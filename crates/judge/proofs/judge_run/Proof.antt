@@ -258,8 +258,8 @@ undone c =
     let s = start (loop-of (turn-of p)) in
     let full = and-left (eqb (l .o .held) 256) _ (sym (at-too-deep .too-deep .ensures) ∙ at-if2 .if2 .taken) in
     c .put-back .ensures
-    ∙ restored (now (s .args .events)) (l .at .next) (l .at .due) (stateWith (l .regs) (l .t) (l .memory)) (l .inv .3) (s .pre .2) (s .pre .3)
-    (omega (arith, s .pre .0, l .inv .1)) (eqb (l .o .held) 256) (λ q. absurd (false≢true (sym q ∙ full))) _ _
+    ∙ restored (now (s .args .events)) (l .at .next) (l .at .due) (stateWith (l .regs) (l .t) (l .memory)) (l .inv .3)
+    (s .pre .2) (s .pre .3) (omega (arith, s .pre .0, l .inv .1)) (eqb (l .o .held) 256) (λ q. absurd (false≢true (sym q ∙ full))) _ _
     (keep-of p .keep .ensures .0)
     (ap (λ (z : State). z .mem) (delivery-of p .deliver-due .ensures .0 (coreWith (l .regs) (l .t)) (l .t .halted)))
 

@@ -12,7 +12,9 @@ use Rattle.step.proofs.plan.Tie as tie
 
 -- the machine once its events are applied
 abbrev begun : tie.Start → State
-begun s = stateFrom (coreWith (now (s .args .regs)) (s .args .t)) (s .args .lines) (s .args .t .halted) (s .args .t .count) (now (s .args .mem))
+begun s =
+    stateFrom (coreWith (now (s .args .regs)) (s .args .t)) (s .args .lines) (s .args .t .halted) (s .args .t .count)
+    (now (s .args .mem))
 
 returns : tie.Need-returns
 returns c =

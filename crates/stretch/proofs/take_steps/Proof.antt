@@ -53,8 +53,8 @@ loop-holds c =
       low = omega arith;
       few = few;
       walked =
-          rw none (walked-start (a .free) (now (a .regs)) (now (a .mem)) (held (now (a .psw)) (now (a .last)) (now (a .sum)) (now (a .over)))
-          (a .cex) (now (a .regs)) _ refl e (omega arith));
+          rw none (walked-start (a .free) (now (a .regs)) (now (a .mem))
+          (held (now (a .psw)) (now (a .last)) (now (a .sum)) (now (a .over))) (a .cex) (now (a .regs)) _ refl e (omega arith));
       shut = λ h. h;
     }
 

@@ -118,8 +118,8 @@ returns-3 c =
     let e : a .left - q ≡ a .left - r + (r - q) = omega (arith, le, p .1 .0) in (
       (λ l none.
           rw e (goes-join l (now (a .regs)) (now (a .mem)) (first s) (a .cex) _ _ _ _ _ _ _ _ _ _
-          (walked-free (a .free) (now (a .regs)) (now (a .mem)) _ _ (first s) (a .cex) _ _ _ _ (a .left) r r (k .0) (k .1 .1 .0) refl z (w .0)
-          l none)
+          (walked-free (a .free) (now (a .regs)) (now (a .mem)) _ _ (first s) (a .cex) _ _ _ _ (a .left) r r (k .0) (k .1 .1 .0)
+          refl z (w .0) l none)
           (p .0 l _ (o .2 .0)))),
       (omega (arith, le, p .1 .0), (λ m. let g = p .1 .1 m in omega (arith, le, g)), o .1, (o .2 .0, p .1 .2)),
     )

@@ -60,7 +60,12 @@ def entries_wrong(body):
 CASES = {
     "a line of 160 columns": wide("docs/a/b.md", "x" * 160) == 0,
     "a line of 161": wide("docs/a/b.md", "x\n" + "x" * 161) == 1,
-    "letters are counted, not bytes": wide("README.md", "§" * 160) == 0,
+    "letters are counted, not bytes": wide("docs/a.md", "§" * 160) == 0,
+    "a line of README of 110": wide("README.md", "§" * 110) == 0,
+    "one of 111, a row too": wide("README.md", "x" * 111) == 1 and wide("README.md", "|" + "x" * 110) == 1,
+    "README of 90 lines": wide("README.md", "x\n" * 90) == 0,
+    "README of 91": wide("README.md", "x\n" * 91) == 1,
+    "a line of a proof of 140, and of 141": [wide("crates/a/proofs/f/P.antt", "x" * n) for n in (140, 141)] == [0, 1],
     "a row of a table of 300": wide("CHANGELOG.md", "|" + "x" * 299) == 0,
     "a row of 301": wide("CHANGELOG.md", "|" + "x" * 300) == 1,
     "a manual page": wide("man/a.1", "x" * 161) == 1,

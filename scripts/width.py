@@ -1,29 +1,32 @@
 #!/usr/bin/env python3
-"""No line of the documents is wider than 160 columns: width.py [ROOT].
+"""No line of the documents is wider than 160 columns, none of README.md than 110, none of a proof than 140:
+width.py [ROOT].
 
-README.md, CHANGELOG.md, everything of docs/ that is text, and the sources of the manual pages. A row of a table may
-have 300, where it cannot be a list. A line that is wider is printed as 'file:line: so many columns'. One is counted for
-each file; the last line is 'N passed, M failed'.
+README.md, which has at most 90 lines, CHANGELOG.md, everything of docs/ that is text, the sources of the manual pages,
+and the proofs. A row of a table may have 300, where it cannot be a list. A line that is wider is printed as 'file:line:
+so many columns'. One is counted for each file; the last line is 'N passed, M failed'.
 """
 import pathlib
 import sys
 
-COLUMNS, ROW = 160, 300
-PLACES = ["README.md", "CHANGELOG.md", "docs/**/*.md", "docs/**/*.txt", "man/*.[1-8]"]
+ROW, README_LINES = 300, 90
+# Where: how many columns, and a row of a table.
+PLACES = {"README.md": (110, 110), "CHANGELOG.md": (160, ROW), "docs/**/*.md": (160, ROW), "docs/**/*.txt": (160, ROW),
+          "man/*.[1-8]": (160, ROW), "crates/*/proofs/**/*.antt": (140, 140)}
 
 
-def wide_lines(text):
-    """The lines that are too wide: (number, columns)."""
-    for number, line in enumerate(text.split("\n"), 1):
+def wide_lines(path, most, row):
+    """What is too wide, and in README.md the lines that are too many: (number, columns)."""
+    for number, line in enumerate(path.read_text(encoding="utf-8").split("\n"), 1):
         columns = len(line.expandtabs())
-        if columns > (ROW if line.startswith("|") else COLUMNS):
+        if columns > (row if line.startswith("|") else most) or (path.name == "README.md" and line and number > README_LINES):
             yield number, columns
 
 
 def check(root):
     """(how many files, [(file, its lines that are too wide)] of those that have some)."""
-    files = sorted({path for place in PLACES for path in pathlib.Path(root).glob(place)})
-    wide = [(path.relative_to(root), list(wide_lines(path.read_text(encoding="utf-8")))) for path in files]
+    files = sorted((path, limits) for place, limits in PLACES.items() for path in pathlib.Path(root).glob(place))
+    wide = [(path.relative_to(root), list(wide_lines(path, *limits))) for path, limits in files]
     return len(files), [(path, lines) for path, lines in wide if lines]
 
 

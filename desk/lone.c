@@ -40,7 +40,7 @@ static void mark_used(struct name *names, size_t many, const char *text, size_t 
         word.at = text + at;
         while (at < length && is_letter(text[at]))
             at++;
-        word.length = (size_t)(text + at - word.at);
+        word.length = (size_t)(text + at-- - word.at); /* what stands behind the word is looked at next */
         found = (struct name *)bsearch(&word, names, many, sizeof word, by_letters);
         if (found && found->at != word.at)
             found->line = 0;

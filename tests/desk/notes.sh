@@ -21,6 +21,7 @@ silent() { same "$1" "$(told "$@")" ''; }
 noted ' HALT' 1 HALT
 noted ' ORG $1000\nSTART MOVLZ #3,R0\n\tINCR\r\n BRA START' 3 INCR
 noted 'HALT ; HALT' 1 HALT
+noted 'HALT;HALT' 1 HALT
 noted ' BRA A\nA\nHALT\nHALT2 EQU #1\n WORD $ABC' 3 HALT
 noted ' ORG #0\nONE' 2 ONE
 same 'two of them, in the order of the lines' "$(told 'ZZ\nAA')" \

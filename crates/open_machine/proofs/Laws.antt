@@ -80,8 +80,13 @@ fieldRules t memory events n =
     rule (not (eqb (length memory) 65536)) MemoryLength
     ∷ rule (ltb 1000000 n) StepCount
     ∷ rule (ltb 4294967295 (t .count + n)) StepCount
-    ∷ rule (not (eqb (t .psw / 512 % 16) 0 && ltb (t .cex) 128)) RecordBits
+    ∷ rule (not (eqb (t .psw / 512 % 16) 0)) RecordBits
+    ∷ rule (not (ltb (t .cex) 128)) RecordBits
     ∷ drop 5 (rulesOf [] [] events 0)
+
+two-tests : (t u : Bool) (v w : Verdict) → cond (not (t && u)) v w ≡ cond (not t) v (cond (not u) v w)
+two-tests true u v w = refl
+two-tests false u v w = refl
 
 pub fields-verdict : (m : Machine) (vs : List Val) → Is T.the-row m vs → (memory events : List ℕ) (n : ℕ)
     → verdictOf memory (recordOf (stateOf m memory)) events n ≡ firstBroken (fieldRules (m .rest) memory events n)
@@ -89,7 +94,12 @@ unfolding verdictOf
 fields-verdict m vs is memory events n =
     let b = bits m vs is in
     let s = stateOf m memory in
-    rw (record-size s, record-count s (b .count), record-fits s (b .psw) (b .cex))
+    rw (
+      record-size s,
+      record-count s (b .count),
+      record-fits s (b .psw) (b .cex),
+      two-tests (eqb (m .rest .psw / 512 % 16) 0) (ltb (m .rest .cex) 128) RecordBits (firstBroken (drop 5 (rulesOf [] [] events 0))),
+    )
 
 pub count-fits : (m : Machine) (vs : List Val) → Is T.the-row m vs → (memory events : List ℕ) (n : ℕ)
     → Passed memory (recordOf (stateOf m memory)) events n → m .rest .count + n ≤ 4294967295

@@ -10,12 +10,14 @@ returns c = start-refused _ _ _ _ _ _ _ (c .before .before .start-verdict .ensur
 returns-2 : tie.Need-returns-2
 returns-2 c =
     let p = c .before in
-    log-refused _ _ _ _ _ _ _ (p .before .before .start-verdict .ensures) (p .before .refusal-number .ensures .0) (p .if1 .left) (c .if2 .taken)
+    let v = p .before .before .start-verdict .ensures in
+    log-refused _ _ _ _ _ _ _ v (p .before .refusal-number .ensures .0) (p .if1 .left) (c .if2 .taken)
 
 returns-3 : tie.Need-returns-3
 returns-3 c =
     let p = c .before in
-    none-refused _ _ _ _ _ _ _ (p .before .before .start-verdict .ensures) (p .before .refusal-number .ensures .0) (p .if1 .left) (c .if2 .left)
+    let v = p .before .before .start-verdict .ensures in
+    none-refused _ _ _ _ _ _ _ v (p .before .refusal-number .ensures .0) (p .if1 .left) (c .if2 .left)
 
 pub advance-verdict-spec : {M : Type 1} → statement M
 advance-verdict-spec = tie.close (tie.spec (λ c κs. search needs) (λ c κs. search needs) returns returns-2 returns-3)

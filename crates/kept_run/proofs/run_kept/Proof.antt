@@ -6,10 +6,10 @@ use Prim.Native.Nat.{ℕ, _+_, _-_, _/_, _<_, _≤_}
 use mathlib.Core.Bool.{false, cond, not, _&&_}
 use mathlib.Core.List.{[]}
 use mathlib.Core.Logic.{⊎-elim}
-use mathlib.Core.Path.{_≡_, refl, sym, ap, _∙_}
+use mathlib.Core.Path.{_≡_, refl, sym, ap, subst, _∙_}
 use native.Mathlib.Omega.{arith}
 use denote.Ref.{now}
-use lib.Dec.{eqb, leb}
+use lib.Dec.{eqb, ltb, leb}
 use lib.ListN.{length}
 use borrow.Author.Needs.{needs}
 use Rattle.machine.specs.declared.Reason.the-variants.{Done, Halted, NoRoom}
@@ -24,18 +24,20 @@ use Rattle.free_run.specs.Free.{Along}
 use Rattle.free_run.proofs.Laws.{reached-start, reached-left, added-fit, log-size}
 use Rattle.journal.specs.Ring.{Journal}
 use Rattle.journal_record.specs.Ring.{Lends, journalWith}
+use Rattle.run_answer.specs.declared.Ran.{Ran}
+use Rattle.run_answer.specs.Leaves.{RunLeaves}
 use Rattle.turn.specs.Due.{Awaits}
 use Rattle.turn.proofs.Laws.{awaits-from, awaits-later, undisturbed, of-devices, goes-on, all-done, halts-none}
-use Rattle.run.specs.Kept.{keptOver}
-use Rattle.run.proofs.Kept.{kept-start, kept-size, kept-free, before-kept}
-use Rattle.run.proofs.Laws.{carried, step-taken, step-depth, step-kept, undone-memory, undone, room-for, opened-fits}
-use Rattle.run.proofs.Laws.{lends-none, opened-left, room-now, free-along}
-use Rattle.run.proofs.run_kept.Statement.{statement}
-use Rattle.run.proofs.run_kept.Tie as tie
+use Rattle.kept_run.specs.Kept.{keptOver}
+use Rattle.kept_run.proofs.Kept.{kept-start, kept-size, kept-free, before-kept}
+use Rattle.kept_run.proofs.Laws.{carried, step-taken, step-depth, step-kept, undone-memory, undone, room-for, opened-fits}
+use Rattle.kept_run.proofs.Laws.{lends-none, opened-left, room-now, free-along}
+use Rattle.kept_run.proofs.run_kept.Statement.{statement}
+use Rattle.kept_run.proofs.run_kept.Tie as tie
 
 abbrev Inv-loop : tie.InvT-loop
-Inv-loop memory₀ events from log₀ journal₀ n room lent regs₀ t₀ devices₀ at₀ done₀ added₀ depth₀ ring₀ short₀
-    memory log journal regs t devices at done added depth ring short = record {
+Inv-loop memory₀ events from log₀ journal₀ n room lent regs₀ t₀ devices₀ at₀ done₀ added₀ depth₀ ring₀
+    memory log journal regs t devices at done added depth ring = record {
       some : done ≤ n;
       size : length memory ≡ length memory₀;
       counts : t .count ≡ t₀ .count + done;
@@ -43,7 +45,6 @@ Inv-loop memory₀ events from log₀ journal₀ n room lent regs₀ t₀ device
       reached :
           Reached (runLogged (eventsOf events) (stateWith regs₀ t₀ memory₀) room done) log₀ (stateWith regs t memory) done added log
           false;
-      whole : short ≡ false;
       sixteen : length devices ≡ 16;
       deep : depth ≡ depthFrom (eventsOf events) (stateWith regs₀ t₀ memory₀) depth₀ done;
       kept : journalWith journal ring ≡ keptOver journal₀ ring₀ (eventsOf events) (stateWith regs₀ t₀ memory₀) done;
@@ -51,8 +52,8 @@ Inv-loop memory₀ events from log₀ journal₀ n room lent regs₀ t₀ device
     }
 
 abbrev μ-loop : tie.MeasureT-loop
-μ-loop memory₀ events from log₀ journal₀ n room lent regs₀ t₀ devices₀ at₀ done₀ added₀ depth₀ ring₀ short₀
-    memory log journal regs t devices at done added depth ring short =
+μ-loop memory₀ events from log₀ journal₀ n room lent regs₀ t₀ devices₀ at₀ done₀ added₀ depth₀ ring₀
+    memory log journal regs t devices at done added depth ring =
     n - done
 
 loop-holds : tie.Need-loop-holds Inv-loop μ-loop
@@ -63,7 +64,6 @@ loop-holds c =
       counts = omega arith;
       awaits = awaits-from _ _ _ _ _ (s .pre .4) (c .awaiting .ensures);
       reached = reached-start _ _ _ _;
-      whole = refl;
       sixteen = refl;
       deep = sym (depth-start _ _ _);
       kept = kept-start _ _ _ _;
@@ -71,7 +71,7 @@ loop-holds c =
     }
 
 -- ways back: from the loop to the start, from a turn to the loop, from a plan to its turn and to what was kept and delivered before it,
--- from the end of the step to its plan, from a free run to the end of the step, and from the machine after it to the free run
+-- from the end of the step to its plan, and from a free run to the end of the step
 abbrev start : tie.At-loop Inv-loop μ-loop → tie.Start Inv-loop μ-loop
 start c = c .before .before .before .before .before .before .before .before
 
@@ -96,18 +96,15 @@ add-of c = c .before .before .before .before .before .before .before .before .be
 abbrev kept-of : tie.After-at Inv-loop μ-loop → tie.After-keep-step Inv-loop μ-loop
 kept-of c = c .before .before .before .before .before .before .before .before
 
-abbrev step-of : tie.After-run-free Inv-loop μ-loop → tie.After-at Inv-loop μ-loop
+abbrev step-of : tie.After-go-free Inv-loop μ-loop → tie.After-at Inv-loop μ-loop
 step-of c = c .before .before .before .before .before .before .before
 
-abbrev once-of : tie.After-run-free Inv-loop μ-loop → tie.After-at-once Inv-loop μ-loop
+abbrev once-of : tie.After-go-free Inv-loop μ-loop → tie.After-at-once Inv-loop μ-loop
 once-of c = c .before .before .before .before .before
 
-abbrev free-of : tie.After-gone-on Inv-loop μ-loop → tie.After-run-free Inv-loop μ-loop
-free-of c = c .before .before .before .before .before
-
 -- the steps that a free run did
-abbrev did : tie.After-run-free Inv-loop μ-loop → ℕ
-did c = once-of c .at-once .result - c .run-free .result .left
+abbrev did : tie.After-go-free Inv-loop μ-loop → ℕ
+did c = c .go-free .result .done
 
 -- a turn that is begun is of a machine not halted, with steps to do
 on : (c : tie.Then1 Inv-loop μ-loop)
@@ -199,9 +196,9 @@ stepped : (c : tie.After-at Inv-loop μ-loop)
     let k = keep-of p .keep in
     let q = c .before .before .before .perform in
     Inv-loop (now (s .memory)) (now (s .events)) (s .from) (now (s .log)) (now (s .journal)) (s .n) (length (now (s .log)) / 8)
-    (not (eqb (length (now (s .journal))) 0)) (s .m .regs) (s .m .rest) [] (d .at) 0 0 (s .begun) (s .begins) false
+    (not (eqb (length (now (s .journal))) 0)) (s .m .regs) (s .m .rest) [] (d .at) 0 0 (s .begun) (s .begins)
     (q .last .1 .0) (a .add .last .0) (y .keep-step .last .0) (q .last .0) (q .result) (k .last .1 .1 .0) (d .at)
-    (l .loop .done + 1) (a .add .result) v (y .keep-step .result) (l .loop .short)
+    (l .loop .done + 1) (a .add .result) v (y .keep-step .result)
 stepped c =
     let y = kept-of c in
     let a = add-of c in
@@ -231,7 +228,6 @@ stepped c =
       awaits = awaits-later b (d .result .at .next) (d .result .at .due) (n + 1) (d .ensures .1) _ (omega (arith, one));
       reached = step-taken _ _ _ _ _ _ _ _ _ _ h (on i .0) _ _ (d .ensures .0) _ (p .plan .ensures .0) (x .result)
           (x .ensures) _ (r .ensures) _ (q .ensures) (j .left) _ (a .add .ensures .0) _ (a .add .ensures .1);
-      whole = l .loop .inv .whole;
       sixteen = omega (arith, k .keep .ensures .1);
       deep = step-depth _ _ _ _ _ _ _ _ _ _ h (on i .0) _ _ (d .ensures .0) _ (p .plan .ensures .0) (x .result) (x .ensures)
           _ (r .ensures) _ _ _ (l .loop .inv .deep) (v .ensures);
@@ -248,8 +244,8 @@ add-done c = let i = turn-of (plan-of (add-of c)) in omega (arith, on i .1, star
 sub-at-once : tie.Need-sub-at-once Inv-loop μ-loop
 sub-at-once c = omega (arith, stepped (c .before) .some)
 
-run-free-requires : tie.Need-run-free-requires Inv-loop μ-loop
-run-free-requires c κs =
+go-free-requires : tie.Need-go-free-requires Inv-loop μ-loop
+go-free-requires c κs =
     let z : tie.After-at-once Inv-loop μ-loop = search in
     let i : tie.After-at Inv-loop μ-loop = search in
     let h = stepped i in
@@ -262,69 +258,53 @@ run-free-requires c κs =
       omega (arith, added-fit _ _ _ _ _ _ _ _ (h .reached), room),
     )
 
-gone-on-requires : tie.Need-gone-on-requires Inv-loop μ-loop
-gone-on-requires c κs =
-    let f : tie.After-run-free Inv-loop μ-loop = search in
-    let i = step-of f in
-    let h = stepped i in
-    let l = loop-of (turn-of (plan-of (add-of i))) in
-    let u = once-of f .at-once .ensures .0 in
-    (f .run-free .ensures .1, omega (arith, u, h .some, h .counts, start l .pre .1))
-
-sub-done : tie.Need-sub-done Inv-loop μ-loop
-sub-done c =
-    let f : tie.After-run-free Inv-loop μ-loop = search in
-    omega (arith, f .run-free .ensures .1)
-
 -- the steps of a free run are not past those of the run
-within : (c : tie.After-run-free Inv-loop μ-loop)
+within : (c : tie.After-go-free Inv-loop μ-loop)
     → let l = loop-of (turn-of (plan-of (add-of (step-of c)))) in
     l .loop .done + 1 + did c ≤ start l .args .n
-within c = omega (arith, stepped (step-of c) .some, once-of c .at-once .ensures .0)
+within c = omega (arith, stepped (step-of c) .some, once-of c .at-once .ensures .0, c .go-free .ensures .1 .1)
 
 add-done-2 : tie.Need-add-done-2 Inv-loop μ-loop
 add-done-2 c =
-    let f : tie.After-run-free Inv-loop μ-loop = search in
+    let f : tie.After-go-free Inv-loop μ-loop = search in
     omega (arith, within f, start (loop-of (turn-of (plan-of (add-of (step-of f))))) .pre .1)
 
 loop-less : tie.Need-loop-less Inv-loop μ-loop
 loop-less c =
-    let f : tie.After-run-free Inv-loop μ-loop = search in
+    let f : tie.After-go-free Inv-loop μ-loop = search in
     omega (arith, within f, on (turn-of (plan-of (add-of (step-of f)))) .1)
 
 -- what the run has come to after it
-freed : (c : tie.After-gone-on Inv-loop μ-loop)
-    → let r = free-of c in
-    let f = r .run-free in
-    let l = loop-of (turn-of (plan-of (add-of (step-of r)))) in
+freed : (c : tie.After-go-free Inv-loop μ-loop)
+    → let f = c .go-free in
+    let l = loop-of (turn-of (plan-of (add-of (step-of c)))) in
     let a = start l .args in
     Along (eventsOf (now (a .events))) (stateOf (a .m) (now (a .memory))) (length (now (a .log)) / 8) (now (a .log)) (a .begun)
-    (stateWith (f .last .0) (c .gone-on .result) (f .last .1 .0)) (f .result .depth) (f .result .added) (f .last .1 .1 .0)
-    (l .loop .done + 1 + did r)
+    (stateWith (f .last .0) (f .result .rest) (f .last .1 .0)) (f .result .depth) (f .result .added) (f .last .1 .1 .0)
+    (l .loop .done + 1 + did c)
 freed c =
-    let r = free-of c in
-    let i = step-of r in
+    let i = step-of c in
     let h = stepped i in
     let p = plan-of (add-of i) in
     let s = start (loop-of (turn-of p)) in
     let q = i .before .before .before .perform in
     let d = due-of p .deliver-due .result in
-    let z = once-of r .at-once in
-    let f = r .run-free in
+    let z = once-of c .at-once in
+    let f = c .go-free in
     let b = now (s .args .events) in
     let lent = not (eqb (length (now (s .args .journal))) 0) in
-    let j = r .before .before .before .before in
+    let j = c .before .before .before .before in
     free-along (eventsOf b) _ _ _ _ (q .last .0) (q .result) (q .last .1 .0) _ _ _ _ (record { reached = h .reached; depth = h .deep })
     (z .result) (d .at .due) (j .if3 .taken) (halts-none lent (q .result .halted) (z .result) (z .ensures .2))
     (undisturbed b (d .at .next) (d .at .due) (q .result .count) (h .awaits) (s .pre .2)) (z .ensures .1)
-    (room-now _ _ _ _ _ _ _ (h .reached)) (f .last .0) (f .last .1 .0) (f .last .1 .1 .0) _ _ (did r) _ _ (f .ensures .0)
-    (c .gone-on .result) (c .gone-on .ensures)
+    (room-now _ _ _ _ _ _ _ (h .reached)) (f .last .0) (f .last .1 .0) (f .last .1 .1 .0) _ _ (did c) _ _ (f .ensures .0)
+    (f .result .rest) (f .ensures .1 .0)
 
 -- and the invariant holds
 loop-again : tie.Need-loop-again Inv-loop μ-loop
 loop-again c =
-    let g : tie.After-gone-on Inv-loop μ-loop = search in
-    let r = free-of g in
+    let r : tie.After-go-free Inv-loop μ-loop = search in
+    let g = r .go-free in
     let i = step-of r in
     let h = stepped i in
     let p = plan-of (add-of i) in
@@ -336,18 +316,17 @@ loop-again c =
     let b = now (s .args .events) in
     let b₀ = now (s .args .journal) in
     let j = did r in
-    let n : g .gone-on .result .count ≡ q .result .count + j = ap (λ (x : Rest). x .count) (g .gone-on .ensures) in
-    let w = freed g in record {
+    let n : g .result .rest .count ≡ q .result .count + j = ap (λ (x : Rest). x .count) (g .ensures .1 .0) in
+    let w = freed r in record {
       some = omega (arith, within r);
-      size = omega (arith, h .size, r .run-free .kept .1 .0);
+      size = omega (arith, h .size, g .kept .1 .0);
       counts = omega (arith, n, h .counts);
       awaits = awaits-later b (d .at .next) (d .at .due) (q .result .count) (h .awaits) _ (omega (arith, n));
       reached = w .reached;
-      whole = h .whole;
       sixteen = h .sixteen;
       deep = w .depth;
       kept = kept-free b₀ (s .args .begins) (eventsOf b) _ (l .loop .done + 1) j
-          (lends-none b₀ (q .result .halted) (z .result) (r .run-free .result .left) (z .ensures .2)) _ (h .kept);
+          (lends-none b₀ (q .result .halted) (z .result) j (g .ensures .1 .1) (z .ensures .2)) _ (h .kept);
       lends = h .lends;
     }
 
@@ -365,7 +344,7 @@ exits : (c : tie.Joined1 Inv-loop μ-loop)
     let b = now (s .args .events) in
     let s₀ = stateOf (s .args .m) (now (s .args .memory)) in
     Reached (runLogged (eventsOf b) s₀ (length (now (s .args .log)) / 8) (s .args .n)) (now (s .args .log))
-    (stateWith (x .regs) (l .t) (x .memory)) (l .done) (l .added) (l .log) (x .short)
+    (stateWith (x .regs) (l .t) (x .memory)) (l .done) (l .added) (l .log) (ltb (l .done) (s .args .n) && not (l .t .halted))
     × (length (x .memory) ≡ length (l .memory))
 exits c =
     let l = c .before .before .loop in
@@ -375,7 +354,7 @@ exits c =
     let lent = not (eqb (length (now (a .journal))) 0) in
     ⊎-elim
     (λ w. (
-      carried (w .1) (w .2) (w .3 ∙ l .inv .whole)
+      carried (w .1) (w .2) (w .0 .left)
           (reached-left _ _ _ _ _ _ _ _ (l .inv .reached) (a .n) (l .inv .some)
           (all-done (l .t .halted) (l .done) (a .n) (l .inv .some) (w .0 .left))),
       ap length (w .1),
@@ -387,7 +366,7 @@ exits c =
     (w .14 .result) (w .14 .ensures) _ (w .15 .ensures) (w .16 .taken) (l .at .next) (l .at .due) (l .inv .awaits) (s .pre .2) (s .pre .3)
     (omega (arith, s .pre .0, l .inv .size)) lent _ (w .1 .ensures) _ (w .4 .ensures .0) in
     let mem = w .23 ∙ w .20 .ensures ∙ back in (
-      carried mem (w .24) (w .25)
+      carried mem (w .24) (w .0 .taken)
           (undone b _ _ _ _ _ _ _ _ _ (l .inv .reached) (more .0) _ _ (w .7 .ensures .0) _ (w .12 .ensures .0)
           (w .14 .result) (w .14 .ensures) _ (w .15 .ensures) (w .16 .taken) (l .at .next) (l .at .due) (l .inv .awaits) (s .pre .2)
           (s .pre .3) (omega (arith, s .pre .0, l .inv .size)) lent _ (w .1 .ensures) _ (w .4 .ensures .0) (a .n) (more .1)),
@@ -419,16 +398,19 @@ returns c =
     let b = now (a .events) in
     let s₀ = stateOf (a .m) (now (a .memory)) in
     let h = exits (c .before) .0 in (
-      record {
-        state = h .state;
-        reason = c .reason-of .ensures ∙ (λ i. cond (h .short i) NoRoom (cond (h .state i .halted) Halted Done));
-        steps = h .steps;
-        added = h .added;
-        log = h .log;
-        next = l .inv .awaits .0;
-        depth = l .inv .deep ∙ ap (depthFrom (eventsOf b) s₀ (a .begun)) (h .steps);
-      },
-      l .inv .kept ∙ ap (keptOver (now (a .journal)) (a .begins) (eventsOf b) s₀) (h .steps),
+      subst (λ (r : Ran). RunLeaves b s₀ (now (a .log)) (a .begun) (a .n) r (c .before .if1 .memory) (l .log)) (sym (c .ended .ensures))
+          record {
+            state = h .state;
+            reason = λ i. cond (h .short i) NoRoom (cond (h .state i .halted) Halted Done);
+            steps = h .steps;
+            added = h .added;
+            log = h .log;
+            next = l .inv .awaits .0;
+            depth = l .inv .deep ∙ ap (depthFrom (eventsOf b) s₀ (a .begun)) (h .steps);
+          },
+      ap (λ (r : Ran). journalWith (l .journal) (r .ring)) (c .ended .ensures)
+          ∙ l .inv .kept
+          ∙ ap (keptOver (now (a .journal)) (a .begins) (eventsOf b) s₀) (h .steps),
     )
 
 pub run-kept-spec : {M : Type 1} → statement M
@@ -437,5 +419,5 @@ run-kept-spec =
     (tie.spec Inv-loop μ-loop (λ c κs. search needs) loop-holds (λ c κs. search needs)
     slice-aggregate-keep keep-requires deliver-due-requires plan-requires shown-by-requires lacks-room-requires
     slice-aggregate-put-back put-back-requires add-requires moved-requires (λ c. search needs) keep-step-requires perform-requires add-done
-    sub-at-once (λ c κs. search needs) run-free-requires gone-on-requires sub-done add-done-2 loop-less loop-again loop-less-2 loop-again-2
+    sub-at-once (λ c κs. search needs) go-free-requires add-done-2 loop-less loop-again loop-less-2 loop-again-2
     (λ c κs. search needs) same-length same-length-2 same-length-3 returns)

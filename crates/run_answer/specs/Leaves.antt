@@ -1,4 +1,4 @@
--- What a run leaves: one promise, which every run of this crate makes (document 02, §1 and §10).
+-- What a run leaves: one promise, which every run makes (document 02, §1 and §10).
 -- Assumes nothing.
 use Prim.Native.Nat.{ℕ}
 use mathlib.Core.List.{List}
@@ -11,7 +11,7 @@ use Rattle.machine.specs.Logged.{Logged, runLogged, reasonLogged}
 use Rattle.machine.specs.Call.{roomOf, logAfter}
 use Rattle.machine.specs.Depth.{depthFrom}
 use Rattle.devices.specs.Cursor.{Behind}
-use Rattle.run.specs.declared.Ran.{Ran}
+use Rattle.run_answer.specs.declared.Ran.{Ran}
 
 -- the run of n steps from s, with these events and with room in the log that is lent. [02 §1]
 abbrev pub runLent : (events : List ℕ) → State → (lent : List ℕ) → (n : ℕ) → Logged

@@ -22,7 +22,7 @@ use Rattle.journal.specs.Ring.{Journal, keep, journalAfter}
 use Rattle.journal_record.specs.declared.Ring.{Ring}
 use Rattle.journal_record.specs.Ring.{journalWith, keptIn}
 use Rattle.journal_record.specs.Before.{Before}
-use Rattle.run.specs.Kept.{keptOver}
+use Rattle.kept_run.specs.Kept.{keptOver}
 
 -- ---- the journal after so many steps
 

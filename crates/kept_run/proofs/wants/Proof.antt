@@ -1,7 +1,7 @@
 use mathlib.Core.Path.{refl}
 use borrow.Author.Needs.{needs}
-use Rattle.run.proofs.wants.Statement.{statement}
-use Rattle.run.proofs.wants.Tie as tie
+use Rattle.kept_run.proofs.wants.Statement.{statement}
+use Rattle.kept_run.proofs.wants.Tie as tie
 
 returns-2 : tie.Need-returns-2
 returns-2 c = rw (c .before .if1 .left, c .if2 .taken) refl

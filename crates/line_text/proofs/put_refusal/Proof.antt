@@ -1,8 +1,8 @@
 use native.Mathlib.Omega.{arith}
 use borrow.Author.Needs.{needs}
-use Rattle.printed_line.proofs.Texts.{refusal-text, kept-thrice}
-use Rattle.printed_line.proofs.line.put_refusal.Statement.{statement}
-use Rattle.printed_line.proofs.line.put_refusal.Tie as tie
+use Rattle.line_text.proofs.Texts.{refusal-text, kept-thrice}
+use Rattle.line_text.proofs.put_refusal.Statement.{statement}
+use Rattle.line_text.proofs.put_refusal.Tie as tie
 
 returns : tie.Need-returns
 returns c =

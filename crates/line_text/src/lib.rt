@@ -1,12 +1,14 @@
 // The line that is printed: of a run, or of a refusal. What stands past it is left.
+mod fields;
+
 ghost use mathlib.Core.Path.{_≡_};
 ghost use mathlib.Core.List.{List, _++_};
 ghost use Prim.Native.Nat.{ℕ, _+_, _≤_};
 ghost use lib.ListN.{length, take, drop};
 ghost use Rattle.machine.specs.State.{stateOf};
 ghost use Rattle.machine.specs.Run.{ran};
-ghost use Rattle.printed_line.specs.Sheet.{lineOf, refusedLine};
-ghost use Rattle.printed_line.specs.Parts.{machineText};
+ghost use Rattle.line_text.specs.Line.{lineOf, refusedLine};
+ghost use Rattle.line_text.specs.Parts.{machineText};
 use crate::fields::put_field;
 use crate::fields::put_number;
 use crate::fields::put_words;

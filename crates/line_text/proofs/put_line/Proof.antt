@@ -1,9 +1,9 @@
 use native.Mathlib.Omega.{arith}
 use borrow.Author.Needs.{needs}
 use Rattle.text.proofs.Laws.{kept-twice}
-use Rattle.printed_line.proofs.Texts.{line-text, reason-fits, kept-thrice}
-use Rattle.printed_line.proofs.line.put_line.Statement.{statement}
-use Rattle.printed_line.proofs.line.put_line.Tie as tie
+use Rattle.line_text.proofs.Texts.{line-text, reason-fits, kept-thrice}
+use Rattle.line_text.proofs.put_line.Statement.{statement}
+use Rattle.line_text.proofs.put_line.Tie as tie
 
 add-put : tie.Need-add-put
 add-put c = reason-fits (c .before .before .before .args .m .rest .halted)

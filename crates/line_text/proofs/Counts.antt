@@ -5,7 +5,7 @@ use mathlib.Core.Path.{_≡_, refl, ap, _∙_}
 use native.Mathlib.Omega.{arith}
 use lib.Pow.{shr-shr}
 use Rattle.text.specs.Text.{glyph, hexOf}
-use Rattle.printed_line.specs.Counts.{CountsPrinted}
+use Rattle.line_text.specs.Counts.{CountsPrinted}
 
 -- the number from place k on, four places further
 next : (l k : ℕ) {q : ℕ} → q ≡ l / 2 ^ k → q / 16 ≡ l / 2 ^ (k + 4)

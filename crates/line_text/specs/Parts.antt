@@ -5,7 +5,7 @@ use mathlib.Core.List.{List, [], _∷_, _++_}
 use lib.ListN.{getD}
 use Rattle.machine.specs.declared.Machine.{Machine}
 use Rattle.text.specs.Text.{hexOf}
-use Rattle.printed_line.specs.Sheet.{spaced}
+use Rattle.line_text.specs.Line.{spaced}
 
 -- four words in a row, each after a space. [01 Sheet for the markers]
 abbrev pub wordsText : (a b c d : ℕ) → List ℕ

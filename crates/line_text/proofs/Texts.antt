@@ -1,11 +1,9 @@
--- The printed line from its parts, and a part of the input copied byte by byte.
--- Assumes nothing.
+-- The printed line from its parts, each written behind the one before it. Assumes nothing.
 use Prim.Native.Nat.{ℕ, _+_, _≤_}
-use mathlib.Core.Path.{_≡_, refl, sym, ap, _∙_}
+use mathlib.Core.Path.{_≡_, refl, ap, _∙_}
 use mathlib.Core.Bool.{Bool, true, false, cond}
 use mathlib.Core.List.{List, [], _∷_, _++_, append-assoc}
-use lib.ListN.{length, getD, take, drop}
-use lib.Seq.{take-all}
+use lib.ListN.{getD, drop}
 use mir.Syntax.{w8}
 use mir.Val.{Fits, boolByte}
 use mir.Facts.{fits-lit}
@@ -15,8 +13,8 @@ use Rattle.machine.specs.State.{stateOf}
 use Rattle.machine.specs.Run.{ran, reasonNumber}
 use Rattle.text.specs.Text.{hexOf, decimalOf}
 use Rattle.text.proofs.Laws.{kept-twice}
-use Rattle.printed_line.specs.Sheet.{spaced, lineOf, refusedLine}
-use Rattle.printed_line.specs.Parts.{wordsText, machineText}
+use Rattle.line_text.specs.Line.{spaced, lineOf, refusedLine}
+use Rattle.line_text.specs.Parts.{wordsText, machineText}
 
 -- ---- parts of a line, each after the one before it; p stands before them
 
@@ -97,8 +95,3 @@ refusal-text n ea eb ec = rw (ec, eb, ea)
 pub kept-thrice : (a b c : ℕ) (x y z w : List ℕ) → a ≤ b → b ≤ c
     → drop a y ≡ drop a x → drop b z ≡ drop b y → drop c w ≡ drop c z → drop c w ≡ drop c x
 kept-thrice a b c x y z w hb hc first second third = kept-twice b c x z w hc (kept-twice a b x y z hb first second) third
-
--- ---- a list copied element by element
-
-pub copy-all : (src dst : List ℕ) (i : ℕ) → length dst ≤ i → length src ≤ i → take i dst ≡ take i src → dst ≡ src
-copy-all src dst i hd hs e = sym (take-all i dst hd) ∙ e ∙ take-all i src hs

@@ -1,7 +1,7 @@
-use Rattle.trace_record.proofs.Laws.{bits-off, bits-on}
+use Rattle.trace_step.proofs.Laws.{bits-off, bits-on}
 use borrow.Author.Needs.{needs}
-use Rattle.trace_record.proofs.event_bits.Statement.{statement}
-use Rattle.trace_record.proofs.event_bits.Tie as tie
+use Rattle.trace_step.proofs.event_bits.Statement.{statement}
+use Rattle.trace_step.proofs.event_bits.Tie as tie
 
 returns : tie.Need-returns
 returns c = bits-off (c .before .args .t) (c .before .args .waiting) (c .if1 .taken)

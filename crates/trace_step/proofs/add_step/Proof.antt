@@ -1,8 +1,9 @@
 -- What a step adds is its events' records and then its act's (Step, step-with), or the act's alone where no event's is wanted or asked
 -- for (step-without): so room for all is room for the first part, and the two parts stand one behind the other. Assumes nothing.
-use Rattle.trace_record.specs.Written.{asSeen, actWritten}
+use Rattle.trace_record.specs.Written.{actWritten}
+use Rattle.trace_step.specs.Steps.{asSeen}
 use Rattle.trace.specs.Before.{eventsBefore}
-use Rattle.trace_record.proofs.Step.{step-with, step-without, first-fits, joined-fits, joined-count, joined-bytes}
+use Rattle.trace_step.proofs.Step.{step-with, step-without, first-fits, joined-fits, joined-count, joined-bytes}
 use Rattle.trace.specs.Trace.{traceBytes}
 use Rattle.machine.specs.Events.{eventsOf}
 use lib.Seq.{sets}
@@ -12,8 +13,8 @@ use mathlib.Core.Path.{ap, _∙_}
 use native.Mathlib.Omega.{arith}
 use Prim.Native.Nat.{_+_, _*_}
 use borrow.Author.Needs.{needs}
-use Rattle.trace_record.proofs.add_step.Statement.{statement}
-use Rattle.trace_record.proofs.add_step.Tie as tie
+use Rattle.trace_step.proofs.add_step.Statement.{statement}
+use Rattle.trace_step.proofs.add_step.Tie as tie
 
 add-events-requires : tie.Need-add-events-requires
 add-events-requires c κs =

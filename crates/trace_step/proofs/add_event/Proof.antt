@@ -1,10 +1,10 @@
-use Rattle.trace_record.proofs.Laws.{event-written}
+use Rattle.trace_step.proofs.Laws.{event-written}
 use Rattle.machine.specs.Events.{eventAt}
 use denote.Ref.{now}
 use native.Mathlib.Omega.{arith}
 use borrow.Author.Needs.{needs}
-use Rattle.trace_record.proofs.add_event.Statement.{statement}
-use Rattle.trace_record.proofs.add_event.Tie as tie
+use Rattle.trace_step.proofs.add_event.Statement.{statement}
+use Rattle.trace_step.proofs.add_event.Tie as tie
 
 shared-slice-read-t : tie.Need-shared-slice-read-t
 unfolding eventAt

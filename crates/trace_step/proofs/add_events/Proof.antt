@@ -11,10 +11,10 @@ use Rattle.machine.specs.Events.{eventAt, eventsOf, eventCount}
 use Rattle.devices.proofs.Laws.{stepAt, restFrom, device-lt}
 use Rattle.trace.specs.Trace.{traceBytes}
 use Rattle.trace.specs.Before.{eventsBefore}
-use Rattle.trace_record.specs.Written.{asSeen}
-use Rattle.trace_record.proofs.Index as index
-use Rattle.trace_record.proofs.add_events.Statement.{statement}
-use Rattle.trace_record.proofs.add_events.Tie as tie
+use Rattle.trace_step.specs.Steps.{asSeen}
+use Rattle.trace_step.proofs.Index as index
+use Rattle.trace_step.proofs.add_events.Statement.{statement}
+use Rattle.trace_step.proofs.add_events.Tie as tie
 
 abbrev Inv-loop : tie.InvT-loop
 Inv-loop trace₀ k b events next devices lines n at₀ added₀ trace at added = record {

@@ -27,8 +27,9 @@ use Rattle.trace.proofs.Steps.{traced-parts}
 use Rattle.trace.proofs.Before.{events-before}
 use Rattle.trace.proofs.Bytes.{trace-length, trace-append}
 use Rattle.stores.proofs.Laws.{sets-then}
 use Rattle.trace_record.specs.declared.Before.{Before}
-use Rattle.trace_record.specs.Written.{entryWith, asSeen, seenOf, toldOf, actWritten, eventsWritten, stepWritten}
+use Rattle.trace_record.specs.Written.{entryWith, seenOf, toldOf, actWritten}
+use Rattle.trace_step.specs.Steps.{asSeen, eventsWritten, stepWritten}
 
 -- ---- events
 

@@ -10,9 +10,9 @@ use Rattle.machine.specs.State.{State}
 use Rattle.machine.specs.Events.{eventsOf, eventCount}
 use Rattle.devices.proofs.Laws.{stepAt, restFrom}
 use Rattle.trace.specs.Before.{eventsBefore}
-use Rattle.trace_record.proofs.Index as index
-use Rattle.trace_record.proofs.count_due.Statement.{statement}
-use Rattle.trace_record.proofs.count_due.Tie as tie
+use Rattle.trace_step.proofs.Index as index
+use Rattle.trace_step.proofs.count_due.Statement.{statement}
+use Rattle.trace_step.proofs.count_due.Tie as tie
 
 abbrev Inv-loop : tie.InvT-loop
 Inv-loop events next count n at₀ due₀ at due = record {

@@ -1,5 +1,6 @@
-use Rattle.trace_record.specs.Written.{asSeen, actWritten}
-use Rattle.trace_record.proofs.Step.{one-at-most, both-count, act-count, step-with, step-without}
+use Rattle.trace_record.specs.Written.{actWritten}
+use Rattle.trace_step.specs.Steps.{asSeen}
+use Rattle.trace_step.proofs.Step.{one-at-most, both-count, act-count, step-with, step-without}
 use Rattle.trace.specs.Before.{eventsBefore}
 use Rattle.machine.specs.Events.{eventsOf}
 use lib.ListN.{length}
@@ -7,8 +8,8 @@ use denote.Ref.{now}
 use mathlib.Core.Path.{sym, ap, _∙_}
 use native.Mathlib.Omega.{arith}
 use borrow.Author.Needs.{needs}
-use Rattle.trace_record.proofs.needed.Statement.{statement}
-use Rattle.trace_record.proofs.needed.Tie as tie
+use Rattle.trace_step.proofs.needed.Statement.{statement}
+use Rattle.trace_step.proofs.needed.Tie as tie
 
 add-result : tie.Need-add-result
 add-result c =

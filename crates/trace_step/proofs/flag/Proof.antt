@@ -1,6 +1,6 @@
 use native.Mathlib.Omega.{arith}
-use Rattle.trace_record.proofs.flag.Statement.{statement}
-use Rattle.trace_record.proofs.flag.Tie as tie
+use Rattle.trace_step.proofs.flag.Statement.{statement}
+use Rattle.trace_step.proofs.flag.Tie as tie
 
 returns : tie.Need-returns
 returns c = (rw (c .if1 .taken) (omega arith), omega arith)

@@ -39,7 +39,7 @@ use Rattle.machine_laws.proofs.Memory.{word-back}
 use Rattle.machine_laws.proofs.Records.{four-back, passed, is-accepted}
 use Rattle.machine_laws.proofs.Runs.{step-halted, run-zero, run-next, run-halted}
 use Rattle.run_laws.proofs.Room.{logged-le, records-le}
-use Rattle.run.proofs.Calls.{call-passed}
+use Rattle.run_answer.proofs.Calls.{call-passed}
 use Rattle.open_machine.specs.Advance.{Advance, leftAlone, advancedBy, advanceFor, advanceOf, advanceDeepest}
 use Rattle.open_machine.specs.Advance.{Taken, stepFor, stepAdvance}
 

@@ -85,7 +85,7 @@ pub fn advance_by_value(
     let r = run::run(m, memory, events, 0, log, none, n as u32);
     *deepest = r.depth.deepest;
     let machine = r.machine;
-    let reply = run::reply_of(r);
+    let reply = run_answer::reply_of(r);
     Advanced { machine, reply }
 }
 

@@ -130,10 +130,7 @@ pub fn swap_word(regs: &mut [u16; 8], pc: usize, w: usize) -> usize
 {
     let src = w / 8 % 8;
     let dst = w % 8;
-    if src == 7 {
-        return LEFT_ALONE;
-    }
-    if dst == 7 {
+    if (src == 7) | (dst == 7) {
         return LEFT_ALONE;
     }
     let s = reg(regs, src);
@@ -143,7 +140,7 @@ pub fn swap_word(regs: &mut [u16; 8], pc: usize, w: usize) -> usize
     pc
 }
 
-// 4D00 to 4D7F: SRA, RRC, COMP, SWPB, SXT, by bits 5 to 3. Those of no instruction are left alone.
+// 4D00 to 4D7F: SRA, RRC, COMP, SWPB, SXT, by bits 6 to 3. Those of no instruction are left alone.
 pub fn single_word(
     regs: &mut [u16; 8],
     psw: u16,
@@ -160,13 +157,15 @@ pub fn single_word(
         (now (regs .exit))
         (held psw (now (last .exit)) (now (sum .exit)) (now (over .exit))) cex r) ⌝ }
 {
-    let byte = w / 64 % 2 == 1;
-    match w / 8 % 8 {
-        0 => compute(regs, psw, last, sum, over, pc, w, Op::Sra, byte, 0),
-        1 => compute(regs, psw, last, sum, over, pc, w, Op::Rrc, byte, 0),
-        2 => compute(regs, psw, last, sum, over, pc, w, Op::Comp, byte, 0),
-        3 => compute(regs, psw, last, sum, over, pc, w, Op::Swpb, false, 0),
-        4 => compute(regs, psw, last, sum, over, pc, w, Op::Sxt, false, 0),
+    match w / 8 % 16 {
+        0 => compute(regs, psw, last, sum, over, pc, w, Op::Sra, false, 0),
+        1 => compute(regs, psw, last, sum, over, pc, w, Op::Rrc, false, 0),
+        2 => compute(regs, psw, last, sum, over, pc, w, Op::Comp, false, 0),
+        3 | 11 => compute(regs, psw, last, sum, over, pc, w, Op::Swpb, false, 0),
+        4 | 12 => compute(regs, psw, last, sum, over, pc, w, Op::Sxt, false, 0),
+        8 => compute(regs, psw, last, sum, over, pc, w, Op::Sra, true, 0),
+        9 => compute(regs, psw, last, sum, over, pc, w, Op::Rrc, true, 0),
+        10 => compute(regs, psw, last, sum, over, pc, w, Op::Comp, true, 0),
         _ => LEFT_ALONE,
     }
 }
@@ -194,11 +193,8 @@ pub fn flags_word(last: &mut u16, sum: &mut u32, over: &mut u32, pc: usize, w: u
 pub fn priority_word(psw: &mut u16, free: bool, pc: usize, w: usize) -> usize
     ensures { λ r. ⌜ Lowers free w pc (now (psw .entry)) (now (psw .exit)) r ⌝ }
 {
-    if (w / 8 != 0x9B0) | !free {
-        return LEFT_ALONE;
-    }
     let level = (w % 8) as u16;
-    if word::current_priority(*psw) < level {
+    if (w / 8 != 0x9B0) | !free | (word::current_priority(*psw) < level) {
         return LEFT_ALONE;
     }
     *psw = operands::priority_put(*psw, level);

@@ -9,7 +9,7 @@ ghost use lib.Dec.{eqb};
 ghost use mathlib.Core.Bool.{Bool, not};
 ghost use Rattle.word.specs.Width.{widthOf};
 ghost use Rattle.alu.specs.Alu.{aluOf, logical, summed, shifted};
-ghost use Rattle.machine.specs.Cex.{conditionOf};
+ghost use Rattle.machine.specs.Cex.{conditionOf, atLeast?};
 ghost use Rattle.machine.specs.Effect.{setFlags, clearFlags, takenOf};
 ghost use Rattle.flags.specs.Kept.{held, nothing?, minus?};
 use alu::Op;

@@ -206,24 +206,6 @@ module _ (p last sum over : ℕ) where
       (λ i. flagged p (ec i) (ez i) (en i) (ev i))
       ∙ sym (flagged-again p (bitOf 16 sum) (nothing? last) (minus? last) (bitOf 15 over) c z n v)
 
--- C, and Z and N of another result
-pub held-three : (p last sum over last' sum' : ℕ) (c z n : Bool) → bitOf 16 sum' ≡ c → nothing? last' ≡ z → minus? last' ≡ n
-    → held p last' sum' over ≡ putBit 2 (putBit 1 (putBit 0 (held p last sum over) c) z) n
-held-three p last sum over last' sum' c z n ec ez en =
-    held-two p last sum' over last' z n ez en
-    ∙ sym (ap (λ (q : ℕ). putBit 2 (putBit 1 q z) n) (held-put-carry p last sum over sum' c ec))
-
--- the same bits from 5 on and the same SLP: the same PSW with these flags
-pub held-same : (q p last sum over : ℕ) → q / 32 ≡ p / 32 → asleep? q ≡ asleep? p → held q last sum over ≡ held p last sum over
-unfolding held
-held-same q p last sum over h s =
-    let c = bitOf 16 sum in
-    let z = nothing? last in
-    let n = minus? last in
-    let v = bitOf 15 over in
-    same-flagged p c z n v (flagged q c z n v) (flagged-above q c z n v ∙ h) (flagged-asleep q c z n v ∙ s) (flagged-carry q c z n v)
-    (flagged-zero q c z n v) (flagged-negative q c z n v) (flagged-overflow q c z n v)
-
 -- ---- another priority
 
 module _ (q p level : ℕ) where

@@ -12,7 +12,7 @@ use Rattle.word.specs.Width.{widthOf, low, withLow}
 use Rattle.word.specs.Psw.{bitOf}
 use Rattle.word.proofs.Laws.{two-halves, width-pos, fits-word, low-lt}
 use Rattle.alu.specs.Sums.{addWithCarry, negative, differs, overflowOf}
-use Rattle.alu.specs.Alu.{summed, logical, shifted, halved, signFlags}
+use Rattle.alu.specs.Alu.{summed, shifted, halved, signFlags}
 use Rattle.flags.specs.Kept.{nothing?, minus?, held}
 use Rattle.flags.proofs.Bits.{and-bit, xor-bit, top-bit, low-bit, kept-top, kept-carry}
 use Rattle.flags.proofs.Laws.{held-put-carry, held-two, held-four}

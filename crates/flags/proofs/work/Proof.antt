@@ -42,8 +42,8 @@ returns c =
     let at-enum-told : tie.After-enum-told = search in
     let at-low-bits2 : tie.After-low-bits2 = search in
     let a = at-start .args in
-    adds (a .byte) (a .d) (a .s) (now (a .last)) (now (a .sum)) (now (a .over)) (at-enum-told .enum-told .given .1) (at-low-bits2 .low-bits2 .ensures .0) (λ p. refl) (λ p. refl)
-    (c .add .ensures .0) (c .add .ensures .1)
+    adds (a .byte) (a .d) (a .s) (now (a .last)) (now (a .sum)) (now (a .over)) (at-enum-told .enum-told .given .1)
+    (at-low-bits2 .low-bits2 .ensures .0) (λ p. refl) (λ p. refl) (c .add .ensures .0) (c .add .ensures .1)
 
 returns-2 : tie.Need-returns-2
 unfolding aluOf
@@ -52,8 +52,9 @@ returns-2 c =
     let at-enum-told2 : tie.After-enum-told2 = search in
     let at-low-bits2 : tie.After-low-bits2 = search in
     let a = at-start .args in
-    adds (a .byte) (a .d) (a .s) (now (a .last)) (now (a .sum)) (now (a .over)) (at-enum-told2 .enum-told2 .given .1) (at-low-bits2 .low-bits2 .ensures .0)
-    (held-carry-of (now (a .last)) (now (a .sum)) (now (a .over))) (λ p. refl) (c .add2 .ensures .0) (c .add2 .ensures .1)
+    adds (a .byte) (a .d) (a .s) (now (a .last)) (now (a .sum)) (now (a .over)) (at-enum-told2 .enum-told2 .given .1)
+    (at-low-bits2 .low-bits2 .ensures .0) (held-carry-of (now (a .last)) (now (a .sum)) (now (a .over))) (λ p. refl) (c .add2 .ensures .0)
+    (c .add2 .ensures .1)
 
 returns-3 : tie.Need-returns-3
 unfolding aluOf
@@ -62,8 +63,8 @@ returns-3 c =
     let at-enum-told3 : tie.After-enum-told3 = search in
     let at-turned-bits : tie.After-turned-bits = search in
     let a = at-start .args in
-    adds (a .byte) (a .d) (a .s) (now (a .last)) (now (a .sum)) (now (a .over)) (at-enum-told3 .enum-told3 .given .1) (at-turned-bits .turned-bits .ensures .0) (λ p. refl)
-    (λ p. refl) (c .add3 .ensures .0) (c .add3 .ensures .1)
+    adds (a .byte) (a .d) (a .s) (now (a .last)) (now (a .sum)) (now (a .over)) (at-enum-told3 .enum-told3 .given .1)
+    (at-turned-bits .turned-bits .ensures .0) (λ p. refl) (λ p. refl) (c .add3 .ensures .0) (c .add3 .ensures .1)
 
 returns-4 : tie.Need-returns-4
 unfolding aluOf
@@ -72,8 +73,9 @@ returns-4 c =
     let at-enum-told4 : tie.After-enum-told4 = search in
     let at-turned-bits2 : tie.After-turned-bits2 = search in
     let a = at-start .args in
-    adds (a .byte) (a .d) (a .s) (now (a .last)) (now (a .sum)) (now (a .over)) (at-enum-told4 .enum-told4 .given .1) (at-turned-bits2 .turned-bits2 .ensures .0)
-    (held-carry-of (now (a .last)) (now (a .sum)) (now (a .over))) (λ p. refl) (c .add4 .ensures .0) (c .add4 .ensures .1)
+    adds (a .byte) (a .d) (a .s) (now (a .last)) (now (a .sum)) (now (a .over)) (at-enum-told4 .enum-told4 .given .1)
+    (at-turned-bits2 .turned-bits2 .ensures .0) (held-carry-of (now (a .last)) (now (a .sum)) (now (a .over))) (λ p. refl)
+    (c .add4 .ensures .0) (c .add4 .ensures .1)
 
 returns-5 : tie.Need-returns-5
 unfolding aluOf
@@ -82,8 +84,8 @@ returns-5 c =
     let at-enum-told5 : tie.After-enum-told5 = search in
     let at-turned-bits3 : tie.After-turned-bits3 = search in
     let a = at-start .args in
-    compares (a .byte) (a .d) (a .s) (now (a .last)) (now (a .sum)) (now (a .over)) (at-enum-told5 .enum-told5 .given .1) 1 (at-turned-bits3 .turned-bits3 .ensures .0)
-    (λ p. refl) (c .add5 .ensures .1)
+    compares (a .byte) (a .d) (a .s) (now (a .last)) (now (a .sum)) (now (a .over)) (at-enum-told5 .enum-told5 .given .1) 1
+    (at-turned-bits3 .turned-bits3 .ensures .0) (λ p. refl) (c .add5 .ensures .1)
 
 returns-6 : tie.Need-returns-6
 unfolding aluOf
@@ -94,7 +96,8 @@ returns-6 c =
     let at-negative : tie.After-negative = search in
     let a = at-start .args in
     sums (a .byte) (a .d) (a .s) (now (a .last)) (now (a .sum)) (now (a .over)) (c .marks .result)
-    (c .marks .ensures .1 ∙ at-negative .negative .ensures) (at-alu .alu .ensures) refl (at-enum-told6 .enum-told6 .given .1) (c .marks .ensures .0)
+    (c .marks .ensures .1 ∙ at-negative .negative .ensures) (at-alu .alu .ensures) refl (at-enum-told6 .enum-told6 .given .1)
+    (c .marks .ensures .0)
 
 returns-7 : tie.Need-returns-7
 unfolding aluOf
@@ -165,7 +168,8 @@ returns-12 c =
     let at-negative3 : tie.After-negative3 = search in
     let a = at-start .args in
     raises (a .byte) (a .d) (a .s) (now (a .last)) (now (a .sum)) (now (a .over)) (c .marks3 .result)
-    (c .marks3 .ensures .1 ∙ at-negative3 .negative3 .ensures) (at-alu3 .alu3 .ensures) (at-enum-told12 .enum-told12 .given .1) (c .marks3 .ensures .0)
+    (c .marks3 .ensures .1 ∙ at-negative3 .negative3 .ensures) (at-alu3 .alu3 .ensures) (at-enum-told12 .enum-told12 .given .1)
+    (c .marks3 .ensures .0)
 
 returns-13 : tie.Need-returns-13
 unfolding aluOf
@@ -196,8 +200,8 @@ returns-15 c =
     let at-enum-told15 : tie.After-enum-told15 = search in
     let at-turned-bits4 : tie.After-turned-bits4 = search in
     let a = at-start .args in
-    joins (a .byte) (a .d) (a .s) (now (a .last)) (now (a .sum)) (now (a .over)) (at-enum-told15 .enum-told15 .given .1) (at-turned-bits4 .turned-bits4 .ensures .0)
-    (λ p. refl) (c .logic5 .ensures .0) (c .logic5 .ensures .1)
+    joins (a .byte) (a .d) (a .s) (now (a .last)) (now (a .sum)) (now (a .over)) (at-enum-told15 .enum-told15 .given .1)
+    (at-turned-bits4 .turned-bits4 .ensures .0) (λ p. refl) (c .logic5 .ensures .0) (c .logic5 .ensures .1)
 
 returns-16 : tie.Need-returns-16
 unfolding aluOf
@@ -213,7 +217,8 @@ returns-17 c =
     let at-start : tie.Start = search in
     let at-enum-told17 : tie.After-enum-told17 = search in
     let a = at-start .args in
-    extends (a .byte) (a .d) (a .s) (now (a .last)) (now (a .sum)) (now (a .over)) (c .alu5 .ensures) (at-enum-told17 .enum-told17 .given .1)
+    extends (a .byte) (a .d) (a .s) (now (a .last)) (now (a .sum)) (now (a .over)) (c .alu5 .ensures)
+    (at-enum-told17 .enum-told17 .given .1)
 
 pub work-spec : {M : Type 1} → statement M
 work-spec =

@@ -45,8 +45,7 @@ pub fn set_reg(regs: &mut [u16; 8], i: usize, v: u16)
 // An operation whose result is written, to any register but R7.
 pub fn compute(
     regs: &mut [u16; 8],
-    psw: u16,
-    last: &mut u16,
+    last: &mut u32,
     sum: &mut u32,
     over: &mut u32,
     pc: usize,
@@ -55,39 +54,18 @@ pub fn compute(
     byte: bool,
     s: u16,
 ) -> usize
-    ensures { λ r. ⌜ Computes op byte s w pc
+    ensures { λ r. ⌜ ((psw : ℕ) → Computes op byte s w pc
         (now (regs .entry))
         (held psw (now (last .entry)) (now (sum .entry)) (now (over .entry)))
         (now (regs .exit))
-        (held psw (now (last .exit)) (now (sum .exit)) (now (over .exit))) r ⌝ }
+        (held psw (now (last .exit)) (now (sum .exit)) (now (over .exit))) r) ⌝ }
 {
     let dst = w % 8;
     if dst == 7 {
         return LEFT_ALONE;
     }
-    let v = flags::work(op, byte, reg(regs, dst), s, psw, last, sum, over);
+    let v = flags::work(op, byte, reg(regs, dst), s, last, sum, over);
     set_reg(regs, dst, v);
-    pc
-}
-
-// CMP and BIT: the flags alone.
-pub fn test(
-    regs: &[u16; 8],
-    psw: u16,
-    last: &mut u16,
-    sum: &mut u32,
-    over: &mut u32,
-    pc: usize,
-    w: usize,
-    op: Op,
-    byte: bool,
-    s: u16,
-) -> usize
-    ensures { λ r. ⌜ (r ≡ pc) × (held psw (now (last .exit)) (now (sum .exit)) (now (over .exit))
-        ≡ outcome op byte s w (now (regs .entry))
-        (held psw (now (last .entry)) (now (sum .entry)) (now (over .entry))) .psw) ⌝ }
-{
-    flags::work(op, byte, reg(regs, w % 8), s, psw, last, sum, over);
     pc
 }
 
@@ -143,35 +121,34 @@ pub fn swap_word(regs: &mut [u16; 8], pc: usize, w: usize) -> usize
 // 4D00 to 4D7F: SRA, RRC, COMP, SWPB, SXT, by bits 6 to 3. Those of no instruction are left alone.
 pub fn single_word(
     regs: &mut [u16; 8],
-    psw: u16,
-    last: &mut u16,
+    last: &mut u32,
     sum: &mut u32,
     over: &mut u32,
     pc: usize,
     w: usize,
 ) -> usize
     requires { ⌜ Past pc (now regs) ⌝ }
-    ensures { λ r. ⌜ ((cex : ℕ) → Tried (unaryOf w)
+    ensures { λ r. ⌜ ((psw cex : ℕ) → Tried (unaryOf w)
         (now (regs .entry))
         (held psw (now (last .entry)) (now (sum .entry)) (now (over .entry))) cex
         (now (regs .exit))
         (held psw (now (last .exit)) (now (sum .exit)) (now (over .exit))) cex r) ⌝ }
 {
     match w / 8 % 16 {
-        0 => compute(regs, psw, last, sum, over, pc, w, Op::Sra, false, 0),
-        1 => compute(regs, psw, last, sum, over, pc, w, Op::Rrc, false, 0),
-        2 => compute(regs, psw, last, sum, over, pc, w, Op::Comp, false, 0),
-        3 | 11 => compute(regs, psw, last, sum, over, pc, w, Op::Swpb, false, 0),
-        4 | 12 => compute(regs, psw, last, sum, over, pc, w, Op::Sxt, false, 0),
-        8 => compute(regs, psw, last, sum, over, pc, w, Op::Sra, true, 0),
-        9 => compute(regs, psw, last, sum, over, pc, w, Op::Rrc, true, 0),
-        10 => compute(regs, psw, last, sum, over, pc, w, Op::Comp, true, 0),
+        0 => compute(regs, last, sum, over, pc, w, Op::Sra, false, 0),
+        1 => compute(regs, last, sum, over, pc, w, Op::Rrc, false, 0),
+        2 => compute(regs, last, sum, over, pc, w, Op::Comp, false, 0),
+        3 | 11 => compute(regs, last, sum, over, pc, w, Op::Swpb, false, 0),
+        4 | 12 => compute(regs, last, sum, over, pc, w, Op::Sxt, false, 0),
+        8 => compute(regs, last, sum, over, pc, w, Op::Sra, true, 0),
+        9 => compute(regs, last, sum, over, pc, w, Op::Rrc, true, 0),
+        10 => compute(regs, last, sum, over, pc, w, Op::Comp, true, 0),
         _ => LEFT_ALONE,
     }
 }
 
 // 4DC0 to 4DFF: SETCC and CLRCC of other flags than SLP.
-pub fn flags_word(last: &mut u16, sum: &mut u32, over: &mut u32, pc: usize, w: usize) -> usize
+pub fn flags_word(last: &mut u32, sum: &mut u32, over: &mut u32, pc: usize, w: usize) -> usize
     requires { ⌜ (0x4DC0 ≤ w) × (w < 0x4E00) ⌝ }
     ensures { λ r. ⌜ ((regs : List ℕ) (psw cex : ℕ) → Past pc regs → Tried (controlOf w)
         regs (held psw (now (last .entry)) (now (sum .entry)) (now (over .entry))) cex

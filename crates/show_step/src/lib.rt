@@ -58,6 +58,29 @@ fn store(
     }
 }
 
+// The same store, laid in once for each width, so that neither asks for the width again.
+fn store_by_width(
+    mem: &mut [u8],
+    log: &mut [u8],
+    count: u32,
+    byte: bool,
+    at: u16,
+    value: u16,
+    added: usize,
+) -> Shown
+    requires { ⌜ (length (now mem) ≡ 65536) × (added ≤ length (now log) / 8) ⌝ }
+    ensures taken { λ r. ⌜ (r .taken ≡ true → Stored byte at value count
+        (now (mem .entry)) added (now (log .entry))
+        (now (mem .exit)) (r .added) (now (log .exit))) ⌝ }
+    ensures left { λ r. ⌜ (r .taken ≡ false → (now (mem .exit) ≡ now (mem .entry))
+        × (now (log .exit) ≡ now (log .entry)) × (r .added ≡ added)) ⌝ }
+{
+    if byte {
+        return store(mem, log, count, true, at, value, added);
+    }
+    store(mem, log, count, false, at, value, added)
+}
+
 // C000 to FFFF: STR, w being its word.
 pub fn show(
     regs: &mut [u16; 8],
@@ -80,7 +103,7 @@ pub fn show(
     let value = operands::get(regs, (w / 8 % 8) as u8);
     let base = operands::get(regs, (w % 8) as u8);
     let at = operands::offset_from(base, word::signed(64, w / 128 % 128));
-    let r = store(mem, log, count, w / 64 % 2 == 1, at, value, added);
+    let r = store_by_width(mem, log, count, w / 64 % 2 == 1, at, value, added);
     if !r.taken {
         regs[7] = pc;
     }

@@ -25,7 +25,6 @@ use stretch_registers::compute;
 use stretch_registers::offset;
 use stretch_registers::reg;
 use stretch_registers::target;
-use stretch_registers::test;
 
 // The operand of an operation's word: the register, or the constant, of bits 5 to 3.
 fn operand(regs: &[u16; 8], k: &[u16; 8], w: usize, row: usize) -> u16
@@ -64,7 +63,8 @@ fn operation(
     let s = operand(regs, k, w, row);
     let op = operands::binary(n);
     if (n == 5) | (n == 9) {
-        return test(regs, psw, last, sum, over, pc, w, op, byte, s);
+        flags::work(op, byte, reg(regs, w % 8), s, psw, last, sum, over);
+        return pc;
     }
     compute(regs, psw, last, sum, over, pc, w, op, byte, s)
 }
@@ -99,7 +99,6 @@ fn store_row(regs: &mut [u16; 8], mem: &mut [u8], pc: usize, w: usize, row: usiz
 
 // 2000 to 3FFF: a branch. `row` is w / 512: where it is a number, condition and sign are known.
 fn branch_row(
-    regs: &[u16; 8],
     psw: u16,
     last: u16,
     sum: u32,
@@ -109,10 +108,10 @@ fn branch_row(
     w: usize,
     row: usize,
 ) -> usize
-    requires { ⌜ Past pc (now regs) × (w / 512 ≡ row) × (16 ≤ row) × (row < 32) ⌝ }
-    ensures { λ r. ⌜ ((free : Bool) (m : List ℕ) → Taken free (decodeOf w)
-        (now (regs .entry)) (held psw last sum over) (now (cex .entry)) m
-        (now (regs .entry)) (held psw last sum over) (now (cex .exit)) m r) ⌝ }
+    requires { ⌜ (w / 512 ≡ row) × (16 ≤ row) × (row < 32) ⌝ }
+    ensures { λ r. ⌜ ((free : Bool) (regs m : List ℕ) → Past pc regs → Taken free (decodeOf w)
+        regs (held psw last sum over) (now (cex .entry)) m
+        regs (held psw last sum over) (now (cex .exit)) m r) ⌝ }
 {
     if !operands::taken((row / 2 % 8) as u8, flags::together(psw, last, sum, over)) {
         return pc;
@@ -139,24 +138,24 @@ fn jump_word(
         (now (regs .exit)) (held psw last sum over) (now (cex .exit)) m r) ⌝ }
 {
     if 0x3E00 <= w {
-        return branch_row(regs, psw, last, sum, over, cex, pc, w, 31);
+        return branch_row(psw, last, sum, over, cex, pc, w, 31);
     }
     match w / 512 {
-        16 => branch_row(regs, psw, last, sum, over, cex, pc, w, 16),
-        17 => branch_row(regs, psw, last, sum, over, cex, pc, w, 17),
-        18 => branch_row(regs, psw, last, sum, over, cex, pc, w, 18),
-        19 => branch_row(regs, psw, last, sum, over, cex, pc, w, 19),
-        20 => branch_row(regs, psw, last, sum, over, cex, pc, w, 20),
-        21 => branch_row(regs, psw, last, sum, over, cex, pc, w, 21),
-        22 => branch_row(regs, psw, last, sum, over, cex, pc, w, 22),
-        23 => branch_row(regs, psw, last, sum, over, cex, pc, w, 23),
-        24 => branch_row(regs, psw, last, sum, over, cex, pc, w, 24),
-        25 => branch_row(regs, psw, last, sum, over, cex, pc, w, 25),
-        26 => branch_row(regs, psw, last, sum, over, cex, pc, w, 26),
-        27 => branch_row(regs, psw, last, sum, over, cex, pc, w, 27),
-        28 => branch_row(regs, psw, last, sum, over, cex, pc, w, 28),
-        29 => branch_row(regs, psw, last, sum, over, cex, pc, w, 29),
-        30 => branch_row(regs, psw, last, sum, over, cex, pc, w, 30),
+        16 => branch_row(psw, last, sum, over, cex, pc, w, 16),
+        17 => branch_row(psw, last, sum, over, cex, pc, w, 17),
+        18 => branch_row(psw, last, sum, over, cex, pc, w, 18),
+        19 => branch_row(psw, last, sum, over, cex, pc, w, 19),
+        20 => branch_row(psw, last, sum, over, cex, pc, w, 20),
+        21 => branch_row(psw, last, sum, over, cex, pc, w, 21),
+        22 => branch_row(psw, last, sum, over, cex, pc, w, 22),
+        23 => branch_row(psw, last, sum, over, cex, pc, w, 23),
+        24 => branch_row(psw, last, sum, over, cex, pc, w, 24),
+        25 => branch_row(psw, last, sum, over, cex, pc, w, 25),
+        26 => branch_row(psw, last, sum, over, cex, pc, w, 26),
+        27 => branch_row(psw, last, sum, over, cex, pc, w, 27),
+        28 => branch_row(psw, last, sum, over, cex, pc, w, 28),
+        29 => branch_row(psw, last, sum, over, cex, pc, w, 29),
+        30 => branch_row(psw, last, sum, over, cex, pc, w, 30),
         _ => stretch_registers::link_word(regs, cex, pc, w),
     }
 }
@@ -179,34 +178,6 @@ fn relative_word(regs: &mut [u16; 8], mem: &mut [u8], pc: usize, w: usize) -> us
         return store_relative(regs, mem, pc, w, 1);
     }
     store_relative(regs, mem, pc, w, 0)
-}
-
-// SWAP, and one register.
-fn single_word(
-    regs: &mut [u16; 8],
-    mem: &[u8],
-    psw: u16,
-    last: &mut u16,
-    sum: &mut u32,
-    over: &mut u32,
-    pc: usize,
-    w: usize,
-) -> usize
-    requires { ⌜ Ready pc w (now regs) (now mem) constants ⌝ }
-    ensures { λ r. ⌜ ((free : Bool) (cex : ℕ) → Taken free (decodeOf w)
-        (now (regs .entry))
-        (held psw (now (last .entry)) (now (sum .entry)) (now (over .entry))) cex
-        (now (mem .entry)) (now (regs .exit))
-        (held psw (now (last .exit)) (now (sum .exit)) (now (over .exit))) cex
-        (now (mem .entry)) r) ⌝ }
-{
-    if (w < 0x4C80) | (0x4D80 <= w) {
-        return LEFT_ALONE;
-    }
-    if w < 0x4D00 {
-        return stretch_registers::swap_word(regs, pc, w);
-    }
-    stretch_registers::single_word(regs, psw, last, sum, over, pc, w)
 }
 
 // Branches, BL, MOVL to MOVH, LDR, STR, SWAP, one register. CEX, SVC, the other adjustments of LD
@@ -241,7 +212,13 @@ fn far_word(
     if 0x6000 <= w {
         return stretch_registers::immediate_word(regs, pc, w);
     }
-    single_word(regs, mem, psw, last, sum, over, pc, w)
+    if (w < 0x4C80) | (0x4D80 <= w) {
+        return LEFT_ALONE;
+    }
+    if w < 0x4D00 {
+        return stretch_registers::swap_word(regs, pc, w);
+    }
+    stretch_registers::single_word(regs, psw, last, sum, over, pc, w)
 }
 
 // MOV, SETPRI, SETCC and CLRCC; LD and ST by their last four leading bits.

@@ -23,14 +23,13 @@ returns c =
     let f : tie.After-together = search in
     let b : tie.After-taken = search in
     let a = s .args in
-    let (past, e, lo, hi) = s .pre in
+    let (e, lo, hi) = s .pre in
     let w = a .w in
-    let l = now (a .regs) in
     let x = now (a .cex) in
     let p = held (a .psw) (a .last) (a .sum) (a .over) in
     let t = ap (λ (n : ℕ). takenOf n p) (number w (a .row) e) ∙ ap (takenOf (a .row / 2 % 8)) (sym (f .together .ensures))
     ∙ sym (b .taken .ensures) ∙ not-true _ (c .if1 .taken) in
-    λ free m.
+    λ free l m past.
     branches w free (a .row) l m p x e lo hi (stays l p x (a .pc) past (signedOf 512 (w % 1024)) (w / 1024 % 8) t)
 
 target-requires : tie.Need-target-requires
@@ -47,15 +46,14 @@ returns-2 c =
     let u : tie.Else1 = search in
     let o : tie.After-offset = search in
     let a = s .args in
-    let (past, e, lo, hi) = s .pre in
+    let (e, lo, hi) = s .pre in
     let w = a .w in
-    let l = now (a .regs) in
     let x = now (a .cex) in
     let p = held (a .psw) (a .last) (a .sum) (a .over) in
     let t = ap (λ (n : ℕ). takenOf n p) (number w (a .row) e) ∙ ap (takenOf (a .row / 2 % 8)) (sym (f .together .ensures))
     ∙ sym (b .taken .ensures) ∙ not-false _ (u .if1 .left) in
     let z = handed 512 (w % 1024) (omega arith) (omega arith) (o .offset .ensures) in
-    λ free m.
+    λ free l m past.
     branches w free (a .row) l m p x e lo hi
     (jumps l p x (a .pc) past (signedOf 512 (w % 1024)) (c .target .ensures .0 ∙ ap (λ y. moved (a .pc % 65536) (doubled y)) z)
     (c .target .ensures .1) refl (w / 1024 % 8) t)

@@ -12,12 +12,13 @@ returns c =
     let o : tie.After-operand = search in
     let b : tie.After-binary = search in
     let t : tie.Then1 = search in
+    let r : tie.After-reg = search in
     let a = s .args in
     let (past, _, e, lo, hi) = s .pre in
     let p = held (a .psw) (now (a .last)) (now (a .sum)) (now (a .over)) in
     λ free m cex.
     testing (a .w) (a .row) e lo hi free (now (a .regs)) m p cex (a .pc) past _ _ (sym (b .binary .ensures)) refl
-    (o .operand .ensures) (t .if1 .taken) (c .test .ensures)
+    (o .operand .ensures) (t .if1 .taken) (r .reg .ensures) (c .work .ensures .1)
 
 returns-2 : tie.Need-returns-2
 returns-2 c =
@@ -35,5 +36,5 @@ returns-2 c =
 pub operation-spec : {M : Type 1} → statement M
 operation-spec =
     tie.close
-    (tie.spec (λ c. search needs) (λ c κs. search needs) (λ c κs. search needs) (λ c κs. search needs) returns (λ c κs. search needs)
-    returns-2)
+    (tie.spec (λ c. search needs) (λ c κs. search needs) (λ c κs. search needs) (λ c κs. search needs) (λ c κs. search needs) returns
+    (λ c κs. search needs) returns-2)

@@ -145,53 +145,7 @@ module _ (w : ℕ) where
       )
       refl
 
-  -- ---- LD, ST, and what is above
-
-  pub decode-load : (row : ℕ) → w / 64 ≡ row → 0x160 ≤ row → row < 0x170 →
-      decodeOf w ≡ i.Ld (row / 8 % 2) (row / 4 % 2) (row / 2 % 2) (row % 2) (w / 8 % 8) (w % 8)
-  unfolding decodeOf
-  decode-load row h lo hi =
-      let e : w / 512 % 2 ≡ row / 8 % 2 = omega arith in
-      let f : w / 256 % 2 ≡ row / 4 % 2 = omega arith in
-      let g : w / 128 % 2 ≡ row / 2 % 2 = omega arith in
-      let j : w / 64 % 2 ≡ row % 2 = omega arith in
-      simp (
-        le-ltb w 0x2000 (omega arith),
-        le-ltb w 0x4000 (omega arith),
-        le-ltb w 0x4C00 (omega arith),
-        le-ltb w 0x5000 (omega arith),
-        lt-ltb w 0x6000 (omega arith),
-        le-ltb w 0x5400 (omega arith),
-        le-ltb w 0x5800 (omega arith),
-        lt-ltb w 0x5C00 (omega arith),
-        e,
-        f,
-        g,
-        j,
-      )
-
-  pub decode-store : (row : ℕ) → w / 64 ≡ row → 0x170 ≤ row → row < 0x180 →
-      decodeOf w ≡ i.St (row / 8 % 2) (row / 4 % 2) (row / 2 % 2) (row % 2) (w / 8 % 8) (w % 8)
-  unfolding decodeOf
-  decode-store row h lo hi =
-      let e : w / 512 % 2 ≡ row / 8 % 2 = omega arith in
-      let f : w / 256 % 2 ≡ row / 4 % 2 = omega arith in
-      let g : w / 128 % 2 ≡ row / 2 % 2 = omega arith in
-      let j : w / 64 % 2 ≡ row % 2 = omega arith in
-      simp (
-        le-ltb w 0x2000 (omega arith),
-        le-ltb w 0x4000 (omega arith),
-        le-ltb w 0x4C00 (omega arith),
-        le-ltb w 0x5000 (omega arith),
-        lt-ltb w 0x6000 (omega arith),
-        le-ltb w 0x5400 (omega arith),
-        le-ltb w 0x5800 (omega arith),
-        le-ltb w 0x5C00 (omega arith),
-        e,
-        f,
-        g,
-        j,
-      )
+  -- ---- what is above
 
   pub decode-immediate : 0x6000 ≤ w → w < 0x8000 → decodeOf w ≡ i.MovImm (w / 2048 % 4) (w / 8 % 256) (w % 8)
   unfolding decodeOf

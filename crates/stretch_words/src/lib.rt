@@ -69,34 +69,6 @@ fn operation(
     compute(regs, psw, last, sum, over, pc, w, op, byte, s)
 }
 
-// 5800 to 5BFF: LD; 5C00 to 5FFF: ST. `row` is w / 64: PRPO, DEC, INC and the width are its last
-// four bits.
-fn load_row(regs: &mut [u16; 8], mem: &mut [u8], pc: usize, w: usize, row: usize) -> usize
-    requires { ⌜ (length (now mem) ≡ 65536) × Past pc (now regs) × (w / 64 ≡ row)
-        × (0x160 ≤ row) × (row < 0x170) ⌝ }
-    ensures { λ r. ⌜ ((free : Bool) (psw cex : ℕ) → Taken free (decodeOf w)
-        (now (regs .entry)) psw cex
-        (now (mem .entry)) (now (regs .exit)) psw cex (now (mem .exit)) r) ⌝ }
-{
-    let prpo = (row / 8 % 2) as u8;
-    let dec = (row / 4 % 2) as u8;
-    let inc = (row / 2 % 2) as u8;
-    load_indexed(regs, mem, pc, w, prpo, dec, inc, (row % 2) as u8)
-}
-
-fn store_row(regs: &mut [u16; 8], mem: &mut [u8], pc: usize, w: usize, row: usize) -> usize
-    requires { ⌜ (length (now mem) ≡ 65536) × Past pc (now regs) × (w / 64 ≡ row)
-        × (0x170 ≤ row) × (row < 0x180) ⌝ }
-    ensures { λ r. ⌜ ((free : Bool) (psw cex : ℕ) → Taken free (decodeOf w)
-        (now (regs .entry)) psw cex
-        (now (mem .entry)) (now (regs .exit)) psw cex (now (mem .exit)) r) ⌝ }
-{
-    let prpo = (row / 8 % 2) as u8;
-    let dec = (row / 4 % 2) as u8;
-    let inc = (row / 2 % 2) as u8;
-    store_indexed(regs, mem, pc, w, prpo, dec, inc, (row % 2) as u8)
-}
-
 // 2000 to 3FFF: a branch. `row` is w / 512: where it is a number, condition and sign are known.
 fn branch_row(
     psw: u16,
@@ -249,26 +221,26 @@ fn move_word(
         0x131 => stretch_registers::move_word(regs, cex, pc, w, true),
         0x136 => stretch_registers::priority_word(psw, free, pc, w),
         0x137 => stretch_registers::flags_word(last, sum, over, pc, w),
-        0x160 => load_row(regs, mem, pc, w, 0x160),
-        0x161 => load_row(regs, mem, pc, w, 0x161),
-        0x162 => load_row(regs, mem, pc, w, 0x162),
-        0x163 => load_row(regs, mem, pc, w, 0x163),
-        0x164 => load_row(regs, mem, pc, w, 0x164),
-        0x165 => load_row(regs, mem, pc, w, 0x165),
-        0x16A => load_row(regs, mem, pc, w, 0x16A),
-        0x16B => load_row(regs, mem, pc, w, 0x16B),
-        0x16C => load_row(regs, mem, pc, w, 0x16C),
-        0x16D => load_row(regs, mem, pc, w, 0x16D),
-        0x170 => store_row(regs, mem, pc, w, 0x170),
-        0x171 => store_row(regs, mem, pc, w, 0x171),
-        0x172 => store_row(regs, mem, pc, w, 0x172),
-        0x173 => store_row(regs, mem, pc, w, 0x173),
-        0x174 => store_row(regs, mem, pc, w, 0x174),
-        0x175 => store_row(regs, mem, pc, w, 0x175),
-        0x17A => store_row(regs, mem, pc, w, 0x17A),
-        0x17B => store_row(regs, mem, pc, w, 0x17B),
-        0x17C => store_row(regs, mem, pc, w, 0x17C),
-        0x17D => store_row(regs, mem, pc, w, 0x17D),
+        0x160 => load_indexed(regs, mem, pc, w, 0x160),
+        0x161 => load_indexed(regs, mem, pc, w, 0x161),
+        0x162 => load_indexed(regs, mem, pc, w, 0x162),
+        0x163 => load_indexed(regs, mem, pc, w, 0x163),
+        0x164 => load_indexed(regs, mem, pc, w, 0x164),
+        0x165 => load_indexed(regs, mem, pc, w, 0x165),
+        0x16A => load_indexed(regs, mem, pc, w, 0x16A),
+        0x16B => load_indexed(regs, mem, pc, w, 0x16B),
+        0x16C => load_indexed(regs, mem, pc, w, 0x16C),
+        0x16D => load_indexed(regs, mem, pc, w, 0x16D),
+        0x170 => store_indexed(regs, mem, pc, w, 0x170),
+        0x171 => store_indexed(regs, mem, pc, w, 0x171),
+        0x172 => store_indexed(regs, mem, pc, w, 0x172),
+        0x173 => store_indexed(regs, mem, pc, w, 0x173),
+        0x174 => store_indexed(regs, mem, pc, w, 0x174),
+        0x175 => store_indexed(regs, mem, pc, w, 0x175),
+        0x17A => store_indexed(regs, mem, pc, w, 0x17A),
+        0x17B => store_indexed(regs, mem, pc, w, 0x17B),
+        0x17C => store_indexed(regs, mem, pc, w, 0x17C),
+        0x17D => store_indexed(regs, mem, pc, w, 0x17D),
         _ => far_word(regs, mem, k, *psw, last, sum, over, cex, pc, w),
     }
 }

@@ -64,4 +64,4 @@ move-word-spec =
     (λ c. search needs) (λ c. c .before .before .store-indexed6 .ensures _ _ _) (λ c. search needs)
     (λ c. c .before .before .store-indexed7 .ensures _ _ _) (λ c. search needs) (λ c. c .before .before .store-indexed8 .ensures _ _ _)
     (λ c. search needs) (λ c. c .before .before .store-indexed9 .ensures _ _ _) (λ c. search needs)
-    (λ c. c .before .before .store-indexed10 .ensures _ _ _) (λ c. search needs) (λ c. c .before .before .far-word .ensures _))
+    (λ c. c .before .before .store-indexed10 .ensures _ _ _) (λ c. search needs) (λ c. c .before .before .far-word .ensures _ _))

@@ -26,7 +26,7 @@ use Rattle.machine.specs.Log.{loggedOf, logBytes}
 use Rattle.machine.specs.Depth.{deeper, shallower, depthAfter}
 use Rattle.machine_laws.proofs.Plans.{granted-even}
 use Rattle.entry.proofs.Lines.{line-no-lines}
-use Rattle.step.proofs.Laws.{leave-pulls, due-leaves, due-runs, instruction-runs}
+use Rattle.step_plan.proofs.Laws.{leave-pulls, due-leaves, due-runs, instruction-runs}
 use Rattle.stretch_memory.specs.Served.{running, carriedOut}
 use Rattle.frame_step.specs.Took.{Took}
 

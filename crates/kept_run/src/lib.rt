@@ -139,7 +139,7 @@ pub fn run_kept(
         let wanted = wants(lent, added == room, at.due, t.count);
         output_log::keep(memory, wanted, &mut devices);
         let d = turn::deliver_due(memory, events, at, t.count, t.lines);
-        let p = step::plan(&mut regs, memory, t, d.lines);
+        let p = step_plan::plan(&mut regs, memory, t, d.lines);
         let act = p.act;
         let shown = output_log::shown_by(memory, act);
         if output_log::lacks_room(shown, added, room) {

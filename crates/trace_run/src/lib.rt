@@ -97,7 +97,7 @@ fn step_traced(
     let wanted = at.due <= t.count as u64;
     output_log::keep(memory, wanted, &mut bytes);
     let d = turn::deliver_due(memory, events, at, t.count, t.lines);
-    let p = step::plan(regs, memory, t, d.lines);
+    let p = step_plan::plan(regs, memory, t, d.lines);
     let act = p.act;
     let more = trace_step::needed(kinds, wanted, events, at.next, t.count, act);
     if lacks(room, added, more) {

@@ -1,11 +1,11 @@
--- `step::faulted` meets its contract. Assumes nothing.
+-- `step_plan::faulted` meets its contract. Assumes nothing.
 use denote.Ref.{now}
 use lib.ListN.{set}
 use borrow.Author.Needs.{needs}
 use Rattle.machine.specs.State.{coreOf}
-use Rattle.step.proofs.Laws.{fault-halts, fault-enters}
-use Rattle.step.proofs.faulted.Statement.{statement}
-use Rattle.step.proofs.faulted.Tie as tie
+use Rattle.step_plan.proofs.Laws.{fault-halts, fault-enters}
+use Rattle.step_plan.proofs.faulted.Statement.{statement}
+use Rattle.step_plan.proofs.faulted.Tie as tie
 
 returns : tie.Need-returns
 returns c =

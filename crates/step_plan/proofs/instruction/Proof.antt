@@ -13,11 +13,11 @@ use Rattle.machine.specs.State.{coreOf}
 use Rattle.machine.specs.Effect.{Effect, effectOf}
 use Rattle.machine.specs.Step.{faulting, executed}
 use Rattle.machine_laws.proofs.Plans.{granted-even}
-use Rattle.step.specs.Planned.{Asked}
-use Rattle.step.proofs.Laws.{instruction-asleep, instruction-odd, instruction-skips, instruction-runs}
-use Rattle.step.proofs.Laws.{skip-law, odd-law, fetched, fetched-quits, effect-within}
-use Rattle.step.proofs.instruction.Statement.{statement}
-use Rattle.step.proofs.instruction.Tie as tie
+use Rattle.step_plan.specs.Planned.{Asked}
+use Rattle.step_plan.proofs.Laws.{instruction-asleep, instruction-odd, instruction-skips, instruction-runs}
+use Rattle.step_plan.proofs.Laws.{skip-law, odd-law, fetched, fetched-quits, effect-within}
+use Rattle.step_plan.proofs.instruction.Statement.{statement}
+use Rattle.step_plan.proofs.instruction.Tie as tie
 
 returns : tie.Need-returns
 returns c =

@@ -4,10 +4,10 @@ use mathlib.Core.Path.{subst}
 use denote.Ref.{now}
 use borrow.Author.Needs.{needs}
 use Rattle.machine.specs.State.{coreOf}
-use Rattle.step.specs.Planned.{Asked}
-use Rattle.step.proofs.Laws.{allowed-nothing, allowed-load, allowed-store, allowed-fault, allowed-trap, allowed-low}
-use Rattle.step.proofs.grant.Statement.{statement}
-use Rattle.step.proofs.grant.Tie as tie
+use Rattle.step_plan.specs.Planned.{Asked}
+use Rattle.step_plan.proofs.Laws.{allowed-nothing, allowed-load, allowed-store, allowed-fault, allowed-trap, allowed-low}
+use Rattle.step_plan.proofs.grant.Statement.{statement}
+use Rattle.step_plan.proofs.grant.Tie as tie
 
 priority-of-requires : tie.Need-priority-of-requires
 priority-of-requires c κs =

@@ -1,14 +1,14 @@
--- `step::plan` meets its contract. Assumes nothing.
+-- `step_plan::plan` meets its contract. Assumes nothing.
 use mathlib.Core.Path.{refl, sym, subst}
 use denote.Ref.{now}
 use borrow.Author.Needs.{needs}
 use Rattle.machine.specs.State.{State, coreWith}
 use Rattle.devices.specs.Cursor.{stateFrom}
 use Rattle.machine.specs.Step.{Plan}
-use Rattle.step.specs.Planned.{Within}
-use Rattle.step.proofs.Laws.{returns-is, due-leaves, due-accepts, due-runs, instruction-within}
-use Rattle.step.proofs.plan.Statement.{statement}
-use Rattle.step.proofs.plan.Tie as tie
+use Rattle.step_plan.specs.Planned.{Within}
+use Rattle.step_plan.proofs.Laws.{returns-is, due-leaves, due-accepts, due-runs, instruction-within}
+use Rattle.step_plan.proofs.plan.Statement.{statement}
+use Rattle.step_plan.proofs.plan.Tie as tie
 
 -- the machine once its events are applied
 abbrev begun : tie.Start → State

@@ -1,8 +1,8 @@
 use borrow.Author.Tests.{eq-eqb, ne-eqb}
 use borrow.Author.Needs.{needs}
-use Rattle.step.proofs.Laws.{no-true, no-false, some-false}
-use Rattle.step.proofs.lower.Statement.{statement}
-use Rattle.step.proofs.lower.Tie as tie
+use Rattle.step_plan.proofs.Laws.{no-true, no-false, some-false}
+use Rattle.step_plan.proofs.lower.Statement.{statement}
+use Rattle.step_plan.proofs.lower.Tie as tie
 
 returns : tie.Need-returns
 returns c = rw (no-true (c .before .args .cex) (c .if1 .taken), no-false (c .before .args .cex) (c .if1 .taken))

@@ -8,7 +8,7 @@ use Rattle.machine.specs.declared.Act.{Act}
 use Rattle.machine.specs.declared.Act.the-variants as act
 use Rattle.machine.specs.State.{coreOf, State, Core}
 use Rattle.machine.specs.Step.{Plan, planned, perform, closed}
-use Rattle.step.specs.declared.Planned.{Planned}
+use Rattle.step_plan.specs.declared.Planned.{Planned}
 
 -- the registers lent, with the PSW, the CEX state and the act that a plan gives back
 abbrev pub planWith : List ℕ → Planned → Plan

@@ -1,4 +1,4 @@
--- `step::leave` meets its contract. Assumes nothing.
+-- `step_plan::leave` meets its contract. Assumes nothing.
 use mathlib.Core.Path.{refl}
 use native.Mathlib.Omega.{arith}
 use denote.Ref.{now}
@@ -6,9 +6,9 @@ use borrow.Author.Needs.{needs}
 use Rattle.word.specs.Psw.{previous}
 use Rattle.machine.specs.State.{coreOf}
 use Rattle.entry.proofs.Lines.{line-no-lines}
-use Rattle.step.proofs.Laws.{leave-chains, leave-pulls}
-use Rattle.step.proofs.leave.Statement.{statement}
-use Rattle.step.proofs.leave.Tie as tie
+use Rattle.step_plan.proofs.Laws.{leave-chains, leave-pulls}
+use Rattle.step_plan.proofs.leave.Statement.{statement}
+use Rattle.step_plan.proofs.leave.Tie as tie
 
 returns : tie.Need-returns
 returns c =

@@ -1,7 +1,7 @@
 use borrow.Author.Tests.{eq-eqb, ne-eqb}
-use Rattle.step.proofs.Laws.{no-true, no-false}
-use Rattle.step.proofs.skips.Statement.{statement}
-use Rattle.step.proofs.skips.Tie as tie
+use Rattle.step_plan.proofs.Laws.{no-true, no-false}
+use Rattle.step_plan.proofs.skips.Statement.{statement}
+use Rattle.step_plan.proofs.skips.Tie as tie
 
 returns : tie.Need-returns
 returns c = rw (no-true (c .before .args .cex) (c .if1 .taken), no-false (c .before .args .cex) (c .if1 .taken))

@@ -1,9 +1,9 @@
--- `step::odd` meets its contract: an arm for each access. Assumes nothing.
+-- `step_plan::odd` meets its contract: an arm for each access. Assumes nothing.
 use mathlib.Core.Path.{sym, ap}
 use borrow.Author.Needs.{needs}
 use Rattle.machine.specs.Step.{odd?}
-use Rattle.step.proofs.odd.Statement.{statement}
-use Rattle.step.proofs.odd.Tie as tie
+use Rattle.step_plan.proofs.odd.Statement.{statement}
+use Rattle.step_plan.proofs.odd.Tie as tie
 
 pub odd-spec : {M : Type 1} → statement M
 odd-spec =

@@ -369,16 +369,6 @@ back regs p h =
     near : (k : ℕ) → k < 65536 → ((k + 2) % 65536 + 65534) % 65536 ≡ k
     near k lt = omega arith
 
--- R7 is there after a step, taken or not
-pub long :
-    (free : Bool) (regs m regs₁ m₁ : List ℕ) (psw cex psw₁ cex₁ p r : ℕ) → Awake regs psw
-    → Stepping free p regs psw cex m regs₁ psw₁ cex₁ m₁ r → 7 < length regs₁
-long free regs m regs₁ m₁ psw cex psw₁ cex₁ p r a g =
-    ⊎-elim
-    (λ u. rw (u .1 .0) (awake-set regs psw ((p % 65536 + 2) % 65536) a .1))
-    (λ v. v .1 .2 .1)
-    g
-
 module _ (free : Bool) (regs₀ m₀ : List ℕ) (psw₀ x₀ : ℕ) (regs m regs₁ m₁ : List ℕ) (psw cex psw₁ cex₁ p r j n : ℕ) (a : Awake regs psw)
     (f : Walked free regs₀ psw₀ x₀ m₀ (set regs 7 (p % 65536)) psw cex m j) (b : (cex % 64 ≡ 0) ⊎ (n ≤ 1)) (lt : j < n)
     (g : Stepping free p regs psw cex m regs₁ psw₁ cex₁ m₁ r) where
@@ -398,30 +388,33 @@ module _ (free : Bool) (regs₀ m₀ : List ℕ) (psw₀ x₀ : ℕ) (regs m reg
       ))
       g
 
-  -- or ends
-  pub walked-stop :
-      (regs₂ : List ℕ) (s : ℕ) → (r ≡ leftAlone → (s ≡ 0) × (regs₂ ≡ set regs₁ 7 ((getD regs₁ 7 0 + 65534) % 65536))) →
-      ((r ≡ leftAlone → ⊥) → (s ≡ 1) × (regs₂ ≡ set regs₁ 7 (r % 65536))) →
-      Walked free regs₀ psw₀ x₀ m₀ regs₂ psw₁ cex₁ m₁ (j + s) × Awake regs₂ psw₁
-  walked-stop regs₂ s k o =
+  -- or ends at a word that was left alone
+  pub walked-back :
+      (regs₂ : List ℕ) (u v : ℕ) → r ≡ leftAlone → u ≡ getD regs₁ 7 0 → v ≡ (u + 65534) % 65536 → regs₂ ≡ set regs₁ 7 v →
+      Walked free regs₀ psw₀ x₀ m₀ regs₂ psw₁ cex₁ m₁ j × Awake regs₂ psw₁
+  walked-back regs₂ u v here eu ev er =
       ⊎-elim
-      (λ u.
-      let t = k (u .0) in
-      let y = (p % 65536 + 2) % 65536 in
+      (λ t.
       let e : regs₂ ≡ set regs 7 (p % 65536) =
-      t .1 ∙ ap (λ (q : List ℕ). set q 7 ((getD q 7 0 + 65534) % 65536)) (u .1 .0) ∙ back regs p (a .1) in
-      let z : j + s ≡ j = ap (λ (q : ℕ). j + q) (t .0) ∙ none j in
-      rw (e, u .1 .1, u .1 .2, u .1 .3, z) (f, awake-set regs psw (p % 65536) a))
-      (λ v.
-      let t = o (v .0) in
-      rw (t .0, t .1) (
-        walked-next free regs₀ m₀ psw₀ x₀ regs m regs₁ m₁ psw cex psw₁ cex₁ p r j n f b lt (v .1),
-        awake-set regs₁ psw₁ (r % 65536) (v .1 .2),
+      er ∙ ap (set regs₁ 7) (ev ∙ ap (λ (k : ℕ). (k + 65534) % 65536) eu)
+      ∙ ap (λ (q : List ℕ). set q 7 ((getD q 7 0 + 65534) % 65536)) (t .1 .0) ∙ back regs p (a .1) in
+      rw (e, t .1 .1, t .1 .2, t .1 .3) (f, awake-set regs psw (p % 65536) a))
+      (λ t. absurd (t .0 here))
+      g
+
+  -- or after one that was the last
+  pub walked-last :
+      (regs₂ : List ℕ) → (r ≡ leftAlone → ⊥) → regs₂ ≡ set regs₁ 7 (r % 65536) →
+      Walked free regs₀ psw₀ x₀ m₀ regs₂ psw₁ cex₁ m₁ (j + 1) × Awake regs₂ psw₁
+  walked-last regs₂ taken er =
+      ⊎-elim
+      (λ t. absurd (taken (t .0)))
+      (λ t.
+      rw er (
+        walked-next free regs₀ m₀ psw₀ x₀ regs m regs₁ m₁ psw cex psw₁ cex₁ p r j n f b lt (t .1),
+        awake-set regs₁ psw₁ (r % 65536) (t .1 .2),
       ))
       g
-    where
-      none : (q : ℕ) → q + 0 ≡ q
-      none q = omega arith
 
 -- where no block is open, none is after a step
 pub stays-shut :

@@ -9,15 +9,15 @@ ghost use mathlib.Core.Bool.{true, false};
 ghost use mathlib.Core.List.{List};
 ghost use mathlib.Core.Logic.{_⊎_};
 ghost use mathlib.Core.Path.{_≡_};
-ghost use Prim.Native.Nat.{ℕ, _%_, _+_, _*_, _-_, _<_, _≤_};
-ghost use lib.ListN.{length, getD, set};
-ghost use Rattle.word.specs.Psw.{asleep?, current};
+ghost use Prim.Native.Nat.{ℕ, _/_, _%_, _+_, _*_, _-_, _<_, _≤_};
+ghost use lib.ListN.{length, getD};
+ghost use Rattle.word.specs.Psw.{asleep?};
 ghost use Rattle.machine.specs.Cex.{conditionOf, skips?, lowered};
 ghost use Rattle.machine.specs.Events.{Event};
 ghost use Rattle.flags.specs.Kept.{held};
 ghost use Rattle.stretch_memory.specs.Served.{running};
 ghost use Rattle.stretch_words.specs.Ready.{constants};
-ghost use Rattle.stretch.specs.Stretch.{Undisturbed, Awake, Fetching, NoneAbove, FreeOf};
+ghost use Rattle.stretch.specs.Stretch.{Undisturbed, Awake, Fetching, FreeOf};
 ghost use Rattle.stretch.specs.Stretch.{Passes, Goes, Stepping, Walked, SkippedPart};
 use machine::ByteAddr;
 use machine::Lines;
@@ -61,24 +61,14 @@ pub struct Progress {
     pub left: u32,
 }
 
-// PC back before a word that was left alone.
-fn step_back(regs: &mut [u16; 8])
-    requires { ⌜ 7 < length (now regs) ⌝ }
-    ensures { λ r. ⌜ now (regs .exit) ≡ set (now (regs .entry)) 7
-        ((getD (now (regs .entry)) 7 0 + 65534) % 65536) ⌝ }
-{
-    let v = std::num::wrapping_add_u16(reg(regs, 7), 65534);
-    set_reg(regs, 7, v);
-}
-
-// The CEX state after some steps whose PSW is lent, and how many are left.
-struct Gone {
+// A CEX state, and how many steps are left to be taken from there.
+struct Ahead {
     cex: u16,
     left: u32,
 }
 
-// Up to n steps, fewer where a word is for the general way or PC is odd. The CEX count of the first
-// is lowered already; where a block is open, there is no second.
+// Up to n steps, fewer where a word is for the general way or PC is odd: how many are left. The CEX
+// count of the first is lowered already; where a block is open, there is no second.
 fn take_steps(
     regs: &mut [u16; 8],
     mem: &mut [u8],
@@ -90,7 +80,7 @@ fn take_steps(
     over: &mut u32,
     cex: u16,
     n: u32,
-) -> Gone
+) -> Ahead
     requires { ⌜ (length (now mem) ≡ 65536) × (now k ≡ constants)
         × Fetching (now regs) (held (now psw) (now last) (now sum) (now over))
         × ((cex % 64 ≡ 0) ⊎ (n ≤ 1)) ⌝ }
@@ -111,54 +101,41 @@ fn take_steps(
         let r = take_step(regs, mem, k, psw, free, last, sum, over, &mut x, pc);
         if LEFT_ALONE <= r {
             if r == LEFT_ALONE {
-                step_back(regs);
-                return Gone { cex: x, left };
+                let back = std::num::wrapping_add_u16(reg(regs, 7), 65534);
+                set_reg(regs, 7, back);
+                return Ahead { cex: x, left };
             }
             set_reg(regs, 7, (r % 65536) as u16);
-            return Gone {
-                cex: x,
-                left: left - 1,
-            };
+            left -= 1;
+            return Ahead { cex: x, left };
         }
         pc = r;
         left -= 1;
     }
     set_reg(regs, 7, (pc % 65536) as u16);
-    Gone { cex: x, left: 0 }
+    Ahead { cex: x, left }
 }
 
 // How the CEX state bears on the next step: itself with the count lowered, and how many steps may
 // be taken from there: none where its block skips the next instruction, one where it covers it, all
 // where no block is open.
-struct Ahead {
-    cex: u16,
-    steps: u32,
-}
-
-fn covered(x: u16, left: u32) -> Ahead
-    requires { ⌜ 0 < left ⌝ }
+fn covered(x: u16, all: u32) -> Ahead
+    requires { ⌜ 0 < all ⌝ }
     ensures lowers { λ r. ⌜ r .cex ≡ lowered x ⌝ }
-    ensures skips { λ r. ⌜ (r .steps ≡ 0 → skips? x ≡ true) × (0 < r .steps → skips? x ≡ false) ⌝ }
-    ensures shut { λ r. ⌜ (x % 64 ≡ 0 → r .steps ≡ left) ⌝ }
-    ensures one { λ r. ⌜ ((x % 64 ≡ 0 → ⊥) → r .steps ≤ 1) ⌝ }
+    ensures skips { λ r. ⌜ (r .left ≡ 0 → skips? x ≡ true) × (0 < r .left → skips? x ≡ false) ⌝ }
+    ensures shut { λ r. ⌜ (x % 64 ≡ 0 → r .left ≡ all) ⌝ }
+    ensures one { λ r. ⌜ ((x % 64 ≡ 0 → ⊥) → r .left ≤ 1) ⌝ }
 {
     if x % 64 == 0 {
-        return Ahead {
-            cex: x,
-            steps: left,
-        };
+        return Ahead { cex: x, left: all };
     }
     let held = x / 64 % 2 == 1;
     if x / 8 % 8 == 0 {
-        return Ahead {
-            cex: x - 1,
-            steps: !held as u32,
-        };
+        let left = !held as u32;
+        return Ahead { cex: x - 1, left };
     }
-    Ahead {
-        cex: x - 8,
-        steps: held as u32,
-    }
+    let left = held as u32;
+    Ahead { cex: x - 8, left }
 }
 
 // What a turn of the walk comes to, and whether another may follow it.
@@ -168,28 +145,19 @@ struct Turned {
     more: bool,
 }
 
-// The words that an open block skips next: how many, and what each of them takes from its CEX
-// state.
-struct Part {
-    count: u16,
-    unit: u16,
+fn comes_to(cex: u16, left: u32, more: bool) -> Turned
+    ensures { λ r. ⌜ (r .cex ≡ cex) × (r .left ≡ left) × (r .more ≡ more) ⌝ }
+{
+    Turned { cex, left, more }
 }
 
-fn skipped_part(x: u16) -> Part
+// What each word that an open block skips next takes from its CEX state.
+fn unit(x: u16) -> u16
     requires { ⌜ skips? x ≡ true ⌝ }
-    ensures skips { λ r. ⌜ SkippedPart x (r .count) (r .unit) ⌝ }
-    ensures fits { λ r. ⌜ (r .count * r .unit ≤ x) × (0 < r .count) × (r .count < 8) ⌝ }
+    ensures skips { λ r. ⌜ SkippedPart x (x / r % 8) r ⌝ }
+    ensures fits { λ r. ⌜ (x / r % 8 * r ≤ x) × (0 < x / r % 8) × (0 < r) ⌝ }
 {
-    if x / 8 % 8 == 0 {
-        return Part {
-            count: x % 8,
-            unit: 1,
-        };
-    }
-    Part {
-        count: x / 8 % 8,
-        unit: 8,
-    }
+    if x / 8 % 8 == 0 { 1 } else { 8 }
 }
 
 // The lesser of two numbers.
@@ -207,15 +175,11 @@ fn skipping(regs: &mut [u16; 8], cex: u16, left: u32) -> Turned
         Goes l (now (regs .entry)) p cex m (now (regs .exit)) p (r .cex) m (left - r .left)) ⌝ }
     ensures left { λ r. ⌜ (r .left < left) × (7 < length (now (regs .exit))) ⌝ }
 {
-    let p = skipped_part(cex);
-    let j = least(left, p.count);
+    let u = unit(cex);
+    let j = least(left, cex / u % 8);
     let pc = std::num::wrapping_add_u16(reg(regs, 7), 2 * j);
     set_reg(regs, 7, pc);
-    Turned {
-        cex: cex - j * p.unit,
-        left: left - j as u32,
-        more: true,
-    }
+    comes_to(cex - j * u, left - j as u32, true)
 }
 
 // Does the condition of number 2 * k hold?
@@ -263,27 +227,15 @@ fn control(
 {
     let pc = reg(regs, 7);
     if pc % 2 == 1 {
-        return Turned {
-            cex,
-            left,
-            more: false,
-        };
+        return comes_to(cex, left, false);
     }
     let w = memory::read_word(mem, memory::word_of(ByteAddr(pc)));
     if w / 1024 != 20 {
-        return Turned {
-            cex,
-            left,
-            more: false,
-        };
+        return comes_to(cex, left, false);
     }
     let holds = word::flag(condition((w / 64 % 16) as u8, last, sum, over));
     set_reg(regs, 7, std::num::wrapping_add_u16(pc, 2));
-    Turned {
-        cex: w % 64 + 64 * holds,
-        left: left - 1,
-        more: true,
-    }
+    comes_to(w % 64 + 64 * holds, left - 1, true)
 }
 
 // One turn: steps that the open block skips, one that it covers, or steps with no block open and
@@ -312,32 +264,20 @@ fn turn(
         (held (now (psw .exit)) (now (last .exit)) (now (sum .exit)) (now (over .exit))) ⌝ }
 {
     let c = covered(cex, left);
-    if c.steps == 0 {
+    if c.left == 0 {
         return skipping(regs, cex, left);
     }
-    let a = take_steps(regs, mem, k, psw, free, last, sum, over, c.cex, c.steps);
+    let a = take_steps(regs, mem, k, psw, free, last, sum, over, c.cex, c.left);
     if cex % 64 == 0 {
         if a.left == 0 {
-            return Turned {
-                cex: a.cex,
-                left: 0,
-                more: false,
-            };
+            return comes_to(a.cex, 0, false);
         }
         return control(regs, mem, *last, *sum, *over, a.cex, a.left);
     }
     if a.left == 1 {
-        return Turned {
-            cex,
-            left,
-            more: false,
-        };
+        return comes_to(cex, left, false);
     }
-    Turned {
-        cex: a.cex,
-        left: left - 1,
-        more: true,
-    }
+    comes_to(a.cex, left - 1, true)
 }
 
 // Up to n steps, fewer where a word is for the general way.
@@ -354,11 +294,7 @@ fn walk(regs: &mut [u16; 8], mem: &mut [u8], psw: u16, cex: u16, lines: Lines, n
     let mut sum = f.sum;
     let mut over = f.over;
     let free = lines == 0;
-    let mut t = Turned {
-        cex,
-        left: n,
-        more: true,
-    };
+    let mut t = comes_to(cex, n, true);
     while t.more & (0 < t.left) {
         if reg(regs, 7) % 2 == 1 {
             break;
@@ -383,14 +319,6 @@ fn walk(regs: &mut [u16; 8], mem: &mut [u8], psw: u16, cex: u16, lines: Lines, n
     }
 }
 
-// Does no line wait above the priority?
-fn unasked(mem: &[u8], lines: Lines, psw: u16) -> bool
-    requires { ⌜ length (now mem) ≡ 65536 ⌝ }
-    ensures { λ r. ⌜ (r ≡ true → NoneAbove (now (mem .entry)) lines (current psw)) ⌝ }
-{
-    entry::line_above(mem, lines, word::current_priority(psw)) == 8
-}
-
 // Up to n steps of a machine that is not halted, before the end of which no event is due:
 // instructions, or sleep, in which nothing changes but the count. None where a line waits above the
 // priority; none from PC 0, so that R7 is known to be there.
@@ -409,7 +337,7 @@ pub fn stretch(
         (n - r .left)) ⌝ }
     ensures left { λ r. ⌜ r .left ≤ n ⌝ }
 {
-    if !unasked(mem, lines, psw) {
+    if entry::line_above(mem, lines, word::current_priority(psw)) != 8 {
         return Progress { psw, cex, left: n };
     }
     if word::asleep(psw) {

@@ -10,7 +10,8 @@ use Rattle.word.specs.Width.{bit}
 use Rattle.flags.specs.Kept.{held}
 use Rattle.machine.specs.Memory.{wordAt}
 use Rattle.stretch.specs.Stretch.{Goes}
-use Rattle.stretch.proofs.Steps.{goes-none, goes-one, open-none, fetched, cex-loaded, long-set}
+use Rattle.entry.proofs.Quiet.{shut-none}
+use Rattle.stretch.proofs.Steps.{goes-none, goes-one, fetched, cex-loaded, long-set}
 use borrow.Author.Needs.{needs}
 use Rattle.stretch.proofs.control.Statement.{statement}
 use Rattle.stretch.proofs.control.Tie as tie
@@ -72,7 +73,7 @@ returns-3 c =
           goes-one l regs m q (a .cex) (set regs 7 (next .result)) m q x
           (cex-loaded l regs m q (a .cex) w (next .result) x
           (ap (λ (k : ℕ). k % 2) (sym pc) ∙ even (g .reg .result) (i .if1 .left)) woken
-          (open-none (a .cex) (s .pre .2) .0)
+          (shut-none (a .cex) (s .pre .2) .0)
           (fetched m (g .reg .result) (n .word-of .ensures .0) (f .read-word .ensures) ∙ ap (wordAt m) pc)
           (t .if2 .left) (next .ensures ∙ ap (λ (k : ℕ). (k + 2) % 65536) pc)
           (counts w (b .flag .result) _ (b .flag .ensures .0 ∙ ap bit (h .condition .ensures p))))),

@@ -10,7 +10,8 @@ use lib.Dec.{eqb}
 use borrow.Author.Tests.{eqb-false}
 use Rattle.flags.specs.Kept.{held}
 use Rattle.machine_laws.proofs.Cases.{bool-cases, eq-of}
-use Rattle.stretch.proofs.Steps.{goes-join, open-none, lowered-shut, walked-free, walked-one, walked-none, walked-left}
+use Rattle.entry.proofs.Quiet.{shut-none}
+use Rattle.stretch.proofs.Steps.{goes-join, lowered-shut, walked-free, walked-one, walked-none, walked-left}
 use borrow.Author.Needs.{needs}
 use Rattle.stretch.proofs.turn.Statement.{statement}
 use Rattle.stretch.proofs.turn.Tie as tie
@@ -65,7 +66,7 @@ take-steps-requires c κs =
       omega arith,
       table,
       fetching,
-      few (k .result .left) (s .args .left) x (k .result .cex) (k .ensures .1 .1 .1) (λ h. k .ensures .0 ∙ open-none x h .1),
+      few (k .result .left) (s .args .left) x (k .result .cex) (k .ensures .1 .1 .1) (λ h. k .ensures .0 ∙ shut-none x h .1),
     )
 
 -- with no block open and no word left

@@ -1,7 +1,7 @@
 -- The part that comes first is skipped, since the block skips the next word. Assumes nothing.
 use Prim.Native.Nat.{ℕ, _/_, _%_}
 use native.Mathlib.Omega.{arith}
-use mathlib.Core.Path.{_≡_, sym, subst}
+use mathlib.Core.Path.{_≡_, subst}
 use Rattle.stretch.specs.Stretch.{SkippedPart}
 use Rattle.stretch.proofs.Skips.{true-part, false-part, false-some}
 use Rattle.stretch.proofs.unit.Statement.{statement}

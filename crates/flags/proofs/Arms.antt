@@ -2,130 +2,147 @@
 -- code has them; these are the definition's operands, C among them. Assumes nothing.
 use mathlib.Core.Path.{_≡_, refl, sym, ap, _∙_}
 use mathlib.Core.Bool.{Bool, false}
-use Prim.Native.Nat.{ℕ, _/_, _%_, _^_, _<_}
+use Prim.Native.Nat.{ℕ, _*_, _/_, _%_, _^_, _<_}
 use native.Mathlib.Nat.{lt-of-le-of-lt}
 use native.Mathlib.Omega.{arith}
 use lib.Dec.{eqb}
 use lib.Bits.{bitAnd, and-le-l}
 use Rattle.word.specs.Width.{widthOf, bit, low, withLow, turned}
-use Rattle.word.specs.Psw.{carryOf, asleep?}
-use Rattle.word.proofs.Laws.{bit-back, low-lt, with-low-same}
+use Rattle.word.specs.Psw.{bitOf, putBit, carryOf}
+use Rattle.word.proofs.Laws.{bit-back, low-lt, with-low-same, put-same, put-other}
 use Rattle.alu.specs.declared.Op.{Op}
-use Rattle.alu.specs.declared.Op.the-variants.{Bic, Bis, Swpb, Sxt}
+use Rattle.alu.specs.declared.Op.the-variants.{Dadd, Bic, Bis, Swpb, Sxt}
 use Rattle.alu.specs.declared.Computed.{Computed}
-use Rattle.alu.specs.Alu.{aluOf, summed, logical, shifted, tested, maskOf}
-use Rattle.alu.proofs.Laws.{alu-kept, alu-asleep}
-use Rattle.flags.specs.Kept.{held}
-use Rattle.flags.proofs.Laws.{held-above, held-asleep, held-same, held-carry, held-put-zero}
+use Rattle.alu.specs.declared.Decimal.{Decimal}
+use Rattle.alu.specs.Decimal.{decimalSum}
+use Rattle.alu.specs.Alu.{aluOf, summed, logical, shifted, tested, decimal, maskOf}
+use Rattle.flags.specs.Kept.{nothing?, minus?, held}
+use Rattle.flags.proofs.Laws.{held-carry, held-put-carry, held-put-zero}
 
 -- C, as the number that a sum takes in
-pub held-carry-of : (p last sum over : ℕ) → sum / 65536 % 2 ≡ carryOf (held p last sum over)
-held-carry-of p last sum over =
+pub held-carry-of : (last sum over p : ℕ) → sum / 65536 % 2 ≡ carryOf (held p last sum over)
+held-carry-of last sum over p =
     let q = held p last sum over in
     let one : q / 1 % 2 ≡ q % 2 = omega arith in
     sym (bit-back (sum / 65536 % 2) (omega arith)) ∙ ap bit (sym (held-carry p last sum over))
     ∙ bit-back (q / 1 % 2) (omega arith) ∙ one
 
-module _ (byte : Bool) (d s psw last sum over : ℕ) where
-  -- r is the value, and q the PSW, that the operation leaves
-  abbrev pub Worked : Op → (r q : ℕ) → Type 0
+module _ (byte : Bool) (d s last sum over : ℕ) where
+  -- r is the value, and q p the PSW, that the operation leaves where the PSW was p but for the flags
+  abbrev pub Worked : Op → ℕ → (ℕ → ℕ) → Type 0
   Worked op r q =
-      (r ≡ aluOf op (widthOf byte) d s (held psw last sum over) .value)
-      × (q ≡ aluOf op (widthOf byte) d s (held psw last sum over) .psw)
+      ((p : ℕ) → r ≡ aluOf op (widthOf byte) d s (held p last sum over) .value)
+      × ((p : ℕ) → q p ≡ aluOf op (widthOf byte) d s (held p last sum over) .psw)
 
   module _ {op o : Op} (e : op ≡ o) where
     -- the operation is o
     is : (p : ℕ) → aluOf op (widthOf byte) d s p ≡ aluOf o (widthOf byte) d s p
     is p = ap (λ (x : Op). aluOf x (widthOf byte) d s p) e
 
-    worked : (y : Computed) {r q : ℕ} → aluOf o (widthOf byte) d s (held psw last sum over) ≡ y → r ≡ y .value → q ≡ y .psw
-        → Worked op r q
-    worked y f v p =
-        let g = is (held psw last sum over) ∙ f in
-        (v ∙ sym (ap (λ (x : Computed). x .value) g), p ∙ sym (ap (λ (x : Computed). x .psw) g))
+    worked : (y : ℕ → Computed) {r : ℕ} {q : ℕ → ℕ}
+        → ((p : ℕ) → aluOf o (widthOf byte) d s (held p last sum over) ≡ y p) → ((p : ℕ) → r ≡ y p .value)
+        → ((p : ℕ) → q p ≡ y p .psw) → Worked op r q
+    worked y f v t =
+        let g : (p : ℕ) → aluOf op (widthOf byte) d s (held p last sum over) ≡ y p = λ p. is (held p last sum over) ∙ f p in
+        ((λ p. v p ∙ sym (ap (λ (x : Computed). x .value) (g p))), (λ p. t p ∙ sym (ap (λ (x : Computed). x .psw) (g p))))
 
-    pub adds : {b c B C r q : ℕ}
-        → aluOf o (widthOf byte) d s (held psw last sum over) ≡ summed (widthOf byte) d B C (held psw last sum over)
-        → b ≡ B → c ≡ C → ((p : ℕ) → r ≡ summed (widthOf byte) d b c p .value)
-        → q ≡ summed (widthOf byte) d b c (held psw last sum over) .psw → Worked op r q
-    adds {b} {c} {B} {C} f eb ec v p =
-        let h = held psw last sum over in
-        worked (summed (widthOf byte) d b c h) (f ∙ λ i. summed (widthOf byte) d (sym eb i) (sym ec i) h) (v h) p
+    pub adds : {b c B r : ℕ} {C q : ℕ → ℕ} → b ≡ B → ((p : ℕ) → c ≡ C p)
+        → ((p : ℕ) → aluOf o (widthOf byte) d s (held p last sum over) ≡ summed (widthOf byte) d B (C p) (held p last sum over))
+        → ((p : ℕ) → r ≡ summed (widthOf byte) d b c p .value)
+        → ((p : ℕ) → q p ≡ summed (widthOf byte) d b c (held p last sum over) .psw) → Worked op r q
+    adds {b} {c} eb ec f v t =
+        let h : ℕ → ℕ = λ p. held p last sum over in
+        worked (λ p. summed (widthOf byte) d b c (h p)) (λ p. f p ∙ λ i. summed (widthOf byte) d (sym eb i) (sym (ec p) i) (h p))
+        (λ p. v (h p)) t
 
-    pub compares : {b c B C q : ℕ}
-        → aluOf o (widthOf byte) d s (held psw last sum over) ≡ tested d (summed (widthOf byte) d B C (held psw last sum over))
-        → b ≡ B → c ≡ C → q ≡ summed (widthOf byte) d b c (held psw last sum over) .psw → Worked op d q
-    compares {b} {c} {B} {C} f eb ec p =
-        let h = held psw last sum over in
-        worked (tested d (summed (widthOf byte) d b c h)) (f ∙ λ i. tested d (summed (widthOf byte) d (sym eb i) (sym ec i) h)) refl p
+    pub compares : (c : ℕ) {b B : ℕ} {q : ℕ → ℕ} → b ≡ B
+        → ((p : ℕ) → aluOf o (widthOf byte) d s (held p last sum over) ≡ tested d (summed (widthOf byte) d B c (held p last sum over)))
+        → ((p : ℕ) → q p ≡ summed (widthOf byte) d b c (held p last sum over) .psw) → Worked op d q
+    compares c {b} eb f t =
+        let h : ℕ → ℕ = λ p. held p last sum over in
+        worked (λ p. tested d (summed (widthOf byte) d b c (h p))) (λ p. f p ∙ λ i. tested d (summed (widthOf byte) d (sym eb i) c (h p)))
+        (λ p. refl) t
 
-    pub joins : {v W r q : ℕ}
-        → aluOf o (widthOf byte) d s (held psw last sum over) ≡ logical (widthOf byte) d (held psw last sum over) W
-        → v ≡ W → ((p : ℕ) → r ≡ logical (widthOf byte) d p v .value)
-        → q ≡ logical (widthOf byte) d (held psw last sum over) v .psw → Worked op r q
-    joins {v} {W} f ev r p =
-        let h = held psw last sum over in
-        worked (logical (widthOf byte) d h v) (f ∙ λ i. logical (widthOf byte) d h (sym ev i)) (r h) p
+    pub joins : {v W r : ℕ} {q : ℕ → ℕ → ℕ → ℕ} → v ≡ W
+        → ((p : ℕ) → aluOf o (widthOf byte) d s (held p last sum over) ≡ logical (widthOf byte) d (held p last sum over) W)
+        → ((p : ℕ) → r ≡ logical (widthOf byte) d p v .value)
+        → ((p c k : ℕ) → q p c k ≡ logical (widthOf byte) d (held p last c k) v .psw) → Worked op r (λ p. q p sum over)
+    joins {v} ev f r t =
+        let h : ℕ → ℕ = λ p. held p last sum over in
+        worked (λ p. logical (widthOf byte) d (h p) v) (λ p. f p ∙ λ i. logical (widthOf byte) d (h p) (sym ev i)) (λ p. r (h p))
+        (λ p. t p sum over)
 
-    pub looks : {v W q : ℕ}
-        → aluOf o (widthOf byte) d s (held psw last sum over) ≡ tested d (logical (widthOf byte) d (held psw last sum over) W)
-        → v ≡ W → q ≡ logical (widthOf byte) d (held psw last sum over) v .psw → Worked op d q
-    looks {v} {W} f ev p =
-        let h = held psw last sum over in
-        worked (tested d (logical (widthOf byte) d h v)) (f ∙ λ i. tested d (logical (widthOf byte) d h (sym ev i))) refl p
+    pub looks : {v W : ℕ} {q : ℕ → ℕ → ℕ → ℕ} → v ≡ W
+        → ((p : ℕ) → aluOf o (widthOf byte) d s (held p last sum over) ≡ tested d (logical (widthOf byte) d (held p last sum over) W))
+        → ((p c k : ℕ) → q p c k ≡ logical (widthOf byte) d (held p last c k) v .psw) → Worked op d (λ p. q p sum over)
+    looks {v} ev f t =
+        let h : ℕ → ℕ = λ p. held p last sum over in
+        worked (λ p. tested d (logical (widthOf byte) d (h p) v)) (λ p. f p ∙ λ i. tested d (logical (widthOf byte) d (h p) (sym ev i)))
+        (λ p. refl) (λ p. t p sum over)
 
-    pub shifts : {t T r q : ℕ}
-        → aluOf o (widthOf byte) d s (held psw last sum over) ≡ shifted (widthOf byte) d T (held psw last sum over)
-        → t ≡ T → ((p : ℕ) → r ≡ shifted (widthOf byte) d t p .value)
-        → q ≡ shifted (widthOf byte) d t (held psw last sum over) .psw → Worked op r q
-    shifts {t} {T} f et r p =
-        let h = held psw last sum over in
-        worked (shifted (widthOf byte) d t h) (f ∙ λ i. shifted (widthOf byte) d (sym et i) h) (r h) p
+    pub shifts : {t r : ℕ} {T : ℕ → ℕ} {q : ℕ → ℕ → ℕ} → ((p : ℕ) → t ≡ T p)
+        → ((p : ℕ) → aluOf o (widthOf byte) d s (held p last sum over) ≡ shifted (widthOf byte) d (T p) (held p last sum over))
+        → ((p : ℕ) → r ≡ shifted (widthOf byte) d t p .value)
+        → ((p k : ℕ) → q p k ≡ shifted (widthOf byte) d t (held p last sum k) .psw) → Worked op r (λ p. q p over)
+    shifts {t} et f r u =
+        let h : ℕ → ℕ = λ p. held p last sum over in
+        worked (λ p. shifted (widthOf byte) d t (h p)) (λ p. f p ∙ λ i. shifted (widthOf byte) d (sym (et p) i) (h p)) (λ p. r (h p))
+        (λ p. u p over)
 
-  -- the operations of which the code asks `alu` itself, with a PSW of 0: their values do not come from it
-  module _ {op : Op} {x : Computed} (m : x ≡ aluOf op (widthOf byte) d s 0) where
-    pub clears : {last' : ℕ} → op ≡ Bic → last' ≡ low (widthOf byte) (x .value) → Worked op (x .value) (held psw last' sum over)
+  -- the operations of which the code asks `alu` itself, with a PSW of which all but C is 0: their values come from no other flag
+  module _ (last' : ℕ) {op : Op} {x : Computed} (same : minus? last' ≡ minus? last) where
+    pub sums : {c : ℕ} → x ≡ aluOf op (widthOf byte) d s c → c ≡ sum / 65536 % 2 → op ≡ Dadd → nothing? last' ≡ bitOf 1 (x .psw)
+        → Worked op (x .value) (λ p. held p last' (x .psw * 65536) over)
     unfolding aluOf
-    clears {last'} e l =
+    sums {c} m ec e z =
+        let w = widthOf byte in
+        let b = low w s in
+        let t : ℕ → Decimal = λ k. decimalSum (w / 4) (low w d) b k in
+        let carried = eqb (t (carryOf c) .carry) 1 in
+        let none = eqb (t (carryOf c) .value) 0 in
+        let q = putBit 0 c carried in
+        let o : x ≡ decimal w d b c = m ∙ is e c in
+        let f : x .psw ≡ putBit 1 q none = ap (λ (y : Computed). y .psw) o in
+        let one : x .psw * 65536 / 65536 ≡ x .psw / 1 = omega arith in
+        let fc : bitOf 16 (x .psw * 65536) ≡ carried =
+        ap (λ (y : ℕ). eqb (y % 2) 1) one ∙ ap (bitOf 0) f ∙ put-other 0 1 q none (omega arith) ∙ put-same 0 c carried in
+        let fz : nothing? last' ≡ none = z ∙ ap (bitOf 1) f ∙ put-same 1 q none in
+        let digit : carryOf c ≡ sum / 65536 % 2 = omega (arith, ec) in
+        let g : (p : ℕ) → carryOf c ≡ carryOf (held p last sum over) = λ p. digit ∙ held-carry-of last sum over p in
+        worked e (λ p. decimal w d b (held p last sum over)) (λ p. refl)
+        (λ p. ap (λ (y : Computed). y .value) o ∙ ap (λ (k : ℕ). withLow w d (t k .value)) (g p))
+        (λ p. sym
+        (ap (λ (y : ℕ). putBit 1 y none) (held-put-carry p last sum over (x .psw * 65536) carried fc)
+        ∙ held-put-zero p last (x .psw * 65536) over last' none fz same)
+        ∙ ap (λ (k : ℕ). putBit 1 (putBit 0 (held p last sum over) (eqb (t k .carry) 1)) (eqb (t k .value) 0)) (g p))
+
+    pub clears : {r : ℕ} → x ≡ aluOf op (widthOf byte) d s 0 → op ≡ Bic → r ≡ low (widthOf byte) (x .value) → nothing? last' ≡ eqb r 0
+        → Worked op (x .value) (λ p. held p last' sum over)
+    unfolding aluOf
+    clears {r} m e l z =
         let w = widthOf byte in
         let v = bitAnd (low w d) (turned w (maskOf w s)) in
         let f : x .value ≡ withLow w d v = ap (λ (y : Computed). y .value) (m ∙ is e 0) in
         let fits : v < 2 ^ w = lt-of-le-of-lt (and-le-l (low w d) (turned w (maskOf w s))) (low-lt w d) in
-        let g : last' ≡ v = l ∙ ap (low w) f ∙ with-low-same w d v fits in
-        worked e (aluOf Bic w d s (held psw last sum over)) refl f
-        (sym (held-put-zero psw last sum over last' (eqb v 0) (ap (λ (y : ℕ). eqb y 0) g)))
+        let g : r ≡ v = l ∙ ap (low w) f ∙ with-low-same w d v fits in
+        worked e (λ p. aluOf Bic w d s (held p last sum over)) (λ p. refl) (λ p. f)
+        (λ p. sym (held-put-zero p last sum over last' (eqb v 0) (z ∙ ap (λ (y : ℕ). eqb y 0) g) same))
 
-    pub raises : op ≡ Bis → Worked op (x .value) (held psw 1 sum over)
+    pub raises : x ≡ aluOf op (widthOf byte) d s 0 → op ≡ Bis → nothing? last' ≡ false → Worked op (x .value) (λ p. held p last' sum over)
     unfolding aluOf
-    raises e =
-        worked e (aluOf Bis (widthOf byte) d s (held psw last sum over)) refl (ap (λ (y : Computed). y .value) (m ∙ is e 0))
-        (sym (held-put-zero psw last sum over 1 false refl))
+    raises m e z =
+        worked e (λ p. aluOf Bis (widthOf byte) d s (held p last sum over)) (λ p. refl) (λ p. ap (λ (y : Computed). y .value) (m ∙ is e 0))
+        (λ p. sym (held-put-zero p last sum over last' false z same))
 
-    pub swaps : op ≡ Swpb → Worked op (x .value) (held psw last sum over)
+  module _ {op : Op} {x : Computed} (m : x ≡ aluOf op (widthOf byte) d s 0) where
+    pub swaps : op ≡ Swpb → Worked op (x .value) (λ p. held p last sum over)
     unfolding aluOf
     swaps e =
-        worked e (aluOf Swpb (widthOf byte) d s (held psw last sum over)) refl (ap (λ (y : Computed). y .value) (m ∙ is e 0)) refl
+        worked e (λ p. aluOf Swpb (widthOf byte) d s (held p last sum over)) (λ p. refl) (λ p. ap (λ (y : Computed). y .value) (m ∙ is e 0))
+        (λ p. refl)
 
-    pub extends : op ≡ Sxt → Worked op (x .value) (held psw last sum over)
+    pub extends : op ≡ Sxt → Worked op (x .value) (λ p. held p last sum over)
     unfolding aluOf
     extends e =
-        worked e (aluOf Sxt (widthOf byte) d s (held psw last sum over)) refl (ap (λ (y : Computed). y .value) (m ∙ is e 0)) refl
-
--- nothing kept: the flags put together as q, worked on, and taken apart again
-pub at-once-value : (op : Op) (byte : Bool) (d s : ℕ) {h q : ℕ} {x : Computed} → q ≡ h → x ≡ aluOf op (widthOf byte) d s q
-    → x .value ≡ aluOf op (widthOf byte) d s h .value
-at-once-value op byte d s {h} e m =
-    ap (λ (y : Computed). y .value) (m ∙ ap (λ (y : ℕ). aluOf op (widthOf byte) d s y) e)
-
-pub at-once-psw : (op : Op) (byte : Bool) (d s p last sum over last' sum' over' : ℕ) {q : ℕ} {x : Computed} → q ≡ held p last sum over
-    → x ≡ aluOf op (widthOf byte) d s q → held (x .psw) last' sum' over' ≡ x .psw
-    → held p last' sum' over' ≡ aluOf op (widthOf byte) d s (held p last sum over) .psw
-at-once-psw op byte d s p last sum over last' sum' over' {q} {x} e m k =
-    let w = widthOf byte in
-    let h = held p last sum over in
-    let g : x ≡ aluOf op w d s h = m ∙ ap (λ (y : ℕ). aluOf op w d s y) e in
-    let above : x .psw / 32 ≡ p / 32 =
-    ap (λ (y : Computed). y .psw / 32) g ∙ alu-kept op w d s h .above ∙ held-above p last sum over in
-    let asleep : asleep? (x .psw) ≡ asleep? p =
-    ap (λ (y : Computed). asleep? (y .psw)) g ∙ alu-asleep op w d s h ∙ held-asleep p last sum over in
-    sym (held-same (x .psw) p last' sum' over' above asleep) ∙ k ∙ ap (λ (y : Computed). y .psw) g
+        worked e (λ p. aluOf Sxt (widthOf byte) d s (held p last sum over)) (λ p. refl) (λ p. ap (λ (y : Computed). y .value) (m ∙ is e 0))
+        (λ p. refl)

@@ -1,7 +1,7 @@
 -- What the layers above cite of flags that are kept. A PSW is its bits from 5 on, SLP, and the four flags; `held` changes the four alone,
 -- so two PSWs are compared by these six parts. Assumes nothing.
 use mathlib.Core.Path.{_≡_, refl, sym, ap, _∙_}
-use mathlib.Core.Bool.{Bool}
+use mathlib.Core.Bool.{Bool, true, false, not}
 use Prim.Native.Nat.{ℕ, zero, suc, _+_, _-_, _*_, _/_, _%_, _^_, _<_}
 use native.Mathlib.Omega.{arith}
 use lib.Dec.{eqb}
@@ -10,7 +10,7 @@ use Rattle.word.specs.Width.{bit}
 use Rattle.word.specs.Psw.{bitOf, putBit, carry?, zero?, negative?, overflow?, asleep?, faulted?, current, previous}
 use Rattle.word.proofs.Laws.{bit-le, bit-read, bit-back, put-above, put-same, put-other, same-fits, same-above}
 use Rattle.machine.specs.Effect.{putCurrent}
-use Rattle.flags.specs.Kept.{flagged, held}
+use Rattle.flags.specs.Kept.{nothing?, minus?, flagged, held}
 
 -- ---- bits below 5
 
@@ -133,11 +133,11 @@ flagged-own p {c} {z} {n} {v} fc fz fn fv = sym (same-flagged p c z n v p refl r
 module _ (p last sum over : ℕ) where
   pub held-above : held p last sum over / 32 ≡ p / 32
   unfolding held
-  held-above = flagged-above p (bitOf 16 sum) (eqb last 0) (bitOf 15 sum) (bitOf 15 over)
+  held-above = flagged-above p (bitOf 16 sum) (nothing? last) (minus? last) (bitOf 15 over)
 
   pub held-asleep : asleep? (held p last sum over) ≡ asleep? p
   unfolding held
-  held-asleep = flagged-asleep p (bitOf 16 sum) (eqb last 0) (bitOf 15 sum) (bitOf 15 over)
+  held-asleep = flagged-asleep p (bitOf 16 sum) (nothing? last) (minus? last) (bitOf 15 over)
 
   pub held-faulted : faulted? (held p last sum over) ≡ faulted? p
   held-faulted = ap (λ (x : ℕ). eqb (x % 2) 1) (same-above (held p last sum over) p 5 8 (omega arith) held-above)
@@ -153,89 +153,58 @@ module _ (p last sum over : ℕ) where
 
   pub held-carry : carry? (held p last sum over) ≡ bitOf 16 sum
   unfolding held
-  held-carry = flagged-carry p (bitOf 16 sum) (eqb last 0) (bitOf 15 sum) (bitOf 15 over)
+  held-carry = flagged-carry p (bitOf 16 sum) (nothing? last) (minus? last) (bitOf 15 over)
 
-  pub held-zero : zero? (held p last sum over) ≡ eqb last 0
+  pub held-zero : zero? (held p last sum over) ≡ nothing? last
   unfolding held
-  held-zero = flagged-zero p (bitOf 16 sum) (eqb last 0) (bitOf 15 sum) (bitOf 15 over)
+  held-zero = flagged-zero p (bitOf 16 sum) (nothing? last) (minus? last) (bitOf 15 over)
 
-  pub held-negative : negative? (held p last sum over) ≡ bitOf 15 sum
+  pub held-negative : negative? (held p last sum over) ≡ minus? last
   unfolding held
-  held-negative = flagged-negative p (bitOf 16 sum) (eqb last 0) (bitOf 15 sum) (bitOf 15 over)
+  held-negative = flagged-negative p (bitOf 16 sum) (nothing? last) (minus? last) (bitOf 15 over)
 
   pub held-overflow : overflow? (held p last sum over) ≡ bitOf 15 over
   unfolding held
-  held-overflow = flagged-overflow p (bitOf 16 sum) (eqb last 0) (bitOf 15 sum) (bitOf 15 over)
+  held-overflow = flagged-overflow p (bitOf 16 sum) (nothing? last) (minus? last) (bitOf 15 over)
 
   -- other flags kept, over these
   pub held-held : (last' sum' over' : ℕ) → held (held p last sum over) last' sum' over' ≡ held p last' sum' over'
   unfolding held
   held-held last' sum' over' =
-      flagged-again p (bitOf 16 sum) (eqb last 0) (bitOf 15 sum) (bitOf 15 over) (bitOf 16 sum') (eqb last' 0) (bitOf 15 sum')
+      flagged-again p (bitOf 16 sum) (nothing? last) (minus? last) (bitOf 15 over) (bitOf 16 sum') (nothing? last') (minus? last')
       (bitOf 15 over')
 
   -- one flag put
-  pub held-put-carry : (sum' : ℕ) (b : Bool) → bitOf 16 sum' ≡ b → bitOf 15 sum' ≡ bitOf 15 sum
-      → putBit 0 (held p last sum over) b ≡ held p last sum' over
+  pub held-put-carry : (sum' : ℕ) (b : Bool) → bitOf 16 sum' ≡ b → putBit 0 (held p last sum over) b ≡ held p last sum' over
   unfolding held
-  held-put-carry sum' b e f =
-      flagged-put-carry p (bitOf 16 sum) (eqb last 0) (bitOf 15 sum) (bitOf 15 over) b
-      ∙ λ i. flagged p (sym e i) (eqb last 0) (sym f i) (bitOf 15 over)
+  held-put-carry sum' b e =
+      flagged-put-carry p (bitOf 16 sum) (nothing? last) (minus? last) (bitOf 15 over) b
+      ∙ λ i. flagged p (sym e i) (nothing? last) (minus? last) (bitOf 15 over)
 
-  pub held-put-zero : (last' : ℕ) (b : Bool) → eqb last' 0 ≡ b → putBit 1 (held p last sum over) b ≡ held p last' sum over
+  pub held-put-zero : (last' : ℕ) (b : Bool) → nothing? last' ≡ b → minus? last' ≡ minus? last
+      → putBit 1 (held p last sum over) b ≡ held p last' sum over
   unfolding held
-  held-put-zero last' b e =
-      flagged-put-zero p (bitOf 16 sum) (eqb last 0) (bitOf 15 sum) (bitOf 15 over) b
-      ∙ λ i. flagged p (bitOf 16 sum) (sym e i) (bitOf 15 sum) (bitOf 15 over)
+  held-put-zero last' b e f =
+      flagged-put-zero p (bitOf 16 sum) (nothing? last) (minus? last) (bitOf 15 over) b
+      ∙ λ i. flagged p (bitOf 16 sum) (sym e i) (sym f i) (bitOf 15 over)
 
-  pub held-put-negative : (sum' : ℕ) (b : Bool) → bitOf 16 sum' ≡ bitOf 16 sum → bitOf 15 sum' ≡ b
-      → putBit 2 (held p last sum over) b ≡ held p last sum' over
+  -- Z and N of another result
+  pub held-two : (last' : ℕ) (z n : Bool) → nothing? last' ≡ z → minus? last' ≡ n
+      → held p last' sum over ≡ putBit 2 (putBit 1 (held p last sum over) z) n
   unfolding held
-  held-put-negative sum' b e f =
-      flagged-put-negative p (bitOf 16 sum) (eqb last 0) (bitOf 15 sum) (bitOf 15 over) b
-      ∙ λ i. flagged p (sym e i) (eqb last 0) (sym f i) (bitOf 15 over)
+  held-two last' z n ez en =
+      (λ i. flagged p (bitOf 16 sum) (ez i) (en i) (bitOf 15 over))
+      ∙ sym
+      (ap (λ (q : ℕ). putBit 2 q n) (flagged-put-zero p (bitOf 16 sum) (nothing? last) (minus? last) (bitOf 15 over) z)
+      ∙ flagged-put-negative p (bitOf 16 sum) z (minus? last) (bitOf 15 over) n)
 
-  pub held-put-overflow : (over' : ℕ) (b : Bool) → bitOf 15 over' ≡ b → putBit 4 (held p last sum over) b ≡ held p last sum over'
-  unfolding held
-  held-put-overflow over' b e =
-      flagged-put-overflow p (bitOf 16 sum) (eqb last 0) (bitOf 15 sum) (bitOf 15 over) b
-      ∙ λ i. flagged p (bitOf 16 sum) (eqb last 0) (bitOf 15 sum) (sym e i)
-
-  -- the four flags of a sum, and Z and N of a logical result, or with C before them
-  pub held-four : (last' sum' over' : ℕ) (c z n v : Bool) → bitOf 16 sum' ≡ c → eqb last' 0 ≡ z → bitOf 15 sum' ≡ n
+  -- the four flags of a sum
+  pub held-four : (last' sum' over' : ℕ) (c z n v : Bool) → bitOf 16 sum' ≡ c → nothing? last' ≡ z → minus? last' ≡ n
       → bitOf 15 over' ≡ v → held p last' sum' over' ≡ flagged (held p last sum over) c z n v
   unfolding held
   held-four last' sum' over' c z n v ec ez en ev =
       (λ i. flagged p (ec i) (ez i) (en i) (ev i))
-      ∙ sym (flagged-again p (bitOf 16 sum) (eqb last 0) (bitOf 15 sum) (bitOf 15 over) c z n v)
-
-pub held-two : (p last sum over last' sum' : ℕ) (z n : Bool) → bitOf 16 sum' ≡ bitOf 16 sum → eqb last' 0 ≡ z → bitOf 15 sum' ≡ n
-    → held p last' sum' over ≡ putBit 2 (putBit 1 (held p last sum over) z) n
-held-two p last sum over last' sum' z n ec ez en =
-    sym
-    (ap (λ (q : ℕ). putBit 2 q n) (held-put-zero p last sum over last' z ez) ∙ held-put-negative p last' sum over sum' n ec en)
-
-pub held-three : (p last sum over last' sum' : ℕ) (c z n : Bool) → bitOf 16 sum' ≡ c → eqb last' 0 ≡ z → bitOf 15 sum' ≡ n
-    → held p last' sum' over ≡ putBit 2 (putBit 1 (putBit 0 (held p last sum over) c) z) n
-unfolding held
-held-three p last sum over last' sum' c z n ec ez en =
-    let v = bitOf 15 over in
-    (λ i. flagged p (ec i) (ez i) (en i) v)
-    ∙ sym
-    (ap (λ (q : ℕ). putBit 2 (putBit 1 q z) n) (flagged-put-carry p (bitOf 16 sum) (eqb last 0) (bitOf 15 sum) v c)
-    ∙ ap (λ (q : ℕ). putBit 2 q n) (flagged-put-zero p c (eqb last 0) (bitOf 15 sum) v z)
-    ∙ flagged-put-negative p c z (bitOf 15 sum) v n)
-
--- the same bits from 5 on and the same SLP: the same PSW with these flags
-pub held-same : (q p last sum over : ℕ) → q / 32 ≡ p / 32 → asleep? q ≡ asleep? p → held q last sum over ≡ held p last sum over
-unfolding held
-held-same q p last sum over h s =
-    let c = bitOf 16 sum in
-    let z = eqb last 0 in
-    let n = bitOf 15 sum in
-    let v = bitOf 15 over in
-    same-flagged p c z n v (flagged q c z n v) (flagged-above q c z n v ∙ h) (flagged-asleep q c z n v ∙ s) (flagged-carry q c z n v)
-    (flagged-zero q c z n v) (flagged-negative q c z n v) (flagged-overflow q c z n v)
+      ∙ sym (flagged-again p (bitOf 16 sum) (nothing? last) (minus? last) (bitOf 15 over) c z n v)
 
 -- ---- another priority
 
@@ -251,8 +220,8 @@ pub held-put-current : (p last sum over level : ℕ) → putCurrent (held p last
 unfolding held
 held-put-current p last sum over level =
     let c = bitOf 16 sum in
-    let z = eqb last 0 in
-    let n = bitOf 15 sum in
+    let z = nothing? last in
+    let n = minus? last in
     let v = bitOf 15 over in
     let q = flagged p c z n v in
     same-flagged (putCurrent p level) c z n v (putCurrent q level) (priority-above q p level (flagged-above p c z n v))
@@ -270,37 +239,53 @@ digits h v s n z c q hv hs hn hz hc e =
     (omega arith, omega arith, omega arith, omega arith, omega arith, omega arith)
 
 pub held-together : (p last sum over : ℕ)
-    → p / 32 * 32 + over / 32768 % 2 * 16 + p / 8 % 2 * 8 + sum / 32768 % 2 * 4 + bit (eqb last 0) * 2 + sum / 65536 % 2
+    → p / 32 * 32 + over / 32768 % 2 * 16 + p / 8 % 2 * 8 + bit (minus? last) * 4 + bit (nothing? last) * 2 + sum / 65536 % 2
     ≡ held p last sum over
 unfolding held
 held-together p last sum over =
     let v = over / 32768 % 2 in
     let s = p / 8 % 2 in
-    let n = sum / 32768 % 2 in
-    let z = bit (eqb last 0) in
+    let n = bit (minus? last) in
+    let z = bit (nothing? last) in
     let c = sum / 65536 % 2 in
     let q = p / 32 * 32 + v * 16 + s * 8 + n * 4 + z * 2 + c in
-    let d = digits (p / 32) v s n z c q (omega arith) (omega arith) (omega arith) (omega (arith, bit-le (eqb last 0))) (omega arith) refl in
+    let d =
+    digits (p / 32) v s n z c q (omega arith) (omega arith) (omega (arith, bit-le (minus? last)))
+    (omega (arith, bit-le (nothing? last))) (omega arith) refl in
     let test : ℕ → Bool = λ x. eqb x 1 in
-    same-flagged p (bitOf 16 sum) (eqb last 0) (bitOf 15 sum) (bitOf 15 over) q (d .0) (ap test (d .2)) (ap test (d .5))
-    (ap test (d .4) ∙ bit-read (eqb last 0)) (ap test (d .3)) (ap test (d .1))
+    same-flagged p (bitOf 16 sum) (nothing? last) (minus? last) (bitOf 15 over) q (d .0) (ap test (d .2)) (ap test (d .5))
+    (ap test (d .4) ∙ bit-read (nothing? last)) (ap test (d .3) ∙ bit-read (minus? last)) (ap test (d .1))
 
-unset : (x : ℕ) → x < 2 → eqb x 1 ≡ eqb (1 - x) 0
-unset zero h = refl
-unset (suc zero) h = refl
-unset (suc (suc x)) h = absurd (omega arith)
+-- a result of which Z and N are these
+pub marks-zero : (z n : Bool) → nothing? (bit (not z) + bit n * 262144) ≡ z
+marks-zero true true = refl
+marks-zero true false = refl
+marks-zero false true = refl
+marks-zero false false = refl
 
--- C and N at their places
-places : (c n : ℕ) → c < 2 → n < 2 → ((c * 65536 + n * 32768) / 65536 % 2 ≡ c) × ((c * 65536 + n * 32768) / 32768 % 2 ≡ n)
-places c n hc hn =
-    let m : (c * 65536 + n * 32768) / 32768 ≡ c * 2 + n = omega arith in
-    (omega arith, omega (arith, m))
+pub marks-negative : (z n : Bool) → minus? (bit (not z) + bit n * 262144) ≡ n
+marks-negative true true = refl
+marks-negative true false = refl
+marks-negative false true = refl
+marks-negative false false = refl
 
-pub held-apart : (p : ℕ) → held p (1 - p / 2 % 2) (p % 2 * 65536 + p / 4 % 2 * 32768) (p / 16 % 2 * 32768) ≡ p
+-- of a PSW's Z and N
+apart-marks : (z n : ℕ) → z < 2 → n < 2 → (nothing? (2 - z * 2 + n * 262144) ≡ eqb z 1) × (minus? (2 - z * 2 + n * 262144) ≡ eqb n 1)
+apart-marks zero zero hz hn = (refl, refl)
+apart-marks zero (suc zero) hz hn = (refl, refl)
+apart-marks (suc zero) zero hz hn = (refl, refl)
+apart-marks (suc zero) (suc zero) hz hn = (refl, refl)
+apart-marks (suc (suc z)) n hz hn = absurd (omega arith)
+apart-marks zero (suc (suc n)) hz hn = absurd (omega arith)
+apart-marks (suc zero) (suc (suc n)) hz hn = absurd (omega arith)
+
+pub held-apart : (p : ℕ) → held p (2 - p / 2 % 2 * 2 + p / 4 % 2 * 262144) (p * 65536) (p * 2048) ≡ p
 unfolding held
 held-apart p =
-    let one : p / 1 % 2 ≡ p % 2 = omega arith in
-    let e = places (p % 2) (p / 4 % 2) (omega arith) (omega arith) in
-    let v : p / 16 % 2 ≡ p / 16 % 2 * 32768 / 32768 % 2 = omega arith in
+    let c : p / 1 % 2 ≡ p * 65536 / 65536 % 2 = omega arith in
+    let e = apart-marks (p / 2 % 2) (p / 4 % 2) (omega arith) (omega arith) in
+    let w : p * 2048 / 2048 ≡ p = omega arith in
+    let v : p / 16 % 2 ≡ p * 2048 / 32768 % 2 =
+    ap (λ (x : ℕ). x / 16 % 2) (sym w) ∙ ap (λ (x : ℕ). x % 2) (shr-shr (p * 2048) 11 4) in
     let test : ℕ → Bool = λ x. eqb x 1 in
-    flagged-own p (ap test (one ∙ sym (e .0))) (unset (p / 2 % 2) (omega arith)) (ap test (sym (e .1))) (ap test v)
+    flagged-own p (ap test c) (sym (e .0)) (sym (e .1)) (ap test v)

@@ -5,11 +5,10 @@ use mathlib.Core.Bool.{Bool, true, false, not, _&&_, _||_}
 use Prim.Native.Nat.{ℕ, zero, suc, _+_, _-_, _*_, _/_, _%_, _≤_, _<_}
 use native.Mathlib.Omega.{arith}
 use lib.Dec.{eqb}
-use lib.Bits.{bitAnd, bitOr, or-lt, or-zero-l, or-add-and, and-le-l, and-le-r}
-use borrow.Author.Tests.{ne-eqb}
+use lib.Bits.{bitAnd, bitOr, or-lt, and-le-l}
 use Rattle.word.specs.Psw.{bitOf}
 use Rattle.machine.specs.Effect.{setFlags, clearFlags}
-use Rattle.flags.specs.Kept.{flagged, held}
+use Rattle.flags.specs.Kept.{flagged, held, nothing?, minus?}
 use Rattle.flags.proofs.Bits.{and-bit, or-bit}
 use Rattle.flags.proofs.Laws.{same-below, same-flagged, flagged-above, flagged-asleep, flagged-carry, flagged-zero}
 use Rattle.flags.proofs.Laws.{flagged-negative, flagged-overflow}
@@ -94,77 +93,41 @@ module _ (p f : ℕ) (h : f < 32) (s : f / 8 % 2 ≡ 0) (c z n v : Bool) where
 
 -- ---- as code computes it: the named flags, at the places where they are kept
 
-or-true : (x y : Bool) → y ≡ true → x || y ≡ true
-or-true true y e = refl
-or-true false y e = e
-
--- an or is 0 where both are
-or-zero : (a b : ℕ) → eqb (bitOr a b) 0 ≡ eqb a 0 && eqb b 0
-or-zero zero b = ap (λ (x : ℕ). eqb x 0) (or-zero-l b)
-or-zero (suc a) b =
-    let h : bitOr (suc a) b + bitAnd (suc a) b ≡ suc a + b = or-add-and (suc a) b in
-    let l : bitAnd (suc a) b ≤ b = and-le-r (suc a) b in
-    let n : bitOr (suc a) b ≡ 0 → ⊥ = omega (arith, h, l) in
-    let m : suc a ≡ 0 → ⊥ = omega arith in
-    ne-eqb (bitOr (suc a) b) 0 n ∙ sym (ap (λ (x : Bool). x && eqb b 0) (ne-eqb (suc a) 0 m))
-
--- last digits of sums
-even-added : (x f g : ℕ) → x ≡ f + g → g % 2 ≡ 0 → x % 2 ≡ f / 1 % 2
-even-added x f g e h = omega arith
-
-twice-added : (x f g : ℕ) → x ≡ f * 2 + g → x % 2 ≡ g % 2
-twice-added x f g e = omega arith
-
-even-left : (x f g : ℕ) → x + (f + g) ≡ 63 → g % 2 ≡ 0 → x % 2 + f / 1 % 2 ≡ 1
-even-left x f g e h = omega arith
-
-twice-left : (x f g : ℕ) → x + (f * 2 + g) ≡ 127 → x % 2 + g % 2 ≡ 1
-twice-left x f g e = omega arith
+-- last digits of two numbers of an odd sum
+odd-left : (x f : ℕ) → x + f ≡ 63 → x % 2 + f / 1 % 2 ≡ 1
+odd-left x f e = omega arith
 
 one-left : (x g : ℕ) → x + g ≡ 1 → x % 2 + g % 2 ≡ 1
 one-left x g e = omega arith
 
-module _ (f : ℕ) (h : f < 32) (s : f / 8 % 2 ≡ 0) (last sum over p : ℕ) where
-  pub set-kept : (last' : ℕ) → eqb last' 0 ≡ eqb last 0 || bitOf 1 f
-      → held p last' (bitOr sum (f * 73728)) (bitOr over (f * 2048)) ≡ setFlags (held p last sum over) f
+-- an even digit is not 1
+even-digit : (x : ℕ) → x < 2 → eqb x 0 ≡ not (eqb x 1)
+even-digit zero b = refl
+even-digit (suc zero) b = refl
+even-digit (suc (suc x)) b = absurd (omega arith)
+
+module _ (f : ℕ) (h : f < 32) (s : f / 8 % 2 ≡ 0) (last sum over p last' : ℕ) where
+  pub set-kept : nothing? last' ≡ nothing? last || bitOf 1 f → minus? last' ≡ minus? last || bitOf 2 f
+      → held p last' (bitOr sum (f * 65536)) (bitOr over (f * 2048)) ≡ setFlags (held p last sum over) f
   unfolding held
-  set-kept last' z =
-      let c : f * 73728 / 65536 ≡ f + f / 8 = omega arith in
-      let c2 : f * 73728 / 65536 % 2 ≡ f / 1 % 2 = even-added (f * 73728 / 65536) f (f / 8) c s in
-      let n : f * 73728 / 32768 ≡ f * 2 + f / 4 = omega arith in
-      let n2 : f * 73728 / 32768 % 2 ≡ f / 4 % 2 = twice-added (f * 73728 / 32768) f (f / 4) n in
+  set-kept z n =
+      let c : f * 65536 / 65536 ≡ f / 1 = omega arith in
       let v : f * 2048 / 32768 ≡ f / 16 = omega arith in
-      (λ i. flagged p
-      ((or-bit 16 sum (f * 73728) ∙ ap (λ (x : ℕ). bitOf 16 sum || eqb x 1) c2) i) (z i)
-      ((or-bit 15 sum (f * 73728) ∙ ap (λ (x : ℕ). bitOf 15 sum || eqb x 1) n2) i)
+      (λ i. flagged p ((or-bit 16 sum (f * 65536) ∙ ap (λ (x : ℕ). bitOf 16 sum || eqb (x % 2) 1) c) i) (z i) (n i)
       ((or-bit 15 over (f * 2048) ∙ ap (λ (x : ℕ). bitOf 15 over || eqb (x % 2) 1) v) i))
-      ∙ sym (set-flagged p f h s (bitOf 16 sum) (eqb last 0) (bitOf 15 sum) (bitOf 15 over))
+      ∙ sym (set-flagged p f h s (bitOf 16 sum) (nothing? last) (minus? last) (bitOf 15 over))
 
-  pub set-zero : f / 2 % 2 ≡ 1 → eqb 0 0 ≡ eqb last 0 || bitOf 1 f
-  set-zero e = sym (or-true (eqb last 0) (bitOf 1 f) (ap (λ (x : ℕ). eqb x 1) e))
-
-  pub set-other : (f / 2 % 2 ≡ 1 → ⊥) → eqb last 0 ≡ eqb last 0 || bitOf 1 f
-  set-other e = sym (or-none (eqb last 0) (bitOf 1 f) (ne-eqb (f / 2 % 2) 1 e))
-
-  -- no Z where it is named
-  unset : (x : ℕ) → x < 2 → eqb (x * 2) 0 ≡ not (eqb x 1)
-  unset zero b = refl
-  unset (suc zero) b = refl
-  unset (suc (suc x)) b = absurd (omega arith)
-
-  pub clear-kept : held p (bitOr last (f / 2 % 2 * 2)) (bitAnd sum (4194303 - f * 73728)) (bitAnd over (65535 - f * 2048))
-      ≡ clearFlags (held p last sum over) f
+  pub clear-kept : nothing? last' ≡ nothing? last && eqb (f / 2 % 2) 0 → minus? last' ≡ minus? last && eqb (f / 4 % 2) 0
+      → held p last' (bitAnd sum (4194303 - f * 65536)) (bitAnd over (65535 - f * 2048)) ≡ clearFlags (held p last sum over) f
   unfolding held
-  clear-kept =
-      let c : (4194303 - f * 73728) / 65536 + (f + f / 8) ≡ 63 = omega arith in
-      let c2 : (4194303 - f * 73728) / 65536 % 2 + f / 1 % 2 ≡ 1 = even-left ((4194303 - f * 73728) / 65536) f (f / 8) c s in
-      let n : (4194303 - f * 73728) / 32768 + (f * 2 + f / 4) ≡ 127 = omega arith in
-      let n2 : (4194303 - f * 73728) / 32768 % 2 + f / 4 % 2 ≡ 1 = twice-left ((4194303 - f * 73728) / 32768) f (f / 4) n in
+  clear-kept z n =
+      let c : (4194303 - f * 65536) / 65536 + f ≡ 63 = omega arith in
+      let c2 : (4194303 - f * 65536) / 65536 % 2 + f / 1 % 2 ≡ 1 = odd-left ((4194303 - f * 65536) / 65536) f c in
       let v : (65535 - f * 2048) / 32768 + f / 16 ≡ 1 = omega arith in
       let v2 : (65535 - f * 2048) / 32768 % 2 + f / 16 % 2 ≡ 1 = one-left ((65535 - f * 2048) / 32768) (f / 16) v in
       (λ i. flagged p
-      ((and-bit 16 sum (4194303 - f * 73728) ∙ ap (λ (x : Bool). bitOf 16 sum && x) (turned-digit _ _ c2)) i)
-      ((or-zero last (f / 2 % 2 * 2) ∙ ap (λ (x : Bool). eqb last 0 && x) (unset (f / 2 % 2) (omega arith))) i)
-      ((and-bit 15 sum (4194303 - f * 73728) ∙ ap (λ (x : Bool). bitOf 15 sum && x) (turned-digit _ _ n2)) i)
+      ((and-bit 16 sum (4194303 - f * 65536) ∙ ap (λ (x : Bool). bitOf 16 sum && x) (turned-digit _ _ c2)) i)
+      ((z ∙ ap (λ (x : Bool). nothing? last && x) (even-digit (f / 2 % 2) (omega arith))) i)
+      ((n ∙ ap (λ (x : Bool). minus? last && x) (even-digit (f / 4 % 2) (omega arith))) i)
       ((and-bit 15 over (65535 - f * 2048) ∙ ap (λ (x : Bool). bitOf 15 over && x) (turned-digit _ _ v2)) i))
-      ∙ sym (clear-flagged p f h s (bitOf 16 sum) (eqb last 0) (bitOf 15 sum) (bitOf 15 over))
+      ∙ sym (clear-flagged p f h s (bitOf 16 sum) (nothing? last) (minus? last) (bitOf 15 over))

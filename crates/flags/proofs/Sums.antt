@@ -1,29 +1,51 @@
 -- The flags of a sum as they are kept are those of the sum. A sum of two numbers of the width w and a carry has w + 1 bits: bit w is C,
--- bit w - 1 is N, and V where that bit differs from the same bit of both addends. Assumes nothing.
+-- bit w - 1 is N, and V where that bit differs from the same bit of both addends; Z is that its low w bits are 0. Assumes nothing.
 use mathlib.Core.Path.{_≡_, refl, sym, ap, ap₂, _∙_}
-use mathlib.Core.Bool.{Bool, true, false, not, _&&_, Bool·beq}
-use Prim.Native.Nat.{ℕ, _+_, _-_, _*_, _/_, _%_, _^_, _≤_, _<_}
-use native.Mathlib.Nat.{lt-of-le-of-lt, mul-le-mul-right}
+use mathlib.Core.Bool.{Bool, true, false, not, _&&_, _||_, Bool·beq}
+use Prim.Native.Nat.{ℕ, zero, suc, _+_, _-_, _*_, _/_, _%_, _^_, _≤_, _<_}
+use native.Mathlib.Nat.{lt-of-le-of-lt, mul-le-mul-right, mod-eq-of-lt}
 use native.Mathlib.Omega.{arith}
 use lib.Dec.{eqb}
 use lib.Bits.{bitAnd, bitXor, and-le-l, xor-lt}
+use borrow.Author.Tests.{ne-eqb}
 use Rattle.word.specs.Width.{widthOf, low, withLow}
 use Rattle.word.specs.Psw.{bitOf}
 use Rattle.word.proofs.Laws.{two-halves, width-pos, fits-word, low-lt}
 use Rattle.alu.specs.Sums.{addWithCarry, negative, differs, overflowOf}
-use Rattle.alu.specs.Alu.{summed, logical, shifted, halved}
-use Rattle.flags.specs.Kept.{held}
+use Rattle.alu.specs.Alu.{summed, shifted, halved, signFlags}
+use Rattle.flags.specs.Kept.{nothing?, minus?, held}
 use Rattle.flags.proofs.Bits.{and-bit, xor-bit, top-bit, low-bit, kept-top, kept-carry}
-use Rattle.flags.proofs.Laws.{held-two, held-three, held-four}
+use Rattle.flags.proofs.Laws.{held-put-carry, held-two, held-four}
 
 -- N of a number of the width, by its top bit
 pub sign : (byte : Bool) (x : ℕ) → x < 2 ^ widthOf byte → negative (widthOf byte) x ≡ bitOf (widthOf byte - 1) x
 sign byte x h = top-bit (widthOf byte - 1) x (rw (two-halves byte) h)
 
--- and by its bit 15 in what is kept
-pub kept-sign : (byte : Bool) (x : ℕ) → x < 2 ^ widthOf byte
-    → bitOf 15 (x * 2 ^ (16 - widthOf byte)) ≡ negative (widthOf byte) x
-kept-sign byte x h = kept-top byte x ∙ sym (sign byte x h)
+-- a number of w + 1 bits as it is kept: bit 18 is not set, bit 15 is its bit w - 1
+kept-above : (byte : Bool) (x : ℕ) → x < 2 ^ widthOf byte + 2 ^ widthOf byte → bitOf 18 (x * 2 ^ (16 - widthOf byte)) ≡ false
+unfolding widthOf
+kept-above true x h = let e : x * 256 / 262144 ≡ 0 = omega arith in ap (λ (q : ℕ). eqb (q % 2) 1) e
+kept-above false x h = let e : x * 1 / 262144 ≡ 0 = omega arith in ap (λ (q : ℕ). eqb (q % 2) 1) e
+
+kept-minus : (byte : Bool) (x : ℕ) → x < 2 ^ widthOf byte + 2 ^ widthOf byte
+    → minus? (x * 2 ^ (16 - widthOf byte)) ≡ bitOf (widthOf byte - 1) x
+kept-minus byte x h = ap₂ _||_ (kept-top byte x) (kept-above byte x h) ∙ alone (bitOf (widthOf byte - 1) x)
+  where
+    alone : (b : Bool) → b || false ≡ b
+    alone true = refl
+    alone false = refl
+
+-- its low 16 bits are 0 where its own low bits are
+kept-nothing : (byte : Bool) (x : ℕ) → nothing? (x * 2 ^ (16 - widthOf byte)) ≡ eqb (low (widthOf byte) x) 0
+unfolding widthOf
+kept-nothing true x =
+    let e : x * 256 % 65536 ≡ x % 256 * 256 = omega arith in
+    ap (λ (q : ℕ). eqb q 0) e ∙ larger (x % 256)
+  where
+    larger : (y : ℕ) → eqb (y * 256) 0 ≡ eqb y 0
+    larger zero = refl
+    larger (suc y) = ne-eqb (suc y * 256) 0 (omega arith) ∙ sym (ne-eqb (suc y) 0 (omega arith))
+kept-nothing false x = let e : x * 1 % 65536 ≡ x % 65536 = omega arith in ap (λ (q : ℕ). eqb q 0) e
 
 module _ (byte : Bool) (a b c : ℕ) (ha : a < 2 ^ widthOf byte) (hb : b < 2 ^ widthOf byte) (hc : c ≤ 1) where
   sum-carry : bitOf 16 ((a + b + c) * 2 ^ (16 - widthOf byte)) ≡ addWithCarry (widthOf byte) a b c .carry
@@ -39,9 +61,12 @@ module _ (byte : Bool) (a b c : ℕ) (ha : a < 2 ^ widthOf byte) (hb : b < 2 ^ w
       let f : bitOf k ((a + b + c) % 2 ^ widthOf byte) ≡ bitOf k (a + b + c) = rw e at (low-bit k (a + b + c)) in
       sign byte ((a + b + c) % 2 ^ widthOf byte) (low-lt (widthOf byte) (a + b + c)) ∙ f
 
-  sum-sign : bitOf 15 ((a + b + c) * 2 ^ (16 - widthOf byte))
-      ≡ negative (widthOf byte) (addWithCarry (widthOf byte) a b c .value)
-  sum-sign = kept-top byte (a + b + c) ∙ sym value-sign
+  sum-sign : minus? ((a + b + c) * 2 ^ (16 - widthOf byte)) ≡ negative (widthOf byte) (addWithCarry (widthOf byte) a b c .value)
+  sum-sign = kept-minus byte (a + b + c) (omega arith) ∙ sym value-sign
+
+  sum-zero : nothing? ((a + b + c) * 2 ^ (16 - widthOf byte)) ≡ eqb (addWithCarry (widthOf byte) a b c .value) 0
+  unfolding addWithCarry
+  sum-zero = kept-nothing byte (a + b + c)
 
   sum-over : bitOf 15 (bitAnd (bitXor a (a + b + c)) (bitXor b (a + b + c)) * 2 ^ (16 - widthOf byte))
       ≡ overflowOf (widthOf byte) a b (addWithCarry (widthOf byte) a b c .value)
@@ -74,67 +99,45 @@ unfolding widthOf
 low-word true x = omega arith
 low-word false x = omega arith
 
--- a number of the width is one of 16 bits where it is kept
-pub placed-lt : (byte : Bool) (x : ℕ) → x < 2 ^ widthOf byte → x * 2 ^ (16 - widthOf byte) < 65536
-unfolding widthOf
-placed-lt true x h = omega arith
-placed-lt false x h = omega arith
-
-module _ (byte : Bool) (dst b c : ℕ) {a v sum over : ℕ} (hb : b < 2 ^ widthOf byte) (hc : c ≤ 1) (ea : a ≡ low (widthOf byte) dst)
-    (es : sum ≡ (a + b + c) * 2 ^ (16 - widthOf byte))
-    (eo : over ≡ bitAnd (bitXor a (a + b + c)) (bitXor b (a + b + c)) * 2 ^ (16 - widthOf byte))
-    (ev : v ≡ low (widthOf byte) ((a + b + c) % 65536)) where
-  value-of : v ≡ addWithCarry (widthOf byte) (low (widthOf byte) dst) b c .value
+module _ (byte : Bool) (dst b c : ℕ) {a : ℕ} (ea : a ≡ low (widthOf byte) dst) where
+  pub sum-value : {v r : ℕ} → v ≡ low (widthOf byte) ((a + b + c) % 65536) → r ≡ withLow (widthOf byte) dst v
+      → (p : ℕ) → r ≡ summed (widthOf byte) dst b c p .value
   unfolding addWithCarry
-  value-of = ev ∙ low-word byte (a + b + c) ∙ ap (λ (x : ℕ). (x + b + c) % 2 ^ widthOf byte) ea
+  sum-value ev e p =
+      let w = widthOf byte in
+      e ∙ ap (withLow w dst) (ev ∙ low-word byte (a + b + c) ∙ ap (λ (x : ℕ). (x + b + c) % 2 ^ w) ea)
 
-  pub sum-value : (r : ℕ) → r ≡ withLow (widthOf byte) dst v → (p : ℕ) → r ≡ summed (widthOf byte) dst b c p .value
-  sum-value r e p = e ∙ ap (withLow (widthOf byte) dst) value-of
-
-  pub sum-psw : (last' sum' over' p : ℕ) → held p v sum over ≡ summed (widthOf byte) dst b c (held p last' sum' over') .psw
-  sum-psw last' sum' over' p =
+  pub sum-psw : {k over : ℕ} → b < 2 ^ widthOf byte → c ≤ 1 → k ≡ (a + b + c) * 2 ^ (16 - widthOf byte)
+      → over ≡ bitAnd (bitXor a (a + b + c)) (bitXor b (a + b + c)) * 2 ^ (16 - widthOf byte)
+      → (last' sum' over' p : ℕ) → held p k k over ≡ summed (widthOf byte) dst b c (held p last' sum' over') .psw
+  sum-psw {k} {over} hb hc ek eo last' sum' over' p =
       let w = widthOf byte in
       let x = low w dst in
-      let k = 2 ^ (16 - w) in
+      let m = 2 ^ (16 - w) in
       let s = addWithCarry w x b c in
-      let fs : sum ≡ (x + b + c) * k = es ∙ ap (λ (y : ℕ). (y + b + c) * k) ea in
-      let fo : over ≡ bitAnd (bitXor x (x + b + c)) (bitXor b (x + b + c)) * k =
-      eo ∙ ap (λ (y : ℕ). bitAnd (bitXor y (y + b + c)) (bitXor b (y + b + c)) * k) ea in
-      held-four p last' sum' over' v sum over (s .carry) (eqb (s .value) 0) (negative w (s .value)) (overflowOf w x b (s .value))
-      (ap (bitOf 16) fs ∙ sum-carry byte x b c (low-lt w dst) hb hc) (ap (λ (y : ℕ). eqb y 0) value-of)
-      (ap (bitOf 15) fs ∙ sum-sign byte x b c (low-lt w dst) hb hc) (ap (bitOf 15) fo ∙ sum-over byte x b c (low-lt w dst) hb hc)
+      let fk : k ≡ (x + b + c) * m = ek ∙ ap (λ (y : ℕ). (y + b + c) * m) ea in
+      let fo : over ≡ bitAnd (bitXor x (x + b + c)) (bitXor b (x + b + c)) * m =
+      eo ∙ ap (λ (y : ℕ). bitAnd (bitXor y (y + b + c)) (bitXor b (y + b + c)) * m) ea in
+      held-four p last' sum' over' k k over (s .carry) (eqb (s .value) 0) (negative w (s .value)) (overflowOf w x b (s .value))
+      (ap (bitOf 16) fk ∙ sum-carry byte x b c (low-lt w dst) hb hc) (ap nothing? fk ∙ sum-zero byte x b c (low-lt w dst) hb hc)
+      (ap minus? fk ∙ sum-sign byte x b c (low-lt w dst) hb hc) (ap (bitOf 15) fo ∙ sum-over byte x b c (low-lt w dst) hb hc)
 
--- a number of 16 bits below what C is kept in
-module _ (k x : ℕ) (h : x < 65536) where
-  carry-beside : bitOf 16 (k * 65536 + x) ≡ eqb (k % 2) 1
-  carry-beside = let e : (k * 65536 + x) / 65536 ≡ k = omega arith in ap (λ (q : ℕ). eqb (q % 2) 1) e
+pub logic-psw : (byte : Bool) (v : ℕ) {last' : ℕ} → v < 2 ^ widthOf byte → last' ≡ v * 2 ^ (16 - widthOf byte)
+    → (last p sum over : ℕ) → held p last' sum over ≡ signFlags (widthOf byte) (held p last sum over) v
+logic-psw byte v {last'} h e last p sum over =
+    let w = widthOf byte in
+    held-two p last sum over last' (eqb v 0) (negative w v)
+    (ap nothing? e ∙ kept-nothing byte v ∙ ap (λ (q : ℕ). eqb q 0) (mod-eq-of-lt h))
+    (ap minus? e ∙ kept-minus byte v (omega arith) ∙ sym (sign byte v h))
 
-  sign-beside : bitOf 15 (k * 65536 + x) ≡ bitOf 15 x
-  sign-beside =
-      let e : (k * 65536 + x) / 32768 ≡ k * 2 + x / 32768 = omega arith in
-      let f : (k * 65536 + x) / 32768 % 2 ≡ x / 32768 % 2 = omega (arith, e) in
-      ap (λ (q : ℕ). eqb q 1) f
-
-module _ (byte : Bool) (v : ℕ) {x : ℕ} (h : v < 2 ^ widthOf byte) (e : x ≡ v * 2 ^ (16 - widthOf byte)) where
-  beside : x < 65536
-  beside = rw e (placed-lt byte v h)
-
-  sign-of : (k : ℕ) → bitOf 15 (k * 65536 + x) ≡ negative (widthOf byte) v
-  sign-of k = sign-beside k x beside ∙ ap (bitOf 15) e ∙ kept-sign byte v h
-
-  pub logic-psw : (last sum p over : ℕ) → held p v (sum / 65536 % 2 * 65536 + x) over
-      ≡ logical (widthOf byte) 0 (held p last sum over) v .psw
-  logic-psw last sum p over =
-      let d : sum / 65536 % 2 % 2 ≡ sum / 65536 % 2 = omega arith in
-      held-two p last sum over v (sum / 65536 % 2 * 65536 + x) (eqb v 0) (negative (widthOf byte) v)
-      (carry-beside (sum / 65536 % 2) x beside ∙ ap (λ (q : ℕ). eqb q 1) d) refl (sign-of (sum / 65536 % 2))
-
-  pub shift-psw : (dst high : ℕ) → v ≡ halved (widthOf byte) dst high → (last sum p over : ℕ)
-      → held p v (dst * 65536 + x) over ≡ shifted (widthOf byte) dst high (held p last sum over) .psw
-  shift-psw dst high f last sum p over =
-      let w = widthOf byte in
-      held-three p last sum over v (dst * 65536 + x) (eqb (dst % 2) 1) (eqb (halved w dst high) 0) (negative w (halved w dst high))
-      (carry-beside dst x beside) (ap (λ (q : ℕ). eqb q 0) f) (sign-of dst ∙ ap (negative w) f)
+-- what `logic` leaves, where C is the bit that fell out
+pub shift-psw : (byte : Bool) (dst high : ℕ) {v : ℕ} {q : ℕ → ℕ → ℕ → ℕ} → v ≡ halved (widthOf byte) dst high → (last sum : ℕ)
+    → ((p c over : ℕ) → q p c over ≡ signFlags (widthOf byte) (held p last c over) v)
+    → (p over : ℕ) → q p (dst * 65536) over ≡ shifted (widthOf byte) dst high (held p last sum over) .psw
+shift-psw byte dst high e last sum f p over =
+    let d : dst * 65536 / 65536 ≡ dst = omega arith in
+    let g = held-put-carry p last sum over (dst * 65536) (eqb (dst % 2) 1) (ap (λ (q : ℕ). eqb (q % 2) 1) d) in
+    f p (dst * 65536) over ∙ λ i. signFlags (widthOf byte) (sym g i) (e i)
 
 -- ---- what fits
 

@@ -1,29 +1,54 @@
 // The flags of a fast stretch of instructions, kept as what they come from until they are asked
-// for: `last`, the result that Z is of; `sum`, whose bit 16 is C and whose bit 15 is N; `over`,
-// whose bit 15 is V. A byte form's numbers stand in `sum` and `over` 256 times as large, so that
-// the same bits serve both widths. `byte` chooses the width: 8 bits, else 16.
+// for: `last`, a result, whose low 16 bits are 0 where Z is set and whose bit 15 or bit 18 is N;
+// `sum`, whose bit 16 is C; `over`, whose bit 15 is V. A byte form's numbers stand there 256 times as
+// large, so that the same bits serve both widths. Bit 18 is for an N that is not of the result that
+// Z is of. `byte` chooses the width: 8 bits, else 16.
 ghost use mathlib.Core.Path.{_≡_};
 ghost use Prim.Native.Nat.{ℕ, _-_, _*_, _/_, _%_, _^_, _<_, _≤_};
+ghost use lib.Dec.{eqb};
+ghost use mathlib.Core.Bool.{Bool, not};
 ghost use Rattle.word.specs.Width.{widthOf};
 ghost use Rattle.alu.specs.Alu.{aluOf, logical, summed, shifted};
-ghost use Rattle.machine.specs.Effect.{setFlags, clearFlags};
-ghost use Rattle.flags.specs.Kept.{held};
+ghost use Rattle.machine.specs.Cex.{conditionOf, atLeast?};
+ghost use Rattle.machine.specs.Effect.{setFlags, clearFlags, takenOf};
+ghost use Rattle.flags.specs.Kept.{held, nothing?, minus?};
 use alu::Op;
 
 // What the flags come from.
 pub struct Kept {
-    pub last: u16,
+    pub last: u32,
     pub sum: u32,
     pub over: u32,
 }
 
+// Is Z set?
+fn zero(last: u32) -> bool
+    ensures { λ r. ⌜ r ≡ nothing? last ⌝ }
+{
+    last % 65536 == 0
+}
+
+// Is N set?
+fn negative(last: u32) -> bool
+    ensures { λ r. ⌜ r ≡ minus? last ⌝ }
+{
+    (last / 32768 % 2 == 1) | (last / 262144 % 2 == 1)
+}
+
+// A `last` of which Z and N are these.
+fn marks(z: bool, n: bool) -> u32
+    ensures { λ r. ⌜ (nothing? r ≡ z) × (minus? r ≡ n) ⌝ }
+{
+    !z as u32 + n as u32 * 262144
+}
+
 // The PSW with its flags put together.
-pub fn together(psw: u16, last: u16, sum: u32, over: u32) -> u16
+pub fn together(psw: u16, last: u32, sum: u32, over: u32) -> u16
     ensures { λ r. ⌜ r ≡ held psw last sum over ⌝ }
 {
-    let z = (last == 0) as u16;
+    let z = zero(last) as u16;
     let c = (sum / 65536 % 2) as u16;
-    let n = (sum / 32768 % 2) as u16;
+    let n = negative(last) as u16;
     let v = (over / 32768 % 2) as u16;
     psw / 32 * 32 + v * 16 + psw / 8 % 2 * 8 + n * 4 + z * 2 + c
 }
@@ -34,10 +59,56 @@ pub fn apart(psw: u16) -> Kept
 {
     let p = psw as u32;
     Kept {
-        last: 1 - psw / 2 % 2,
-        sum: p % 2 * 65536 + p / 4 % 2 * 32768,
-        over: p / 16 % 2 * 32768,
+        last: 2 - p / 2 % 2 * 2 + p / 4 % 2 * 262144,
+        sum: p * 65536,
+        over: p * 2048,
     }
+}
+
+// Do N and V differ?
+fn below(last: u32, over: u32) -> bool
+    ensures { λ r. ⌜ ((p sum : ℕ) → not r ≡ atLeast? (held p last sum over)) ⌝ }
+{
+    ((last | last / 8) ^ over) / 32768 % 2 == 1
+}
+
+// Does the condition of number 2 * k hold?
+fn even_condition(k: u8, last: u32, sum: u32, over: u32) -> bool
+    ensures { λ r. ⌜ ((p : ℕ) → r ≡ conditionOf (2 * k) (held p last sum over)) ⌝ }
+{
+    match k {
+        0 => zero(last),
+        1 => sum / 65536 % 2 == 1,
+        2 => negative(last),
+        3 => over / 32768 % 2 == 1,
+        4 => (sum / 65536 % 2 == 1) & !zero(last),
+        5 => !below(last, over),
+        6 => !zero(last) & !below(last, over),
+        7 => true,
+        _ => false,
+    }
+}
+
+// Does CEX's condition of this number hold? An odd one holds where the one before it does not.
+pub fn condition(n: u8, last: u32, sum: u32, over: u32) -> bool
+    requires { ⌜ n < 16 ⌝ }
+    ensures { λ r. ⌜ ((p : ℕ) → r ≡ conditionOf n (held p last sum over)) ⌝ }
+{
+    even_condition(n / 2, last, sum, over) != (n % 2 == 1)
+}
+
+// Is the branch of this number taken?
+pub fn taken(k: u8, last: u32, sum: u32, over: u32) -> bool
+    requires { ⌜ k < 8 ⌝ }
+    ensures { λ r. ⌜ ((p : ℕ) → r ≡ takenOf k (held p last sum over)) ⌝ }
+{
+    let n = match k {
+        5 => 10,
+        6 => 11,
+        7 => 14,
+        _ => k,
+    };
+    condition(n, last, sum, over)
 }
 
 // A number of the width, or a sum of two, as it stands in what is kept.
@@ -54,7 +125,7 @@ fn add(
     dst: u16,
     b: u16,
     carry: u32,
-    last: &mut u16,
+    last: &mut u32,
     sum: &mut u32,
     over: &mut u32,
 ) -> u16
@@ -66,63 +137,39 @@ fn add(
 {
     let a = word::low_bits(byte, dst) as u32;
     let t = a + b as u32 + carry;
-    *sum = placed(byte, t);
+    let k = placed(byte, t);
+    *last = k;
+    *sum = k;
     *over = placed(byte, (a ^ t) & (b as u32 ^ t));
-    let v = word::low_bits(byte, (t % 65536) as u16);
-    *last = v;
-    word::with_low(byte, dst, v)
+    word::with_low(byte, dst, word::low_bits(byte, (t % 65536) as u16))
 }
 
 // A logical result v of the width written to the destination, with Z and N.
-fn logic(byte: bool, dst: u16, v: u16, last: &mut u16, sum: &mut u32) -> u16
+fn logic(byte: bool, dst: u16, v: u16, last: &mut u32) -> u16
     requires { ⌜ v < 2 ^ widthOf byte ⌝ }
     ensures value { λ r. ⌜ ((p : ℕ) → r ≡ logical (widthOf byte) dst p v .value) ⌝ }
-    ensures psw { λ r. ⌜ ((p over : ℕ) → held p (now (last .exit)) (now (sum .exit)) over
-        ≡ logical (widthOf byte) dst
-        (held p (now (last .entry)) (now (sum .entry)) over) v .psw) ⌝ }
+    ensures psw { λ r. ⌜ ((p sum over : ℕ) → held p (now (last .exit)) sum over
+        ≡ logical (widthOf byte) dst (held p (now (last .entry)) sum over) v .psw) ⌝ }
 {
-    *last = v;
-    *sum = *sum / 65536 % 2 * 65536 + placed(byte, v as u32);
+    *last = placed(byte, v as u32);
     word::with_low(byte, dst, v)
 }
 
 // The low bits moved down by one below the given top bit, with C, Z and N.
-fn shift(byte: bool, dst: u16, high: u16, last: &mut u16, sum: &mut u32) -> u16
+fn shift(byte: bool, dst: u16, high: u16, last: &mut u32, sum: &mut u32) -> u16
     requires { ⌜ high ≤ 1 ⌝ }
     ensures value { λ r. ⌜ ((p : ℕ) → r ≡ shifted (widthOf byte) dst high p .value) ⌝ }
     ensures psw { λ r. ⌜ ((p over : ℕ) → held p (now (last .exit)) (now (sum .exit)) over
         ≡ shifted (widthOf byte) dst high
         (held p (now (last .entry)) (now (sum .entry)) over) .psw) ⌝ }
 {
-    let v = word::low_bits(byte, dst) / 2 + high * word::top(byte);
-    *last = v;
-    *sum = dst as u32 * 65536 + placed(byte, v as u32);
-    word::with_low(byte, dst, v)
-}
-
-// An operation of which nothing is kept: the flags put together, worked on, and taken apart.
-fn at_once(
-    op: Op,
-    byte: bool,
-    d: u16,
-    s: u16,
-    psw: u16,
-    last: &mut u16,
-    sum: &mut u32,
-    over: &mut u32,
-) -> u16
-    ensures value { λ r. ⌜ r ≡ aluOf op (widthOf byte) d s
-        (held psw (now (last .entry)) (now (sum .entry)) (now (over .entry))) .value ⌝ }
-    ensures psw { λ r. ⌜ held psw (now (last .exit)) (now (sum .exit)) (now (over .exit))
-        ≡ aluOf op (widthOf byte) d s
-        (held psw (now (last .entry)) (now (sum .entry)) (now (over .entry))) .psw ⌝ }
-{
-    let o = alu::alu(op, byte, d, s, together(psw, *last, *sum, *over));
-    let k = apart(o.psw);
-    *last = k.last;
-    *sum = k.sum;
-    *over = k.over;
-    o.value
+    *sum = dst as u32 * 65536;
+    logic(
+        byte,
+        dst,
+        word::low_bits(byte, dst) / 2 + high * word::top(byte),
+        last,
+    )
 }
 
 // One arithmetic or logical instruction.
@@ -131,16 +178,15 @@ pub fn work(
     byte: bool,
     d: u16,
     s: u16,
-    psw: u16,
-    last: &mut u16,
+    last: &mut u32,
     sum: &mut u32,
     over: &mut u32,
 ) -> u16
-    ensures value { λ r. ⌜ r ≡ aluOf op (widthOf byte) d s
-        (held psw (now (last .entry)) (now (sum .entry)) (now (over .entry))) .value ⌝ }
-    ensures psw { λ r. ⌜ held psw (now (last .exit)) (now (sum .exit)) (now (over .exit))
+    ensures value { λ r. ⌜ ((p : ℕ) → r ≡ aluOf op (widthOf byte) d s
+        (held p (now (last .entry)) (now (sum .entry)) (now (over .entry))) .value) ⌝ }
+    ensures psw { λ r. ⌜ ((p : ℕ) → held p (now (last .exit)) (now (sum .exit)) (now (over .exit))
         ≡ aluOf op (widthOf byte) d s
-        (held psw (now (last .entry)) (now (sum .entry)) (now (over .entry))) .psw ⌝ }
+        (held p (now (last .entry)) (now (sum .entry)) (now (over .entry))) .psw) ⌝ }
 {
     let a = word::low_bits(byte, d);
     let b = word::low_bits(byte, s);
@@ -154,54 +200,63 @@ pub fn work(
             add(byte, d, word::turned_bits(byte, s), 1, last, sum, over);
             d
         }
-        Op::Dadd => at_once(op, byte, d, s, psw, last, sum, over),
-        Op::And => logic(byte, d, a & b, last, sum),
-        Op::Or => logic(byte, d, a | b, last, sum),
-        Op::Xor => logic(byte, d, a ^ b, last, sum),
+        Op::Dadd => {
+            let o = alu::alu(op, byte, d, s, c as u16);
+            *sum = o.psw as u32 * 65536;
+            *last = marks(o.psw / 2 % 2 == 1, negative(*last));
+            o.value
+        }
+        Op::And => logic(byte, d, a & b, last),
+        Op::Or => logic(byte, d, a | b, last),
+        Op::Xor => logic(byte, d, a ^ b, last),
         Op::Bit => {
-            logic(byte, d, a & b, last, sum);
+            logic(byte, d, a & b, last);
             d
         }
         Op::Bic => {
             let o = alu::alu(op, byte, d, s, 0);
-            *last = word::low_bits(byte, o.value);
+            *last = marks(word::low_bits(byte, o.value) == 0, negative(*last));
             o.value
         }
         Op::Bis => {
             let o = alu::alu(op, byte, d, s, 0);
-            *last = 1;
+            *last = marks(false, negative(*last));
             o.value
         }
         Op::Sra => shift(byte, d, word::flag(word::top(byte) <= a), last, sum),
         Op::Rrc => shift(byte, d, c as u16, last, sum),
-        Op::Comp => logic(byte, d, word::turned_bits(byte, d), last, sum),
+        Op::Comp => logic(byte, d, word::turned_bits(byte, d), last),
         Op::Swpb => alu::alu(op, byte, d, s, 0).value,
         Op::Sxt => alu::alu(op, byte, d, s, 0).value,
     }
 }
 
 // These flags set, SLP not among them.
-pub fn set(f: u16, last: &mut u16, sum: &mut u32, over: &mut u32)
+pub fn set(f: u16, last: &mut u32, sum: &mut u32, over: &mut u32)
     requires { ⌜ (f < 32) × (f / 8 % 2 ≡ 0) ⌝ }
     ensures { λ r. ⌜ ((p : ℕ) → held p (now (last .exit)) (now (sum .exit)) (now (over .exit))
         ≡ setFlags (held p (now (last .entry)) (now (sum .entry)) (now (over .entry))) f) ⌝ }
 {
     let g = f as u32;
-    *sum = *sum | g * 73728;
+    *sum = *sum | g * 65536;
     *over = *over | g * 2048;
-    if f / 2 % 2 == 1 {
-        *last = 0;
-    }
+    *last = marks(
+        zero(*last) | (f / 2 % 2 == 1),
+        negative(*last) | (f / 4 % 2 == 1),
+    );
 }
 
 // These flags cleared, SLP not among them.
-pub fn clear(f: u16, last: &mut u16, sum: &mut u32, over: &mut u32)
+pub fn clear(f: u16, last: &mut u32, sum: &mut u32, over: &mut u32)
     requires { ⌜ (f < 32) × (f / 8 % 2 ≡ 0) ⌝ }
     ensures { λ r. ⌜ ((p : ℕ) → held p (now (last .exit)) (now (sum .exit)) (now (over .exit))
         ≡ clearFlags (held p (now (last .entry)) (now (sum .entry)) (now (over .entry))) f) ⌝ }
 {
     let g = f as u32;
-    *sum = *sum & (4194303 - g * 73728);
+    *sum = *sum & (4194303 - g * 65536);
     *over = *over & (65535 - g * 2048);
-    *last = *last | f / 2 % 2 * 2;
+    *last = marks(
+        zero(*last) & (f / 2 % 2 == 0),
+        negative(*last) & (f / 4 % 2 == 0),
+    );
 }

@@ -58,6 +58,21 @@ fn store(
     }
 }
 
+fn store_by_width(
+    mem: &mut [u8],
+    log: &mut [u8],
+    count: u32,
+    byte: bool,
+    at: u16,
+    value: u16,
+    added: usize,
+) -> Shown {
+    if byte {
+        return store(mem, log, count, true, at, value, added);
+    }
+    store(mem, log, count, false, at, value, added)
+}
+
 // C000 to FFFF: STR, w being its word.
 pub fn show(
     regs: &mut [u16; 8],
@@ -80,7 +95,7 @@ pub fn show(
     let value = operands::get(regs, (w / 8 % 8) as u8);
     let base = operands::get(regs, (w % 8) as u8);
     let at = operands::offset_from(base, word::signed(64, w / 128 % 128));
-    let r = store(mem, log, count, w / 64 % 2 == 1, at, value, added);
+    let r = store_by_width(mem, log, count, w / 64 % 2 == 1, at, value, added);
     if !r.taken {
         regs[7] = pc;
     }

@@ -12,7 +12,7 @@ ghost use mathlib.Core.Path.{_≡_};
 ghost use Prim.Native.Nat.{ℕ, _/_, _%_, _+_, _*_, _-_, _<_, _≤_};
 ghost use lib.ListN.{length, getD};
 ghost use Rattle.word.specs.Psw.{asleep?};
-ghost use Rattle.machine.specs.Cex.{conditionOf, skips?, lowered};
+ghost use Rattle.machine.specs.Cex.{skips?, lowered};
 ghost use Rattle.machine.specs.Events.{Event};
 ghost use Rattle.flags.specs.Kept.{held};
 ghost use Rattle.stretch_memory.specs.Served.{running};
@@ -33,7 +33,7 @@ fn take_step(
     k: &[u16; 8],
     psw: &mut u16,
     free: bool,
-    last: &mut u16,
+    last: &mut u32,
     sum: &mut u32,
     over: &mut u32,
     cex: &mut u16,
@@ -75,7 +75,7 @@ fn take_steps(
     k: &[u16; 8],
     psw: &mut u16,
     free: bool,
-    last: &mut u16,
+    last: &mut u32,
     sum: &mut u32,
     over: &mut u32,
     cex: u16,
@@ -182,36 +182,11 @@ fn skipping(regs: &mut [u16; 8], cex: u16, left: u32) -> Turned
     comes_to(cex - j * u, left - j as u32, true)
 }
 
-// Does the condition of number 2 * k hold?
-fn even_condition(k: u8, last: u16, sum: u32, over: u32) -> bool
-    ensures { λ r. ⌜ ((p : ℕ) → r ≡ conditionOf (2 * k) (held p last sum over)) ⌝ }
-{
-    match k {
-        0 => last == 0,
-        1 => sum / 65536 % 2 == 1,
-        2 => sum / 32768 % 2 == 1,
-        3 => over / 32768 % 2 == 1,
-        4 => (sum / 65536 % 2 == 1) & (last != 0),
-        5 => (sum / 32768 % 2 == 1) == (over / 32768 % 2 == 1),
-        6 => (last != 0) & ((sum / 32768 % 2 == 1) == (over / 32768 % 2 == 1)),
-        7 => true,
-        _ => false,
-    }
-}
-
-// Does CEX's condition of this number hold? An odd one holds where the one before it does not.
-fn condition(n: u8, last: u16, sum: u32, over: u32) -> bool
-    requires { ⌜ n < 16 ⌝ }
-    ensures { λ r. ⌜ ((p : ℕ) → r ≡ conditionOf n (held p last sum over)) ⌝ }
-{
-    even_condition(n / 2, last, sum, over) != (n % 2 == 1)
-}
-
 // Where no block is open: CEX; one step, or none.
 fn control(
     regs: &mut [u16; 8],
     mem: &[u8],
-    last: u16,
+    last: u32,
     sum: u32,
     over: u32,
     cex: u16,
@@ -233,7 +208,7 @@ fn control(
     if w / 1024 != 20 {
         return comes_to(cex, left, false);
     }
-    let holds = word::flag(condition((w / 64 % 16) as u8, last, sum, over));
+    let holds = word::flag(flags::condition((w / 64 % 16) as u8, last, sum, over));
     set_reg(regs, 7, std::num::wrapping_add_u16(pc, 2));
     comes_to(w % 64 + 64 * holds, left - 1, true)
 }
@@ -246,7 +221,7 @@ fn turn(
     k: &[u16; 8],
     psw: &mut u16,
     free: bool,
-    last: &mut u16,
+    last: &mut u32,
     sum: &mut u32,
     over: &mut u32,
     cex: u16,

@@ -1,6 +1,6 @@
 -- What the code of one instruction leaves, put together as its definition has it. l is the registers with PC past the
 -- instruction, m the memory before it, p the PSW, x the CEX state. Assumes nothing.
-use Prim.Native.Nat.{ℕ, _+_, _*_, _%_, _<_}
+use Prim.Native.Nat.{ℕ, _+_, _*_, _/_, _%_, _<_, _≤_}
 use native.Mathlib.Omega.{arith}
 use mathlib.Core.Bool.{Bool, true, false, cond, not, _&&_}
 use mathlib.Core.List.{List}
@@ -9,11 +9,12 @@ use mathlib.Core.Path.{_≡_, refl, sym, ap, _∙_}
 use lib.Dec.{eqb, ltb}
 use lib.IntN.{ℤ}
 use lib.ListN.{getD, set}
-use borrow.Author.Tests.{eqb-false, ltb-true, ltb-false}
+use borrow.Author.Tests.{eqb-false, ltb-true, ltb-false, lt-ltb, le-ltb}
 use Rattle.word.proofs.Laws.{bool-cases}
 use Rattle.word.specs.Offset.{signedOf}
 use Rattle.isa.specs.declared.Instr.{Instr}
 use Rattle.isa.specs.declared.Instr.the-variants as Instr
+use Rattle.isa.specs.Decode.{decodeOf}
 use Rattle.machine.specs.declared.Access.{Access}
 use Rattle.machine.specs.declared.Access.the-variants as asks
 use Rattle.machine.specs.State.{Core, coreOf, moved}
@@ -134,6 +135,53 @@ module _ (l k : List ℕ) (p x prpo dec inc wb i : ℕ) {a b at : ℕ} (h : (mov
       (src : ℕ) {v : ℕ} → v ≡ getD l src 0 →
       effect (coreOf k p x) (asks.Store (eqb wb 1) (byteAddr at) v) ≡ effectOf (coreOf l p x) (Instr.St prpo dec inc wb src i)
   store-effect src e = storing l k p x x prpo dec inc wb i ha hb ht (w, sym (cex-stays (moves? dec inc) i x h)) src e
+
+-- the words of a row w / 64: their bits are the row's
+pub decode-load : (w row : ℕ) → w / 64 ≡ row → 0x160 ≤ row → row < 0x170 →
+    decodeOf w ≡ Instr.Ld (row / 8 % 2) (row / 4 % 2) (row / 2 % 2) (row % 2) (w / 8 % 8) (w % 8)
+unfolding decodeOf
+decode-load w row h lo hi =
+    let e : w / 512 % 2 ≡ row / 8 % 2 = omega arith in
+    let f : w / 256 % 2 ≡ row / 4 % 2 = omega arith in
+    let g : w / 128 % 2 ≡ row / 2 % 2 = omega arith in
+    let j : w / 64 % 2 ≡ row % 2 = omega arith in
+    simp (
+      le-ltb w 0x2000 (omega arith),
+      le-ltb w 0x4000 (omega arith),
+      le-ltb w 0x4C00 (omega arith),
+      le-ltb w 0x5000 (omega arith),
+      lt-ltb w 0x6000 (omega arith),
+      le-ltb w 0x5400 (omega arith),
+      le-ltb w 0x5800 (omega arith),
+      lt-ltb w 0x5C00 (omega arith),
+      e,
+      f,
+      g,
+      j,
+    )
+
+pub decode-store : (w row : ℕ) → w / 64 ≡ row → 0x170 ≤ row → row < 0x180 →
+    decodeOf w ≡ Instr.St (row / 8 % 2) (row / 4 % 2) (row / 2 % 2) (row % 2) (w / 8 % 8) (w % 8)
+unfolding decodeOf
+decode-store w row h lo hi =
+    let e : w / 512 % 2 ≡ row / 8 % 2 = omega arith in
+    let f : w / 256 % 2 ≡ row / 4 % 2 = omega arith in
+    let g : w / 128 % 2 ≡ row / 2 % 2 = omega arith in
+    let j : w / 64 % 2 ≡ row % 2 = omega arith in
+    simp (
+      le-ltb w 0x2000 (omega arith),
+      le-ltb w 0x4000 (omega arith),
+      le-ltb w 0x4C00 (omega arith),
+      le-ltb w 0x5000 (omega arith),
+      lt-ltb w 0x6000 (omega arith),
+      le-ltb w 0x5400 (omega arith),
+      le-ltb w 0x5800 (omega arith),
+      le-ltb w 0x5C00 (omega arith),
+      e,
+      f,
+      g,
+      j,
+    )
 
 -- ---- LDR and STR
 

@@ -3,11 +3,12 @@
 // the device bytes or to the vectors, a load into R7, and an adjustment of R7.
 ghost use mathlib.Core.Bool.{Bool, true, false, cond};
 ghost use mathlib.Core.Path.{_≡_};
-ghost use Prim.Native.Nat.{ℕ, _/_, _%_, _<_};
+ghost use Prim.Native.Nat.{ℕ, _/_, _%_, _<_, _≤_};
 ghost use lib.Dec.{eqb};
 ghost use lib.ListN.{length, getD, set};
 ghost use Rattle.word.specs.Offset.{signedOf};
 ghost use Rattle.isa.specs.declared.Instr.the-variants as Instr;
+ghost use Rattle.isa.specs.Decode.{decodeOf};
 ghost use Rattle.machine.specs.State.{coreOf, moved};
 ghost use Rattle.machine.specs.Memory.{commit, valueAt};
 ghost use Rattle.machine.specs.Devices.{loadWrites, storeWrites};
@@ -41,17 +42,10 @@ fn store(mem: &mut [u8], byte: bool, at: u16, v: u16) -> bool
     ensures stored { λ r. ⌜ (r ≡ true → (storable? byte at ≡ true) × (now (mem .exit) ≡
         commit (storeWrites byte (now (mem .entry)) at v) (now (mem .entry)))) ⌝ }
 {
-    if !inside(at) {
+    if !inside(at) | !aligned(byte, at) {
         return false;
     }
-    if byte {
-        memory::store(mem, true, ByteAddr(at), v);
-        return true;
-    }
-    if at % 2 == 1 {
-        return false;
-    }
-    memory::store(mem, false, ByteAddr(at), v);
+    memory::store(mem, byte, ByteAddr(at), v);
     true
 }
 
@@ -81,22 +75,17 @@ fn adjust(regs: &mut [u16; 8], i: usize, dec: u8, inc: u8, to: u16)
     set_reg(regs, i, to);
 }
 
-// LD, its four bits known.
-pub fn load_indexed(
-    regs: &mut [u16; 8],
-    mem: &mut [u8],
-    pc: usize,
-    w: usize,
-    prpo: u8,
-    dec: u8,
-    inc: u8,
-    wb: u8,
-) -> usize
-    requires { ⌜ (length (now mem) ≡ 65536) × Past pc (now regs) ⌝ }
-    ensures { λ r. ⌜ ((free : Bool) (psw cex : ℕ) → Taken free (Instr.Ld prpo dec inc wb (w / 8 % 8) (w % 8))
+// 5800 to 5BFF: LD. `row` is w / 64: PRPO, DEC, INC and the width are its last four bits.
+pub fn load_indexed(regs: &mut [u16; 8], mem: &mut [u8], pc: usize, w: usize, row: usize) -> usize
+    requires { ⌜ (length (now mem) ≡ 65536) × Past pc (now regs) × (w / 64 ≡ row)
+        × (0x160 ≤ row) × (row < 0x170) ⌝ }
+    ensures { λ r. ⌜ ((free : Bool) (psw cex : ℕ) → Taken free (decodeOf w)
         (now (regs .entry)) psw cex (now (mem .entry))
         (now (regs .exit)) psw cex (now (mem .exit)) r) ⌝ }
 {
+    let dec = (row / 4 % 2) as u8;
+    let inc = (row / 2 % 2) as u8;
+    let wb = (row % 2) as u8;
     let src = w / 8 % 8;
     let dst = w % 8;
     if dst == 7 {
@@ -107,7 +96,7 @@ pub fn load_indexed(
     }
     let a = reg(regs, src);
     let b = operands::adjusted_by(a, dec, inc, wb);
-    let at = operands::address(prpo, a, b);
+    let at = operands::address((row / 8 % 2) as u8, a, b);
     if !aligned(wb == 1, at) {
         return LEFT_ALONE;
     }
@@ -116,22 +105,17 @@ pub fn load_indexed(
     pc
 }
 
-// ST, its four bits known.
-pub fn store_indexed(
-    regs: &mut [u16; 8],
-    mem: &mut [u8],
-    pc: usize,
-    w: usize,
-    prpo: u8,
-    dec: u8,
-    inc: u8,
-    wb: u8,
-) -> usize
-    requires { ⌜ (length (now mem) ≡ 65536) × Past pc (now regs) ⌝ }
-    ensures { λ r. ⌜ ((free : Bool) (psw cex : ℕ) → Taken free (Instr.St prpo dec inc wb (w / 8 % 8) (w % 8))
+// 5C00 to 5FFF: ST, in the same way.
+pub fn store_indexed(regs: &mut [u16; 8], mem: &mut [u8], pc: usize, w: usize, row: usize) -> usize
+    requires { ⌜ (length (now mem) ≡ 65536) × Past pc (now regs) × (w / 64 ≡ row)
+        × (0x170 ≤ row) × (row < 0x180) ⌝ }
+    ensures { λ r. ⌜ ((free : Bool) (psw cex : ℕ) → Taken free (decodeOf w)
         (now (regs .entry)) psw cex (now (mem .entry))
         (now (regs .exit)) psw cex (now (mem .exit)) r) ⌝ }
 {
+    let dec = (row / 4 % 2) as u8;
+    let inc = (row / 2 % 2) as u8;
+    let wb = (row % 2) as u8;
     let dst = w % 8;
     if (dec != inc) & (dst == 7) {
         return LEFT_ALONE;
@@ -139,7 +123,7 @@ pub fn store_indexed(
     let value = reg(regs, w / 8 % 8);
     let a = reg(regs, dst);
     let b = operands::adjusted_by(a, dec, inc, wb);
-    let at = operands::address(prpo, a, b);
+    let at = operands::address((row / 8 % 2) as u8, a, b);
     if !store(mem, wb == 1, at, value) {
         return LEFT_ALONE;
     }

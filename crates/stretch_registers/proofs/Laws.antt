@@ -3,7 +3,7 @@
 use Prim.Native.Nat.{ℕ, suc, _+_, _-_, _*_, _/_, _%_, _<_, _≤_}
 use mathlib.Core.Bool.{Bool, true, false, cond}
 use mathlib.Core.List.{List}
-use mathlib.Core.Logic.{inl, inr, ⊎-elim}
+use mathlib.Core.Logic.{_⊎_, inl, inr, ⊎-elim}
 use mathlib.Core.Path.{_≡_, refl, sym, ap, _∙_}
 use native.Mathlib.Nat.{mod-eq-of-lt}
 use native.Mathlib.Omega.{arith}
@@ -87,6 +87,10 @@ module _ (n : Instr) (l : List ℕ) (p x pc : ℕ) (h : Past pc l) where
 put-below : (l : List ℕ) (p x d v : ℕ) → d < 7 → put (coreOf l p x) d v ≡ coreOf (set l d v) p x
 put-below l p x d v h = λ j. record { regs = set l d v; psw = p; cex = cex-set d x h j }
 
+-- bits 5 to 3 of a word, whatever its bit 6; v is the word's bits above the low three
+either-width : (v n : ℕ) → n < 8 → (v % 16 ≡ n) ⊎ (v % 16 ≡ n + 8) → v % 8 ≡ n
+either-width v n h = ⊎-elim (λ e. omega arith) (λ e. omega arith)
+
 module _ (l : List ℕ) (p x pc : ℕ) (h : Past pc l) where
   pub writes-done :
       (n : Instr) (k : List ℕ) (d v : ℕ) → effectOf (coreOf l p x) n ≡ plainly (put (coreOf l p x) d v) → d < 7 → k ≡ set l d v →
@@ -144,26 +148,30 @@ module _ (l : List ℕ) (p x pc : ℕ) (h : Past pc l) where
         (λ z. rw (q .4) refl),
       )
 
-  -- one operand, by bits 5 to 3 of the word
+  -- one operand, by bits 6 to 3 of the word: b is the width
   module _ (w : ℕ) {k : List ℕ} {q r : ℕ} where
     pub unary-tried :
-        (n : ℕ) (op : Op) → w / 8 % 8 ≡ n → n < 3 → unaryOp n ≡ op → Computes op (eqb (w / 64 % 2) 1) 0 w pc l p k q r →
+        (b n : ℕ) (op : Op) → w / 8 % 16 ≡ b * 8 + n → b < 2 → n < 3 → unaryOp n ≡ op → Computes op (eqb b 1) 0 w pc l p k q r →
         Tried (unaryOf w) l p x k q x r
     unfolding effectOf
-    unary-tried n op e f g t =
+    unary-tried b n op e hb hn g t =
+        let en : w / 8 % 8 ≡ n = omega arith in
+        let eb : w / 64 % 2 ≡ b = omega arith in
         rw (lt-ltb (w / 8 % 8) 3 (omega arith))
-        (computes-tried (i.Unary (w / 8 % 8) (w / 64 % 2) (w % 8)) l p x pc h op (eqb (w / 64 % 2) 1) 0 w k q r
-        (ap (λ (o : Op). plainly (operated (coreOf l p x) (w % 8) (outcome o (eqb (w / 64 % 2) 1) 0 w l p))) (ap unaryOp e ∙ g)) t)
+        (computes-tried (i.Unary (w / 8 % 8) (w / 64 % 2) (w % 8)) l p x pc h op (eqb b 1) 0 w k q r
+        (λ j. plainly (operated (coreOf l p x) (w % 8) (outcome ((ap unaryOp en ∙ g) j) (eqb (eb j) 1) 0 w l p))) t)
 
-    pub swpb-tried : w / 8 % 8 ≡ 3 → Computes Swpb false 0 w pc l p k q r → Tried (unaryOf w) l p x k q x r
+    pub swpb-tried : (w / 8 % 16 ≡ 3) ⊎ (w / 8 % 16 ≡ 11) → Computes Swpb false 0 w pc l p k q r → Tried (unaryOf w) l p x k q x r
     unfolding effectOf widthOf
     swpb-tried e t =
+        let en : w / 8 % 8 ≡ 3 = either-width (w / 8) 3 (omega arith) e in
         rw (le-ltb (w / 8 % 8) 3 (omega arith), lt-ltb (w / 8 % 8) 4 (omega arith))
         (computes-tried (i.Swpb (w % 8) (w / 64 % 2)) l p x pc h Swpb false 0 w k q r refl t)
 
-    pub sxt-tried : w / 8 % 8 ≡ 4 → Computes Sxt false 0 w pc l p k q r → Tried (unaryOf w) l p x k q x r
+    pub sxt-tried : (w / 8 % 16 ≡ 4) ⊎ (w / 8 % 16 ≡ 12) → Computes Sxt false 0 w pc l p k q r → Tried (unaryOf w) l p x k q x r
     unfolding effectOf widthOf
     sxt-tried e t =
+        let en : w / 8 % 8 ≡ 4 = either-width (w / 8) 4 (omega arith) e in
         rw (le-ltb (w / 8 % 8) 3 (omega arith), le-ltb (w / 8 % 8) 4 (omega arith), lt-ltb (w / 8 % 8) 5 (omega arith))
         (computes-tried (i.Sxt (w % 8) (w / 64 % 2)) l p x pc h Sxt false 0 w k q r refl t)
 

@@ -45,8 +45,7 @@ pub fn set_reg(regs: &mut [u16; 8], i: usize, v: u16)
 // An operation whose result is written, to any register but R7.
 pub fn compute(
     regs: &mut [u16; 8],
-    psw: u16,
-    last: &mut u16,
+    last: &mut u32,
     sum: &mut u32,
     over: &mut u32,
     pc: usize,
@@ -55,39 +54,18 @@ pub fn compute(
     byte: bool,
     s: u16,
 ) -> usize
-    ensures { λ r. ⌜ Computes op byte s w pc
+    ensures { λ r. ⌜ ((psw : ℕ) → Computes op byte s w pc
         (now (regs .entry))
         (held psw (now (last .entry)) (now (sum .entry)) (now (over .entry)))
         (now (regs .exit))
-        (held psw (now (last .exit)) (now (sum .exit)) (now (over .exit))) r ⌝ }
+        (held psw (now (last .exit)) (now (sum .exit)) (now (over .exit))) r) ⌝ }
 {
     let dst = w % 8;
     if dst == 7 {
         return LEFT_ALONE;
     }
-    let v = flags::work(op, byte, reg(regs, dst), s, psw, last, sum, over);
+    let v = flags::work(op, byte, reg(regs, dst), s, last, sum, over);
     set_reg(regs, dst, v);
-    pc
-}
-
-// CMP and BIT: the flags alone.
-pub fn test(
-    regs: &[u16; 8],
-    psw: u16,
-    last: &mut u16,
-    sum: &mut u32,
-    over: &mut u32,
-    pc: usize,
-    w: usize,
-    op: Op,
-    byte: bool,
-    s: u16,
-) -> usize
-    ensures { λ r. ⌜ (r ≡ pc) × (held psw (now (last .exit)) (now (sum .exit)) (now (over .exit))
-        ≡ outcome op byte s w (now (regs .entry))
-        (held psw (now (last .entry)) (now (sum .entry)) (now (over .entry))) .psw) ⌝ }
-{
-    flags::work(op, byte, reg(regs, w % 8), s, psw, last, sum, over);
     pc
 }
 
@@ -130,10 +108,7 @@ pub fn swap_word(regs: &mut [u16; 8], pc: usize, w: usize) -> usize
 {
     let src = w / 8 % 8;
     let dst = w % 8;
-    if src == 7 {
-        return LEFT_ALONE;
-    }
-    if dst == 7 {
+    if (src == 7) | (dst == 7) {
         return LEFT_ALONE;
     }
     let s = reg(regs, src);
@@ -143,36 +118,37 @@ pub fn swap_word(regs: &mut [u16; 8], pc: usize, w: usize) -> usize
     pc
 }
 
-// 4D00 to 4D7F: SRA, RRC, COMP, SWPB, SXT, by bits 5 to 3. Those of no instruction are left alone.
+// 4D00 to 4D7F: SRA, RRC, COMP, SWPB, SXT, by bits 6 to 3. Those of no instruction are left alone.
 pub fn single_word(
     regs: &mut [u16; 8],
-    psw: u16,
-    last: &mut u16,
+    last: &mut u32,
     sum: &mut u32,
     over: &mut u32,
     pc: usize,
     w: usize,
 ) -> usize
     requires { ⌜ Past pc (now regs) ⌝ }
-    ensures { λ r. ⌜ ((cex : ℕ) → Tried (unaryOf w)
+    ensures { λ r. ⌜ ((psw cex : ℕ) → Tried (unaryOf w)
         (now (regs .entry))
         (held psw (now (last .entry)) (now (sum .entry)) (now (over .entry))) cex
         (now (regs .exit))
         (held psw (now (last .exit)) (now (sum .exit)) (now (over .exit))) cex r) ⌝ }
 {
-    let byte = w / 64 % 2 == 1;
-    match w / 8 % 8 {
-        0 => compute(regs, psw, last, sum, over, pc, w, Op::Sra, byte, 0),
-        1 => compute(regs, psw, last, sum, over, pc, w, Op::Rrc, byte, 0),
-        2 => compute(regs, psw, last, sum, over, pc, w, Op::Comp, byte, 0),
-        3 => compute(regs, psw, last, sum, over, pc, w, Op::Swpb, false, 0),
-        4 => compute(regs, psw, last, sum, over, pc, w, Op::Sxt, false, 0),
+    match w / 8 % 16 {
+        0 => compute(regs, last, sum, over, pc, w, Op::Sra, false, 0),
+        1 => compute(regs, last, sum, over, pc, w, Op::Rrc, false, 0),
+        2 => compute(regs, last, sum, over, pc, w, Op::Comp, false, 0),
+        3 | 11 => compute(regs, last, sum, over, pc, w, Op::Swpb, false, 0),
+        4 | 12 => compute(regs, last, sum, over, pc, w, Op::Sxt, false, 0),
+        8 => compute(regs, last, sum, over, pc, w, Op::Sra, true, 0),
+        9 => compute(regs, last, sum, over, pc, w, Op::Rrc, true, 0),
+        10 => compute(regs, last, sum, over, pc, w, Op::Comp, true, 0),
         _ => LEFT_ALONE,
     }
 }
 
 // 4DC0 to 4DFF: SETCC and CLRCC of other flags than SLP.
-pub fn flags_word(last: &mut u16, sum: &mut u32, over: &mut u32, pc: usize, w: usize) -> usize
+pub fn flags_word(last: &mut u32, sum: &mut u32, over: &mut u32, pc: usize, w: usize) -> usize
     requires { ⌜ (0x4DC0 ≤ w) × (w < 0x4E00) ⌝ }
     ensures { λ r. ⌜ ((regs : List ℕ) (psw cex : ℕ) → Past pc regs → Tried (controlOf w)
         regs (held psw (now (last .entry)) (now (sum .entry)) (now (over .entry))) cex
@@ -194,11 +170,8 @@ pub fn flags_word(last: &mut u16, sum: &mut u32, over: &mut u32, pc: usize, w: u
 pub fn priority_word(psw: &mut u16, free: bool, pc: usize, w: usize) -> usize
     ensures { λ r. ⌜ Lowers free w pc (now (psw .entry)) (now (psw .exit)) r ⌝ }
 {
-    if (w / 8 != 0x9B0) | !free {
-        return LEFT_ALONE;
-    }
     let level = (w % 8) as u16;
-    if word::current_priority(*psw) < level {
+    if (w / 8 != 0x9B0) | !free | (word::current_priority(*psw) < level) {
         return LEFT_ALONE;
     }
     *psw = operands::priority_put(*psw, level);

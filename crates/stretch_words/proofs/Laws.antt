@@ -13,6 +13,8 @@ use borrow.Author.Tests.{eqb-false, ltb-false, leb-false, lt-ltb, le-ltb}
 use Rattle.word.proofs.Laws.{bool-cases}
 use Rattle.word.specs.Offset.{signedOf}
 use Rattle.word.specs.Psw.{asleep?, current}
+use Rattle.word.specs.Width.{widthOf}
+use Rattle.alu.specs.Alu.{aluOf}
 use Rattle.alu.specs.declared.Op.{Op}
 use Rattle.isa.specs.declared.Instr.{Instr}
 use Rattle.isa.specs.declared.Instr.the-variants as i
@@ -21,7 +23,7 @@ use Rattle.machine.specs.State.{coreOf}
 use Rattle.machine.specs.Effect.{effectOf, plainly, constantOf, binaryOp, flagsOnly?, takenOf, putCurrent}
 use Rattle.flags.specs.Kept.{held}
 use Rattle.flags.proofs.Laws.{held-current, held-put-current}
-use Rattle.stretch_registers.specs.Effected.{Past, Done, Tried, Computes, Lowers, outcome}
+use Rattle.stretch_registers.specs.Effected.{Past, Done, Tried, Computes, Lowers}
 use Rattle.stretch_registers.proofs.Laws.{pc-back, computes-tried, tests-done, priority-asleep}
 use Rattle.stretch_memory.specs.Served.{Taken}
 use Rattle.stretch_memory.proofs.Laws.{plain-served, tried-taken}
@@ -78,12 +80,13 @@ module _ (w row : ℕ) (h : w / 64 ≡ row) (lo : 0x100 ≤ row) (hi : row < 0x1
         means free meant w l m k p x q x r decode-operation
         (computes-tried meant l p x pc past b byte s w k q r (rw (f, hb, ht, sym hs) refl) t)
 
-    pub testing : {q r : ℕ} → flagsOnly? (row / 4 % 16) ≡ true → (r ≡ pc) × (q ≡ outcome b byte s w l p .psw) →
-        Taken free (decodeOf w) l p x m l q x m r
+    pub testing : {d q : ℕ} → flagsOnly? (row / 4 % 16) ≡ true → d ≡ getD l (w % 8) 0 → q ≡ aluOf b (widthOf byte) d s p .psw →
+        Taken free (decodeOf w) l p x m l q x m pc
     unfolding effectOf
-    testing {q} {r} f t =
-        means free meant w l m l p x q x r decode-operation
-        (inr (tests-done meant l p x pc past b byte s w q r (rw (f, hb, ht, sym hs) refl) t))
+    testing {d} {q} f hd hq =
+        means free meant w l m l p x q x pc decode-operation
+        (inr (tests-done meant l p x pc past b byte s w q pc (rw (f, hb, ht, sym hs) refl)
+        (refl, hq ∙ ap (λ (j : ℕ). aluOf b (widthOf byte) j s p .psw) hd)))
 
 -- ---- MOV to CLRCC
 
@@ -142,53 +145,7 @@ module _ (w : ℕ) where
       )
       refl
 
-  -- ---- LD, ST, and what is above
-
-  pub decode-load : (row : ℕ) → w / 64 ≡ row → 0x160 ≤ row → row < 0x170 →
-      decodeOf w ≡ i.Ld (row / 8 % 2) (row / 4 % 2) (row / 2 % 2) (row % 2) (w / 8 % 8) (w % 8)
-  unfolding decodeOf
-  decode-load row h lo hi =
-      let e : w / 512 % 2 ≡ row / 8 % 2 = omega arith in
-      let f : w / 256 % 2 ≡ row / 4 % 2 = omega arith in
-      let g : w / 128 % 2 ≡ row / 2 % 2 = omega arith in
-      let j : w / 64 % 2 ≡ row % 2 = omega arith in
-      simp (
-        le-ltb w 0x2000 (omega arith),
-        le-ltb w 0x4000 (omega arith),
-        le-ltb w 0x4C00 (omega arith),
-        le-ltb w 0x5000 (omega arith),
-        lt-ltb w 0x6000 (omega arith),
-        le-ltb w 0x5400 (omega arith),
-        le-ltb w 0x5800 (omega arith),
-        lt-ltb w 0x5C00 (omega arith),
-        e,
-        f,
-        g,
-        j,
-      )
-
-  pub decode-store : (row : ℕ) → w / 64 ≡ row → 0x170 ≤ row → row < 0x180 →
-      decodeOf w ≡ i.St (row / 8 % 2) (row / 4 % 2) (row / 2 % 2) (row % 2) (w / 8 % 8) (w % 8)
-  unfolding decodeOf
-  decode-store row h lo hi =
-      let e : w / 512 % 2 ≡ row / 8 % 2 = omega arith in
-      let f : w / 256 % 2 ≡ row / 4 % 2 = omega arith in
-      let g : w / 128 % 2 ≡ row / 2 % 2 = omega arith in
-      let j : w / 64 % 2 ≡ row % 2 = omega arith in
-      simp (
-        le-ltb w 0x2000 (omega arith),
-        le-ltb w 0x4000 (omega arith),
-        le-ltb w 0x4C00 (omega arith),
-        le-ltb w 0x5000 (omega arith),
-        lt-ltb w 0x6000 (omega arith),
-        le-ltb w 0x5400 (omega arith),
-        le-ltb w 0x5800 (omega arith),
-        le-ltb w 0x5C00 (omega arith),
-        e,
-        f,
-        g,
-        j,
-      )
+  -- ---- what is above
 
   pub decode-immediate : 0x6000 ≤ w → w < 0x8000 → decodeOf w ≡ i.MovImm (w / 2048 % 4) (w / 8 % 256) (w % 8)
   unfolding decodeOf

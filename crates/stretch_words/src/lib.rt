@@ -25,7 +25,6 @@ use stretch_registers::compute;
 use stretch_registers::offset;
 use stretch_registers::reg;
 use stretch_registers::target;
-use stretch_registers::test;
 
 // The operand of an operation's word: the register, or the constant, of bits 5 to 3.
 fn operand(regs: &[u16; 8], k: &[u16; 8], w: usize, row: usize) -> u16
@@ -43,8 +42,7 @@ fn operand(regs: &[u16; 8], k: &[u16; 8], w: usize, row: usize) -> u16
 fn operation(
     regs: &mut [u16; 8],
     k: &[u16; 8],
-    psw: u16,
-    last: &mut u16,
+    last: &mut u32,
     sum: &mut u32,
     over: &mut u32,
     pc: usize,
@@ -53,7 +51,7 @@ fn operation(
 ) -> usize
     requires { ⌜ Past pc (now regs) × (now k ≡ constants) × (w / 64 ≡ row)
         × (0x100 ≤ row) × (row < 0x130) ⌝ }
-    ensures { λ r. ⌜ ((free : Bool) (m : List ℕ) (cex : ℕ) → Taken free (decodeOf w)
+    ensures { λ r. ⌜ ((free : Bool) (m : List ℕ) (psw cex : ℕ) → Taken free (decodeOf w)
         (now (regs .entry))
         (held psw (now (last .entry)) (now (sum .entry)) (now (over .entry))) cex m
         (now (regs .exit))
@@ -64,44 +62,15 @@ fn operation(
     let s = operand(regs, k, w, row);
     let op = operands::binary(n);
     if (n == 5) | (n == 9) {
-        return test(regs, psw, last, sum, over, pc, w, op, byte, s);
+        flags::work(op, byte, reg(regs, w % 8), s, last, sum, over);
+        return pc;
     }
-    compute(regs, psw, last, sum, over, pc, w, op, byte, s)
-}
-
-// 5800 to 5BFF: LD; 5C00 to 5FFF: ST. `row` is w / 64: PRPO, DEC, INC and the width are its last
-// four bits.
-fn load_row(regs: &mut [u16; 8], mem: &mut [u8], pc: usize, w: usize, row: usize) -> usize
-    requires { ⌜ (length (now mem) ≡ 65536) × Past pc (now regs) × (w / 64 ≡ row)
-        × (0x160 ≤ row) × (row < 0x170) ⌝ }
-    ensures { λ r. ⌜ ((free : Bool) (psw cex : ℕ) → Taken free (decodeOf w)
-        (now (regs .entry)) psw cex
-        (now (mem .entry)) (now (regs .exit)) psw cex (now (mem .exit)) r) ⌝ }
-{
-    let prpo = (row / 8 % 2) as u8;
-    let dec = (row / 4 % 2) as u8;
-    let inc = (row / 2 % 2) as u8;
-    load_indexed(regs, mem, pc, w, prpo, dec, inc, (row % 2) as u8)
-}
-
-fn store_row(regs: &mut [u16; 8], mem: &mut [u8], pc: usize, w: usize, row: usize) -> usize
-    requires { ⌜ (length (now mem) ≡ 65536) × Past pc (now regs) × (w / 64 ≡ row)
-        × (0x170 ≤ row) × (row < 0x180) ⌝ }
-    ensures { λ r. ⌜ ((free : Bool) (psw cex : ℕ) → Taken free (decodeOf w)
-        (now (regs .entry)) psw cex
-        (now (mem .entry)) (now (regs .exit)) psw cex (now (mem .exit)) r) ⌝ }
-{
-    let prpo = (row / 8 % 2) as u8;
-    let dec = (row / 4 % 2) as u8;
-    let inc = (row / 2 % 2) as u8;
-    store_indexed(regs, mem, pc, w, prpo, dec, inc, (row % 2) as u8)
+    compute(regs, last, sum, over, pc, w, op, byte, s)
 }
 
 // 2000 to 3FFF: a branch. `row` is w / 512: where it is a number, condition and sign are known.
 fn branch_row(
-    regs: &[u16; 8],
-    psw: u16,
-    last: u16,
+    last: u32,
     sum: u32,
     over: u32,
     cex: &mut u16,
@@ -109,12 +78,12 @@ fn branch_row(
     w: usize,
     row: usize,
 ) -> usize
-    requires { ⌜ Past pc (now regs) × (w / 512 ≡ row) × (16 ≤ row) × (row < 32) ⌝ }
-    ensures { λ r. ⌜ ((free : Bool) (m : List ℕ) → Taken free (decodeOf w)
-        (now (regs .entry)) (held psw last sum over) (now (cex .entry)) m
-        (now (regs .entry)) (held psw last sum over) (now (cex .exit)) m r) ⌝ }
+    requires { ⌜ (w / 512 ≡ row) × (16 ≤ row) × (row < 32) ⌝ }
+    ensures { λ r. ⌜ ((free : Bool) (regs m : List ℕ) (psw : ℕ) → Past pc regs → Taken free (decodeOf w)
+        regs (held psw last sum over) (now (cex .entry)) m
+        regs (held psw last sum over) (now (cex .exit)) m r) ⌝ }
 {
-    if !operands::taken((row / 2 % 8) as u8, flags::together(psw, last, sum, over)) {
+    if !flags::taken((row / 2 % 8) as u8, last, sum, over) {
         return pc;
     }
     *cex = 0;
@@ -125,8 +94,7 @@ fn branch_row(
 // first. 0000 to 1FFF: BL.
 fn jump_word(
     regs: &mut [u16; 8],
-    psw: u16,
-    last: u16,
+    last: u32,
     sum: u32,
     over: u32,
     cex: &mut u16,
@@ -134,29 +102,29 @@ fn jump_word(
     w: usize,
 ) -> usize
     requires { ⌜ Past pc (now regs) × (w < 0x4000) ⌝ }
-    ensures { λ r. ⌜ ((free : Bool) (m : List ℕ) → Taken free (decodeOf w)
+    ensures { λ r. ⌜ ((free : Bool) (m : List ℕ) (psw : ℕ) → Taken free (decodeOf w)
         (now (regs .entry)) (held psw last sum over) (now (cex .entry)) m
         (now (regs .exit)) (held psw last sum over) (now (cex .exit)) m r) ⌝ }
 {
     if 0x3E00 <= w {
-        return branch_row(regs, psw, last, sum, over, cex, pc, w, 31);
+        return branch_row(last, sum, over, cex, pc, w, 31);
     }
     match w / 512 {
-        16 => branch_row(regs, psw, last, sum, over, cex, pc, w, 16),
-        17 => branch_row(regs, psw, last, sum, over, cex, pc, w, 17),
-        18 => branch_row(regs, psw, last, sum, over, cex, pc, w, 18),
-        19 => branch_row(regs, psw, last, sum, over, cex, pc, w, 19),
-        20 => branch_row(regs, psw, last, sum, over, cex, pc, w, 20),
-        21 => branch_row(regs, psw, last, sum, over, cex, pc, w, 21),
-        22 => branch_row(regs, psw, last, sum, over, cex, pc, w, 22),
-        23 => branch_row(regs, psw, last, sum, over, cex, pc, w, 23),
-        24 => branch_row(regs, psw, last, sum, over, cex, pc, w, 24),
-        25 => branch_row(regs, psw, last, sum, over, cex, pc, w, 25),
-        26 => branch_row(regs, psw, last, sum, over, cex, pc, w, 26),
-        27 => branch_row(regs, psw, last, sum, over, cex, pc, w, 27),
-        28 => branch_row(regs, psw, last, sum, over, cex, pc, w, 28),
-        29 => branch_row(regs, psw, last, sum, over, cex, pc, w, 29),
-        30 => branch_row(regs, psw, last, sum, over, cex, pc, w, 30),
+        16 => branch_row(last, sum, over, cex, pc, w, 16),
+        17 => branch_row(last, sum, over, cex, pc, w, 17),
+        18 => branch_row(last, sum, over, cex, pc, w, 18),
+        19 => branch_row(last, sum, over, cex, pc, w, 19),
+        20 => branch_row(last, sum, over, cex, pc, w, 20),
+        21 => branch_row(last, sum, over, cex, pc, w, 21),
+        22 => branch_row(last, sum, over, cex, pc, w, 22),
+        23 => branch_row(last, sum, over, cex, pc, w, 23),
+        24 => branch_row(last, sum, over, cex, pc, w, 24),
+        25 => branch_row(last, sum, over, cex, pc, w, 25),
+        26 => branch_row(last, sum, over, cex, pc, w, 26),
+        27 => branch_row(last, sum, over, cex, pc, w, 27),
+        28 => branch_row(last, sum, over, cex, pc, w, 28),
+        29 => branch_row(last, sum, over, cex, pc, w, 29),
+        30 => branch_row(last, sum, over, cex, pc, w, 30),
         _ => stretch_registers::link_word(regs, cex, pc, w),
     }
 }
@@ -181,42 +149,13 @@ fn relative_word(regs: &mut [u16; 8], mem: &mut [u8], pc: usize, w: usize) -> us
     store_relative(regs, mem, pc, w, 0)
 }
 
-// SWAP, and one register.
-fn single_word(
-    regs: &mut [u16; 8],
-    mem: &[u8],
-    psw: u16,
-    last: &mut u16,
-    sum: &mut u32,
-    over: &mut u32,
-    pc: usize,
-    w: usize,
-) -> usize
-    requires { ⌜ Ready pc w (now regs) (now mem) constants ⌝ }
-    ensures { λ r. ⌜ ((free : Bool) (cex : ℕ) → Taken free (decodeOf w)
-        (now (regs .entry))
-        (held psw (now (last .entry)) (now (sum .entry)) (now (over .entry))) cex
-        (now (mem .entry)) (now (regs .exit))
-        (held psw (now (last .exit)) (now (sum .exit)) (now (over .exit))) cex
-        (now (mem .entry)) r) ⌝ }
-{
-    if (w < 0x4C80) | (0x4D80 <= w) {
-        return LEFT_ALONE;
-    }
-    if w < 0x4D00 {
-        return stretch_registers::swap_word(regs, pc, w);
-    }
-    stretch_registers::single_word(regs, psw, last, sum, over, pc, w)
-}
-
 // Branches, BL, MOVL to MOVH, LDR, STR, SWAP, one register. CEX, SVC, the other adjustments of LD
 // and ST and the words of no instruction are left alone.
 fn far_word(
     regs: &mut [u16; 8],
     mem: &mut [u8],
     k: &[u16; 8],
-    psw: u16,
-    last: &mut u16,
+    last: &mut u32,
     sum: &mut u32,
     over: &mut u32,
     cex: &mut u16,
@@ -224,7 +163,7 @@ fn far_word(
     w: usize,
 ) -> usize
     requires { ⌜ Ready pc w (now regs) (now mem) (now k) ⌝ }
-    ensures { λ r. ⌜ ((free : Bool) → Taken free (decodeOf w)
+    ensures { λ r. ⌜ ((free : Bool) (psw : ℕ) → Taken free (decodeOf w)
         (now (regs .entry))
         (held psw (now (last .entry)) (now (sum .entry)) (now (over .entry)))
         (now (cex .entry)) (now (mem .entry))
@@ -233,7 +172,7 @@ fn far_word(
         (now (cex .exit)) (now (mem .exit)) r) ⌝ }
 {
     if w < 0x4000 {
-        return jump_word(regs, psw, *last, *sum, *over, cex, pc, w);
+        return jump_word(regs, *last, *sum, *over, cex, pc, w);
     }
     if 0x8000 <= w {
         return relative_word(regs, mem, pc, w);
@@ -241,7 +180,13 @@ fn far_word(
     if 0x6000 <= w {
         return stretch_registers::immediate_word(regs, pc, w);
     }
-    single_word(regs, mem, psw, last, sum, over, pc, w)
+    if (w < 0x4C80) | (0x4D80 <= w) {
+        return LEFT_ALONE;
+    }
+    if w < 0x4D00 {
+        return stretch_registers::swap_word(regs, pc, w);
+    }
+    stretch_registers::single_word(regs, last, sum, over, pc, w)
 }
 
 // MOV, SETPRI, SETCC and CLRCC; LD and ST by their last four leading bits.
@@ -251,7 +196,7 @@ fn move_word(
     k: &[u16; 8],
     psw: &mut u16,
     free: bool,
-    last: &mut u16,
+    last: &mut u32,
     sum: &mut u32,
     over: &mut u32,
     cex: &mut u16,
@@ -272,27 +217,27 @@ fn move_word(
         0x131 => stretch_registers::move_word(regs, cex, pc, w, true),
         0x136 => stretch_registers::priority_word(psw, free, pc, w),
         0x137 => stretch_registers::flags_word(last, sum, over, pc, w),
-        0x160 => load_row(regs, mem, pc, w, 0x160),
-        0x161 => load_row(regs, mem, pc, w, 0x161),
-        0x162 => load_row(regs, mem, pc, w, 0x162),
-        0x163 => load_row(regs, mem, pc, w, 0x163),
-        0x164 => load_row(regs, mem, pc, w, 0x164),
-        0x165 => load_row(regs, mem, pc, w, 0x165),
-        0x16A => load_row(regs, mem, pc, w, 0x16A),
-        0x16B => load_row(regs, mem, pc, w, 0x16B),
-        0x16C => load_row(regs, mem, pc, w, 0x16C),
-        0x16D => load_row(regs, mem, pc, w, 0x16D),
-        0x170 => store_row(regs, mem, pc, w, 0x170),
-        0x171 => store_row(regs, mem, pc, w, 0x171),
-        0x172 => store_row(regs, mem, pc, w, 0x172),
-        0x173 => store_row(regs, mem, pc, w, 0x173),
-        0x174 => store_row(regs, mem, pc, w, 0x174),
-        0x175 => store_row(regs, mem, pc, w, 0x175),
-        0x17A => store_row(regs, mem, pc, w, 0x17A),
-        0x17B => store_row(regs, mem, pc, w, 0x17B),
-        0x17C => store_row(regs, mem, pc, w, 0x17C),
-        0x17D => store_row(regs, mem, pc, w, 0x17D),
-        _ => far_word(regs, mem, k, *psw, last, sum, over, cex, pc, w),
+        0x160 => load_indexed(regs, mem, pc, w, 0x160),
+        0x161 => load_indexed(regs, mem, pc, w, 0x161),
+        0x162 => load_indexed(regs, mem, pc, w, 0x162),
+        0x163 => load_indexed(regs, mem, pc, w, 0x163),
+        0x164 => load_indexed(regs, mem, pc, w, 0x164),
+        0x165 => load_indexed(regs, mem, pc, w, 0x165),
+        0x16A => load_indexed(regs, mem, pc, w, 0x16A),
+        0x16B => load_indexed(regs, mem, pc, w, 0x16B),
+        0x16C => load_indexed(regs, mem, pc, w, 0x16C),
+        0x16D => load_indexed(regs, mem, pc, w, 0x16D),
+        0x170 => store_indexed(regs, mem, pc, w, 0x170),
+        0x171 => store_indexed(regs, mem, pc, w, 0x171),
+        0x172 => store_indexed(regs, mem, pc, w, 0x172),
+        0x173 => store_indexed(regs, mem, pc, w, 0x173),
+        0x174 => store_indexed(regs, mem, pc, w, 0x174),
+        0x175 => store_indexed(regs, mem, pc, w, 0x175),
+        0x17A => store_indexed(regs, mem, pc, w, 0x17A),
+        0x17B => store_indexed(regs, mem, pc, w, 0x17B),
+        0x17C => store_indexed(regs, mem, pc, w, 0x17C),
+        0x17D => store_indexed(regs, mem, pc, w, 0x17D),
+        _ => far_word(regs, mem, k, last, sum, over, cex, pc, w),
     }
 }
 
@@ -303,7 +248,7 @@ fn logic_word(
     k: &[u16; 8],
     psw: &mut u16,
     free: bool,
-    last: &mut u16,
+    last: &mut u32,
     sum: &mut u32,
     over: &mut u32,
     cex: &mut u16,
@@ -320,30 +265,30 @@ fn logic_word(
         (now (cex .exit)) (now (mem .exit)) r ⌝ }
 {
     match w / 64 {
-        0x118 => operation(regs, k, *psw, last, sum, over, pc, w, 0x118),
-        0x119 => operation(regs, k, *psw, last, sum, over, pc, w, 0x119),
-        0x11A => operation(regs, k, *psw, last, sum, over, pc, w, 0x11A),
-        0x11B => operation(regs, k, *psw, last, sum, over, pc, w, 0x11B),
-        0x11C => operation(regs, k, *psw, last, sum, over, pc, w, 0x11C),
-        0x11D => operation(regs, k, *psw, last, sum, over, pc, w, 0x11D),
-        0x11E => operation(regs, k, *psw, last, sum, over, pc, w, 0x11E),
-        0x11F => operation(regs, k, *psw, last, sum, over, pc, w, 0x11F),
-        0x120 => operation(regs, k, *psw, last, sum, over, pc, w, 0x120),
-        0x121 => operation(regs, k, *psw, last, sum, over, pc, w, 0x121),
-        0x122 => operation(regs, k, *psw, last, sum, over, pc, w, 0x122),
-        0x123 => operation(regs, k, *psw, last, sum, over, pc, w, 0x123),
-        0x124 => operation(regs, k, *psw, last, sum, over, pc, w, 0x124),
-        0x125 => operation(regs, k, *psw, last, sum, over, pc, w, 0x125),
-        0x126 => operation(regs, k, *psw, last, sum, over, pc, w, 0x126),
-        0x127 => operation(regs, k, *psw, last, sum, over, pc, w, 0x127),
-        0x128 => operation(regs, k, *psw, last, sum, over, pc, w, 0x128),
-        0x129 => operation(regs, k, *psw, last, sum, over, pc, w, 0x129),
-        0x12A => operation(regs, k, *psw, last, sum, over, pc, w, 0x12A),
-        0x12B => operation(regs, k, *psw, last, sum, over, pc, w, 0x12B),
-        0x12C => operation(regs, k, *psw, last, sum, over, pc, w, 0x12C),
-        0x12D => operation(regs, k, *psw, last, sum, over, pc, w, 0x12D),
-        0x12E => operation(regs, k, *psw, last, sum, over, pc, w, 0x12E),
-        0x12F => operation(regs, k, *psw, last, sum, over, pc, w, 0x12F),
+        0x118 => operation(regs, k, last, sum, over, pc, w, 0x118),
+        0x119 => operation(regs, k, last, sum, over, pc, w, 0x119),
+        0x11A => operation(regs, k, last, sum, over, pc, w, 0x11A),
+        0x11B => operation(regs, k, last, sum, over, pc, w, 0x11B),
+        0x11C => operation(regs, k, last, sum, over, pc, w, 0x11C),
+        0x11D => operation(regs, k, last, sum, over, pc, w, 0x11D),
+        0x11E => operation(regs, k, last, sum, over, pc, w, 0x11E),
+        0x11F => operation(regs, k, last, sum, over, pc, w, 0x11F),
+        0x120 => operation(regs, k, last, sum, over, pc, w, 0x120),
+        0x121 => operation(regs, k, last, sum, over, pc, w, 0x121),
+        0x122 => operation(regs, k, last, sum, over, pc, w, 0x122),
+        0x123 => operation(regs, k, last, sum, over, pc, w, 0x123),
+        0x124 => operation(regs, k, last, sum, over, pc, w, 0x124),
+        0x125 => operation(regs, k, last, sum, over, pc, w, 0x125),
+        0x126 => operation(regs, k, last, sum, over, pc, w, 0x126),
+        0x127 => operation(regs, k, last, sum, over, pc, w, 0x127),
+        0x128 => operation(regs, k, last, sum, over, pc, w, 0x128),
+        0x129 => operation(regs, k, last, sum, over, pc, w, 0x129),
+        0x12A => operation(regs, k, last, sum, over, pc, w, 0x12A),
+        0x12B => operation(regs, k, last, sum, over, pc, w, 0x12B),
+        0x12C => operation(regs, k, last, sum, over, pc, w, 0x12C),
+        0x12D => operation(regs, k, last, sum, over, pc, w, 0x12D),
+        0x12E => operation(regs, k, last, sum, over, pc, w, 0x12E),
+        0x12F => operation(regs, k, last, sum, over, pc, w, 0x12F),
         _ => move_word(regs, mem, k, psw, free, last, sum, over, cex, pc, w),
     }
 }
@@ -355,7 +300,7 @@ pub fn take_word(
     k: &[u16; 8],
     psw: &mut u16,
     free: bool,
-    last: &mut u16,
+    last: &mut u32,
     sum: &mut u32,
     over: &mut u32,
     cex: &mut u16,
@@ -372,30 +317,30 @@ pub fn take_word(
         (now (cex .exit)) (now (mem .exit)) r ⌝ }
 {
     match w / 64 {
-        0x100 => operation(regs, k, *psw, last, sum, over, pc, w, 0x100),
-        0x101 => operation(regs, k, *psw, last, sum, over, pc, w, 0x101),
-        0x102 => operation(regs, k, *psw, last, sum, over, pc, w, 0x102),
-        0x103 => operation(regs, k, *psw, last, sum, over, pc, w, 0x103),
-        0x104 => operation(regs, k, *psw, last, sum, over, pc, w, 0x104),
-        0x105 => operation(regs, k, *psw, last, sum, over, pc, w, 0x105),
-        0x106 => operation(regs, k, *psw, last, sum, over, pc, w, 0x106),
-        0x107 => operation(regs, k, *psw, last, sum, over, pc, w, 0x107),
-        0x108 => operation(regs, k, *psw, last, sum, over, pc, w, 0x108),
-        0x109 => operation(regs, k, *psw, last, sum, over, pc, w, 0x109),
-        0x10A => operation(regs, k, *psw, last, sum, over, pc, w, 0x10A),
-        0x10B => operation(regs, k, *psw, last, sum, over, pc, w, 0x10B),
-        0x10C => operation(regs, k, *psw, last, sum, over, pc, w, 0x10C),
-        0x10D => operation(regs, k, *psw, last, sum, over, pc, w, 0x10D),
-        0x10E => operation(regs, k, *psw, last, sum, over, pc, w, 0x10E),
-        0x10F => operation(regs, k, *psw, last, sum, over, pc, w, 0x10F),
-        0x110 => operation(regs, k, *psw, last, sum, over, pc, w, 0x110),
-        0x111 => operation(regs, k, *psw, last, sum, over, pc, w, 0x111),
-        0x112 => operation(regs, k, *psw, last, sum, over, pc, w, 0x112),
-        0x113 => operation(regs, k, *psw, last, sum, over, pc, w, 0x113),
-        0x114 => operation(regs, k, *psw, last, sum, over, pc, w, 0x114),
-        0x115 => operation(regs, k, *psw, last, sum, over, pc, w, 0x115),
-        0x116 => operation(regs, k, *psw, last, sum, over, pc, w, 0x116),
-        0x117 => operation(regs, k, *psw, last, sum, over, pc, w, 0x117),
+        0x100 => operation(regs, k, last, sum, over, pc, w, 0x100),
+        0x101 => operation(regs, k, last, sum, over, pc, w, 0x101),
+        0x102 => operation(regs, k, last, sum, over, pc, w, 0x102),
+        0x103 => operation(regs, k, last, sum, over, pc, w, 0x103),
+        0x104 => operation(regs, k, last, sum, over, pc, w, 0x104),
+        0x105 => operation(regs, k, last, sum, over, pc, w, 0x105),
+        0x106 => operation(regs, k, last, sum, over, pc, w, 0x106),
+        0x107 => operation(regs, k, last, sum, over, pc, w, 0x107),
+        0x108 => operation(regs, k, last, sum, over, pc, w, 0x108),
+        0x109 => operation(regs, k, last, sum, over, pc, w, 0x109),
+        0x10A => operation(regs, k, last, sum, over, pc, w, 0x10A),
+        0x10B => operation(regs, k, last, sum, over, pc, w, 0x10B),
+        0x10C => operation(regs, k, last, sum, over, pc, w, 0x10C),
+        0x10D => operation(regs, k, last, sum, over, pc, w, 0x10D),
+        0x10E => operation(regs, k, last, sum, over, pc, w, 0x10E),
+        0x10F => operation(regs, k, last, sum, over, pc, w, 0x10F),
+        0x110 => operation(regs, k, last, sum, over, pc, w, 0x110),
+        0x111 => operation(regs, k, last, sum, over, pc, w, 0x111),
+        0x112 => operation(regs, k, last, sum, over, pc, w, 0x112),
+        0x113 => operation(regs, k, last, sum, over, pc, w, 0x113),
+        0x114 => operation(regs, k, last, sum, over, pc, w, 0x114),
+        0x115 => operation(regs, k, last, sum, over, pc, w, 0x115),
+        0x116 => operation(regs, k, last, sum, over, pc, w, 0x116),
+        0x117 => operation(regs, k, last, sum, over, pc, w, 0x117),
         _ => logic_word(regs, mem, k, psw, free, last, sum, over, cex, pc, w),
     }
 }

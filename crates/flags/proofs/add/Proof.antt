@@ -21,14 +21,10 @@ returns c =
     let at-placed2 : tie.After-placed2 = search in
     let at-low-bits2 : tie.After-low-bits2 = search in
     let a = at-start .args in
-    let ea = at-low-bits .low-bits .ensures .0 in
-    let es = at-placed .placed .ensures in
-    let eo = at-placed2 .placed2 .ensures in
-    let ev = at-low-bits2 .low-bits2 .ensures .0 in (
-      sum-value (a .byte) (a .dst) (a .b) (a .carry) (at-start .pre .0) (at-start .pre .1) ea es eo ev (c .with-low .result)
-          (c .with-low .ensures),
-      sum-psw (a .byte) (a .dst) (a .b) (a .carry) (at-start .pre .0) (at-start .pre .1) ea es eo ev (now (a .last)) (now (a .sum))
-          (now (a .over)),
+    let ea = at-low-bits .low-bits .ensures .0 in (
+      sum-value (a .byte) (a .dst) (a .b) (a .carry) ea (at-low-bits2 .low-bits2 .ensures .0) (c .with-low .ensures),
+      sum-psw (a .byte) (a .dst) (a .b) (a .carry) ea (at-start .pre .0) (at-start .pre .1) (at-placed .placed .ensures)
+          (at-placed2 .placed2 .ensures) (now (a .last)) (now (a .sum)) (now (a .over)),
     )
 
 pub add-spec : {M : Type 1} → statement M

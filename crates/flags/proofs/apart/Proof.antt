@@ -8,4 +8,4 @@ pub apart-spec : {M : Type 1} → statement M
 apart-spec =
     tie.close
     (tie.spec (λ c. search needs) (λ c. search needs) (λ c. search needs) (λ c. search needs) (λ c. search needs)
-    (λ c. held-apart (c .args .psw)))
+    (λ c. search needs) (λ c. held-apart (c .args .psw)))

@@ -13,7 +13,7 @@ use Rattle.stretch_registers.proofs.compute.Statement.{statement}
 use Rattle.stretch_registers.proofs.compute.Tie as tie
 
 returns : tie.Need-returns
-returns c = inl (refl, refl, refl)
+returns c = λ psw. inl (refl, refl, refl)
 
 returns-2 : tie.Need-returns-2
 returns-2 c =
@@ -21,13 +21,14 @@ returns-2 c =
     let r : tie.After-reg = search in
     let k : tie.After-work = search in
     let a = s .args in
-    let p = held (a .psw) (now (a .last)) (now (a .sum)) (now (a .over)) in
+    λ psw.
+    let p = held psw (now (a .last)) (now (a .sum)) (now (a .over)) in
     let e = ap (λ (d : ℕ). aluOf (a .op) (widthOf (a .byte)) d (a .s) p) (r .reg .ensures) in
     inr (
       omega arith,
       refl,
-      c .set-reg .ensures ∙ ap (set (now (a .regs)) (a .w % 8)) (k .work .ensures .0 ∙ ap (λ (o : Computed). o .value) e),
-      k .work .ensures .1 ∙ ap (λ (o : Computed). o .psw) e,
+      c .set-reg .ensures ∙ ap (set (now (a .regs)) (a .w % 8)) (k .work .ensures .0 psw ∙ ap (λ (o : Computed). o .value) e),
+      k .work .ensures .1 psw ∙ ap (λ (o : Computed). o .psw) e,
     )
 
 pub compute-spec : {M : Type 1} → statement M

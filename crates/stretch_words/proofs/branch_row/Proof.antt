@@ -20,17 +20,14 @@ number w row e = omega arith
 returns : tie.Need-returns
 returns c =
     let s : tie.Start = search in
-    let f : tie.After-together = search in
     let b : tie.After-taken = search in
     let a = s .args in
-    let (past, e, lo, hi) = s .pre in
+    let (e, lo, hi) = s .pre in
     let w = a .w in
-    let l = now (a .regs) in
     let x = now (a .cex) in
-    let p = held (a .psw) (a .last) (a .sum) (a .over) in
-    let t = ap (λ (n : ℕ). takenOf n p) (number w (a .row) e) ∙ ap (takenOf (a .row / 2 % 8)) (sym (f .together .ensures))
-    ∙ sym (b .taken .ensures) ∙ not-true _ (c .if1 .taken) in
-    λ free m.
+    λ free l m psw past.
+    let p = held psw (a .last) (a .sum) (a .over) in
+    let t = ap (λ (n : ℕ). takenOf n p) (number w (a .row) e) ∙ sym (b .taken .ensures psw) ∙ not-true _ (c .if1 .taken) in
     branches w free (a .row) l m p x e lo hi (stays l p x (a .pc) past (signedOf 512 (w % 1024)) (w / 1024 % 8) t)
 
 target-requires : tie.Need-target-requires
@@ -42,20 +39,17 @@ target-requires c κs =
 returns-2 : tie.Need-returns-2
 returns-2 c =
     let s : tie.Start = search in
-    let f : tie.After-together = search in
     let b : tie.After-taken = search in
     let u : tie.Else1 = search in
     let o : tie.After-offset = search in
     let a = s .args in
-    let (past, e, lo, hi) = s .pre in
+    let (e, lo, hi) = s .pre in
     let w = a .w in
-    let l = now (a .regs) in
     let x = now (a .cex) in
-    let p = held (a .psw) (a .last) (a .sum) (a .over) in
-    let t = ap (λ (n : ℕ). takenOf n p) (number w (a .row) e) ∙ ap (takenOf (a .row / 2 % 8)) (sym (f .together .ensures))
-    ∙ sym (b .taken .ensures) ∙ not-false _ (u .if1 .left) in
     let z = handed 512 (w % 1024) (omega arith) (omega arith) (o .offset .ensures) in
-    λ free m.
+    λ free l m psw past.
+    let p = held psw (a .last) (a .sum) (a .over) in
+    let t = ap (λ (n : ℕ). takenOf n p) (number w (a .row) e) ∙ sym (b .taken .ensures psw) ∙ not-false _ (u .if1 .left) in
     branches w free (a .row) l m p x e lo hi
     (jumps l p x (a .pc) past (signedOf 512 (w % 1024)) (c .target .ensures .0 ∙ ap (λ y. moved (a .pc % 65536) (doubled y)) z)
     (c .target .ensures .1) refl (w / 1024 % 8) t)
@@ -63,4 +57,4 @@ returns-2 c =
 pub branch-row-spec : {M : Type 1} → statement M
 branch-row-spec =
     tie.close
-    (tie.spec (λ c. search needs) (λ c κs. search needs) (λ c κs. search needs) returns (λ c κs. search needs) target-requires returns-2)
+    (tie.spec (λ c. search needs) (λ c κs. search needs) returns (λ c κs. search needs) target-requires returns-2)

@@ -1,12 +1,12 @@
--- `stretch::condition` meets its contract. Assumes nothing.
+-- `flags::condition` meets its contract. Assumes nothing.
 use mathlib.Core.Bool.{Bool, not, Bool·beq}
 use mathlib.Core.Path.{ap, _∙_}
 use Prim.Native.Nat.{_%_}
 use lib.Dec.{eqb}
 use borrow.Author.Needs.{needs}
 use Rattle.operands.proofs.Conditions.{paired}
-use Rattle.stretch.proofs.condition.Statement.{statement}
-use Rattle.stretch.proofs.condition.Tie as tie
+use Rattle.flags.proofs.condition.Statement.{statement}
+use Rattle.flags.proofs.condition.Tie as tie
 
 returns : tie.Need-returns
 returns c p =

@@ -8,7 +8,7 @@ use mathlib.Core.Path.{_≡_, refl, sym, ap, subst, _∙_}
 use lib.Dec.{eqb, ltb}
 use lib.ListN.{getD, set}
 use lib.Seq.{set-set, set-getD}
-use borrow.Author.Tests.{eq-eqb, ne-eqb, lt-ltb, le-ltb}
+use borrow.Author.Tests.{lt-ltb, le-ltb}
 use Rattle.word.specs.Psw.{asleep?, faulted?, current, previous}
 use Rattle.isa.specs.declared.Instr.{Instr}
 use Rattle.isa.specs.declared.Instr.the-variants as i
@@ -21,7 +21,7 @@ use Rattle.machine.specs.declared.Access.the-variants as asks
 use Rattle.machine.specs.declared.Act.the-variants as act
 use Rattle.machine.specs.State.{Core, State, coreOf, pc, wrap}
 use Rattle.machine.specs.Memory.{byteAt, wordAt, firstByte}
-use Rattle.machine.specs.Cex.{skips?, lowered}
+use Rattle.machine.specs.Cex.{lowered}
 use Rattle.machine.specs.Entry.{priority, best}
 use Rattle.machine.specs.Effect.{Effect, effectOf}
 use Rattle.machine.specs.Step as step
@@ -129,26 +129,6 @@ pub skip-law :
     planned (coreOf (set regs 7 q) psw y) act.Skip ≡ planned (advanced (coreOf regs psw cex)) act.Skip
 unfolding advanced
 skip-law regs psw cex q y e f = λ i. planned (coreOf (set regs 7 (e i)) psw (f i)) act.Skip
-
-module _ (c : Core) (m : List ℕ) where
-  pub instruction-asleep : asleep? (c .psw) ≡ true → instructionOf c m ≡ planned c act.Sleep
-  unfolding instructionOf
-  instruction-asleep h = rw h refl
-
-  pub instruction-odd : asleep? (c .psw) ≡ false → pc c % 2 ≡ 1 → instructionOf c m ≡ faulting c c 9
-  unfolding instructionOf
-  instruction-odd h o = rw (h, eq-eqb _ _ o) refl
-
-  pub instruction-skips :
-      asleep? (c .psw) ≡ false → (pc c % 2 ≡ 1 → ⊥) → skips? (c .cex) ≡ true → instructionOf c m ≡ planned (advanced c) act.Skip
-  unfolding instructionOf
-  instruction-skips h o k = rw (h, ne-eqb _ _ o, k) refl
-
-  pub instruction-runs :
-      asleep? (c .psw) ≡ false → (pc c % 2 ≡ 1 → ⊥) → skips? (c .cex) ≡ false →
-      instructionOf c m ≡ executed c (effectOf (advanced c) (decodeOf (wordAt m (pc c)))) m
-  unfolding instructionOf
-  instruction-runs h o k = rw (h, ne-eqb _ _ o, k) refl
 
 -- an odd word access: registers, PSW and CEX state as `advanced` leaves them, or all from before
 pub odd-law :

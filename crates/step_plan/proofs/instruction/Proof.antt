@@ -1,5 +1,5 @@
 -- The points of a step from sleep on, in order: asleep, PC odd, skipped, an odd word access, or what the access grants. Each way out is a
--- law with the tests before it as premises (Laws, instruction-asleep to instruction-runs). Assumes nothing.
+-- law with the tests before it as premises (entry's Quiet, instruction-asleep to instruction-runs). Assumes nothing.
 use Prim.Native.Nat.{ℕ}
 use mathlib.Core.List.{List}
 use mathlib.Core.Path.{refl, sym, ap, subst, _∙_}
@@ -14,7 +14,7 @@ use Rattle.machine.specs.Effect.{Effect, effectOf}
 use Rattle.machine.specs.Step.{faulting, executed}
 use Rattle.machine_laws.proofs.Plans.{granted-even}
 use Rattle.step_plan.specs.Planned.{Asked}
-use Rattle.step_plan.proofs.Laws.{instruction-asleep, instruction-odd, instruction-skips, instruction-runs}
+use Rattle.entry.proofs.Quiet.{instruction-asleep, instruction-odd, instruction-skips, instruction-runs}
 use Rattle.step_plan.proofs.Laws.{skip-law, odd-law, fetched, fetched-quits, effect-within}
 use Rattle.step_plan.proofs.instruction.Statement.{statement}
 use Rattle.step_plan.proofs.instruction.Tie as tie

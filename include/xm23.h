@@ -853,7 +853,7 @@ uint32_t xm23_text(uint16_t word, uint16_t place, uint8_t *text, size_t text_len
  *                  the buffer is as it was.
  * stack            it takes 68 KB of stack, for the memory that it runs.
  * defined          crates/sheet_call/specs/Call.antt, sheetCallOf, for every length and content;
- *                  crates/sheet/specs/Sheet.antt, sheetOf.
+ *                  crates/printed_line/specs/Sheet.antt, sheetOf.
  */
 uint32_t xm23_sheet(const uint8_t *input, size_t input_len, uint8_t *line, size_t line_len);
 

@@ -1,6 +1,6 @@
 -- Values as they are written, computed: each text is the bytes of what its line says. Assumes nothing.
 use mathlib.Core.Path.{_≡_, refl}
-use mathlib.Core.List.{List, [], _∷_}
+use mathlib.Core.List.{List}
 use Prim.Native.Nat.{ℕ}
 use lib.IntN.{pos, negsuc}
 use Rattle.asm_value.specs.declared.Value.the-variants.{Known, Unknown, Outside}

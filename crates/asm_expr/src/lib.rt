@@ -3,8 +3,7 @@
 // sign and a part, so both end.
 use asm_value::Value;
 ghost use mathlib.Core.Path.{_≡_};
-ghost use mathlib.Core.List.{List};
-ghost use Prim.Native.Nat.{ℕ, _≤_};
+ghost use Prim.Native.Nat.{_≤_};
 ghost use Rattle.asm_value.specs.declared.Value.the-variants.{Unknown};
 ghost use Rattle.asm_text.specs.Text.{lookUpAt};
 ghost use Rattle.asm_expr.specs.Grammar.{digitsAt, nameAt, plainAt, factorOf};

@@ -10,8 +10,6 @@ use asm_words::Valued;
 use asm_words::Word;
 use isa::Instr;
 ghost use mathlib.Core.Path.{_≡_};
-ghost use mathlib.Core.List.{List};
-ghost use Prim.Native.Nat.{ℕ};
 ghost use Rattle.asm_text.specs.Text.{lookUpAt};
 ghost use Rattle.asm_operands.specs.declared.Found.the-variants.{Missing};
 ghost use Rattle.asm_operands.specs.Operands.{registerAt};
@@ -20,7 +18,7 @@ ghost use Rattle.asm_line.specs.Statement.{arithmeticFrom, arithmetic, m
 ghost use Rattle.asm_line.specs.Statement.{unary, oneRegister, onFlags, conditional};
 ghost use Rattle.asm_line.specs.Statement.{load, store, moveByte, loadRelative};
 ghost use Rattle.asm_line.specs.Statement.{storeRelative, statementWith, statementOf};
-ghost use Rattle.asm_line.specs.Line.{ended, statementAt, afterName, lineFrom, lineOf};
+ghost use Rattle.asm_line.specs.Line.{ended, afterName, lineOf};
 
 // A statement with its values.
 pub enum Statement {

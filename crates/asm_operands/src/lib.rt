@@ -4,8 +4,6 @@
 use asm_expr::Answer;
 use asm_value::Value;
 ghost use mathlib.Core.Path.{_≡_};
-ghost use mathlib.Core.List.{List};
-ghost use Prim.Native.Nat.{ℕ};
 ghost use Rattle.asm_text.specs.Text.{lookUpAt};
 ghost use Rattle.asm_operands.specs.Operands.{over?, registerAt, conditionAt};
 ghost use Rattle.asm_operands.specs.Operands.{flagsAt, widthAt, number?};

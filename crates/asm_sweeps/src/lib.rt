@@ -14,7 +14,6 @@ ghost use Rattle.asm_sweeps.specs.Uses.{leastOf, verdictFor};
 ghost use Rattle.asm_sweeps.specs.Held.{tableAt, Holds, lineAt, Apart};
 use asm_fits::Fit;
 use asm_line::Reading;
-use asm_line::Statement;
 use asm_value::Value;
 use asm_write::Layout;
 use asm_write::Next;

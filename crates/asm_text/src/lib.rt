@@ -2,11 +2,10 @@
 // the end reads as the byte 0, which is no blank, no digit and no letter.
 use asm_value::Value;
 ghost use mathlib.Core.Path.{_≡_};
-ghost use Prim.Native.Nat.{ℕ, _+_, _*_, _%_, _≤_, _<_, _^_, min};
-ghost use mathlib.Core.List.{List};
+ghost use Prim.Native.Nat.{_+_, _*_, _%_, _≤_, _<_, _^_, min};
 ghost use mathlib.Core.Bool.{_&&_};
 ghost use lib.Dec.{eqb};
-ghost use lib.ListN.{drop, length};
+ghost use lib.ListN.{drop};
 ghost use Rattle.asm_text.specs.Text.{byteAt, blank?, letter?, nameByte?};
 ghost use Rattle.asm_text.specs.Text.{digitOf, after, digit?, numeral};
 ghost use Rattle.asm_text.specs.Text.{word, same, spelled, keyOf, lookUpAt};

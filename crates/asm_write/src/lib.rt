@@ -1,10 +1,10 @@
 // What a statement puts into memory at a place, and where the next statement stands.
 ghost use mathlib.Core.Path.{_≡_};
-ghost use Prim.Native.Nat.{ℕ, _<_, _≤_};
+ghost use Prim.Native.Nat.{_<_};
 ghost use Rattle.isa.specs.Encode.{encodeOf};
 ghost use Rattle.asm_line.specs.declared.Statement.the-variants as s;
 ghost use Rattle.asm_write.specs.Written.{encoded, numberOf, layoutOf, sizeOf};
-ghost use Rattle.asm_write.specs.Written.{misplaced?, placed, usedOf, onward, orgNext};
+ghost use Rattle.asm_write.specs.Written.{misplaced?, usedOf, onward, orgNext};
 ghost use Rattle.asm_write.specs.Written.{roomFor, bssNext, nextOf, placeValue, nameValue};
 use asm_fits::Fit;
 use asm_line::Statement;

@@ -2,13 +2,12 @@
 -- vector above the priority enters it; neither shows anything, so the log stays. Assumes nothing.
 use Prim.Native.Nat.{ℕ, _+_, _*_, _/_, _%_, _<_, _≤_}
 use native.Mathlib.Omega.{arith}
-use mathlib.Core.Bool.{Bool, true, false, cond, not, _&&_, and-false}
-use mathlib.Core.List.{List, []}
+use mathlib.Core.Bool.{Bool, true, false, cond}
+use mathlib.Core.List.{List}
 use mathlib.Core.Path.{_≡_, refl, sym, ap, subst, _∙_}
-use lib.Dec.{eqb}
 use lib.ListN.{length, getD, set}
 use lib.Seq.{sets}
-use borrow.Author.Tests.{eq-eqb, ne-eqb, lt-ltb, le-ltb}
+use borrow.Author.Tests.{eq-eqb, lt-ltb, le-ltb}
 use Rattle.word.specs.Psw.{asleep?, current, previous}
 use Rattle.isa.specs.declared.Instr.{Instr}
 use Rattle.isa.specs.declared.Instr.the-variants as i
@@ -18,7 +17,6 @@ use Rattle.machine.specs.declared.Act.the-variants as act
 use Rattle.machine.specs.declared.Depth.{Depth}
 use Rattle.machine.specs.State.{State, coreOf, wrap}
 use Rattle.machine.specs.Memory.{wordAt, commit}
-use Rattle.machine.specs.Cex.{skips?, lowered}
 use Rattle.machine.specs.Entry.{priority, pushes, pulled}
 use Rattle.machine.specs.Effect.{effectOf}
 use Rattle.machine.specs.Step.{Plan, planned, returns?, advanced, faulting, executed, planOf, perform, entered}
@@ -26,7 +24,8 @@ use Rattle.machine.specs.Log.{loggedOf, logBytes}
 use Rattle.machine.specs.Depth.{deeper, shallower, depthAfter}
 use Rattle.machine_laws.proofs.Plans.{granted-even}
 use Rattle.entry.proofs.Lines.{line-no-lines}
-use Rattle.step.proofs.Laws.{leave-pulls, due-leaves, due-runs, instruction-runs}
+use Rattle.entry.proofs.Quiet.{none-waits, shut-none, plan-runs}
+use Rattle.step_plan.proofs.Laws.{leave-pulls, due-leaves}
 use Rattle.stretch_memory.specs.Served.{running, carriedOut}
 use Rattle.frame_step.specs.Took.{Took}
 
@@ -43,13 +42,6 @@ plan-leaves regs m psw cex n woken at =
     (due-leaves (running regs psw cex 0 n m) refl r
     (λ p. leave-pulls c 0 8 (previous psw) m refl (line-no-lines m 0 (previous psw) refl) p (omega arith)))
 
--- a CEX state with no count left skips nothing and stays
-pub shut-none : (x : ℕ) → x % 64 ≡ 0 → (skips? x ≡ false) × (lowered x ≡ x)
-shut-none x h =
-    let a : x / 8 % 8 ≡ 0 = omega arith in
-    let b : x % 8 ≡ 0 = omega arith in
-    (rw (a, b) refl, rw (a, b) refl)
-
 -- an instruction from an even PC, where no block is open: its core has PC past its word
 pub plan-fetches :
     (regs m : List ℕ) (psw cex n w : ℕ) → asleep? psw ≡ false → getD regs 7 0 % 2 ≡ 0 → cex % 64 ≡ 0 → w ≡ wordAt m (getD regs 7 0)
@@ -59,11 +51,7 @@ unfolding advanced
 plan-fetches regs m psw cex n w woken even shut ew =
     let c = coreOf regs psw cex in
     let o = shut-none cex shut in
-    let e : eqb (getD regs 7 0) 0xFFFF ≡ false = ne-eqb (getD regs 7 0) 0xFFFF (λ q. omega arith) in
-    let r : returns? c ≡ false = ap (λ (b : Bool). not (asleep? psw) && b) e ∙ and-false (not (asleep? psw)) in
-    sym
-    (due-runs (running regs psw cex 0 n m) refl 8 (current psw) r refl (line-no-lines m 0 (current psw) refl) (omega arith) refl)
-    ∙ instruction-runs c m woken (λ q. omega arith) (o .0)
+    plan-runs (running regs psw cex 0 n m) refl even woken (none-waits 0 (current psw) m refl) (o .0)
     ∙ (λ j. executed c (effectOf (coreOf (set regs 7 (wrap (getD regs 7 0 + 2))) psw (o .1 j)) (decodeOf (sym ew j))) m)
 
 -- ---- SVC

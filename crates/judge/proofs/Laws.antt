@@ -9,8 +9,8 @@ use Rattle.machine.specs.declared.Act.{Act}
 use Rattle.machine.specs.declared.Act.the-variants as acts
 use Rattle.machine.specs.State.{State, coreOf}
 use Rattle.machine.specs.Step.{Plan, planOf, perform, closed, finished}
-use Rattle.step.specs.declared.Planned.{Planned}
-use Rattle.step.specs.Planned.{planWith, Within}
+use Rattle.step_plan.specs.declared.Planned.{Planned}
+use Rattle.step_plan.specs.Planned.{planWith, Within}
 use Rattle.soundness.specs.Findings.{applications?}
 use Rattle.soundness.specs.Watch.{Watch, Held, seenBy, watchAfter, ownsAfter, devicesAfter, oldestAfter, marked, writerOf, noDevice?}
 use Rattle.writers.specs.First.{TrapsWithin}

@@ -8,7 +8,7 @@ ghost use Rattle.machine.specs.State.{State, stateOf, stateWith};
 ghost use Rattle.machine.specs.Events.{eventsOf, eventCount};
 ghost use Rattle.machine.specs.Refusal.{eventsFitBelow};
 ghost use Rattle.machine.specs.Step.{planOf};
-ghost use Rattle.step.specs.Planned.{planWith, Within};
+ghost use Rattle.step_plan.specs.Planned.{planWith, Within};
 ghost use Rattle.devices.specs.Cursor.{Ordered};
 ghost use Rattle.soundness.specs.Judge.{holds?, begun, judgedRun, findingsBytes};
 ghost use Rattle.open_frames.specs.Open.{Places};
@@ -19,7 +19,7 @@ use machine::Lines;
 use machine::Machine;
 use machine::Rest;
 use open_frames::Open;
-use step::Planned;
+use step_plan::Planned;
 
 // Who writes in a step: 1 the application, 2 a handler or an entry.
 fn writer(mine: bool) -> u8
@@ -140,7 +140,7 @@ pub fn judge_run(
         let full = o.held == 256;
         output_log::keep(memory, full, &mut devices);
         let d = turn::deliver_due(memory, events, at, t.count, t.lines);
-        let p = step::plan(&mut regs, memory, t, d.lines);
+        let p = step_plan::plan(&mut regs, memory, t, d.lines);
         let act = p.act;
         if too_deep(act, o) {
             regs = before;

@@ -25,8 +25,9 @@ use Rattle.machine_laws.proofs.Records.{passed, not-met, is-accepted}
 use Rattle.turn.proofs.Laws.{events-fit, events-ordered, count-fits}
 use Rattle.resume.specs.Deepest.{deepestOf}
 use Rattle.resume.proofs.Deepest.{depth-carried}
+use Rattle.line_text.specs.Line.{lineOf, refusedLine}
 use Rattle.printed_line.specs.Sheet.{stepsIn, recordIn, memoryIn, eventsIn, inputVerdict, runIn, deepestIn}
-use Rattle.printed_line.specs.Sheet.{lineOf, refusedLine, answered, sheetOf, memoryAfter}
+use Rattle.printed_line.specs.Sheet.{answered, sheetOf, memoryAfter}
 
 -- the last part, cut by the length
 rest : (b : List ℕ) (k : ℕ) → take (length b - k) (drop k b) ≡ drop k b

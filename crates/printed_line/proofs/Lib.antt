@@ -1,5 +1,3 @@
-pub mod Texts
 pub mod Inputs
 pub mod Laws
-pub mod Counts
 pub mod Sliced

@@ -1,4 +1,2 @@
 pub mod Sheet
-pub mod Parts
 pub mod Slices
-pub mod Counts

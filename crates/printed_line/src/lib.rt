@@ -1,15 +1,13 @@
-// The printed line: cutting the input into its parts, running, forming the text.
+// The printed line: cutting the input into its parts, running, having the text written.
 mod cut;
-mod fields;
-mod line;
 mod slices;
 
 ghost use mathlib.Core.Path.{_≡_};
 ghost use Prim.Native.Nat.{_≤_};
 ghost use lib.ListN.{length, take, drop};
 ghost use Rattle.machine.specs.declared.Verdict.the-variants.{Accepted};
-ghost use Rattle.printed_line.specs.Sheet.{inputVerdict, runIn, deepestIn, lineOf, sheetOf};
-ghost use Rattle.printed_line.specs.Sheet.{memoryAfter};
+ghost use Rattle.line_text.specs.Line.{lineOf};
+ghost use Rattle.printed_line.specs.Sheet.{inputVerdict, runIn, deepestIn, sheetOf, memoryAfter};
 
 // The line of an accepted input, whose memory is copied out and run on.
 fn put_run(input: &[u8], memory: &mut [u8], out: &mut [u8]) -> usize
@@ -26,7 +24,7 @@ fn put_run(input: &[u8], memory: &mut [u8], out: &mut [u8]) -> usize
     let m = state_record::read_record(cut::part(input, 4, 36));
     let events = cut::part(input, 65572, input.len());
     let done = slices::run_whole(m, memory, events, n);
-    line::put_line(out, done.machine, done.steps, done.deepest)
+    line_text::put_line(out, done.machine, done.steps, done.deepest)
 }
 
 // The line printed for an input, at the start of `out`; the result is its length. What stands past
@@ -40,7 +38,7 @@ pub fn sheet(input: &[u8], memory: &mut [u8; 65536], out: &mut [u8; 80]) -> usiz
 {
     let refused = refusal::refusal_number(cut::verdict(input));
     if refused != 0 {
-        return line::put_refusal(out, refused);
+        return line_text::put_refusal(out, refused);
     }
     put_run(input, memory, out)
 }

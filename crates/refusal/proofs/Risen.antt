@@ -1,15 +1,14 @@
 -- A list whose records fit and rise, each of a later step than the one before it, is in order and has no twins. Assumes nothing.
 use Prim.Native.Nat.{ℕ, zero, suc, _+_, _<_, _≤_}
-use mathlib.Core.Bool.{true, false, _&&_, _||_}
+use mathlib.Core.Bool.{true, false}
 use mathlib.Core.List.{List}
-use mathlib.Core.Path.{_≡_, refl, sym, ap, _∙_}
+use mathlib.Core.Path.{_≡_, refl, sym}
 use native.Mathlib.Omega.{arith}
-use lib.Dec.{eqb, leb}
 use borrow.Author.Tests.{ne-eqb, le-leb}
 use Rattle.machine.specs.Events.{eventAt}
 use Rattle.machine.specs.Refusal.{eventFits, eventsFitBelow, inOrder, inOrderBelow, eventBelow, twinsBelow}
 use Rattle.machine_laws.proofs.Cases.{and-both}
-use Rattle.refusal.proofs.Laws.{fits-none, fits-next, order-next}
+use Rattle.refusal.proofs.Laws.{fits-none, fits-next}
 
 -- the first k records fit and rise, and their steps are below `least`
 pub record Risen (b : List ℕ) (k least : ℕ) : Type 0 where

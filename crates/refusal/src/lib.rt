@@ -7,7 +7,7 @@ ghost use lib.Dec.{ltb};
 ghost use lib.ListN.{length, drop};
 ghost use Rattle.word.specs.Psw.{bitOf, putBit};
 ghost use Rattle.machine.specs.Record.{fourAt};
-ghost use Rattle.machine.specs.Events.{eventAt, eventCount};
+ghost use Rattle.machine.specs.Events.{eventCount};
 ghost use Rattle.machine.specs.Refusal.{recordFits, eventsFit};
 ghost use Rattle.machine.specs.Refusal.{rulesOf, firstBroken, verdictOf, callVerdict, refusalNumber};
 ghost use Rattle.machine.specs.Refusal.{eventFits, eventsFitBelow, inOrder, inOrderBelow};
@@ -189,7 +189,7 @@ fn count_of(r: &[u8]) -> u32
 
 // The first rule of a start that the event list breaks, where none before them is broken. It stands
 // apart from the others, since a call with few steps then compiles best.
-fn events_verdict(events: &[u8]) -> Verdict
+pub fn events_verdict(events: &[u8]) -> Verdict
     ensures { λ x. ⌜ ((memory r : List ℕ) (n : ℕ)
         → x ≡ firstBroken (drop 5 (rulesOf memory r (now (events .entry)) n))) ⌝ }
 {

@@ -31,8 +31,8 @@ use Rattle.journal.proofs.Calls.{verdict-before, verdict-fourteen, journal-acce
 use Rattle.journal.proofs.Calls.{journal-answer, journal-refused}
 use Rattle.journal_record.specs.declared.Ring.{Ring}
 use Rattle.journal_record.specs.Ring.{journalWith}
-use Rattle.run.specs.Kept.{keptOver}
-use Rattle.run.proofs.Calls.{call-passed, call-ran, few-steps, few-records}
+use Rattle.kept_run.specs.Kept.{keptOver}
+use Rattle.run_answer.proofs.Calls.{call-passed, call-ran, few-steps, few-records}
 
 -- ---- the verdict
 

@@ -81,10 +81,10 @@ pub fn run_journal_call(
         opened: 0,
         deepest: 0,
     };
-    let r = run::run_kept(m, memory, events, 0, log, none, journal, begins, n as u32);
+    let r = kept_run::run_kept(m, memory, events, 0, log, none, journal, begins, n as u32);
     state_record::write_record(state, r.machine);
     *deepest = r.depth.deepest;
     *kept = r.ring.kept;
     *place = r.ring.place;
-    run::reply_of(r)
+    run_answer::reply_of(r)
 }

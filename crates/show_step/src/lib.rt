@@ -58,6 +58,7 @@ fn store(
     }
 }
 
+// The same store, laid in once for each width, so that neither asks for the width again.
 fn store_by_width(
     mem: &mut [u8],
     log: &mut [u8],
@@ -66,7 +67,14 @@ fn store_by_width(
     at: u16,
     value: u16,
     added: usize,
-) -> Shown {
+) -> Shown
+    requires { ⌜ (length (now mem) ≡ 65536) × (added ≤ length (now log) / 8) ⌝ }
+    ensures taken { λ r. ⌜ (r .taken ≡ true → Stored byte at value count
+        (now (mem .entry)) added (now (log .entry))
+        (now (mem .exit)) (r .added) (now (log .exit))) ⌝ }
+    ensures left { λ r. ⌜ (r .taken ≡ false → (now (mem .exit) ≡ now (mem .entry))
+        × (now (log .exit) ≡ now (log .entry)) × (r .added ≡ added)) ⌝ }
+{
     if byte {
         return store(mem, log, count, true, at, value, added);
     }

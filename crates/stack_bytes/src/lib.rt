@@ -2,11 +2,11 @@
 // chosen, and the sum of these.
 ghost use mathlib.Core.Path.{_≡_};
 ghost use mathlib.Core.Bool.{true, cond, _&&_};
-ghost use Prim.Native.Nat.{_<_, _≤_};
+ghost use Prim.Native.Nat.{_<_};
 ghost use lib.Dec.{eqb, ltb};
 ghost use lib.ListN.{length};
 ghost use Rattle.machine.specs.Depth.{greater};
-ghost use Rattle.stack_need.specs.Need.{given?, levelOf, useOf, costOf, dearest};
+ghost use Rattle.stack_need.specs.Need.{given?, levelOf, costOf, dearest};
 ghost use Rattle.stack_need.specs.Need.{sumAbove, usesFit, needRefused?, needReply};
 use little_endian::two_at;
 

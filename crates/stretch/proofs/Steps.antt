@@ -4,14 +4,14 @@ use Prim.Native.Nat.{ℕ, zero, suc, _+_, _-_, _*_, _/_, _%_, _<_, _≤_}
 use native.Mathlib.Nat.{mod-eq-of-lt}
 use native.Mathlib.Omega.{arith}
 use native.Mathlib.Numerals.{add-one}
-use mathlib.Core.Bool.{Bool, true, false, not, _&&_, and-false, false≢true}
+use mathlib.Core.Bool.{Bool, true, false, not, false≢true}
 use mathlib.Core.List.{List, [], _∷_}
 use mathlib.Core.Logic.{inl, inr, _⊎_, ⊎-elim}
 use mathlib.Core.Path.{_≡_, refl, sym, ap, subst, _∙_}
-use lib.Dec.{eqb, ltb, leb}
+use lib.Dec.{ltb, leb}
 use lib.ListN.{length, getD, set, length-set}
 use lib.Seq.{set-set, set-getD, getD-set-same}
-use borrow.Author.Tests.{ne-eqb, lt-ltb, le-ltb, ltb-true, ltb-false}
+use borrow.Author.Tests.{lt-ltb, le-ltb, ltb-true, ltb-false}
 use Rattle.word.specs.Psw.{asleep?, current}
 use Rattle.word.proofs.Laws.{bool-cases}
 use Rattle.isa.specs.declared.Instr.{Instr}
@@ -28,7 +28,7 @@ use Rattle.machine.specs.Devices.{deliver}
 use Rattle.machine.specs.Entry.{best, above}
 use Rattle.machine.specs.Effect.{effectOf}
 use Rattle.machine.specs.Step as step
-use Rattle.machine.specs.Step.{Plan, Interrupt, planned, chosen, returns?, interruptOf, advanced, allowed, granted}
+use Rattle.machine.specs.Step.{Plan, Interrupt, planned, chosen, interruptOf, advanced, allowed, granted}
 use Rattle.machine.specs.Step.{executed, instructionOf, planOf, perform, finished}
 use Rattle.machine.specs.Uneventful.{uneventful?, Uneventful}
 use Rattle.machine_laws.proofs.Cases.{and-left, and-right, le-of, lt-of, not-lt}
@@ -37,7 +37,7 @@ use Rattle.machine_laws.proofs.Plans.{plan-live}
 use Rattle.machine_laws.proofs.Runs.{run-zero, run-turn}
 use Rattle.machine_laws.proofs.Uneventful.{uneventful-none, uneventful-one, uneventful-append}
 use Rattle.machine_laws.proofs.Vectors.{BelowVectors, load-below, store-below, above-kept}
-use Rattle.entry.proofs.Lines.{line-no-lines, line-isnt}
+use Rattle.entry.proofs.Quiet.{none-waits, instruction-asleep, shut-none, plan-runs, plan-skips}
 use Rattle.stretch_registers.specs.Effected.{leftAlone}
 use Rattle.stretch_memory.specs.Ordinary.{aligned?, inside?, ordinary?}
 use Rattle.stretch_memory.specs.Served.{running, carriedOut, Untouched, Served, Taken}
@@ -98,41 +98,6 @@ granted-eight c x a l m h =
 
 -- ---- one step
 
-module _ (regs m :
-    List ℕ) (psw cex l : ℕ) (even : getD regs 7 0 % 2 ≡ 0) (woken : asleep? psw ≡ false) (q : NoneAbove m l (current psw)) where
-  -- an even PC is not #FFFF
-  no-return : returns? (coreOf regs psw cex) ≡ false
-  no-return =
-      let e : eqb (getD regs 7 0) 0xFFFF ≡ false = ne-eqb (getD regs 7 0) 0xFFFF (λ q. omega arith) in
-      ap (λ (b : Bool). not (asleep? psw) && b) e ∙ and-false (not (asleep? psw))
-
-  no-interrupt : interruptOf (coreOf regs psw cex) l m ≡ step.nothing
-  unfolding interruptOf
-  no-interrupt = rw (no-return, q) refl
-
-  -- a step is the instruction's
-  step-plan : (n : ℕ) → planOf (running regs psw cex l n m) ≡ instructionOf (coreOf regs psw cex) m
-  step-plan n =
-      plan-live (running regs psw cex l n m) refl
-      ∙ ap (λ (i : Interrupt). chosen i (coreOf regs psw cex) (instructionOf (coreOf regs psw cex) m)) no-interrupt
-
-  fetches :
-      skips? cex ≡ false → (n : ℕ) →
-      planOf (running regs psw cex l n m)
-      ≡ executed (coreOf regs psw cex) (effectOf (advanced (coreOf regs psw cex)) (decodeOf (wordAt m (getD regs 7 0)))) m
-  unfolding instructionOf
-  fetches s n =
-      let e : eqb (getD regs 7 0 % 2) 1 ≡ false = ne-eqb (getD regs 7 0 % 2) 1 (λ q. omega arith) in
-      step-plan n ∙ rw (woken, e, s) refl
-
-  passes-over :
-      skips? cex ≡ true → (n : ℕ) →
-      planOf (running regs psw cex l n m) ≡ planned (advanced (coreOf regs psw cex)) act.Skip
-  unfolding instructionOf
-  passes-over s n =
-      let e : eqb (getD regs 7 0 % 2) 1 ≡ false = ne-eqb (getD regs 7 0 % 2) 1 (λ q. omega arith) in
-      step-plan n ∙ rw (woken, e, s) refl
-
 -- a step that a block skips
 pub skipped :
     (l : ℕ) (regs m : List ℕ) (psw cex v x : ℕ) → getD regs 7 0 % 2 ≡ 0 → asleep? psw ≡ false → skips? cex ≡ true →
@@ -142,13 +107,9 @@ skipped l regs m psw cex v x even woken s ev ex q = (
   q,
   (λ n.
       (λ i. running (set regs 7 (ev i)) psw (ex i) l (n + 1) m)
-      ∙ ap (λ (p : Plan). carriedOut p l n m) (sym (passes-over regs m psw cex l even woken q s n))),
-  (λ n. ap (λ (p : Plan). uneventful? (p .act)) (passes-over regs m psw cex l even woken q s n)),
+      ∙ ap (λ (p : Plan). carriedOut p l n m) (sym (plan-skips (running regs psw cex l n m) refl even woken q s))),
+  (λ n. ap (λ (p : Plan). uneventful? (p .act)) (plan-skips (running regs psw cex l n m) refl even woken q s)),
 )
-
--- where no line waits, none is above any priority
-none-waits : (l p : ℕ) (m : List ℕ) → l ≡ 0 → NoneAbove m l p
-none-waits l p m e = line-isnt m l p 8 (line-no-lines m l p e) (omega arith)
 
 -- a word served
 module _ (free : Bool) (regs m regs₁ m₁ : List ℕ) (psw cex w x y psw₁ cex₁ r : ℕ) (even : getD regs 7 0 % 2 ≡ 0)
@@ -164,7 +125,7 @@ module _ (free : Bool) (regs m regs₁ m₁ : List ℕ) (psw cex w x y psw₁ ce
       planOf (running regs psw cex l n m) ≡ executed before (effectOf (coreOf (set regs 7 x) psw y) (decodeOf w)) m
   unfolding advanced
   plan-is l n q =
-      fetches regs m psw cex l even woken q s n
+      plan-runs (running regs psw cex l n m) refl even woken q s
       ∙ sym (λ j. executed before (effectOf (coreOf (set regs 7 (ex j)) psw (sym ey j)) (decodeOf (ew j))) m)
 
   -- the priority stays, or no line waits
@@ -303,13 +264,6 @@ module _ (l : ℕ) (regs m : List ℕ) (psw cex : ℕ) where
 
 -- ---- the steps of a loop
 
--- a CEX state with no count left skips nothing and stays
-pub open-none : (x : ℕ) → x % 64 ≡ 0 → (skips? x ≡ false) × (lowered x ≡ x)
-open-none x h =
-    let a : x / 8 % 8 ≡ 0 = omega arith in
-    let b : x % 8 ≡ 0 = omega arith in
-    (rw (a, b) refl, rw (a, b) refl)
-
 module _ (free : Bool) (regs₀ m₀ : List ℕ) (psw₀ x₀ : ℕ) where
   -- what has been walked, and one step more
   pub walked-next :
@@ -333,7 +287,7 @@ module _ (free : Bool) (regs₀ m₀ : List ℕ) (psw₀ x₀ : ℕ) where
             (λ v.
             let pos = v .0 in
             let h = shut (v .0) in
-            let o = open-none cex h in
+            let o = shut-none cex h in
             goes-join l regs₀ m₀ psw₀ c (set regs 7 (p % 65536)) m (set regs₁ 7 (r % 65536)) m₁ psw cex psw₁ cex₁ j 1 (v .1 l c none s e)
             (goes-one l (set regs 7 (p % 65536)) m psw cex (set regs₁ 7 (r % 65536)) m₁ psw₁ cex₁ (g .0 l cex none (o .0) (o .1))))
             f),
@@ -369,16 +323,6 @@ back regs p h =
     near : (k : ℕ) → k < 65536 → ((k + 2) % 65536 + 65534) % 65536 ≡ k
     near k lt = omega arith
 
--- R7 is there after a step, taken or not
-pub long :
-    (free : Bool) (regs m regs₁ m₁ : List ℕ) (psw cex psw₁ cex₁ p r : ℕ) → Awake regs psw
-    → Stepping free p regs psw cex m regs₁ psw₁ cex₁ m₁ r → 7 < length regs₁
-long free regs m regs₁ m₁ psw cex psw₁ cex₁ p r a g =
-    ⊎-elim
-    (λ u. rw (u .1 .0) (awake-set regs psw ((p % 65536 + 2) % 65536) a .1))
-    (λ v. v .1 .2 .1)
-    g
-
 module _ (free : Bool) (regs₀ m₀ : List ℕ) (psw₀ x₀ : ℕ) (regs m regs₁ m₁ : List ℕ) (psw cex psw₁ cex₁ p r j n : ℕ) (a : Awake regs psw)
     (f : Walked free regs₀ psw₀ x₀ m₀ (set regs 7 (p % 65536)) psw cex m j) (b : (cex % 64 ≡ 0) ⊎ (n ≤ 1)) (lt : j < n)
     (g : Stepping free p regs psw cex m regs₁ psw₁ cex₁ m₁ r) where
@@ -398,30 +342,33 @@ module _ (free : Bool) (regs₀ m₀ : List ℕ) (psw₀ x₀ : ℕ) (regs m reg
       ))
       g
 
-  -- or ends
-  pub walked-stop :
-      (regs₂ : List ℕ) (s : ℕ) → (r ≡ leftAlone → (s ≡ 0) × (regs₂ ≡ set regs₁ 7 ((getD regs₁ 7 0 + 65534) % 65536))) →
-      ((r ≡ leftAlone → ⊥) → (s ≡ 1) × (regs₂ ≡ set regs₁ 7 (r % 65536))) →
-      Walked free regs₀ psw₀ x₀ m₀ regs₂ psw₁ cex₁ m₁ (j + s) × Awake regs₂ psw₁
-  walked-stop regs₂ s k o =
+  -- or ends at a word that was left alone
+  pub walked-back :
+      (regs₂ : List ℕ) (u v : ℕ) → r ≡ leftAlone → u ≡ getD regs₁ 7 0 → v ≡ (u + 65534) % 65536 → regs₂ ≡ set regs₁ 7 v →
+      Walked free regs₀ psw₀ x₀ m₀ regs₂ psw₁ cex₁ m₁ j × Awake regs₂ psw₁
+  walked-back regs₂ u v here eu ev er =
       ⊎-elim
-      (λ u.
-      let t = k (u .0) in
-      let y = (p % 65536 + 2) % 65536 in
+      (λ t.
       let e : regs₂ ≡ set regs 7 (p % 65536) =
-      t .1 ∙ ap (λ (q : List ℕ). set q 7 ((getD q 7 0 + 65534) % 65536)) (u .1 .0) ∙ back regs p (a .1) in
-      let z : j + s ≡ j = ap (λ (q : ℕ). j + q) (t .0) ∙ none j in
-      rw (e, u .1 .1, u .1 .2, u .1 .3, z) (f, awake-set regs psw (p % 65536) a))
-      (λ v.
-      let t = o (v .0) in
-      rw (t .0, t .1) (
-        walked-next free regs₀ m₀ psw₀ x₀ regs m regs₁ m₁ psw cex psw₁ cex₁ p r j n f b lt (v .1),
-        awake-set regs₁ psw₁ (r % 65536) (v .1 .2),
+      er ∙ ap (set regs₁ 7) (ev ∙ ap (λ (k : ℕ). (k + 65534) % 65536) eu)
+      ∙ ap (λ (q : List ℕ). set q 7 ((getD q 7 0 + 65534) % 65536)) (t .1 .0) ∙ back regs p (a .1) in
+      rw (e, t .1 .1, t .1 .2, t .1 .3) (f, awake-set regs psw (p % 65536) a))
+      (λ t. absurd (t .0 here))
+      g
+
+  -- or after one that was the last
+  pub walked-last :
+      (regs₂ : List ℕ) → (r ≡ leftAlone → ⊥) → regs₂ ≡ set regs₁ 7 (r % 65536) →
+      Walked free regs₀ psw₀ x₀ m₀ regs₂ psw₁ cex₁ m₁ (j + 1) × Awake regs₂ psw₁
+  walked-last regs₂ taken er =
+      ⊎-elim
+      (λ t. absurd (taken (t .0)))
+      (λ t.
+      rw er (
+        walked-next free regs₀ m₀ psw₀ x₀ regs m regs₁ m₁ psw cex psw₁ cex₁ p r j n f b lt (t .1),
+        awake-set regs₁ psw₁ (r % 65536) (t .1 .2),
       ))
       g
-    where
-      none : (q : ℕ) → q + 0 ≡ q
-      none q = omega arith
 
 -- where no block is open, none is after a step
 pub stays-shut :
@@ -436,7 +383,7 @@ module _ (free : Bool) (regs m regs₁ m₁ : List ℕ) (psw x psw₁ cex₁ j :
   -- in no block
   walked-shut : (l : ℕ) → FreeOf free l → x % 64 ≡ 0 → Goes l regs psw x m regs₁ psw₁ cex₁ m₁ j
   walked-shut l none h =
-      let o = open-none x h in
+      let o = shut-none x h in
       ⊎-elim (λ u. rw (u .0, u .1 .0, u .1 .1, u .1 .2, u .1 .3) (goes-none l regs m psw x)) (λ v. v .1 l x none (o .0) (o .1)) f
 
   -- one step that a block covers, or none
@@ -453,7 +400,7 @@ module _ (free : Bool) (regs m regs₁ m₁ : List ℕ) (psw x psw₁ cex₁ j :
 
 -- the lowered state of one with no count left has none
 pub lowered-shut : (x y : ℕ) → y ≡ lowered x → x % 64 ≡ 0 → y % 64 ≡ 0
-lowered-shut x y e h = ap (λ (n : ℕ). n % 64) (e ∙ open-none x h .1) ∙ h
+lowered-shut x y e h = ap (λ (n : ℕ). n % 64) (e ∙ shut-none x h .1) ∙ h
 
 -- with no block open the CEX state x is not lowered, and all steps may be taken; of them d are left
 pub walked-free :
@@ -461,7 +408,7 @@ pub walked-free :
     x % 64 ≡ 0 → Walked free regs psw y m regs₁ psw₁ cex₁ m₁ (steps - r) → (l : ℕ) → FreeOf free l →
     Goes l regs psw x m regs₁ psw₁ cex₁ m₁ (left - d)
 walked-free free regs m regs₁ m₁ psw x y psw₁ cex₁ steps left r d ey es er h f l none =
-    let e : y ≡ x = ey ∙ open-none x h .1 in
+    let e : y ≡ x = ey ∙ shut-none x h .1 in
     subst (λ (n : ℕ). Goes l regs psw x m regs₁ psw₁ cex₁ m₁ (n - d)) (es h)
     (subst (λ (n : ℕ). Goes l regs psw x m regs₁ psw₁ cex₁ m₁ (steps - n)) er
     (subst (λ (n : ℕ). Goes l regs psw n m regs₁ psw₁ cex₁ m₁ (steps - r)) e
@@ -490,7 +437,7 @@ cex-loaded l regs m psw cex w v x even woken s ew h ev ex q =
     let plan : (n : ℕ) → planOf (running regs psw cex l n m)
     ≡ planned (coreOf (set regs 7 (wrap (getD regs 7 0 + 2))) psw (loadedCex (w / 64 % 16) (w / 8 % 8) (w % 8) psw)) act.Plain =
     λ n.
-    fetches regs m psw cex l even woken q s n
+    plan-runs (running regs psw cex l n m) refl even woken q s
     ∙ ap (λ (u : ℕ). executed (coreOf regs psw cex) (effectOf (advanced (coreOf regs psw cex)) (decodeOf u)) m) (sym ew)
     ∙ ap (λ (u : Instr). executed (coreOf regs psw cex) (effectOf (advanced (coreOf regs psw cex)) u) m) (decode-cex w h) in (
       q,
@@ -513,14 +460,10 @@ module _ (s : State) (h : Asleep s) where
   unfolding interruptOf
   not-woken = rw (h .1, h .2) refl
 
-  sleeps : instructionOf (s .core) (s .mem) ≡ planned (s .core) act.Sleep
-  unfolding instructionOf
-  sleeps = rw (h .1) refl
-
   sleep-plan : planOf s ≡ planned (s .core) act.Sleep
   sleep-plan =
       let c = s .core in
-      plan-live s (h .0) ∙ ap (λ (i : Interrupt). chosen i c (instructionOf c (s .mem))) not-woken ∙ sleeps
+      plan-live s (h .0) ∙ ap (λ (i : Interrupt). chosen i c (instructionOf c (s .mem))) not-woken ∙ instruction-asleep c (s .mem) (h .1)
 
   -- a step asleep changes nothing but the count
   sleep-step : finished s ≡ withCount s (s .count + 1)

@@ -9,15 +9,15 @@ ghost use mathlib.Core.Bool.{true, false};
 ghost use mathlib.Core.List.{List};
 ghost use mathlib.Core.Logic.{_⊎_};
 ghost use mathlib.Core.Path.{_≡_};
-ghost use Prim.Native.Nat.{ℕ, _%_, _+_, _*_, _-_, _<_, _≤_};
-ghost use lib.ListN.{length, getD, set};
-ghost use Rattle.word.specs.Psw.{asleep?, current};
-ghost use Rattle.machine.specs.Cex.{conditionOf, skips?, lowered};
+ghost use Prim.Native.Nat.{ℕ, _/_, _%_, _+_, _*_, _-_, _<_, _≤_};
+ghost use lib.ListN.{length, getD};
+ghost use Rattle.word.specs.Psw.{asleep?};
+ghost use Rattle.machine.specs.Cex.{skips?, lowered};
 ghost use Rattle.machine.specs.Events.{Event};
 ghost use Rattle.flags.specs.Kept.{held};
 ghost use Rattle.stretch_memory.specs.Served.{running};
 ghost use Rattle.stretch_formats.specs.Ready.{constants};
-ghost use Rattle.stretch.specs.Stretch.{Undisturbed, Awake, Fetching, NoneAbove, FreeOf};
+ghost use Rattle.stretch.specs.Stretch.{Undisturbed, Awake, Fetching, FreeOf};
 ghost use Rattle.stretch.specs.Stretch.{Passes, Goes, Stepping, Walked, SkippedPart};
 use machine::ByteAddr;
 use machine::Lines;
@@ -145,7 +145,7 @@ struct Turned {
     more: bool,
 }
 
-fn turned(cex: u16, left: u32, more: bool) -> Turned
+fn comes_to(cex: u16, left: u32, more: bool) -> Turned
     ensures { λ r. ⌜ (r .cex ≡ cex) × (r .left ≡ left) × (r .more ≡ more) ⌝ }
 {
     Turned { cex, left, more }
@@ -179,7 +179,7 @@ fn skipping(regs: &mut [u16; 8], cex: u16, left: u32) -> Turned
     let j = least(left, cex / u % 8);
     let pc = std::num::wrapping_add_u16(reg(regs, 7), 2 * j);
     set_reg(regs, 7, pc);
-    turned(cex - j * u, left - j as u32, true)
+    comes_to(cex - j * u, left - j as u32, true)
 }
 
 // Where no block is open: CEX; one step, or none.
@@ -202,15 +202,15 @@ fn control(
 {
     let pc = reg(regs, 7);
     if pc % 2 == 1 {
-        return turned(cex, left, false);
+        return comes_to(cex, left, false);
     }
     let w = memory::read_word(mem, memory::word_of(ByteAddr(pc)));
     if w / 1024 != 20 {
-        return turned(cex, left, false);
+        return comes_to(cex, left, false);
     }
     let holds = word::flag(flags::condition((w / 64 % 16) as u8, last, sum, over));
     set_reg(regs, 7, std::num::wrapping_add_u16(pc, 2));
-    turned(w % 64 + 64 * holds, left - 1, true)
+    comes_to(w % 64 + 64 * holds, left - 1, true)
 }
 
 // One turn: steps that the open block skips, one that it covers, or steps with no block open and
@@ -245,14 +245,14 @@ fn turn(
     let a = take_steps(regs, mem, k, psw, free, last, sum, over, c.cex, c.left);
     if cex % 64 == 0 {
         if a.left == 0 {
-            return turned(a.cex, 0, false);
+            return comes_to(a.cex, 0, false);
         }
         return control(regs, mem, *last, *sum, *over, a.cex, a.left);
     }
     if a.left == 1 {
-        return turned(cex, left, false);
+        return comes_to(cex, left, false);
     }
-    turned(a.cex, left - 1, true)
+    comes_to(a.cex, left - 1, true)
 }
 
 // Up to n steps, fewer where a word is for the general way.
@@ -269,7 +269,7 @@ fn walk(regs: &mut [u16; 8], mem: &mut [u8], psw: u16, cex: u16, lines: Lines, n
     let mut sum = f.sum;
     let mut over = f.over;
     let free = lines == 0;
-    let mut t = turned(cex, n, true);
+    let mut t = comes_to(cex, n, true);
     while t.more & (0 < t.left) {
         if reg(regs, 7) % 2 == 1 {
             break;

@@ -1,5 +1,5 @@
--- Records as the code writes them: eight bytes and eight more are the sixteen of a record, the sum of an event's flags is its bits, and
--- number, address and value of an act are those of the definition, constructor by constructor. Assumes nothing.
+-- Records as the code writes them: eight bytes and eight more are the sixteen of a record, and that of an act is there where its kind is
+-- asked for. Assumes nothing.
 use Prim.Native.Nat.{ℕ, _+_, _*_, _/_, _%_, _≤_}
 use native.Mathlib.Nat.{div-div-eq-div-mul}
 use native.Mathlib.Numerals.{unary-clauses}
@@ -7,23 +7,18 @@ use native.Mathlib.Omega.{arith}
 use mathlib.Core.Bool.{Bool, true, false, cond}
 use mathlib.Core.List.{List, [], _∷_}
 use mathlib.Core.Path.{_≡_, refl, sym, ap, _∙_}
-use mir.Val.{boolByte}
-use lib.Dec.{eqb}
 use lib.ListN.{length, set}
 use lib.Seq.{sets}
 use Rattle.word.specs.Psw.{bitOf}
 use Rattle.machine.specs.declared.Act.{Act}
-use Rattle.machine.specs.Memory.{byteAt, lowByte, highByte}
+use Rattle.machine.specs.Memory.{lowByte, highByte}
 use Rattle.machine.specs.Record.{countByte}
-use Rattle.machine_laws.proofs.Cases.{is-eq, not-eq}
 use Rattle.stores.proofs.Laws.{sets-then}
 use Rattle.little_endian.specs.Bytes.{fourPut}
-use Rattle.machine.specs.Events.{eventAt}
-use Rattle.machine.specs.Devices.{eventsWaiting}
-use Rattle.trace.specs.Trace.{Entry, entryBytes, traceBytes, kindOf, effectBits, effectOn, eventEntry}
+use Rattle.trace.specs.Trace.{Entry, entryBytes, traceBytes, kindOf}
 use Rattle.trace_record.specs.declared.Before.{Before}
 use Rattle.trace_record.specs.declared.Told.{Told}
-use Rattle.trace_record.specs.Written.{entryWith, asSeen, headBytes, tailBytes, toldOf, actWritten}
+use Rattle.trace_record.specs.Written.{entryWith, headBytes, tailBytes, toldOf, actWritten}
 
 -- ---- bytes
 
@@ -48,21 +43,6 @@ whole-bytes m m′ m″ i b k d a v e f =
     f
     ∙ ap (λ x. sets x (i + 8) (tailBytes v (b .pc) (b .sp) (b .psw))) e
     ∙ sets-then m i (i + 8) (headBytes (b .step) k d a) (tailBytes v (b .pc) (b .sp) (b .psw)) refl
-
--- ---- an event's bits
-
-pub bits-off : (t w : ℕ) → (t / 16 % 2 ≡ 1 → ⊥) → 0 ≡ effectBits t w
-bits-off t w h =
-    sym (ap (λ (b : Bool). cond b (1 + 2 * boolByte (eqb (t / 4 % 2) 1) + 4 * boolByte (eqb (t / 1 % 2) 1) + 8 * boolByte (eqb w 15)) 0)
-    (not-eq h))
-
-pub bits-on : (t w a b c : ℕ) → t / 16 % 2 ≡ 1 → a ≡ 2 * boolByte (eqb (t / 4 % 2) 1) → b ≡ 4 * boolByte (eqb (t % 2) 1)
-    → c ≡ 8 * boolByte (eqb w 15) → 1 + a + b + c ≡ effectBits t w
-bits-on t w a b c h ea eb ec =
-    let e : t % 2 ≡ t / 1 % 2 = omega arith in
-    (λ i. 1 + ea i + (eb ∙ ap (λ x. 4 * boolByte (eqb x 1)) e) i + ec i)
-    ∙ sym (ap (λ (b : Bool). cond b (1 + 2 * boolByte (eqb (t / 4 % 2) 1) + 4 * boolByte (eqb (t / 1 % 2) 1) + 8 * boolByte (eqb w 15)) 0)
-    (is-eq h))
 
 -- ---- an act
 
@@ -95,15 +75,3 @@ pub stored-one : (m m′ : List ℕ) (i : ℕ) (x : Entry) (ys : List Entry) →
     → m′ ≡ sets m i (traceBytes ys)
 unfolding traceBytes
 stored-one m m′ i x ys e f = f ∙ ap (λ xs. sets m i (traceBytes xs)) e
-
--- ---- an event
-
-pub event-written : (b : Before) (m es : List ℕ) (l at i : ℕ) (t t′ : List ℕ) (bits w v : ℕ)
-    → w ≡ eventsWaiting l (byteAt es (8 * at + 4)) → bits ≡ effectBits (byteAt m (2 * byteAt es (8 * at + 4))) w → v ≡ byteAt es
-    (8 * at + 5)
-    → t′ ≡ sets t i (entryBytes (entryWith b 0 (byteAt es (8 * at + 4)) bits v))
-    → t′ ≡ sets t i (entryBytes (eventEntry (asSeen b m l) (asSeen b m l) (eventAt es at)))
-unfolding eventAt effectOn
-event-written b m es l at i t t′ bits w v ew eb ev f =
-    let d = byteAt es (8 * at + 4) in
-    f ∙ (λ j. sets t i (entryBytes (entryWith b 0 d ((eb ∙ ap (effectBits (byteAt m (2 * d))) ew) j) (ev j))))

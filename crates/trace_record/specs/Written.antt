@@ -1,20 +1,16 @@
--- The records of a step from the numbers that the code holds: what stood before the step, the device bytes and lines
--- before its events, the act, what it read, and PC and PSW after it.
+-- A record from the numbers that the code holds: what stood before the step, the act, what it read, and PC and PSW
+-- after it.
 -- Assumes nothing.
 use Prim.Native.Nat.{ℕ}
-use mathlib.Core.Bool.{Bool, true, false, cond}
-use mathlib.Core.List.{List, [], _∷_, _++_}
-use mathlib.Core.Path.{_≡_}
+use mathlib.Core.Bool.{cond}
+use mathlib.Core.List.{List, [], _∷_}
 use mir.Val.{boolByte}
 use Rattle.word.specs.Psw.{bitOf}
 use Rattle.machine.specs.declared.Act.{Act}
 use Rattle.machine.specs.declared.Act.the-variants as act
-use Rattle.machine.specs.State.{State, coreOf}
 use Rattle.machine.specs.Memory.{lowByte, highByte, valueAt}
 use Rattle.machine.specs.Record.{countByte}
-use Rattle.machine.specs.Events.{Event}
-use Rattle.trace.specs.Trace.{Entry, entry, kindOf, operandOf}
-use Rattle.trace.specs.Before.{eventsBefore}
+use Rattle.trace.specs.Trace.{Entry, kindOf, operandOf}
 use Rattle.trace_record.specs.declared.Before.{Before}
 use Rattle.trace_record.specs.declared.Told.{Told}
 
@@ -32,17 +28,6 @@ headBytes n k d a =
 abbrev pub tailBytes : (value pc sp psw : ℕ) → List ℕ
 tailBytes v p s w =
     lowByte v ∷ highByte v ∷ lowByte p ∷ highByte p ∷ lowByte s ∷ highByte s ∷ lowByte w ∷ highByte w ∷ []
-
--- a state of which events and records see what the code holds: the device bytes m, the lines. [call trace]
-abbrev pub asSeen : Before → (m : List ℕ) → (lines : ℕ) → State
-asSeen b m l =
-    record {
-      core = coreOf (0 ∷ 0 ∷ 0 ∷ 0 ∷ 0 ∷ 0 ∷ b .sp ∷ b .pc ∷ []) (b .psw) 0;
-      lines = l;
-      halted = false;
-      count = b .step;
-      mem = m;
-    }
 
 -- the value that an act loads. [call trace]
 abbrev pub seenOf : Act → List ℕ → ℕ
@@ -82,13 +67,3 @@ abbrev pub actWritten : Before → (kinds : ℕ) → Act → (seen pc psw : ℕ)
 actWritten b ks a x p w =
     let t = toldOf a x p w in
     cond (bitOf (kindOf a) ks) (entryWith b (kindOf a) (t .number) (t .address) (t .value) ∷ []) []
-
--- the records of a step's events where they are asked for. [call trace]
-abbrev pub eventsWritten : Before → (kinds : ℕ) → (devices : List ℕ) → (lines : ℕ) → List Event → List Entry
-eventsWritten b ks m l ev = cond (bitOf 0 ks) (eventsBefore (asSeen b m l) (b .step) ev) []
-
--- the records of a step, in this order; `wanted` where an event may be due. [call trace]
-abbrev pub stepWritten : Before → (kinds : ℕ) → (wanted : Bool) → (devices : List ℕ) → (lines : ℕ) → List Event
-    → Act → (seen pc psw : ℕ) → List Entry
-stepWritten b ks wanted m l ev a x p w =
-    cond wanted (eventsWritten b ks m l ev) [] ++ actWritten b ks a x p w

@@ -33,7 +33,7 @@ use Rattle.trace.specs.Kinds.{Sparse, NoneOf, Quiet}
 use Rattle.run_laws.proofs.Roomed.{records-fit, turn-start, turn-taken, turn-short, turn-full, turn-halted}
 use Rattle.trace.proofs.Bytes.{trace-stored}
 use Rattle.trace.proofs.Turns.{turn-stretch}
-use Rattle.trace_record.proofs.Index.{index-none}
+use Rattle.trace_step.proofs.Index.{index-none}
 use Rattle.trace_run.specs.Reached.{Reached, Turn, sparse?}
 
 -- ---- the two tests

@@ -23,8 +23,9 @@ use Rattle.turn.proofs.Laws.{of-devices, restored}
 use Rattle.trace.specs.Trace.{Entry, entry, tracedOf, traceBytes}
 use Rattle.trace.specs.Before.{Apart}
 use Rattle.trace_record.specs.declared.Before.{Before}
-use Rattle.trace_record.specs.Written.{entryWith, seenOf, stepWritten}
-use Rattle.trace_record.proofs.Step.{written-is}
+use Rattle.trace_record.specs.Written.{entryWith, seenOf}
+use Rattle.trace_step.specs.Steps.{stepWritten}
+use Rattle.trace_step.proofs.Step.{written-is}
 use Rattle.trace_run.specs.Reached.{Turn}
 use Rattle.trace_run.proofs.Laws.{awaits-none}
 

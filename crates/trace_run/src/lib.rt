@@ -97,9 +97,9 @@ fn step_traced(
     let wanted = at.due <= t.count as u64;
     output_log::keep(memory, wanted, &mut bytes);
     let d = turn::deliver_due(memory, events, at, t.count, t.lines);
-    let p = step::plan(regs, memory, t, d.lines);
+    let p = step_plan::plan(regs, memory, t, d.lines);
     let act = p.act;
-    let more = trace_record::needed(kinds, wanted, events, at.next, t.count, act);
+    let more = trace_step::needed(kinds, wanted, events, at.next, t.count, act);
     if lacks(room, added, more) {
         output_log::put_back(memory, wanted, &bytes);
         return Turned {
@@ -112,7 +112,7 @@ fn step_traced(
     let seen = trace_record::seen_by(memory, act);
     let u = step::perform(regs, memory, d.lines, t.count, p);
     let next = d.at;
-    let there = trace_record::add_step(
+    let there = trace_step::add_step(
         trace,
         added,
         b,

@@ -1,13 +1,12 @@
 -- `free_run::between` meets its contract. Assumes nothing.
-use Prim.Native.Nat.{ℕ, _+_, _/_, _%_}
-use mathlib.Core.Bool.{Bool, false}
-use mathlib.Core.Path.{_≡_, refl, sym, _∙_}
+use Prim.Native.Nat.{_/_, _%_}
+use mathlib.Core.Bool.{false}
+use mathlib.Core.Path.{_≡_, sym, _∙_}
 use native.Mathlib.Omega.{arith}
 use denote.Ref.{now}
-use lib.ListN.{length, getD}
+use lib.ListN.{length}
 use borrow.Author.Needs.{needs}
 use Rattle.word.specs.Psw.{asleep?}
-use Rattle.stretch_memory.specs.Served.{running}
 use Rattle.free_run.proofs.Free.{tried-none, tried-taken, tried-lines, quiet}
 use Rattle.free_run.proofs.between.Statement.{statement}
 use Rattle.free_run.proofs.between.Tie as tie

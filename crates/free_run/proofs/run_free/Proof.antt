@@ -1,6 +1,6 @@
 -- The loop's invariant: what it holds is come to in the steps done so far from where the call began. A stretch keeps it, since its steps
 -- are uneventful, and so does the step between two stretches, taken or not. A turn that takes none is the last. Assumes nothing.
-use Prim.Native.Nat.{ℕ, _+_, _-_, _*_, _/_, _<_, _≤_}
+use Prim.Native.Nat.{_+_, _-_, _*_, _/_, _≤_}
 use mathlib.Core.Bool.{true}
 use mathlib.Core.Path.{_≡_, refl}
 use mir.Val.{boolByte}

@@ -3,7 +3,7 @@
 -- Assumes nothing.
 use Rattle.machine.specs.Step.{planOf}
 use Rattle.devices.specs.Cursor.{stateFrom}
-use Rattle.step.specs.Planned.{planWith}
+use Rattle.step_plan.specs.Planned.{planWith}
 use lib.ListN.{length-replicate, length}
 use lib.Dec.{eqb}
 use mathlib.Core.Bool.{false≢true, false}

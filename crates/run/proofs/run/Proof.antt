@@ -1,11 +1,14 @@
 -- A stretch first: where it does all the steps, the run is that stretch; else its steps are before those of the run that is kept
 -- nowhere, which goes on from the state that they reach. Assumes nothing.
 use Prim.Native.Nat.{ℕ, _+_, _-_, _≤_}
+use mathlib.Core.Bool.{cond, not, _&&_}
 use mathlib.Core.Path.{_≡_, sym, ap, subst, _∙_}
 use native.Mathlib.Omega.{arith}
 use denote.Ref.{now}
 use lib.ListN.{length}
 use borrow.Author.Needs.{needs}
+use borrow.Author.Tests.{le-ltb}
+use Rattle.machine.specs.declared.Reason.the-variants.{Done, Halted, NoRoom}
 use Rattle.machine.specs.declared.Rest.{Rest}
 use Rattle.machine.specs.State.{stateOf, stateWith}
 use Rattle.machine.specs.Events.{eventsOf}
@@ -16,6 +19,8 @@ use Rattle.machine.specs.Depth.{depthFrom}
 use Rattle.run_laws.proofs.Room.{logged-le}
 use Rattle.stretch.specs.Stretch.{Passes}
 use Rattle.devices.proofs.Laws.{behind-later}
+use Rattle.run_answer.specs.declared.Ran.{Ran}
+use Rattle.run_answer.specs.Leaves.{RunLeaves}
 use Rattle.turn.proofs.Laws.{undisturbed, stretch-passes}
 use Rattle.run.proofs.Laws.{passed-run, passed-depth, run-on, depth-run-on}
 use Rattle.run.proofs.run.Statement.{statement}
@@ -70,17 +75,22 @@ gone-on-requires c κs =
 returns : tie.Need-returns
 unfolding logBytes
 returns c =
-    let i = c .before .before in
+    let i : tie.After-gone-on = search in
+    let at-if1 : tie.Then1 = search in
     let s = start i in
     let a = s .args in
     let b = now (a .events) in
     let f = stretch-of i .stretch in
-    let v = stateWith (f .last .0) (i .gone-on .result) (f .last .1 .0) in
+    let t = i .gone-on .result in
+    let v = stateWith (f .last .0) t (f .last .1 .0) in
     let s₀ = stateOf (a .m) (now (a .memory)) in
-    let p : Passes (eventsOf b) s₀ v (a .n) = subst (Passes (eventsOf b) s₀ v) (c .before .if1 .taken) (passed i) in
-    let x = sym (passed-run (eventsOf b) s₀ v (a .n) p (roomOf (now (a .log)))) in record {
+    let p : Passes (eventsOf b) s₀ v (a .n) = subst (Passes (eventsOf b) s₀ v) (at-if1 .if1 .taken) (passed i) in
+    let x = sym (passed-run (eventsOf b) s₀ v (a .n) p (roomOf (now (a .log)))) in
+    subst (λ (r : Ran). RunLeaves b s₀ (now (a .log)) (a .begun) (a .n) r (f .last .1 .0) (now (a .log))) (sym (c .ended .ensures))
+    record {
       state = ap (λ (y : Logged). y .state) x;
-      reason = c .reason-of .ensures ∙ ap reasonLogged x;
+      reason = ap (λ d. cond (d && not (t .halted)) NoRoom (cond (t .halted) Halted Done)) (le-ltb (a .n) (a .n) (omega arith))
+          ∙ ap reasonLogged x;
       steps = ap (λ (y : Logged). y .steps) x;
       added = ap (λ (y : Logged). length (y .records)) x;
       log = ap (logAfter (now (a .log))) x;

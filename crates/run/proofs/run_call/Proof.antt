@@ -5,7 +5,7 @@ use mathlib.Core.Path.{ap, sym, subst}
 use native.Mathlib.Omega.{arith}
 use borrow.Author.Needs.{needs}
 use Rattle.turn.proofs.Laws.{behind-none, events-fit, events-ordered, count-fits}
-use Rattle.run.proofs.Calls.{call-passed, call-refused, call-ran, few-steps, few-records, figure-kept, figure-ran}
+use Rattle.run_answer.proofs.Calls.{call-passed, call-refused, call-ran, few-steps, few-records, figure-kept, figure-ran}
 use Rattle.run.proofs.run_call.Statement.{statement}
 use Rattle.run.proofs.run_call.Tie as tie
 

@@ -14,14 +14,14 @@ use Rattle.show_step.proofs.show.Tie as tie
 -- not taken
 returns : tie.Need-returns
 returns c =
-    let left : tie.After-store = search in
+    let left : tie.After-store-by-width = search in
     let r = not-true _ (c .if1 .taken) in
-    let o = left .store .ensures .1 r in
+    let o = left .store-by-width .ensures .1 r in
     ((λ e. absurd (true≢false (sym e ∙ r))), (λ e. (put-back _ _, o .0, o .1, o .2)))
 
 returns-2 : tie.Need-returns-2
 returns-2 c =
-    let done : tie.After-store = search in
+    let done : tie.After-store-by-width = search in
     let at = done .before .before .before in
     let off = at .before in
     let base = off .before in
@@ -34,7 +34,7 @@ returns-2 c =
     let r = not-false _ (c .if1 .left) in (
       (λ e.
           store-steps (now (a .regs)) _ (now (a .mem)) _ (now (a .log)) _ (a .w) (a .count) (a .added) _ _ _ _ word even
-          (done .store .ensures .0 r)
+          (done .store-by-width .ensures .0 r)
           (str-effect (now (a .regs)) (a .w) (start .pre .1) (next .wrapping-add-u16 .ensures) (value .get .ensures) (base .get2 .ensures)
           (at .offset-from .ensures ∙ ap (moved (base .get2 .result)) distance))),
       (λ e. absurd (true≢false (sym r ∙ e))),

@@ -1,7 +1,7 @@
 -- An arm for each act, in the order of `Act`: the callee's answer is what `perform` has for that act (Laws, performed). A callee finds its
 -- bytes since the memory is whole and the act's vector, device or register lies within its bounds (`Within`). Assumes nothing.
 use Rattle.step.proofs.Laws.{performed}
-use Rattle.step.specs.Planned.{Within}
+use Rattle.step_plan.specs.Planned.{Within}
 use Rattle.machine.specs.Step.{perform}
 use Rattle.machine.specs.Memory.{commit}
 use Rattle.machine.specs.State.{coreOf}

@@ -7,7 +7,7 @@ use lib.Dec.{eqb}
 use mir.Val.{boolByte}
 use borrow.Author.Tests.{eq-eqb, ne-eqb, lt-ltb}
 use Rattle.machine.specs.Cex.{skips?}
-use Rattle.stretch.proofs.Steps.{open-none}
+use Rattle.entry.proofs.Quiet.{shut-none}
 use borrow.Author.Needs.{needs}
 use Rattle.stretch.proofs.covered.Statement.{statement}
 use Rattle.stretch.proofs.covered.Tie as tie
@@ -23,7 +23,7 @@ twice false = refl
 
 returns : tie.Need-returns
 returns c =
-    let o = open-none (c .before .args .x) (c .if1 .taken) in
+    let o = shut-none (c .before .args .x) (c .if1 .taken) in
     (sym (o .1), (((λ z. absurd (omega (arith, z, c .before .pre))), (λ p. o .0)), ((λ e. refl), (λ n. absurd (n (c .if1 .taken))))))
 
 returns-2 : tie.Need-returns-2

@@ -1,11 +1,12 @@
 -- The ways through the call: a line above the priority, asleep, PC 0, steps. Past the first no line is above the priority, and that
 -- is what each of the others needs. Assumes nothing.
-use Prim.Native.Nat.{_-_}
+use Prim.Native.Nat.{ℕ, _-_}
 use native.Mathlib.Omega.{arith}
-use mathlib.Core.Path.{sym, _∙_}
+use mathlib.Core.Path.{_≡_, sym, ap, _∙_}
 use denote.Ref.{now}
-use borrow.Author.Tests.{not-false}
 use Rattle.word.specs.Psw.{current}
+use Rattle.machine.specs.Entry.{best, above}
+use Rattle.entry.proofs.Lines.{line-isnt}
 use Rattle.stretch.specs.Stretch.{NoneAbove}
 use Rattle.stretch.proofs.Steps.{stretch-none, stretch-asleep, stretch-done, there}
 use borrow.Author.Needs.{needs}
@@ -24,7 +25,15 @@ start c = search
 
 none-above : (c : tie.Else1) → let a = start c .args in NoneAbove (now (a .mem)) (a .lines) (current (a .psw))
 unfolding start
-none-above c = c .before .unasked .ensures (not-false _ (c .if1 .left))
+none-above c =
+    let a = start c .args in
+    let m = now (a .mem) in
+    let l : tie.After-line-above = search in
+    let p : tie.After-current-priority = search in
+    let d = l .line-above .result in
+    let none : d ≡ 8 = omega (arith, c .if1 .left) in
+    ap (λ (q : ℕ). above m (best (a .lines) m) q) (sym (p .current-priority .ensures .0))
+    ∙ line-isnt m (a .lines) (p .current-priority .result) d (l .line-above .ensures .0) (omega (arith, none))
 
 returns-2 : tie.Need-returns-2
 unfolding start
@@ -75,5 +84,5 @@ returns-4 c =
 pub stretch-spec : {M : Type 1} → statement M
 stretch-spec =
     tie.close
-    (tie.spec (λ c κs. search needs) (λ c. search needs) returns (λ c κs. search needs) (λ c. search needs) returns-2 (λ c κs. search needs)
-    (λ c. search needs) returns-3 walk-requires (λ c. search needs) returns-4)
+    (tie.spec (λ c κs. search needs) (λ c κs. search needs) (λ c. search needs) returns (λ c κs. search needs) (λ c. search needs) returns-2
+    (λ c κs. search needs) (λ c. search needs) returns-3 walk-requires (λ c. search needs) returns-4)

@@ -1,6 +1,6 @@
 -- The loop's invariant: the steps taken so far lead from the start to where it is, PC being in `pc`. A word that was left alone adds
 -- none, any other one more. Assumes nothing.
-use Rattle.stretch.proofs.Steps.{awake-set, long, walked-start, walked-on, walked-stop, stays-shut}
+use Rattle.stretch.proofs.Steps.{awake-set, walked-start, walked-on, walked-back, walked-last, stays-shut}
 use Rattle.stretch.specs.Stretch.{Awake, Walked}
 use Rattle.flags.specs.Kept.{held}
 use Rattle.stretch_registers.specs.Effected.{leftAlone}
@@ -72,13 +72,6 @@ kept c = let l = c .loop in held (l .psw) (l .last) (l .sum) (l .over)
 abbrev first : tie.Start Inv-loop μ-loop → ℕ
 first c = let a = c .args in held (now (a .psw)) (now (a .last)) (now (a .sum)) (now (a .over))
 
-step-back-requires : tie.Need-step-back-requires Inv-loop μ-loop
-step-back-requires c κs =
-    let at-step : tie.After-take-step Inv-loop μ-loop = search in
-    let at-loop : tie.At-loop Inv-loop μ-loop = search in
-    let l = at-loop .loop in
-    long _ (l .regs) (l .mem) _ _ (kept at-loop) (l .x) _ _ (l .pc) _ (l .inv .awake) (at-step .take-step .ensures)
-
 returns : tie.Need-returns Inv-loop μ-loop
 returns c =
     let at-step : tie.After-take-step Inv-loop μ-loop = search in
@@ -86,18 +79,21 @@ returns c =
     let at-loop : tie.At-loop Inv-loop μ-loop = search in
     let at-start : tie.Start Inv-loop μ-loop = search in
     let at-left : tie.Then2 Inv-loop μ-loop = search in
-    let at-back : tie.After-step-back Inv-loop μ-loop = search in
+    let at-mem : tie.After-mem Inv-loop μ-loop = at-left .before .before .before in
+    let at-reg : tie.After-reg2 Inv-loop μ-loop = search in
+    let at-back : tie.After-wrapping-add-u16 Inv-loop μ-loop = search in
+    let at-set : tie.After-set-reg Inv-loop μ-loop = search in
     let l = at-loop .loop in
     let i = l .inv in
     let a = at-start .args in
     let g = at-step .take-step .ensures in
     let some = at-loop-test .loop-test .taken in
-    let w = walked-stop (a .free) (now (a .regs)) (now (a .mem)) (first at-start) (a .cex) (l .regs) (l .mem) _ _ (kept at-loop) (l .x) _ _
-    (l .pc) _ (a .n - l .left) (a .n) (i .awake) (i .walked) (i .few) (omega (arith, i .within)) g _ 0
-    (λ e. (refl, at-back .step-back .ensures)) (λ n. absurd (n (at-left .if2 .taken))) in
-    let none : a .n - l .left ≡ a .n - l .left + 0 = omega arith in
+    let w = walked-back (a .free) (now (a .regs)) (now (a .mem)) (first at-start) (a .cex) (l .regs) (l .mem) _ _ (kept at-loop) (l .x) _ _
+    (l .pc) _ (a .n - l .left) (a .n) (i .awake) (i .walked) (i .few) (omega (arith, i .within)) g _ (at-reg .reg2 .result)
+    (at-back .wrapping-add-u16 .result) (at-left .if2 .taken) (at-reg .reg2 .ensures) (at-back .wrapping-add-u16 .ensures)
+    (at-set .set-reg .ensures) in
     let still = stays-shut (a .free) (l .regs) (l .mem) _ _ (kept at-loop) (l .x) _ _ (l .pc) _ g in
-    (rw none (w .0), ((omega (arith, i .within), omega arith, w .1), (λ h. still (i .shut h))))
+    (w .0, ((i .within, omega (arith, at-mem .mem .given, i .size, at-start .pre .0), w .1), (λ h. still (i .shut h))))
 
 returns-2 : tie.Need-returns-2 Inv-loop μ-loop
 returns-2 c =
@@ -106,15 +102,15 @@ returns-2 c =
     let at-loop : tie.At-loop Inv-loop μ-loop = search in
     let at-start : tie.Start Inv-loop μ-loop = search in
     let at-taken : tie.Else2 Inv-loop μ-loop = search in
-    let at-set : tie.After-set-reg Inv-loop μ-loop = search in
+    let at-set : tie.After-set-reg2 Inv-loop μ-loop = search in
     let l = at-loop .loop in
     let i = l .inv in
     let a = at-start .args in
     let g = at-step .take-step .ensures in
     let some = at-loop-test .loop-test .taken in
-    let w = walked-stop (a .free) (now (a .regs)) (now (a .mem)) (first at-start) (a .cex) (l .regs) (l .mem) _ _ (kept at-loop) (l .x) _ _
-    (l .pc) _ (a .n - l .left) (a .n) (i .awake) (i .walked) (i .few) (omega (arith, i .within)) g _ 1
-    (λ e. absurd (at-taken .if2 .left e)) (λ n. (refl, at-set .set-reg .ensures)) in
+    let w = walked-last (a .free) (now (a .regs)) (now (a .mem)) (first at-start) (a .cex) (l .regs) (l .mem) _ _ (kept at-loop) (l .x) _ _
+    (l .pc) _ (a .n - l .left) (a .n) (i .awake) (i .walked) (i .few) (omega (arith, i .within)) g _ (at-taken .if2 .left)
+    (at-set .set-reg2 .ensures) in
     let still = stays-shut (a .free) (l .regs) (l .mem) _ _ (kept at-loop) (l .x) _ _ (l .pc) _ g in (
       rw (more (a .n) (l .left) 1 (omega arith) (i .within)) (w .0),
       ((omega (arith, i .within), omega arith, w .1), (λ h. still (i .shut h))),
@@ -149,18 +145,16 @@ loop-again c =
 returns-3 : tie.Need-returns-3 Inv-loop μ-loop
 returns-3 c =
     let at-loop : tie.At-loop Inv-loop μ-loop = search in
-    let at-start : tie.Start Inv-loop μ-loop = search in
-    let at-set : tie.After-set-reg2 Inv-loop μ-loop = search in
+    let at-set : tie.After-set-reg3 Inv-loop μ-loop = search in
     let l = at-loop .loop in
     let i = l .inv in
-    let a = at-start .args in
-    let e : a .n - 0 ≡ a .n - l .left = omega arith in
-    rw (at-set .set-reg2 .ensures, e)
-    (i .walked, ((omega arith, omega arith, awake-set (l .regs) (kept at-loop) (l .pc % 65536) (i .awake)), i .shut))
+    rw (at-set .set-reg3 .ensures)
+    (i .walked, ((i .within, omega arith, awake-set (l .regs) (kept at-loop) (l .pc % 65536) (i .awake)), i .shut))
 
 pub take-steps-spec : {M : Type 1} → statement M
 take-steps-spec =
     tie.close
-    (tie.spec Inv-loop μ-loop (λ c κs. omega arith) (λ c. omega arith) loop-holds take-step-requires step-back-requires (λ c. omega arith)
-    returns (λ c. omega arith) (λ c κs. omega arith) (λ c. omega arith) (λ c. omega arith) returns-2 (λ c. omega arith) (λ c. omega arith)
-    loop-again (λ c. omega arith) (λ c κs. omega arith) (λ c. omega arith) returns-3)
+    (tie.spec Inv-loop μ-loop (λ c κs. omega arith) (λ c. omega arith) loop-holds take-step-requires (λ c κs. omega arith)
+    (λ c κs. omega arith) (λ c κs. omega arith) (λ c. omega arith) returns (λ c. omega arith) (λ c κs. omega arith) (λ c. omega arith)
+    (λ c. omega arith) returns-2 (λ c. omega arith) (λ c. omega arith) loop-again (λ c. omega arith) (λ c κs. omega arith)
+    (λ c. omega arith) returns-3)

@@ -10,7 +10,8 @@ use lib.Dec.{eqb}
 use borrow.Author.Tests.{eqb-false}
 use Rattle.flags.specs.Kept.{held}
 use Rattle.machine_laws.proofs.Cases.{bool-cases, eq-of}
-use Rattle.stretch.proofs.Steps.{goes-join, open-none, lowered-shut, walked-free, walked-one, walked-none, walked-left}
+use Rattle.entry.proofs.Quiet.{shut-none}
+use Rattle.stretch.proofs.Steps.{goes-join, lowered-shut, walked-free, walked-one, walked-none, walked-left}
 use borrow.Author.Needs.{needs}
 use Rattle.stretch.proofs.turn.Statement.{statement}
 use Rattle.stretch.proofs.turn.Tie as tie
@@ -65,7 +66,7 @@ take-steps-requires c κs =
       omega arith,
       table,
       fetching,
-      few (k .result .steps) (s .args .left) x (k .result .cex) (k .ensures .1 .1 .1) (λ h. k .ensures .0 ∙ open-none x h .1),
+      few (k .result .left) (s .args .left) x (k .result .cex) (k .ensures .1 .1 .1) (λ h. k .ensures .0 ∙ shut-none x h .1),
     )
 
 -- with no block open and no word left
@@ -79,7 +80,9 @@ returns-2 c =
     let a = s .args in
     let k = ahead f .covered .ensures in
     let w = f .take-steps .ensures in
-    let o = w .1 .0 in (
+    let o = w .1 .0 in
+    let t = c .comes-to .ensures in
+    rw (t .0, t .1, t .2) (
       walked-free (a .free) (now (a .regs)) (now (a .mem)) _ _ (first s) (a .cex) _ _ _ _ (a .left) _ 0 (k .0) (k .1 .1 .0)
           (all .if3 .taken) (shut .if2 .taken) (w .0),
       (omega arith, (λ e. absurd (false≢true e)), o .1, o .2),
@@ -136,10 +139,11 @@ returns-4 c =
     let k = ahead f .covered in
     let w = f .take-steps .ensures in
     let n = k .ensures .1 .1 .1 (open-block .if2 .left) in
-    let j : k .result .steps - f .take-steps .result .left ≡ 0 = omega (arith, n, none-taken .if4 .taken) in
+    let j : k .result .left - f .take-steps .result .left ≡ 0 = omega (arith, n, none-taken .if4 .taken) in
     let z : a .left - a .left ≡ 0 = omega arith in
     let u = walked-left (a .free) (now (a .regs)) (now (a .mem)) _ _ (first s) _ _ _ _ (w .0) j in
-    rw (u .1, z) (
+    let t = c .comes-to2 .ensures in
+    rw (t .0, t .1, t .2, u .1, z) (
       (λ l none. walked-none (a .free) (now (a .regs)) (now (a .mem)) _ _ (first s) _ _ _ _ (w .0) l (a .cex) j),
       (omega arith, (λ e. absurd (false≢true e)), w .1 .0 .1, rw (sym (u .1)) (w .1 .0 .2)),
     )
@@ -155,12 +159,14 @@ returns-5 c =
     let k = ahead f .covered in
     let r = f .take-steps .result .left in
     let w = f .take-steps .ensures in
-    let some : 0 < k .result .steps = omega (arith, covers f .if1 .left) in
+    let some : 0 < k .result .left = omega (arith, covers f .if1 .left) in
     let n = k .ensures .1 .1 .1 (open-block .if2 .left) in
     let lt = s .pre .3 in
     let none : r ≡ 0 = omega (arith, w .1 .0 .0, n, one-taken .if4 .left) in
-    let e : a .left - (a .left - 1) ≡ k .result .steps - r = omega (arith, lt, some, n, none) in
-    let all : k .result .steps - r ≡ 0 → ⊥ = λ z. omega (arith, z, some, none) in (
+    let e : a .left - (a .left - 1) ≡ k .result .left - r = omega (arith, lt, some, n, none) in
+    let all : k .result .left - r ≡ 0 → ⊥ = λ z. omega (arith, z, some, none) in
+    let t = c .comes-to3 .ensures in
+    rw (t .0, t .1, t .2) (
       (λ l free.
           rw e (walked-one (a .free) (now (a .regs)) (now (a .mem)) _ _ (first s) _ _ _ _ (w .0) l (a .cex) free (k .ensures .1 .0 .1 some)
           (sym (k .ensures .0)) all)),
@@ -170,5 +176,6 @@ returns-5 c =
 pub turn-spec : {M : Type 1} → statement M
 turn-spec =
     tie.close
-    (tie.spec (λ c κs. search needs) skipping-requires returns take-steps-requires (λ c. search needs) returns-2 control-requires
-    (λ c. search needs) returns-3 (λ c. search needs) returns-4 (λ c. search needs) (λ c. search needs) returns-5)
+    (tie.spec (λ c κs. search needs) skipping-requires returns take-steps-requires (λ c κs. search needs) (λ c. search needs) returns-2
+    control-requires (λ c. search needs) returns-3 (λ c κs. search needs) (λ c. search needs) returns-4 (λ c. search needs)
+    (λ c κs. search needs) (λ c. search needs) returns-5)

@@ -37,16 +37,18 @@ loop-holds c =
     let regs = now (a .regs) in
     let mem = now (a .mem) in
     let e = sym (at-apart .apart .ensures) in
-    let none : a .n - a .n ≡ 0 = omega arith in
+    let at-first : tie.After-comes-to Inv-loop μ-loop = search in
+    let t = at-first .comes-to in
+    let none : a .n - t .result .left ≡ 0 = omega (arith, t .ensures .1) in
     record {
-      within = omega arith;
+      within = omega (arith, t .ensures .1);
       size = refl;
       table = refl;
       told = λ h. eq-of {m = a .lines} {n = 0} h;
       awake = subst (λ (q : ℕ). Awake regs q) e (at-start .pre .1);
       goes =
-          subst (λ (q : ℕ). Goes (a .lines) regs (a .psw) (a .cex) mem regs q (a .cex) mem (a .n - a .n)) e
-          (rw none (goes-none (a .lines) regs mem (a .psw) (a .cex)));
+          subst (λ (q : ℕ). Goes (a .lines) regs (a .psw) (a .cex) mem regs q (t .result .cex) mem (a .n - t .result .left)) e
+          (rw (none, t .ensures .0) (goes-none (a .lines) regs mem (a .psw) (a .cex)));
     }
 
 even : (v g : ℕ) → v ≡ g → (v % 2 ≡ 1 → ⊥) → g % 2 ≡ 0
@@ -69,11 +71,16 @@ less true true l k e h g = let q = g refl in omega arith
 less true false l k e h g = omega arith
 less false d l k e h g = absurd (false≢true e)
 
+-- a way back from the turn to the loop's test
+tested : tie.After-turn Inv-loop μ-loop → tie.Then1 Inv-loop μ-loop
+tested c = search
+
 loop-less : tie.Need-loop-less Inv-loop μ-loop
+unfolding tested
 loop-less c =
     let at-loop : tie.At-loop Inv-loop μ-loop = search in
-    let going : tie.Then1 Inv-loop μ-loop = search in
     let at-turn : tie.After-turn Inv-loop μ-loop = search in
+    let going = tested at-turn in
     let l = at-loop .loop in
     let r = at-turn .turn in
     less (l .t .more) (r .result .more) (l .t .left) (r .result .left) (and-left (l .t .more) (ltb 0 (l .t .left)) (going .if1 .taken))
@@ -110,5 +117,5 @@ returns c =
 pub walk-spec : {M : Type 1} → statement M
 walk-spec =
     tie.close
-    (tie.spec Inv-loop μ-loop (λ c κs. omega arith) loop-holds (λ c κs. omega arith) turn-requires loop-less loop-again
+    (tie.spec Inv-loop μ-loop (λ c κs. omega arith) (λ c κs. tt) loop-holds (λ c κs. omega arith) turn-requires loop-less loop-again
     (λ c κs. omega arith) (λ c. omega arith) returns)

@@ -1,10 +1,10 @@
 use Prim.Native.Nat.{_-_, _≤_}
-use mathlib.Core.Path.{_≡_, refl}
+use mathlib.Core.Path.{_≡_, refl, sym, _∙_}
 use native.Mathlib.Omega.{arith}
 use lib.ListN.{length, length-set, take}
+use lib.Seq.{take-all}
 use borrow.Author.Needs.{needs}
 use Rattle.output_log.proofs.Laws.{keep-more}
-use Rattle.printed_line.proofs.Texts.{copy-all}
 use Rattle.printed_line.proofs.cut.copy.Statement.{statement}
 use Rattle.printed_line.proofs.cut.copy.Tie as tie
 
@@ -26,7 +26,8 @@ loop-again c =
 returns : tie.Need-returns Inv-loop μ-loop
 returns c =
     let entry = c .before .before in
-    copy-all (entry .args .src .now) (c .before .loop .dst) (c .before .loop .i) (omega arith) (omega arith) (c .before .loop .inv .2)
+    let l = c .before .loop in
+    sym (take-all (l .i) (l .dst) (omega arith)) ∙ l .inv .2 ∙ take-all (l .i) (entry .args .src .now) (omega arith)
 
 pub copy-spec : {M : Type 1} → statement M
 copy-spec =

@@ -28,7 +28,7 @@ use Rattle.output_log.specs.declared.Showing.{Showing}
 use Rattle.output_log.specs.Showing.{listed}
 use Rattle.stretch_memory.specs.Served.{running, carriedOut}
 use Rattle.stretch_memory.proofs.Laws.{store-effect, store-relative-effect, decode-store}
-use Rattle.stretch_words.proofs.Laws.{decode-str}
+use Rattle.stretch_formats.proofs.Laws.{decode-str}
 use Rattle.frame_step.proofs.Laws.{plan-fetches}
 use Rattle.show_step.specs.Stored.{storing, Stored}
 use Rattle.show_step.specs.Steps.{Steps}

@@ -16,7 +16,7 @@ ghost use Rattle.machine.specs.Cex.{skips?, lowered};
 ghost use Rattle.machine.specs.Events.{Event};
 ghost use Rattle.flags.specs.Kept.{held};
 ghost use Rattle.stretch_memory.specs.Served.{running};
-ghost use Rattle.stretch_words.specs.Ready.{constants};
+ghost use Rattle.stretch_formats.specs.Ready.{constants};
 ghost use Rattle.stretch.specs.Stretch.{Undisturbed, Awake, Fetching, FreeOf};
 ghost use Rattle.stretch.specs.Stretch.{Passes, Goes, Stepping, Walked, SkippedPart};
 use machine::ByteAddr;

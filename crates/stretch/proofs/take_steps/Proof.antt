@@ -4,7 +4,7 @@ use Rattle.stretch.proofs.Steps.{awake-set, walked-start, walked-on, wa
 use Rattle.stretch.specs.Stretch.{Awake, Walked}
 use Rattle.flags.specs.Kept.{held}
 use Rattle.stretch_registers.specs.Effected.{leftAlone}
-use Rattle.stretch_words.specs.Ready.{constants}
+use Rattle.stretch_formats.specs.Ready.{constants}
 use lib.ListN.{length, set}
 use mathlib.Core.Logic.{_⊎_}
 use Prim.Native.Nat.{ℕ, _+_, _-_, _%_, _<_, _≤_}

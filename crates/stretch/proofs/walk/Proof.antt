@@ -9,7 +9,7 @@ use lib.Dec.{ltb}
 use lib.ListN.{length}
 use Rattle.flags.specs.Kept.{held}
 use Rattle.machine_laws.proofs.Cases.{and-left, and-right, lt-of, eq-of}
-use Rattle.stretch_words.specs.Ready.{constants}
+use Rattle.stretch_formats.specs.Ready.{constants}
 use Rattle.stretch.specs.Stretch.{Awake, FreeOf, Goes}
 use Rattle.stretch.proofs.Steps.{goes-none, goes-join}
 use Rattle.stretch.proofs.walk.Statement.{statement}

@@ -1,4 +1,5 @@
-use Rattle.stretch_words.proofs.Laws.{means, lowers, decode-move, decode-control}
+use Rattle.stretch_formats.proofs.Laws.{means}
+use Rattle.stretch_words.proofs.Laws.{lowers, decode-move, decode-control}
 use mathlib.Core.Path.{refl}
 use denote.Ref.{now}
 use native.Mathlib.Omega.{arith}

@@ -4,10 +4,10 @@ use mathlib.Core.List.{List}
 use mathlib.Core.Path.{ap, _∙_}
 use lib.ListN.{getD}
 use borrow.Author.Tests.{eq-eqb, ne-eqb}
-use Rattle.stretch_words.proofs.Laws.{constant-at}
+use Rattle.stretch_formats.proofs.Laws.{constant-at}
 use borrow.Author.Needs.{needs}
-use Rattle.stretch_words.proofs.operand.Statement.{statement}
-use Rattle.stretch_words.proofs.operand.Tie as tie
+use Rattle.stretch_formats.proofs.operand.Statement.{statement}
+use Rattle.stretch_formats.proofs.operand.Tie as tie
 
 returns : tie.Need-returns
 returns c =

@@ -1,10 +1,10 @@
 use denote.Ref.{now}
 use mathlib.Core.Path.{refl, sym}
-use Rattle.stretch_words.proofs.Laws.{computing, testing}
+use Rattle.stretch_formats.proofs.Laws.{computing, testing}
 use Rattle.flags.specs.Kept.{held}
 use borrow.Author.Needs.{needs}
-use Rattle.stretch_words.proofs.operation.Statement.{statement}
-use Rattle.stretch_words.proofs.operation.Tie as tie
+use Rattle.stretch_formats.proofs.operation.Statement.{statement}
+use Rattle.stretch_formats.proofs.operation.Tie as tie
 
 returns : tie.Need-returns
 returns c =

@@ -1,12 +1,12 @@
-use Rattle.stretch_words.proofs.Laws.{means, decode-immediate, decode-swap, decode-single, within}
+use Rattle.stretch_formats.proofs.Laws.{means, decode-immediate, decode-swap, decode-single, within}
 use Prim.Native.Nat.{_/_, _%_}
 use mathlib.Core.Logic.{inl}
 use mathlib.Core.Path.{refl}
 use denote.Ref.{now}
 use Rattle.flags.specs.Kept.{held}
 use borrow.Author.Needs.{needs}
-use Rattle.stretch_words.proofs.far_word.Statement.{statement}
-use Rattle.stretch_words.proofs.far_word.Tie as tie
+use Rattle.stretch_formats.proofs.far_word.Statement.{statement}
+use Rattle.stretch_formats.proofs.far_word.Tie as tie
 
 returns : tie.Need-returns
 returns c = λ free psw. c .jump-word .ensures free _ psw

@@ -1,10 +1,10 @@
 use mathlib.Core.Logic.{inr}
 use denote.Ref.{now}
-use Rattle.stretch_words.proofs.Laws.{means, decode-link, low-half}
+use Rattle.stretch_formats.proofs.Laws.{means, decode-link, low-half}
 use Rattle.flags.specs.Kept.{held}
 use borrow.Author.Needs.{needs}
-use Rattle.stretch_words.proofs.jump_word.Statement.{statement}
-use Rattle.stretch_words.proofs.jump_word.Tie as tie
+use Rattle.stretch_formats.proofs.jump_word.Statement.{statement}
+use Rattle.stretch_formats.proofs.jump_word.Tie as tie
 
 -- BL
 returns-17 : tie.Need-returns-17

@@ -8,10 +8,10 @@ use Rattle.machine.specs.Effect.{takenOf}
 use Rattle.word.specs.Offset.{signedOf}
 use Rattle.flags.specs.Kept.{held}
 use Rattle.stretch_registers.proofs.Laws.{jumps, stays, near, handed}
-use Rattle.stretch_words.proofs.Laws.{branches}
+use Rattle.stretch_formats.proofs.Laws.{branches}
 use borrow.Author.Needs.{needs}
-use Rattle.stretch_words.proofs.branch_row.Statement.{statement}
-use Rattle.stretch_words.proofs.branch_row.Tie as tie
+use Rattle.stretch_formats.proofs.branch_row.Statement.{statement}
+use Rattle.stretch_formats.proofs.branch_row.Tie as tie
 
 -- the number of the condition, from the row and from the word
 number : (w row : ℕ) → w / 512 ≡ row → w / 1024 % 8 ≡ row / 2 % 8

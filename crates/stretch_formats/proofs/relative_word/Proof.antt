@@ -1,8 +1,8 @@
 use Rattle.machine_laws.proofs.Cases.{eq-of}
-use Rattle.stretch_words.proofs.Laws.{decode-ldr, decode-str, bit-clear}
+use Rattle.stretch_formats.proofs.Laws.{decode-ldr, decode-str, bit-clear}
 use borrow.Author.Needs.{needs}
-use Rattle.stretch_words.proofs.relative_word.Statement.{statement}
-use Rattle.stretch_words.proofs.relative_word.Tie as tie
+use Rattle.stretch_formats.proofs.relative_word.Statement.{statement}
+use Rattle.stretch_formats.proofs.relative_word.Tie as tie
 
 returns : tie.Need-returns
 returns c =

@@ -5,20 +5,14 @@ use Prim.Native.Nat.{ℕ, _<_, _≤_}
 use mathlib.Core.Bool.{Bool, true, false, _&&_, false≢true}
 use mathlib.Core.List.{List, [], _∷_}
 use mathlib.Core.Logic.{_≢_}
-use mathlib.Core.Path.{_≡_, refl, sym, subst}
-use lib.Dec.{T, eqb, ltb, leb}
+use mathlib.Core.Path.{_≡_, refl}
+use lib.Dec.{eqb, ltb, leb}
 use borrow.Author.Tests.{ltb-true, ltb-false, leb-true, leb-false, eqb-true, eqb-false, lt-ltb, le-ltb, le-leb, lt-leb, eq-eqb, ne-eqb}
 
 -- a fact by the two shapes of a list, as `bool-cases` has it by the two values of a test
 pub list-cases {ℓ ℓ′} : {A : Type ℓ} {R : Type ℓ′} (l : List A) → (l ≡ [] → R) → ((x : A) (xs : List A) → l ≡ x ∷ xs → R) → R
 list-cases [] f g = f refl
 list-cases (x ∷ xs) f g = g x xs refl
-
-pub to-T : {b : Bool} → b ≡ true → T b
-to-T e = subst T (sym e) tt
-
-pub from-T : {b : Bool} → T b → b ≡ true
-from-T {b} t = bool-cases b (λ e. e) (λ e. absurd (subst T e t))
 
 -- tests of numbers
 pub eq-of : {m n : ℕ} → eqb m n ≡ true → m ≡ n

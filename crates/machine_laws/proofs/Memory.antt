@@ -39,10 +39,6 @@ pub commit-one : (a v : ℕ) (m : List ℕ) → commit (write a v ∷ []) m ≡ 
 unfolding commit
 commit-one a v m = refl
 
-pub commit-cons : (a v : ℕ) (ws : List Write) (m : List ℕ) → commit (write a v ∷ ws) m ≡ commit ws (set m a v)
-unfolding commit
-commit-cons a v ws m = refl
-
 pub commit-append : (ws vs : List Write) (m : List ℕ) → commit (ws ++ vs) m ≡ commit vs (commit ws m)
 unfolding commit
 commit-append [] vs m = refl
@@ -106,9 +102,6 @@ pub word-back : (v : ℕ) → v < 65536 → lowByte v + 256 * highByte v ≡ v
 word-back v h = omega arith
 
 -- a word that was written reads back; every other word stays
-set-same : (m : List ℕ) (a v : ℕ) → a < length m → byteAt (set m a v) a ≡ v
-set-same m a v h = getD-set-same m a v 0 h
-
 pub word-written : (m : List ℕ) (a v : ℕ) → length m ≡ 65536 → a < 65536 → v < 65536 → wordAt (commit (wordWrites a v) m) a ≡ v
 unfolding commit
 word-written m a v l h k =

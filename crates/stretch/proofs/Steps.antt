@@ -42,8 +42,7 @@ use Rattle.stretch_registers.specs.Effected.{leftAlone}
 use Rattle.stretch_memory.specs.Ordinary.{aligned?, inside?, ordinary?}
 use Rattle.stretch_memory.specs.Served.{running, carriedOut, Untouched, Served, Taken}
 use Rattle.stretch_memory.proofs.Laws.{ordinary-granted}
-use Rattle.stretch.specs.Stretch.{Undisturbed, Awake, NoneAbove, FreeOf, Passes, OneStep, Reaches, Goes}
-use Rattle.stretch.specs.Stretch.{Stepped, Stepping, Walked}
+use Rattle.stretch.specs.Stretch.{Undisturbed, Awake, NoneAbove, FreeOf, Passes, OneStep, Reaches, Goes, Stepped, Stepping, Walked}
 
 -- ---- an ordinary access
 

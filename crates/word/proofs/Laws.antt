@@ -11,7 +11,7 @@ use lib.Dec.{eqb}
 use lib.Bits.{bitAnd, bitOr, and-mask, mask-lt, or-step, or-block, or-zero-r}
 use lib.Pow.{ones-sub-lt, pow-pos, pow-add, high, low as low-part, split, field, mod-mod-pow, shr-shr}
 use Rattle.word.specs.Width.{widthOf, bit, low, withLow, turned}
-use Rattle.word.specs.Psw.{bitOf, putBit, current, previous}
+use Rattle.word.specs.Psw.{bitOf, putBit}
 
 -- ---- tests
 
@@ -158,13 +158,6 @@ put-same k p b = ap (λ (x : ℕ). eqb x 1) (put-here k p b) ∙ bit-read b
 
 pub put-other : (j k p : ℕ) (b : Bool) → (j ≡ k → ⊥) → bitOf j (putBit k p b) ≡ bitOf j p
 put-other j k p b h = ap (λ (x : ℕ). eqb x 1) (put-elsewhere k p b j h)
-
--- a flag leaves both priorities
-pub put-current : (k p : ℕ) (b : Bool) → k < 5 → current (putBit k p b) ≡ current p
-put-current k p b h = ap (λ (x : ℕ). x % 8) (put-above k p b 5 h)
-
-pub put-previous : (k p : ℕ) (b : Bool) → k < 13 → previous (putBit k p b) ≡ previous p
-put-previous k p b h = ap (λ (x : ℕ). x % 8) (put-above k p b 13 h)
 
 -- an or with one bit puts it in
 odd : (q : ℕ) → bitOr q 1 ≡ q / 2 * 2 + 1

@@ -416,8 +416,7 @@ returns c =
 pub run-kept-spec : {M : Type 1} → statement M
 run-kept-spec =
     tie.close
-    (tie.spec Inv-loop μ-loop (λ c κs. search needs) loop-holds (λ c κs. search needs)
-    slice-aggregate-keep keep-requires deliver-due-requires plan-requires shown-by-requires lacks-room-requires
-    slice-aggregate-put-back put-back-requires add-requires moved-requires (λ c. search needs) keep-step-requires perform-requires add-done
-    sub-at-once (λ c κs. search needs) go-free-requires add-done-2 loop-less loop-again loop-less-2 loop-again-2
-    (λ c κs. search needs) same-length same-length-2 same-length-3 returns)
+    (tie.spec Inv-loop μ-loop (λ c κs. search needs) loop-holds (λ c κs. search needs) slice-aggregate-keep keep-requires
+    deliver-due-requires plan-requires shown-by-requires lacks-room-requires slice-aggregate-put-back put-back-requires add-requires
+    moved-requires (λ c. search needs) keep-step-requires perform-requires add-done sub-at-once (λ c κs. search needs) go-free-requires
+    add-done-2 loop-less loop-again loop-less-2 loop-again-2 (λ c κs. search needs) same-length same-length-2 same-length-3 returns)

@@ -55,6 +55,4 @@ returns-2 c =
     (c .target .ensures .1) refl (w / 1024 % 8) t)
 
 pub branch-row-spec : {M : Type 1} → statement M
-branch-row-spec =
-    tie.close
-    (tie.spec (λ c. search needs) (λ c κs. search needs) returns (λ c κs. search needs) target-requires returns-2)
+branch-row-spec = tie.close (tie.spec (λ c. search needs) (λ c κs. search needs) returns (λ c κs. search needs) target-requires returns-2)

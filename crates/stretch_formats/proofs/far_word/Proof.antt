@@ -56,5 +56,5 @@ returns-6 c =
 pub far-word-spec : {M : Type 1} → statement M
 far-word-spec =
     tie.close
-    (tie.spec (λ c κs. search needs) returns (λ c κs. search needs) (λ c. search needs) returns-2
-    (λ c κs. search needs) returns-3 returns-4 (λ c κs. search needs) returns-5 (λ c κs. search needs) returns-6)
+    (tie.spec (λ c κs. search needs) returns (λ c κs. search needs) (λ c. search needs) returns-2 (λ c κs. search needs) returns-3 returns-4
+    (λ c κs. search needs) returns-5 (λ c κs. search needs) returns-6)

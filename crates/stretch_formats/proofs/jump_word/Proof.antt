@@ -22,11 +22,10 @@ pub jump-word-spec : {M : Type 1} → statement M
 jump-word-spec =
     tie.close
     (tie.spec (λ c κs. search needs) (λ c free m psw. c .branch-row .ensures free _ m psw (c .before .before .before .pre .0))
-    (λ c κs. search needs) (λ c κs. search needs) (λ c κs. search needs)
     (λ c κs. search needs) (λ c κs. search needs) (λ c κs. search needs) (λ c κs. search needs) (λ c κs. search needs)
     (λ c κs. search needs) (λ c κs. search needs) (λ c κs. search needs) (λ c κs. search needs) (λ c κs. search needs)
-    (λ c κs. search needs) (λ c κs. search needs) (λ c κs. search needs)
-    (λ c free m psw. c .branch-row2 .ensures free _ m psw (c .before .before .before .before .pre .0))
+    (λ c κs. search needs) (λ c κs. search needs) (λ c κs. search needs) (λ c κs. search needs) (λ c κs. search needs)
+    (λ c κs. search needs) (λ c free m psw. c .branch-row2 .ensures free _ m psw (c .before .before .before .before .pre .0))
     (λ c free m psw. c .branch-row3 .ensures free _ m psw (c .before .before .before .before .pre .0))
     (λ c free m psw. c .branch-row4 .ensures free _ m psw (c .before .before .before .before .pre .0))
     (λ c free m psw. c .branch-row5 .ensures free _ m psw (c .before .before .before .before .pre .0))
@@ -40,5 +39,4 @@ jump-word-spec =
     (λ c free m psw. c .branch-row13 .ensures free _ m psw (c .before .before .before .before .pre .0))
     (λ c free m psw. c .branch-row14 .ensures free _ m psw (c .before .before .before .before .pre .0))
     (λ c free m psw. c .branch-row15 .ensures free _ m psw (c .before .before .before .before .pre .0))
-    (λ c free m psw. c .branch-row16 .ensures free _ m psw (c .before .before .before .before .pre .0))
-    returns-17)
+    (λ c free m psw. c .branch-row16 .ensures free _ m psw (c .before .before .before .before .pre .0)) returns-17)

@@ -28,5 +28,4 @@ returns c =
 
 pub link-word-spec : {M : Type 1} → statement M
 link-word-spec =
-    tie.close
-    (tie.spec (λ c. search needs) (λ c κs. search needs) (λ c. search needs) (λ c κs. search needs) target-requires returns)
+    tie.close (tie.spec (λ c. search needs) (λ c κs. search needs) (λ c. search needs) (λ c κs. search needs) target-requires returns)

@@ -33,5 +33,4 @@ returns-2 c =
     )
 
 pub priority-word-spec : {M : Type 1} → statement M
-priority-word-spec =
-    tie.close (tie.spec (λ c. search needs) (λ c κs. search needs) returns (λ c κs. search needs) returns-2)
+priority-word-spec = tie.close (tie.spec (λ c. search needs) (λ c κs. search needs) returns (λ c κs. search needs) returns-2)

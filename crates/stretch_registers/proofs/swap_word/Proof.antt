@@ -32,5 +32,4 @@ returns-2 c =
 
 pub swap-word-spec : {M : Type 1} → statement M
 swap-word-spec =
-    tie.close
-    (tie.spec returns (λ c κs. search needs) (λ c κs. search needs) (λ c κs. search needs) (λ c κs. search needs) returns-2)
+    tie.close (tie.spec returns (λ c κs. search needs) (λ c κs. search needs) (λ c κs. search needs) (λ c κs. search needs) returns-2)

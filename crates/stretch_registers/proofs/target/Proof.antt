@@ -1,4 +1,3 @@
-use mathlib.Core.Path.{ap, _∙_}
 use mir.Syntax.{w16}
 use mir.ValLaws.{toZ-ofZ}
 use native.Mathlib.Omega.{arith}

@@ -1,5 +1,5 @@
--- The definitions that the exported calls promise, gathered from the crates below; those of xm23_run, xm23_judge and
--- xm23_trace are in the crates of these names. Assumes nothing.
+-- The definitions that the exported calls promise, gathered from the crates below; those of xm23_run, xm23_run_journal,
+-- xm23_judge and xm23_trace are in the crates of these names. Assumes nothing.
 use Prim.Native.Nat.{ℕ, _+_, _*_}
 -- xm23_decode replies numberOf (decodeOf word): the number of the instruction that the word means. [003 14]
 pub use Rattle.isa.specs.Decode.{decodeOf}
@@ -14,13 +14,11 @@ pub use Rattle.isa_ranges.specs.Ranges.{firstOf, lastOf, rangeReply}
 -- xm23_count replies countReply operation and xm23_next nextReply operation word: countOf is the number of words that
 -- mean the operation, nextOf the first legal one at or above the word, or none. [02 §11]
 pub use Rattle.isa_card.specs.Words.{countOf, countReply, nextOf, nextReply}
--- xm23_run_journal replies and leaves what runJournalOf gives, closing and journal, with the figure and the resumption
--- of an accepted run call; xm23_back what backCallOf gives. What going back restores, over whole sessions, are GoesBack
--- and RunsOnAgain of journal_laws. [02 §8; 02 §10; 01 Resumption; 02 §13]
+-- xm23_back replies and leaves what backCallOf gives. What going back restores, over whole sessions, are GoesBack and
+-- RunsOnAgain of journal_laws. [02 §8]
 pub use Rattle.journal.specs.Ring.{Journal, journalOf}
 pub use Rattle.journal.specs.Back.{Lent, lentOf}
-pub use Rattle.journal.specs.Call.{JournalClosing, runJournalOf, BackClosing, backCallOf}
-pub use Rattle.xm23.specs.Journal.{journalDeepestLeft, JournalResumption}
+pub use Rattle.journal.specs.Call.{BackClosing, backCallOf}
 -- xm23_load_srec and xm23_write_srec reply and leave what loadCallOf and writeCallOf give; Restores is what 02 promises
 -- of the text written. [02 §2]
 pub use Rattle.srec_call.specs.Call.{Loaded, loadCallOf, Written, writeCallOf}

@@ -4,9 +4,9 @@ use borrow.Author.Needs.{needs}
 use denote.Ref.{now}
 use mathlib.Core.Path.{ap, _∙_}
 use Rattle.journal.specs.Ring.{Journal, journalOf}
-use Rattle.xm23.proofs.Journal.{journal-carried, journal-resumes}
-use Rattle.xm23.proofs.xm23_run_journal.Statement.{statement}
-use Rattle.xm23.proofs.xm23_run_journal.Tie as tie
+use Rattle.xm23_run_journal.proofs.Journal.{journal-carried, journal-resumes}
+use Rattle.xm23_run_journal.proofs.xm23_run_journal.Statement.{statement}
+use Rattle.xm23_run_journal.proofs.xm23_run_journal.Tie as tie
 
 returns : tie.Need-returns
 returns c =

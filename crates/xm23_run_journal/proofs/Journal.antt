@@ -15,7 +15,7 @@ use Rattle.resume.proofs.Resumption.{call-resumes}
 use Rattle.journal.specs.Ring.{Journal}
 use Rattle.journal.specs.Call.{journalVerdict, JournalClosing, runJournalOf, journalDeepest}
 use Rattle.journal.proofs.Calls.{journal-call, journal-answer}
-use Rattle.xm23.specs.Journal.{journalDeepestLeft, JournalResumption}
+use Rattle.xm23_run_journal.specs.Journal.{journalDeepestLeft, JournalResumption}
 
 module _ (memory r events log : List ℕ) (j : Journal) (n : ℕ) where
   -- the figure that the run carries is the greatest number of open frames

@@ -16,25 +16,11 @@ returns c =
     let lent = journalOf (now (a .journal)) (now (a .kept)) (now (a .place)) in
     let figure = deepest
     ∙ journal-carried (now (a .memory)) (now (a .state)) (now (a .events)) (now (a .log)) lent (a .n) (now (a .deepest)) in
-    let resumes = journal-resumes (now (a .memory)) (now (a .state)) (now (a .events)) (now (a .log)) lent (a .n) _ _ memory state in (
-      reply,
-      (
-        memory,
-        (
-          state,
-          (
-            log,
-            (
-              figure,
-              (
-                resumes,
-                (ap (λ (x : Journal). x .bytes) j, (ap (λ (x : Journal). x .kept) j, ap (λ (x : Journal). x .place) j)),
-              ),
-            ),
-          ),
-        ),
-      ),
-    )
+    let resumes = journal-resumes (now (a .memory)) (now (a .state)) (now (a .events)) (now (a .log)) lent (a .n) _ _ memory state in
+    let bytes = ap (λ (x : Journal). x .bytes) j in
+    let kept = ap (λ (x : Journal). x .kept) j in
+    let place = ap (λ (x : Journal). x .place) j in
+    (reply, (memory, (state, (log, (figure, (resumes, (bytes, (kept, place))))))))
 
 pub xm23-run-journal-spec : {M : Type 1} → statement M
 xm23-run-journal-spec =

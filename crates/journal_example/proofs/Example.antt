@@ -4,6 +4,7 @@ use mathlib.Core.List.{[], _∷_}
 use mathlib.Core.Path.{_≡_, refl}
 use lib.Dec.{lit<}
 use lib.ListN.{take, drop, replicate}
+use Rattle.machine.specs.declared.Verdict.the-variants.{Accepted}
 use Rattle.machine.specs.Memory.{byteAt, write, commit}
 use Rattle.machine.specs.Record.{twoAt, stateIn, recordOf}
 use Rattle.machine.specs.Events.{eventsFrom}
@@ -19,8 +20,10 @@ use Rattle.journal.specs.Ring.{recordAt, keep, journalAfter, journalFits}
 use Rattle.journal.specs.Back.{Lent, oneBack, backOf}
 use Rattle.journal.specs.Call.{journalVerdict, runJournalOf, backVerdict, backCallOf}
 use Rattle.machine_laws.proofs.Memory.{commit-bytes}
-use Rattle.journal_laws.specs.Session.{lentAfter, Began}
+use Rattle.journal_laws.specs.Past.{pastsOf}
+use Rattle.journal_laws.specs.Session.{lentAfter, courseIn, courseFrom, Began, WentBack}
 use Rattle.journal_laws.proofs.Bytes.{low?, zeros-bytes, bytes-of}
+use Rattle.journal_laws.proofs.Session.{goes-back}
 use Rattle.journal_example.specs.Example.{memory, r, x, run, session}
 
 -- what is lent after the run, and after going back too
@@ -30,49 +33,51 @@ y = lentAfter run x
 abbrev z : Lent
 z = lentAfter session x
 
--- the run halts after two steps; both are kept and the place has gone from 1 to 0 and to 1
-pub numbers : (y .journal .kept ≡ 2) × (y .journal .place ≡ 1) × (byteAt (y .state) 21 ≡ 1) × (twoAt (y .state) 22 ≡ 2)
-unfolding lentAfter runJournalOf journalVerdict recordFits eventsFitBelow inOrderBelow twinsBelow eventsFrom journalFits runLogged
-    loggedNext runOf stepOf deliverAt planOf interruptOf bestFrom instructionOf perform pushes vectored enteredPsw commit stateIn recordOf
-    journalAfter keep journalRecord addressOf fieldsOf bytesFrom
-numbers = (refl, refl, refl, refl)
+-- What the run leaves, worked out once for all of it.
+pub record Left : Type 0 where
+  -- it halts after two steps; both are kept and the place has gone from 1 to 0 and to 1
+  pub kept : y .journal .kept ≡ 2
+  pub place : y .journal .place ≡ 1
+  pub halted : byteAt (y .state) 21 ≡ 1
+  pub count : twoAt (y .state) 22 ≡ 2
+  -- the first step's record is at place 1: its address is that of the last word pushed, and its eight bytes, as they were before
+  -- the step, are #FFFC to #FFFF and then 0 to 3
+  pub first-address : twoAt (recordAt (y .journal .bytes) 1) 48 ≡ 0xFFFC
+  pub first-bytes : take 8 (drop 50 (recordAt (y .journal .bytes) 1)) ≡ 0 ∷ 7 ∷ 0 ∷ 0 ∷ 0 ∷ 9 ∷ 0 ∷ 0 ∷ []
+  -- the frame stands there now: CEX state and PSW, LR, PC, all zero but the PC, 1
+  pub frame : take 4 (drop 0xFFFC (y .memory)) ≡ 0 ∷ 0 ∷ 0 ∷ 0 ∷ []
+  pub frame-wrapped : take 4 (y .memory) ≡ 0 ∷ 0 ∷ 1 ∷ 0 ∷ []
+  -- the second step's record is at place 0; the state before it has PC 1, SP #FFFC and count 1
+  pub second-address : twoAt (recordAt (y .journal .bytes) 0) 48 ≡ 0
+  pub second-sp : twoAt (recordAt (y .journal .bytes) 0) 12 ≡ 0xFFFC
+  pub second-count : twoAt (recordAt (y .journal .bytes) 0) 22 ≡ 1
+  -- going back 2 is accepted; then nothing is kept and the place is 1 again
+  pub accepted : backVerdict 2 y ≡ Accepted
+  pub back-kept : z .journal .kept ≡ 0
+  pub back-place : z .journal .place ≡ 1
 
--- the first step's record is at place 1: its address is that of the last word pushed, and its eight bytes, as they were before the
--- step, are #FFFC to #FFFF and then 0 to 3
-pub first-record : (twoAt (recordAt (y .journal .bytes) 1) 48 ≡ 0xFFFC)
-    × (take 8 (drop 50 (recordAt (y .journal .bytes) 1)) ≡ 0 ∷ 7 ∷ 0 ∷ 0 ∷ 0 ∷ 9 ∷ 0 ∷ 0 ∷ [])
+pub left : Left
 unfolding lentAfter runJournalOf journalVerdict recordFits eventsFitBelow inOrderBelow twinsBelow eventsFrom journalFits runLogged
     loggedNext runOf stepOf deliverAt planOf interruptOf bestFrom instructionOf perform pushes vectored enteredPsw commit stateIn recordOf
-    journalAfter keep journalRecord addressOf fieldsOf bytesFrom
-first-record = (refl, refl)
-
--- the frame stands there now: CEX state and PSW, LR, PC, all zero but the PC, 1
-pub frame : take 4 (drop 0xFFFC (y .memory)) ≡ 0 ∷ 0 ∷ 0 ∷ 0 ∷ []
-unfolding lentAfter runJournalOf journalVerdict recordFits eventsFitBelow inOrderBelow twinsBelow eventsFrom journalFits runLogged
-    loggedNext runOf stepOf deliverAt planOf interruptOf bestFrom instructionOf perform pushes vectored enteredPsw commit stateIn recordOf
-    journalAfter keep journalRecord addressOf fieldsOf bytesFrom
-frame = refl
-
-pub frame-wrapped : take 4 (y .memory) ≡ 0 ∷ 0 ∷ 1 ∷ 0 ∷ []
-unfolding lentAfter runJournalOf journalVerdict recordFits eventsFitBelow inOrderBelow twinsBelow eventsFrom journalFits runLogged
-    loggedNext runOf stepOf deliverAt planOf interruptOf bestFrom instructionOf perform pushes vectored enteredPsw commit stateIn recordOf
-    journalAfter keep journalRecord addressOf fieldsOf bytesFrom
-frame-wrapped = refl
-
--- the second step's record is at place 0; the state before it has PC 1, SP #FFFC and count 1
-pub second-record : (twoAt (recordAt (y .journal .bytes) 0) 48 ≡ 0) × (twoAt (recordAt (y .journal .bytes) 0) 12 ≡ 0xFFFC)
-    × (twoAt (recordAt (y .journal .bytes) 0) 22 ≡ 1)
-unfolding lentAfter runJournalOf journalVerdict recordFits eventsFitBelow inOrderBelow twinsBelow eventsFrom journalFits runLogged
-    loggedNext runOf stepOf deliverAt planOf interruptOf bestFrom instructionOf perform pushes vectored enteredPsw commit stateIn recordOf
-    journalAfter keep journalRecord addressOf fieldsOf bytesFrom
-second-record = (refl, refl, refl)
-
--- going back 2 gives every byte of memory and of the record as it was, nothing kept, the place 1 again
-pub back : (z .memory ≡ memory) × (z .state ≡ r) × (z .journal .kept ≡ 0) × (z .journal .place ≡ 1)
-unfolding lentAfter runJournalOf journalVerdict recordFits eventsFitBelow inOrderBelow twinsBelow eventsFrom journalFits runLogged
-    loggedNext runOf stepOf deliverAt planOf interruptOf bestFrom instructionOf perform pushes vectored enteredPsw commit stateIn recordOf
-    journalAfter keep journalRecord addressOf fieldsOf bytesFrom backCallOf backVerdict backOf oneBack memoryOut placed
-back = (refl, refl, refl, refl)
+    journalAfter keep journalRecord addressOf fieldsOf bytesFrom backVerdict backCallOf
+    backOf oneBack memoryOut placed
+left =
+    record {
+      kept = refl;
+      place = refl;
+      halted = refl;
+      count = refl;
+      first-address = refl;
+      first-bytes = refl;
+      frame = refl;
+      frame-wrapped = refl;
+      second-address = refl;
+      second-sp = refl;
+      second-count = refl;
+      accepted = refl;
+      back-kept = refl;
+      back-place = refl;
+    }
 
 -- ---- the premises of the promises
 
@@ -86,3 +91,17 @@ began =
       state-bytes = bytes-of r refl;
       calls-bytes = ((λ i. lit< tt), tt);
     }
+
+-- ---- going back
+
+-- what the promise says of this session
+went-back : WentBack 2 (courseFrom run x) z
+unfolding lentAfter
+went-back = goes-back x run began 2 (left .accepted)
+
+-- so that going back 2 gives every byte of memory and of the record as it was
+pub back : (z .memory ≡ memory) × (z .state ≡ r)
+unfolding lentAfter runJournalOf journalVerdict recordFits eventsFitBelow inOrderBelow twinsBelow eventsFrom journalFits runLogged
+    loggedNext runOf stepOf deliverAt planOf interruptOf bestFrom instructionOf perform pushes vectored enteredPsw commit stateIn recordOf
+    journalAfter keep journalRecord addressOf fieldsOf bytesFrom courseIn pastsOf
+back = (went-back .found .memory, went-back .found .state)

@@ -82,7 +82,7 @@ pub fn advance_by_value(
         opened: 0,
         deepest: 0,
     };
-    let r = run::run(m, memory, events, 0, log, none, n as u32);
+    let r = xm23_run::run(m, memory, events, 0, log, none, n as u32);
     *deepest = r.depth.deepest;
     let machine = r.machine;
     let reply = run_answer::reply_of(r);

@@ -52,7 +52,7 @@ pub fn run_whole(m: Machine, memory: &mut [u8], events: &[u8], n: u32) -> Whole
     };
     let mut done: u32 = 0;
     while done < n {
-        let r = run::run(machine, memory, events, next, &mut log, depth, n - done);
+        let r = xm23_run::run(machine, memory, events, next, &mut log, depth, n - done);
         machine = r.machine;
         next = r.next;
         depth = r.depth;

@@ -135,7 +135,7 @@ folders = $(shell tac crates.txt | awk -F '[: ]+' -v crate=$1 'BEGIN { on[crate]
 sources = crates.txt $(shell find $(folders) ! -path '*/must-fail*')
 
 target/staticlib/libxm23.a: $(call sources,xm23) $(call sources,xm23_judge) $(call sources,xm23_run) \
-        $(call sources,xm23_run_journal) $(call sources,xm23_trace)
+        $(call sources,xm23_run_journal) $(call sources,xm23_sheet) $(call sources,xm23_trace)
 target/staticlib/libalu_probe.a: $(call sources,alu_probe)
 target/bin/print_state: $(call sources,print_state)
 

@@ -852,7 +852,7 @@ uint32_t xm23_text(uint16_t word, uint16_t place, uint8_t *text, size_t text_len
  * refusals         XM23_REFUSED_ROOM where line is under XM23_LINE_SIZE bytes, tested first. The reply is then 22, and
  *                  the buffer is as it was.
  * stack            it takes 68 KB of stack, for the memory that it runs.
- * defined          crates/sheet_call/specs/Call.antt, sheetCallOf, for every length and content;
+ * defined          crates/xm23_sheet/specs/Call.antt, sheetCallOf, for every length and content;
  *                  crates/printed_line/specs/Sheet.antt, sheetOf.
  */
 uint32_t xm23_sheet(const uint8_t *input, size_t input_len, uint8_t *line, size_t line_len);

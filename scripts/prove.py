@@ -108,7 +108,7 @@ def changed_since(time_then, crate):
 
 # Crates whose archives go into that of another, each an object of its own: with one loop over steps in an object the
 # compiler lays the general step into it.
-JOINED = {"xm23": ["xm23_judge", "xm23_run", "xm23_run_journal", "xm23_trace"]}
+JOINED = {"xm23": ["xm23_judge", "xm23_run", "xm23_run_journal", "xm23_sheet", "xm23_trace"]}
 
 
 def parts_of(name):

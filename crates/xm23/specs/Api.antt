@@ -1,5 +1,5 @@
 -- The definitions that the exported calls promise, gathered from the crates below; those of xm23_run, xm23_run_journal,
--- xm23_judge and xm23_trace are in the crates of these names. Assumes nothing.
+-- xm23_judge, xm23_trace and xm23_sheet are in the crates of these names. Assumes nothing.
 use Prim.Native.Nat.{ℕ, _+_, _*_}
 -- xm23_decode replies numberOf (decodeOf word): the number of the instruction that the word means. [003 14]
 pub use Rattle.isa.specs.Decode.{decodeOf}
@@ -40,9 +40,6 @@ pub use Rattle.asm_places.specs.Call.{Recorded, placesCallOf}
 -- asm_print_laws. [call text]
 pub use Rattle.asm_print.specs.Print.{textAt}
 pub use Rattle.asm_printer.specs.Call.{Printed, textCallOf, TextStands}
--- xm23_sheet replies and leaves what sheetCallOf gives: sheetOf is the printed line of an input. [call sheet]
-pub use Rattle.printed_line.specs.Sheet.{sheetOf}
-pub use Rattle.sheet_call.specs.Call.{Sheeted, sheetCallOf}
 
 -- xm23_version replies versionNumber: major, minor and patch, which are those of the header.
 abbrev pub versionNumber : ℕ

@@ -6,7 +6,7 @@ ghost use Rattle.xm23.specs.Api.{versionNumber, decodeOf, numberOf, enco
 ghost use Rattle.xm23.specs.Api.{rangeReply, countReply, nextReply};
 ghost use Rattle.xm23.specs.Api.{loadCallOf, writeCallOf, Restores, needReply};
 ghost use Rattle.xm23.specs.Api.{journalOf, lentOf, backCallOf};
-ghost use Rattle.xm23.specs.Api.{assembleCallOf, placesCallOf, textCallOf, sheetCallOf};
+ghost use Rattle.xm23.specs.Api.{assembleCallOf, placesCallOf, textCallOf};
 use isa::Encoded;
 use isa::decode;
 use isa::encode;
@@ -190,15 +190,4 @@ pub extern "C" fn xm23_text(word: u16, place: u16, text: &mut [u8]) -> u32
     ensures text { λ r. ⌜ now (text .exit) ≡ textCallOf word place (now (text .entry)) .text ⌝ }
 {
     asm_printer::text_call(word, place, text)
-}
-
-// The printed line of an input, at the start of `line`: refusal in bits 7-0, the line's length with
-// its LF in bits 31-8. Bytes past the line, and all of them where refused, stay as they were.
-#[no_mangle]
-pub extern "C" fn xm23_sheet(input: &[u8], line: &mut [u8]) -> u32
-    ensures reply { λ r. ⌜ r ≡ sheetCallOf (now (input .entry)) (now (line .entry)) .reply ⌝ }
-    ensures line { λ r. ⌜ now (line .exit)
-        ≡ sheetCallOf (now (input .entry)) (now (line .entry)) .line ⌝ }
-{
-    sheet_call::sheet_call(input, line)
 }

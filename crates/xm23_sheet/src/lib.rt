@@ -1,9 +1,10 @@
-// The printed line as a call: the line of an input at the start of a lent buffer.
+// The exported call of the printed line: the line of an input at the start of a lent buffer. An
+// object of its own in the archive, as each call that has a loop over steps.
 ghost use mathlib.Core.Path.{_≡_};
 ghost use Prim.Native.Nat.{_≤_};
 ghost use lib.ListN.{length};
 ghost use lib.Seq.{sets};
-ghost use Rattle.sheet_call.specs.Call.{sheetCallOf};
+ghost use Rattle.xm23_sheet.specs.Call.{sheetCallOf};
 
 // Bytes at the start of a buffer.
 fn put_bytes(line: &mut [u8], bytes: &[u8])
@@ -17,9 +18,10 @@ fn put_bytes(line: &mut [u8], bytes: &[u8])
     }
 }
 
-// The line of an input at the start of `line`: refusal and length. Bytes past the line, and all of
-// them where refused, stay as they were.
-pub fn sheet_call(input: &[u8], line: &mut [u8]) -> u32
+// The printed line of an input, at the start of `line`: refusal in bits 7-0, the line's length with
+// its LF in bits 31-8. Bytes past the line, and all of them where refused, stay as they were.
+#[no_mangle]
+pub extern "C" fn xm23_sheet(input: &[u8], line: &mut [u8]) -> u32
     ensures reply { λ r. ⌜ r ≡ sheetCallOf (now (input .entry)) (now (line .entry)) .reply ⌝ }
     ensures line { λ r. ⌜ now (line .exit)
         ≡ sheetCallOf (now (input .entry)) (now (line .entry)) .line ⌝ }

@@ -4,10 +4,10 @@ use native.Mathlib.Omega.{arith}
 use borrow.Author.Needs.{needs}
 use borrow.Author.Tests.{lt-ltb, le-ltb}
 use lib.ListN.{length}
-use Rattle.sheet_call.specs.Call.{sheetCallOf}
-use Rattle.sheet_call.proofs.Laws.{first-length}
-use Rattle.sheet_call.proofs.sheet_call.Statement.{statement}
-use Rattle.sheet_call.proofs.sheet_call.Tie as tie
+use Rattle.xm23_sheet.specs.Call.{sheetCallOf}
+use Rattle.xm23_sheet.proofs.Laws.{first-length}
+use Rattle.xm23_sheet.proofs.xm23_sheet.Statement.{statement}
+use Rattle.xm23_sheet.proofs.xm23_sheet.Tie as tie
 
 returns : tie.Need-returns
 unfolding sheetCallOf
@@ -39,8 +39,8 @@ returns-2 c =
     let n = first-length (at-sheet .sheet .result) (at-sheet .sheet .last .1 .1 .0) (omega arith) in
     (rw (e, sym is, n), rw (e, at-put .put-bytes .ensures, is))
 
-pub sheet-call-spec : {M : Type 1} → statement M
-sheet-call-spec =
+pub xm23-sheet-spec : {M : Type 1} → statement M
+xm23-sheet-spec =
     tie.close
     (tie.spec returns (λ c κs. search needs) (λ c. search needs) slice-aggregate-put-bytes put-bytes-requires (λ c. search needs)
     (λ c. search needs) (λ c. search needs) returns-2)

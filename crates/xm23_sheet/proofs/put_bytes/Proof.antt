@@ -5,9 +5,9 @@ use borrow.Author.Needs.{needs}
 use denote.Ref.{now}
 use lib.ListN.{length, drop, length-set}
 use lib.Seq.{sets}
-use Rattle.sheet_call.proofs.Laws.{put-more, put-end}
-use Rattle.sheet_call.proofs.put_bytes.Statement.{statement}
-use Rattle.sheet_call.proofs.put_bytes.Tie as tie
+use Rattle.xm23_sheet.proofs.Laws.{put-more, put-end}
+use Rattle.xm23_sheet.proofs.put_bytes.Statement.{statement}
+use Rattle.xm23_sheet.proofs.put_bytes.Tie as tie
 
 abbrev Inv-loop : tie.InvT-loop
 Inv-loop line₀ bytes i₀ line i = (length line ≡ length line₀) × (i ≤ length bytes) × (sets line i (drop i bytes) ≡ sets line₀ 0 bytes)

@@ -5,11 +5,10 @@ ghost use lib.ListN.{length};
 ghost use lib.Seq.{slice};
 ghost use Rattle.machine.specs.Memory.{commit};
 ghost use Rattle.journal.specs.Record.{placed, stateOut, memoryOut};
-ghost use Rattle.journal.specs.Ring.{recordAt, journalOf, placesOf, preceding, journalFits};
+ghost use Rattle.journal.specs.Ring.{recordAt, journalOf, placesOf, preceding};
 ghost use Rattle.journal.specs.Back.{lentOf, backOf};
-ghost use Rattle.journal.specs.Call.{backVerdict, backCallOf};
+ghost use Rattle.journal.specs.Call.{backCallOf};
 use journal_record::Ring;
-use machine::Verdict;
 
 // Bytes from `from` on, n of them, copied to memory from address a on, wrapping.
 fn put_bytes(memory: &mut [u8], journal: &[u8], from: usize, a: u16, n: usize)
@@ -53,55 +52,6 @@ fn copy_out(memory: &mut [u8], state: &mut [u8], journal: &[u8], p: usize)
     put_bytes(memory, journal, o + 32, 0, 16);
     let a = little_endian::two_at(journal, o + 48);
     put_bytes(memory, journal, o + 50, a, 8);
-}
-
-// Rule 14: is the journal one that a call may work with, by its length, the number kept and the
-// next place?
-pub fn journal_fits(journal: &[u8], kept: u32, place: u32) -> bool
-    ensures { λ r. ⌜ r ≡ journalFits (journalOf (now (journal .entry)) kept place) ⌝ }
-{
-    let n = journal.len();
-    if n == 0 {
-        return false;
-    }
-    if 65536 < n {
-        return false;
-    }
-    if n % 64 != 0 {
-        return false;
-    }
-    if n / 64 < kept as usize {
-        return false;
-    }
-    (place as usize) < n / 64
-}
-
-// The first rule that going back breaks, in the order in which they are tested.
-fn back_verdict(
-    memory: &[u8],
-    state: &[u8],
-    journal: &[u8],
-    kept: u32,
-    place: u32,
-    k: u64,
-) -> Verdict
-    ensures { λ r. ⌜ r ≡ backVerdict k (lentOf (now (memory .entry)) (now (state .entry))
-        (journalOf (now (journal .entry)) kept place)) ⌝ }
-{
-    let fits = journal_fits(journal, kept, place);
-    if memory.len() != 65536 {
-        return Verdict::MemoryLength;
-    }
-    if state.len() != 32 {
-        return Verdict::RecordLength;
-    }
-    if !fits {
-        return Verdict::JournalFit;
-    }
-    if (kept as u64) < k {
-        return Verdict::StepsKept;
-    }
-    Verdict::Accepted
 }
 
 // The place before p.
@@ -155,7 +105,7 @@ pub fn back_call(
         ≡ backCallOf k (lentOf (now (memory .entry)) (now (state .entry))
         (journalOf (now (journal .entry)) (now (kept .entry)) (now (place .entry)))) .lent ⌝ }
 {
-    let verdict = back_verdict(memory, state, journal, *kept, *place, k);
+    let verdict = journal_rules::back_verdict(memory, state, journal, *kept, *place, k);
     let refused = refusal::refusal_number(verdict) as u32;
     if refused != 0 {
         return refused;

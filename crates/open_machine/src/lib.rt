@@ -2,57 +2,15 @@
 // the log lent to it: by value, and in place.
 ghost use mathlib.Core.Path.{_≡_};
 ghost use Rattle.machine.specs.State.{stateOf};
-ghost use Rattle.machine.specs.Record.{recordOf};
-ghost use Rattle.machine.specs.Refusal.{verdictOf, callVerdict};
 ghost use Rattle.open_machine.specs.Advance.{AdvanceLeaves, stepAdvance};
 use machine::Depth;
 use machine::Machine;
-use machine::Verdict;
 
 // The machine that an advance leaves, and its reply: bits 7-0 the refusal (0: none), 15-8 the
 // reason, 39-16 the steps done, 63-40 the log records added.
 pub struct Advanced {
     pub machine: Machine,
     pub reply: u64,
-}
-
-// The first rule of a start from a machine's own record that is broken. The record is not written:
-// of its length and of its bytes that are no field no rule can be broken.
-fn start_verdict(m: Machine, memory: &[u8], events: &[u8], n: u64) -> Verdict
-    ensures { λ r. ⌜ r ≡ verdictOf (now (memory .entry)) (recordOf (stateOf m (now (memory .entry))))
-        (now (events .entry)) n ⌝ }
-{
-    if memory.len() != 65536 {
-        return Verdict::MemoryLength;
-    }
-    if 1000000 < n {
-        return Verdict::StepCount;
-    }
-    if 4294967295 < m.rest.count as u64 + n {
-        return Verdict::StepCount;
-    }
-    if m.rest.psw / 512 % 16 != 0 {
-        return Verdict::RecordBits;
-    }
-    if 128 <= m.rest.cex {
-        return Verdict::RecordBits;
-    }
-    refusal::events_verdict(events)
-}
-
-// The first rule of an advance that is broken: those of its start, and then that of its log.
-fn advance_verdict(m: Machine, memory: &[u8], events: &[u8], log: &[u8], n: u64) -> Verdict
-    ensures { λ r. ⌜ r ≡ callVerdict (now (memory .entry))
-        (recordOf (stateOf m (now (memory .entry)))) (now (events .entry)) (now (log .entry)) n ⌝ }
-{
-    let start = start_verdict(m, memory, events, n);
-    if refusal::refusal_number(start) != 0 {
-        return start;
-    }
-    if log.len() % 8 != 0 {
-        return Verdict::LogLength;
-    }
-    Verdict::Accepted
 }
 
 // A machine advanced by n steps, fewer if it halts or the log is full; `deepest` becomes the most
@@ -70,7 +28,7 @@ pub fn advance_by_value(
         (now (log .entry)) n (now (deepest .entry)) (r .reply)
         (stateOf (r .machine) (now (memory .exit))) (now (log .exit)) (now (deepest .exit)) ⌝ }
 {
-    let verdict = advance_verdict(m, memory, events, log, n);
+    let verdict = refusal::advance_verdict(m, memory, events, log, n);
     let refused = refusal::refusal_number(verdict);
     if refused != 0 {
         return Advanced {
@@ -96,7 +54,7 @@ pub fn step_by_value(m: Machine, memory: &mut [u8], events: &[u8]) -> Advanced
         × (stateOf (r .machine) (now (memory .exit))
         ≡ stepAdvance (stateOf m (now (memory .entry))) (now (events .entry)) .state) ⌝ }
 {
-    let turned = refusal::refusal_number(start_verdict(m, memory, events, 1));
+    let turned = refusal::refusal_number(refusal::start_verdict(m, memory, events, 1));
     if turned != 0 {
         return Advanced {
             machine: m,

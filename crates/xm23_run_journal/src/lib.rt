@@ -24,7 +24,7 @@ fn journal_verdict(
 {
     let call = refusal::call_verdict(memory, state, events, log, n);
     let told = refusal::refusal_number(call);
-    let fits = going_back::journal_fits(journal, ring.kept, ring.place);
+    let fits = journal_rules::journal_fits(journal, ring.kept, ring.place);
     if told != 0 {
         return call;
     }

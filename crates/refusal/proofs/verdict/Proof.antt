@@ -11,7 +11,8 @@ use borrow.Author.Tests.{eq-eqb, ne-eqb, lt-ltb, le-ltb}
 use borrow.Author.Needs.{needs}
 use Rattle.machine.specs.Record.{fourAt}
 use Rattle.machine.specs.Refusal.{Rule, rulesOf, firstBroken, verdictOf}
-use Rattle.refusal.proofs.Laws.{holds, breaks, count-in}
+use Rattle.event_rules.proofs.Laws.{holds, breaks}
+use Rattle.refusal.proofs.Laws.{count-in}
 use Rattle.refusal.proofs.verdict.Statement.{statement}
 use Rattle.refusal.proofs.verdict.Tie as tie
 

@@ -26,7 +26,7 @@ use Rattle.asm_words.specs.declared.Valued.the-variants as val
 use Rattle.asm_words.specs.Words.{meaning, each, branches, operations, unaries, moves, valuedWords, otherWords, keywords}
 use Rattle.asm_words.specs.Words.{registers, conditions, emulated, words, wordOf, registerOf, conditionOf}
 use Rattle.asm_words.specs.Words.{flags, flagOf, withBit, flagsFrom}
-use Rattle.asm_words.specs.Rows.{numberIn}
+use Rattle.asm_words.specs.Rows.{numberIn, valuedAt, plainAt, keywordAt, wordAt}
 
 -- ---- a test of each row
 abbrev every : {A : Type 0} → (A → Bool) → List A → Bool
@@ -182,18 +182,18 @@ register-none p h bp lr sp pc =
 -- ---- the words in groups by the remainder of the spelling divided by 61
 unfoldable pub table : List ℕ
 table =
-    0x523530 ∷ 0x42524109 ∷ 0x54535430 ∷ 0x464C30 ∷ 0x523630 ∷ 0x564330 ∷ 0x53424330 ∷ 0x523730 ∷ 0x424C4F05
-    ∷ 0x4C4422 ∷ 0x424304 ∷ 0x4C4530 ∷ 0x50554C4C30 ∷ 0x474530 ∷ 0x424C5408 ∷ 0x4C445228 ∷ 0x53524118 ∷ 0x43455821
-    ∷ 0x4D4F564C5326 ∷ 0x44454330 ∷ 0x434C4330 ∷ 0x4551552B ∷ 0x4441444330 ∷ 0x424C01 ∷ 0x444144440E ∷ 0x4C4F30 ∷ 0x424E4305
-    ∷ 0x424E06 ∷ 0x42494314 ∷ 0x574F52442E ∷ 0x434330 ∷ 0x565330 ∷ 0x424E4503 ∷ 0x425030 ∷ 0x4C5230 ∷ 0x4D4F564C5A25
-    ∷ 0x4C5330 ∷ 0x414444430B ∷ 0x4C5430 ∷ 0x42485304 ∷ 0x475430 ∷ 0x4D4930 ∷ 0x454E442F ∷ 0x484930 ∷ 0x494E434430
-    ∷ 0x4A554D5030 ∷ 0x434C52434320 ∷ 0x434C4E30 ∷ 0x425954452D ∷ 0x5055534830 ∷ 0x535750421B ∷ 0x425A02 ∷ 0x434C5230 ∷ 0x4E4530
-    ∷ 0x434C5330 ∷ 0x4445434430 ∷ 0x4253532C ∷ 0x485330 ∷ 0x42495315 ∷ 0x434C5630 ∷ 0x52455430 ∷ 0x435330 ∷ 0x42495413
-    ∷ 0x434C5A30 ∷ 0x53454330 ∷ 0x43414C4C30 ∷ 0x424E5A03 ∷ 0x434D500F ∷ 0x524C4330 ∷ 0x5358541C ∷ 0x584F5210 ∷ 0x535030
-    ∷ 0x5357415017 ∷ 0x535423 ∷ 0x42455102 ∷ 0x4D4F5616 ∷ 0x5355420C ∷ 0x53455443431F ∷ 0x494E4330 ∷ 0x4F52472A ∷ 0x53454E30
-    ∷ 0x52524319 ∷ 0x53545229 ∷ 0x504330 ∷ 0x4D4F564827 ∷ 0x545230 ∷ 0x4F5212 ∷ 0x5345545052491D ∷ 0x455130 ∷ 0x414E4411
-    ∷ 0x42474507 ∷ 0x4D4F564C24 ∷ 0x523030 ∷ 0x41444330 ∷ 0x53455630 ∷ 0x434F4D501A ∷ 0x523130 ∷ 0x4144440A ∷ 0x523230
-    ∷ 0x534C4130 ∷ 0x5356431E ∷ 0x535542430D ∷ 0x523330 ∷ 0x504C30 ∷ 0x523430 ∷ 0x4E4F5030 ∷ 0x53455A30 ∷ []
+    0x523530 ∷ 0x4252410F ∷ 0x54535430 ∷ 0x464C30 ∷ 0x523630 ∷ 0x564330 ∷ 0x53424330 ∷ 0x523730 ∷ 0x424C4F0B
+    ∷ 0x4C442C ∷ 0x42430A ∷ 0x4C4530 ∷ 0x50554C4C30 ∷ 0x474530 ∷ 0x424C540E ∷ 0x4C44522E ∷ 0x5352411C ∷ 0x4345582B
+    ∷ 0x4D4F564C5321 ∷ 0x44454330 ∷ 0x434C4330 ∷ 0x45515523 ∷ 0x4441444330 ∷ 0x424C05 ∷ 0x4441444414 ∷ 0x4C4F30 ∷ 0x424E430B
+    ∷ 0x424E0C ∷ 0x4249431A ∷ 0x574F524404 ∷ 0x434330 ∷ 0x565330 ∷ 0x424E4509 ∷ 0x425030 ∷ 0x4C5230 ∷ 0x4D4F564C5A20
+    ∷ 0x4C5330 ∷ 0x4144444311 ∷ 0x4C5430 ∷ 0x4248530A ∷ 0x475430 ∷ 0x4D4930 ∷ 0x454E4424 ∷ 0x484930 ∷ 0x494E434430
+    ∷ 0x4A554D5030 ∷ 0x434C5243432A ∷ 0x434C4E30 ∷ 0x4259544503 ∷ 0x5055534830 ∷ 0x5357504227 ∷ 0x425A08 ∷ 0x434C5230 ∷ 0x4E4530
+    ∷ 0x434C5330 ∷ 0x4445434430 ∷ 0x42535302 ∷ 0x485330 ∷ 0x4249531B ∷ 0x434C5630 ∷ 0x52455430 ∷ 0x435330 ∷ 0x42495419
+    ∷ 0x434C5A30 ∷ 0x53454330 ∷ 0x43414C4C30 ∷ 0x424E5A09 ∷ 0x434D5015 ∷ 0x524C4330 ∷ 0x53585428 ∷ 0x584F5216 ∷ 0x535030
+    ∷ 0x5357415026 ∷ 0x53542D ∷ 0x42455108 ∷ 0x4D4F5625 ∷ 0x53554212 ∷ 0x534554434329 ∷ 0x494E4330 ∷ 0x4F524701 ∷ 0x53454E30
+    ∷ 0x5252431D ∷ 0x5354522F ∷ 0x504330 ∷ 0x4D4F564822 ∷ 0x545230 ∷ 0x4F5218 ∷ 0x53455450524906 ∷ 0x455130 ∷ 0x414E4417
+    ∷ 0x4247450D ∷ 0x4D4F564C1F ∷ 0x523030 ∷ 0x41444330 ∷ 0x53455630 ∷ 0x434F4D501E ∷ 0x523130 ∷ 0x41444410 ∷ 0x523230
+    ∷ 0x534C4130 ∷ 0x53564307 ∷ 0x5355424313 ∷ 0x523330 ∷ 0x504C30 ∷ 0x523430 ∷ 0x4E4F5030 ∷ 0x53455A30 ∷ []
 
 unfoldable pub starts : List ℕ
 starts =
@@ -245,77 +245,69 @@ pub start-step : (h : ℕ) → h < 61 → getD starts h 0 ≤ getD starts (h + 1
 start-step h k = rw (add-one h) (order-at starts starts-ordered h (omega (arith, starts-length)))
 
 -- ---- the code's numbers of words
-unfoldable pub kinds : List Word
-kinds =
-    Free ∷ Begins (key.Value val.Bl) ∷ Begins (key.Value (val.Branch 0)) ∷ Begins (key.Value (val.Branch 1))
-    ∷ Begins (key.Value (val.Branch 2)) ∷ Begins (key.Value (val.Branch 3)) ∷ Begins (key.Value (val.Branch 4))
-    ∷ Begins (key.Value (val.Branch 5)) ∷ Begins (key.Value (val.Branch 6)) ∷ Begins (key.Value (val.Branch 7))
-    ∷ Begins (key.Arithmetic 0) ∷ Begins (key.Arithmetic 1) ∷ Begins (key.Arithmetic 2) ∷ Begins (key.Arithmetic 3)
-    ∷ Begins (key.Arithmetic 4) ∷ Begins (key.Arithmetic 5) ∷ Begins (key.Arithmetic 6) ∷ Begins (key.Arithmetic 7)
-    ∷ Begins (key.Arithmetic 8) ∷ Begins (key.Arithmetic 9) ∷ Begins (key.Arithmetic 10) ∷ Begins (key.Arithmetic 11) ∷ Begins key.Mov
-    ∷ Begins key.Swap ∷ Begins (key.Unary 0) ∷ Begins (key.Unary 1) ∷ Begins (key.Unary 2) ∷ Begins key.Swpb ∷ Begins key.Sxt
-    ∷ Begins (key.Value val.SetPri) ∷ Begins (key.Value val.Svc) ∷ Begins key.SetCc ∷ Begins key.ClrCc ∷ Begins key.Cex ∷ Begins key.Ld
-    ∷ Begins key.St ∷ Begins (key.MovImm 0) ∷ Begins (key.MovImm 1) ∷ Begins (key.MovImm 2) ∷ Begins (key.MovImm 3) ∷ Begins key.Ldr
-    ∷ Begins key.Str ∷ Begins (key.Value val.Org) ∷ Begins key.Equ ∷ Begins (key.Value val.Bss) ∷ Begins (key.Value val.Byte)
-    ∷ Begins (key.Value val.Word) ∷ Begins key.End ∷ Reserved ∷ []
+
+-- n is none of the first k numbers, as the last arm of a `match` has it
+abbrev pub Past : ℕ → ℕ → Type 0
+Past n zero = Unit {0}
+Past n (suc k) = Past n k × (n ≡ k → ⊥)
+
+next : (n k : ℕ) → k ≤ n → (n ≡ k → ⊥) → suc k ≤ n
+next n k p q = omega arith
+
+pub past : (n k : ℕ) → Past n k → k ≤ n
+past n zero p = omega arith
+past n (suc k) p = next n k (past n k (p .0)) (p .1)
 
 valuedNumber : Valued → ℕ
-valuedNumber val.Bl = 1
-valuedNumber (val.Branch c) = 2 + c
-valuedNumber val.SetPri = 29
-valuedNumber val.Svc = 30
-valuedNumber val.Org = 42
-valuedNumber val.Bss = 44
-valuedNumber val.Byte = 45
-valuedNumber val.Word = 46
+valuedNumber val.Org = 1
+valuedNumber val.Bss = 2
+valuedNumber val.Byte = 3
+valuedNumber val.Word = 4
+valuedNumber val.Bl = 5
+valuedNumber val.SetPri = 6
+valuedNumber val.Svc = 7
+valuedNumber (val.Branch c) = 8 + c
 
 keyNumber : Keyword → ℕ
 keyNumber (key.Value v) = valuedNumber v
-keyNumber key.Equ = 43
-keyNumber key.End = 47
-keyNumber (key.Arithmetic op) = 10 + op
-keyNumber key.Mov = 22
-keyNumber key.Swap = 23
-keyNumber (key.Unary op) = 24 + op
-keyNumber key.Swpb = 27
-keyNumber key.Sxt = 28
-keyNumber key.SetCc = 31
-keyNumber key.ClrCc = 32
-keyNumber key.Cex = 33
-keyNumber key.Ld = 34
-keyNumber key.St = 35
-keyNumber (key.MovImm op) = 36 + op
-keyNumber key.Ldr = 40
-keyNumber key.Str = 41
+keyNumber (key.Arithmetic op) = 16 + op
+keyNumber (key.Unary op) = 28 + op
+keyNumber (key.MovImm op) = 31 + op
+keyNumber key.Equ = 35
+keyNumber key.End = 36
+keyNumber key.Mov = 37
+keyNumber key.Swap = 38
+keyNumber key.Swpb = 39
+keyNumber key.Sxt = 40
+keyNumber key.SetCc = 41
+keyNumber key.ClrCc = 42
+keyNumber key.Cex = 43
+keyNumber key.Ld = 44
+keyNumber key.St = 45
+keyNumber key.Ldr = 46
+keyNumber key.Str = 47
 
 numberOf : Word → ℕ
 numberOf Free = 0
 numberOf Reserved = 48
 numberOf (Begins k) = keyNumber k
 
--- what each row says is what stands at its number
-abbrev kindOf : ℕ → Word
-kindOf n = getD kinds n Free
-
+-- what each row says is what its number stands for
 abbrev says : String × Word → Word
 says r = r .1
 
 abbrev numbered : String × Word → Word
-numbered r = kindOf (numberOf (r .1))
+numbered r = wordAt (numberOf (r .1))
 
-kinds-say : map numbered words ≡ map says words
-unfolding kinds numberOf keyNumber valuedNumber words keywords valuedWords branches operations unaries moves otherWords registers
-    conditions emulated
-kinds-say = refl
-
-first-kind : kindOf 0 ≡ Free
-unfolding kinds
-first-kind = refl
+numbers-say : map numbered words ≡ map says words
+unfolding wordAt keywordAt valuedAt plainAt numberOf keyNumber valuedNumber words keywords valuedWords branches operations unaries
+    moves otherWords registers conditions emulated
+numbers-say = refl
 
 by-number : (p : ℕ) (rows : List (String × Word)) → map numbered rows ≡ map says rows
-    → kindOf (spelledIn 0 (each numberOf rows) p) ≡ spelledIn Free rows p
-unfolding spelledIn
-by-number p [] h = first-kind
+    → wordAt (spelledIn 0 (each numberOf rows) p) ≡ spelledIn Free rows p
+unfolding spelledIn wordAt
+by-number p [] h = refl
 by-number p (r ∷ rows) h =
     bool-cases (eqb (spelled (ascii (r .0))) p) (λ q. rw q (ap (λ (l : List Word). getD l 0 Free) h))
     (λ q. rw q (by-number p rows (ap (λ (l : List Word). drop 1 l) h)))
@@ -358,20 +350,6 @@ group-is p = found inGroup rowsOf p all-in-group
     x .says ∙ sym (rw (x .is) at t))
     (λ y. y ∙ sym z))
 
--- a row's number has its place among the kinds
-abbrev placed? : ℕ → Bool
-placed? r = ltb (r % 256) 49
-
-all-placed : every placed? table ≡ true
-unfolding table
-all-placed = refl
-
-pub number-placed : (p : ℕ) → numberIn 0 (group (p % 61)) p < 49
-number-placed p =
-    found placed? (group (p % 61)) p (in-group placed? (p % 61) all-placed)
-    (λ (x : Hit placed? (group (p % 61)) p). omega (arith, x .says, ltb-true (x .row % 256) 49 (x .tested)))
-    (λ z. omega (arith, z))
-
 all-proper : every proper? words ≡ true
 unfolding words keywords valuedWords branches operations unaries moves otherWords registers conditions emulated word nameByte? same
     spelled spelledFrom
@@ -382,10 +360,10 @@ unfolding numberOf keyNumber valuedNumber words keywords valuedWords branches op
     emulated
 all-small = refl
 
-pub word-is : (p : ℕ) (t : List ℕ) → p ≡ spelled (word t) → getD kinds (numberIn 0 (group (p % 61)) p) Free ≡ wordOf (word t)
+pub word-is : (p : ℕ) (t : List ℕ) → p ≡ spelled (word t) → wordAt (numberIn 0 (group (p % 61)) p) ≡ wordOf (word t)
 unfolding wordOf rowsOf
 word-is p t e =
-    ap kindOf (group-is p ∙ number-packed 0 (each numberOf words) p all-small) ∙ by-number p words kinds-say
+    ap wordAt (group-is p ∙ number-packed 0 (each numberOf words) p all-small) ∙ by-number p words numbers-say
     ∙ in-letters Free t p e words all-proper
 
 -- ---- the fields that words carry are within their formats

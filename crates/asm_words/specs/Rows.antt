@@ -3,9 +3,16 @@
 use mathlib.Core.Path.{_≡_}
 use mathlib.Core.Bool.{cond}
 use mathlib.Core.List.{List, [], _∷_}
-use Prim.Native.Nat.{ℕ, _/_, _%_}
-use lib.Dec.{eqb}
+use Prim.Native.Nat.{ℕ, _-_, _/_, _%_}
+use lib.Dec.{eqb, ltb}
+use lib.ListN.{getD}
 use Rattle.asm_text.specs.Text.{word, spelled}
+use Rattle.asm_words.specs.declared.Word.{Word}
+use Rattle.asm_words.specs.declared.Word.the-variants.{Free, Reserved, Begins}
+use Rattle.asm_words.specs.declared.Keyword.{Keyword}
+use Rattle.asm_words.specs.declared.Keyword.the-variants as key
+use Rattle.asm_words.specs.declared.Valued.{Valued}
+use Rattle.asm_words.specs.declared.Valued.the-variants as val
 
 -- what the first row for the spelling p says; `none` if there is no row for it
 unfoldable pub numberIn : ℕ → List ℕ → ℕ → ℕ
@@ -15,3 +22,21 @@ numberIn none (r ∷ rs) p = cond (eqb (r / 256) p) (r % 256) (numberIn none rs 
 -- r is what f says of each word that p spells
 abbrev pub Says : {A : Type 0} → (List ℕ → A) → (p : ℕ) → A → Type 0
 Says f p r = (t : List ℕ) → p ≡ spelled (word t) → r ≡ f (word t)
+
+-- ---- what the number in a row stands for: 0 no word, 1 to 47 what begins a statement, from 48 on the other words
+unfoldable pub valuedAt : ℕ → Valued
+valuedAt n =
+    getD (val.Org ∷ val.Bss ∷ val.Byte ∷ val.Word ∷ val.Bl ∷ val.SetPri ∷ val.Svc ∷ []) n (val.Branch (n - 7))
+
+unfoldable pub plainAt : ℕ → Keyword
+plainAt n =
+    getD (key.Equ ∷ key.End ∷ key.Mov ∷ key.Swap ∷ key.Swpb ∷ key.Sxt ∷ key.SetCc ∷ key.ClrCc ∷ key.Cex ∷ key.Ld ∷ key.St
+    ∷ key.Ldr ∷ []) n key.Str
+
+unfoldable pub keywordAt : ℕ → Keyword
+keywordAt n =
+    cond (ltb n 15) (key.Value (valuedAt n)) (cond (ltb n 27) (key.Arithmetic (n - 15)) (cond (ltb n 30) (key.Unary (n - 27))
+    (cond (ltb n 34) (key.MovImm (n - 30)) (plainAt (n - 34)))))
+
+unfoldable pub wordAt : ℕ → Word
+wordAt n = cond (eqb n 0) Free (cond (ltb n 48) (Begins (keywordAt (n - 1))) Reserved)

@@ -5,7 +5,7 @@ ghost use mathlib.Core.Path.{_≡_};
 ghost use Prim.Native.Nat.{_≤_, _<_};
 ghost use lib.ListN.{drop};
 ghost use Rattle.asm_text.specs.Text.{word};
-ghost use Rattle.asm_words.specs.Rows.{numberIn, Says};
+ghost use Rattle.asm_words.specs.Rows.{numberIn, Says, valuedAt, plainAt, keywordAt, wordAt};
 ghost use Rattle.asm_words.specs.Words.{wordOf, free?, registerOf, conditionOf};
 ghost use Rattle.asm_words.specs.Words.{flagOf, withBit, flagsOf};
 
@@ -56,13 +56,13 @@ pub enum Word {
     Begins(Keyword),
 }
 
-// All words, in groups by the remainder of the spelling divided by 61; the number is the place in
-// WORDS.
+// All words, in groups by the remainder of the spelling divided by 61; the number is what
+// `word_at` takes.
 const ROWS: [u64; 107] = [
     // R5
     0x523530,
     // BRA
-    0x42524109,
+    0x4252410F,
     // TST
     0x54535430,
     // FL
@@ -76,11 +76,11 @@ const ROWS: [u64; 107] = [
     // R7
     0x523730,
     // BLO
-    0x424C4F05,
+    0x424C4F0B,
     // LD
-    0x4C4422,
+    0x4C442C,
     // BC
-    0x424304,
+    0x42430A,
     // LE
     0x4C4530,
     // PULL
@@ -88,63 +88,63 @@ const ROWS: [u64; 107] = [
     // GE
     0x474530,
     // BLT
-    0x424C5408,
+    0x424C540E,
     // LDR
-    0x4C445228,
+    0x4C44522E,
     // SRA
-    0x53524118,
+    0x5352411C,
     // CEX
-    0x43455821,
+    0x4345582B,
     // MOVLS
-    0x4D4F564C5326,
+    0x4D4F564C5321,
     // DEC
     0x44454330,
     // CLC
     0x434C4330,
     // EQU
-    0x4551552B,
+    0x45515523,
     // DADC
     0x4441444330,
     // BL
-    0x424C01,
+    0x424C05,
     // DADD
-    0x444144440E,
+    0x4441444414,
     // LO
     0x4C4F30,
     // BNC
-    0x424E4305,
+    0x424E430B,
     // BN
-    0x424E06,
+    0x424E0C,
     // BIC
-    0x42494314,
+    0x4249431A,
     // WORD
-    0x574F52442E,
+    0x574F524404,
     // CC
     0x434330,
     // VS
     0x565330,
     // BNE
-    0x424E4503,
+    0x424E4509,
     // BP
     0x425030,
     // LR
     0x4C5230,
     // MOVLZ
-    0x4D4F564C5A25,
+    0x4D4F564C5A20,
     // LS
     0x4C5330,
     // ADDC
-    0x414444430B,
+    0x4144444311,
     // LT
     0x4C5430,
     // BHS
-    0x42485304,
+    0x4248530A,
     // GT
     0x475430,
     // MI
     0x4D4930,
     // END
-    0x454E442F,
+    0x454E4424,
     // HI
     0x484930,
     // INCD
@@ -152,17 +152,17 @@ const ROWS: [u64; 107] = [
     // JUMP
     0x4A554D5030,
     // CLRCC
-    0x434C52434320,
+    0x434C5243432A,
     // CLN
     0x434C4E30,
     // BYTE
-    0x425954452D,
+    0x4259544503,
     // PUSH
     0x5055534830,
     // SWPB
-    0x535750421B,
+    0x5357504227,
     // BZ
-    0x425A02,
+    0x425A08,
     // CLR
     0x434C5230,
     // NE
@@ -172,11 +172,11 @@ const ROWS: [u64; 107] = [
     // DECD
     0x4445434430,
     // BSS
-    0x4253532C,
+    0x42535302,
     // HS
     0x485330,
     // BIS
-    0x42495315,
+    0x4249531B,
     // CLV
     0x434C5630,
     // RET
@@ -184,7 +184,7 @@ const ROWS: [u64; 107] = [
     // CS
     0x435330,
     // BIT
-    0x42495413,
+    0x42495419,
     // CLZ
     0x434C5A30,
     // SEC
@@ -192,57 +192,57 @@ const ROWS: [u64; 107] = [
     // CALL
     0x43414C4C30,
     // BNZ
-    0x424E5A03,
+    0x424E5A09,
     // CMP
-    0x434D500F,
+    0x434D5015,
     // RLC
     0x524C4330,
     // SXT
-    0x5358541C,
+    0x53585428,
     // XOR
-    0x584F5210,
+    0x584F5216,
     // SP
     0x535030,
     // SWAP
-    0x5357415017,
+    0x5357415026,
     // ST
-    0x535423,
+    0x53542D,
     // BEQ
-    0x42455102,
+    0x42455108,
     // MOV
-    0x4D4F5616,
+    0x4D4F5625,
     // SUB
-    0x5355420C,
+    0x53554212,
     // SETCC
-    0x53455443431F,
+    0x534554434329,
     // INC
     0x494E4330,
     // ORG
-    0x4F52472A,
+    0x4F524701,
     // SEN
     0x53454E30,
     // RRC
-    0x52524319,
+    0x5252431D,
     // STR
-    0x53545229,
+    0x5354522F,
     // PC
     0x504330,
     // MOVH
-    0x4D4F564827,
+    0x4D4F564822,
     // TR
     0x545230,
     // OR
-    0x4F5212,
+    0x4F5218,
     // SETPRI
-    0x5345545052491D,
+    0x53455450524906,
     // EQ
     0x455130,
     // AND
-    0x414E4411,
+    0x414E4417,
     // BGE
-    0x42474507,
+    0x4247450D,
     // MOVL
-    0x4D4F564C24,
+    0x4D4F564C1F,
     // R0
     0x523030,
     // ADC
@@ -250,19 +250,19 @@ const ROWS: [u64; 107] = [
     // SEV
     0x53455630,
     // COMP
-    0x434F4D501A,
+    0x434F4D501E,
     // R1
     0x523130,
     // ADD
-    0x4144440A,
+    0x41444410,
     // R2
     0x523230,
     // SLA
     0x534C4130,
     // SVC
-    0x5356431E,
+    0x53564307,
     // SUBC
-    0x535542430D,
+    0x5355424313,
     // R3
     0x523330,
     // PL
@@ -341,59 +341,6 @@ const STARTS: [usize; 62] = [
     107,
 ];
 
-// What a row of ROWS says, by its number.
-const WORDS: [Word; 49] = [
-    Word::Free,
-    Word::Begins(Keyword::Value(Valued::Bl)),
-    Word::Begins(Keyword::Value(Valued::Branch(0))),
-    Word::Begins(Keyword::Value(Valued::Branch(1))),
-    Word::Begins(Keyword::Value(Valued::Branch(2))),
-    Word::Begins(Keyword::Value(Valued::Branch(3))),
-    Word::Begins(Keyword::Value(Valued::Branch(4))),
-    Word::Begins(Keyword::Value(Valued::Branch(5))),
-    Word::Begins(Keyword::Value(Valued::Branch(6))),
-    Word::Begins(Keyword::Value(Valued::Branch(7))),
-    Word::Begins(Keyword::Arithmetic(0)),
-    Word::Begins(Keyword::Arithmetic(1)),
-    Word::Begins(Keyword::Arithmetic(2)),
-    Word::Begins(Keyword::Arithmetic(3)),
-    Word::Begins(Keyword::Arithmetic(4)),
-    Word::Begins(Keyword::Arithmetic(5)),
-    Word::Begins(Keyword::Arithmetic(6)),
-    Word::Begins(Keyword::Arithmetic(7)),
-    Word::Begins(Keyword::Arithmetic(8)),
-    Word::Begins(Keyword::Arithmetic(9)),
-    Word::Begins(Keyword::Arithmetic(10)),
-    Word::Begins(Keyword::Arithmetic(11)),
-    Word::Begins(Keyword::Mov),
-    Word::Begins(Keyword::Swap),
-    Word::Begins(Keyword::Unary(0)),
-    Word::Begins(Keyword::Unary(1)),
-    Word::Begins(Keyword::Unary(2)),
-    Word::Begins(Keyword::Swpb),
-    Word::Begins(Keyword::Sxt),
-    Word::Begins(Keyword::Value(Valued::SetPri)),
-    Word::Begins(Keyword::Value(Valued::Svc)),
-    Word::Begins(Keyword::SetCc),
-    Word::Begins(Keyword::ClrCc),
-    Word::Begins(Keyword::Cex),
-    Word::Begins(Keyword::Ld),
-    Word::Begins(Keyword::St),
-    Word::Begins(Keyword::MovImm(0)),
-    Word::Begins(Keyword::MovImm(1)),
-    Word::Begins(Keyword::MovImm(2)),
-    Word::Begins(Keyword::MovImm(3)),
-    Word::Begins(Keyword::Ldr),
-    Word::Begins(Keyword::Str),
-    Word::Begins(Keyword::Value(Valued::Org)),
-    Word::Begins(Keyword::Equ),
-    Word::Begins(Keyword::Value(Valued::Bss)),
-    Word::Begins(Keyword::Value(Valued::Byte)),
-    Word::Begins(Keyword::Value(Valued::Word)),
-    Word::Begins(Keyword::End),
-    Word::Reserved,
-];
-
 // The conditions of CEX.
 const CONDITIONS: [u64; 18] = [
     0x455100,
@@ -431,6 +378,75 @@ fn row_number(rows: &[u64], none: u8, p: u64) -> u8
     none
 }
 
+// What begins a statement of one value, by its number.
+fn valued_at(n: u8) -> Valued
+    ensures { λ r. ⌜ r ≡ valuedAt n ⌝ }
+{
+    match n {
+        0 => Valued::Org,
+        1 => Valued::Bss,
+        2 => Valued::Byte,
+        3 => Valued::Word,
+        4 => Valued::Bl,
+        5 => Valued::SetPri,
+        6 => Valued::Svc,
+        _ => Valued::Branch(n - 7),
+    }
+}
+
+// What begins any other statement and holds no number, by its number.
+fn plain_at(n: u8) -> Keyword
+    ensures { λ r. ⌜ r ≡ plainAt n ⌝ }
+{
+    match n {
+        0 => Keyword::Equ,
+        1 => Keyword::End,
+        2 => Keyword::Mov,
+        3 => Keyword::Swap,
+        4 => Keyword::Swpb,
+        5 => Keyword::Sxt,
+        6 => Keyword::SetCc,
+        7 => Keyword::ClrCc,
+        8 => Keyword::Cex,
+        9 => Keyword::Ld,
+        10 => Keyword::St,
+        11 => Keyword::Ldr,
+        _ => Keyword::Str,
+    }
+}
+
+// What begins a statement, by its number.
+fn keyword_at(n: u8) -> Keyword
+    ensures { λ r. ⌜ r ≡ keywordAt n ⌝ }
+{
+    if n < 15 {
+        return Keyword::Value(valued_at(n));
+    }
+    if n < 27 {
+        return Keyword::Arithmetic(n - 15);
+    }
+    if n < 30 {
+        return Keyword::Unary(n - 27);
+    }
+    if n < 34 {
+        return Keyword::MovImm(n - 30);
+    }
+    plain_at(n - 34)
+}
+
+// What a row of ROWS says, by its number.
+fn word_at(n: u8) -> Word
+    ensures { λ r. ⌜ r ≡ wordAt n ⌝ }
+{
+    if n == 0 {
+        return Word::Free;
+    }
+    if n < 48 {
+        return Word::Begins(keyword_at(n - 1));
+    }
+    Word::Reserved
+}
+
 // What the word is that p spells.
 pub fn find_word(p: u64) -> Word
     ensures { λ r. ⌜ Says wordOf p r ⌝ }
@@ -439,9 +455,7 @@ pub fn find_word(p: u64) -> Word
     let from = STARTS[h];
     let to = STARTS[h + 1];
     let rows = ROWS;
-    let n = row_number(&rows[from..to], 0, p) as usize;
-    let words = WORDS;
-    words[n]
+    word_at(row_number(&rows[from..to], 0, p))
 }
 
 // Whether a word may be a name.

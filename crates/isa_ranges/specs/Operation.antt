@@ -1,8 +1,10 @@
 -- The operation of each word: the row of table 25 of 003 that its instruction is of. Word and byte forms, register and
 -- constant are one operation; the words of no instruction are one too, "illegal counting as one". Assumes nothing.
 use Prim.Native.Nat.{ℕ}
-use mathlib.Core.Bool.{Bool, cond}
-use lib.Dec.{ltb, eqb}
+use mathlib.Core.Bool.{Bool}
+use mathlib.Core.List.{[], _∷_}
+use lib.Dec.{eqb}
+use lib.ListN.{getD}
 use Rattle.isa.specs.declared.Instr.{Instr}
 use Rattle.isa.specs.declared.Instr.the-variants.{Illegal, Bl, Branch, Alu, Mov, Swap, Unary, Swpb, Sxt, SetPri}
 use Rattle.isa.specs.declared.Instr.the-variants.{Svc, SetCc, ClrCc, Cex, Ld, St, MovImm, Ldr, Str}
@@ -10,46 +12,21 @@ use Rattle.isa.specs.Decode.{decodeOf}
 use Rattle.isa_ranges.specs.declared.Operation.{Operation}
 use Rattle.isa_ranges.specs.declared.Operation.the-variants as op
 
--- Of the formats that hold several operations, by the field that tells them apart: each row has the numbers below its
--- limit that the rows above it leave. [02 §4; 003 14]
+-- Of the formats that hold several operations, by the field that tells them apart: those of the numbers from 0 on, and
+-- the last for every other number. [02 §4; 003 14]
 abbrev pub branchOperation : ℕ → Operation
-branchOperation c =
-    cond (ltb c 1) op.Beq
-    (cond (ltb c 2) op.Bne
-    (cond (ltb c 3) op.Bc
-    (cond (ltb c 4) op.Bnc
-    (cond (ltb c 5) op.Bn
-    (cond (ltb c 6) op.Bge
-    (cond (ltb c 7) op.Blt
-    op.Bra))))))
+branchOperation c = getD (op.Beq ∷ op.Bne ∷ op.Bc ∷ op.Bnc ∷ op.Bn ∷ op.Bge ∷ op.Blt ∷ []) c op.Bra
 
 abbrev pub aluOperation : ℕ → Operation
 aluOperation n =
-    cond (ltb n 1) op.Add
-    (cond (ltb n 2) op.Addc
-    (cond (ltb n 3) op.Sub
-    (cond (ltb n 4) op.Subc
-    (cond (ltb n 5) op.Dadd
-    (cond (ltb n 6) op.Cmp
-    (cond (ltb n 7) op.Xor
-    (cond (ltb n 8) op.And
-    (cond (ltb n 9) op.Or
-    (cond (ltb n 10) op.Bit
-    (cond (ltb n 11) op.Bic
-    op.Bis))))))))))
+    getD (op.Add ∷ op.Addc ∷ op.Sub ∷ op.Subc ∷ op.Dadd ∷ op.Cmp ∷ op.Xor ∷ op.And ∷ op.Or ∷ op.Bit ∷ op.Bic ∷ []) n
+    op.Bis
 
 abbrev pub unaryOperation : ℕ → Operation
-unaryOperation n =
-    cond (ltb n 1) op.Sra
-    (cond (ltb n 2) op.Rrc
-    op.Comp)
+unaryOperation n = getD (op.Sra ∷ op.Rrc ∷ []) n op.Comp
 
 abbrev pub movImmOperation : ℕ → Operation
-movImmOperation n =
-    cond (ltb n 1) op.Movl
-    (cond (ltb n 2) op.Movlz
-    (cond (ltb n 3) op.Movls
-    op.Movh))
+movImmOperation n = getD (op.Movl ∷ op.Movlz ∷ op.Movls ∷ []) n op.Movh
 
 -- The operation of an instruction. [02 §4; 003 14]
 unfoldable pub operationIn : Instr → Operation

@@ -65,97 +65,59 @@ pub struct Ends {
 fn branch_operation(cond: u8) -> Operation
     ensures { λ r. ⌜ r ≡ branchOperation cond ⌝ }
 {
-    if cond < 1 {
-        return Operation::Beq;
+    match cond {
+        0 => Operation::Beq,
+        1 => Operation::Bne,
+        2 => Operation::Bc,
+        3 => Operation::Bnc,
+        4 => Operation::Bn,
+        5 => Operation::Bge,
+        6 => Operation::Blt,
+        _ => Operation::Bra,
     }
-    if cond < 2 {
-        return Operation::Bne;
-    }
-    if cond < 3 {
-        return Operation::Bc;
-    }
-    if cond < 4 {
-        return Operation::Bnc;
-    }
-    if cond < 5 {
-        return Operation::Bn;
-    }
-    if cond < 6 {
-        return Operation::Bge;
-    }
-    if cond < 7 {
-        return Operation::Blt;
-    }
-    Operation::Bra
 }
 
 // ADD to BIS, by the number of the operation in the word.
 fn alu_operation(op: u8) -> Operation
     ensures { λ r. ⌜ r ≡ aluOperation op ⌝ }
 {
-    if op < 1 {
-        return Operation::Add;
+    match op {
+        0 => Operation::Add,
+        1 => Operation::Addc,
+        2 => Operation::Sub,
+        3 => Operation::Subc,
+        4 => Operation::Dadd,
+        5 => Operation::Cmp,
+        6 => Operation::Xor,
+        7 => Operation::And,
+        8 => Operation::Or,
+        9 => Operation::Bit,
+        10 => Operation::Bic,
+        _ => Operation::Bis,
     }
-    if op < 2 {
-        return Operation::Addc;
-    }
-    if op < 3 {
-        return Operation::Sub;
-    }
-    if op < 4 {
-        return Operation::Subc;
-    }
-    if op < 5 {
-        return Operation::Dadd;
-    }
-    if op < 6 {
-        return Operation::Cmp;
-    }
-    if op < 7 {
-        return Operation::Xor;
-    }
-    if op < 8 {
-        return Operation::And;
-    }
-    if op < 9 {
-        return Operation::Or;
-    }
-    if op < 10 {
-        return Operation::Bit;
-    }
-    if op < 11 {
-        return Operation::Bic;
-    }
-    Operation::Bis
 }
 
 // SRA, RRC, COMP.
 fn unary_operation(op: u8) -> Operation
     ensures { λ r. ⌜ r ≡ unaryOperation op ⌝ }
 {
-    if op < 1 {
-        return Operation::Sra;
+    match op {
+        0 => Operation::Sra,
+        1 => Operation::Rrc,
+        _ => Operation::Comp,
     }
-    if op < 2 {
-        return Operation::Rrc;
-    }
-    Operation::Comp
 }
 
 // MOVL, MOVLZ, MOVLS, MOVH.
 fn mov_imm_operation(op: u8) -> Operation
     ensures { λ r. ⌜ r ≡ movImmOperation op ⌝ }
 {
-    if op < 1 {
-        return Operation::Movl;
+    match op {
+        0 => Operation::Movl,
+        1 => Operation::Movlz,
+        2 => Operation::Movls,
+        _ => Operation::Movh,
     }
-    if op < 2 {
-        return Operation::Movlz;
-    }
-    if op < 3 {
-        return Operation::Movls;
-    }
-    Operation::Movh
 }
 
 // The operation of an instruction.

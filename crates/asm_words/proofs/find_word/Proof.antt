@@ -1,9 +1,8 @@
 use mathlib.Core.Path.{ap, _∙_}
 use Prim.Native.Nat.{_+_, _%_}
 use native.Mathlib.Omega.{arith}
-use lib.ListN.{getD}
-use Rattle.asm_words.specs.declared.Word.the-variants.{Free}
-use Rattle.asm_words.proofs.Laws.{table, starts, group, kinds, start-fits, start-step, start-le, number-placed, word-is}
+use Rattle.asm_words.specs.Rows.{wordAt}
+use Rattle.asm_words.proofs.Laws.{table, starts, group, start-fits, start-step, start-le, word-is}
 use borrow.Author.Needs.{needs}
 use Rattle.asm_words.proofs.find_word.Statement.{statement}
 use Rattle.asm_words.proofs.find_word.Tie as tie
@@ -24,18 +23,14 @@ part-row-number-end : tie.Need-part-row-number-end
 unfolding starts
 part-row-number-end c = start-le (c .before .args .p % 61 + 1)
 
-array-copy-out-result : tie.Need-array-copy-out-result
-unfolding group starts table
-array-copy-out-result c = rw (c .row-number .ensures) (number-placed (c .before .before .before .args .p))
-
 returns : tie.Need-returns
-unfolding group starts table kinds
+unfolding group starts table
 returns c = λ t e.
-    ap (λ n. getD kinds n Free) (c .before .row-number .ensures) ∙ word-is (c .before .before .before .before .args .p) t e
+    c .word-at .ensures ∙ ap wordAt (c .before .row-number .ensures) ∙ word-is (c .before .before .before .before .args .p) t e
 
 pub find-word-spec : {M : Type 1} → statement M
 find-word-spec =
     tie.close
     (tie.spec (λ c. search needs) (λ c. search needs) (λ c. search needs) (λ c. search needs) (λ c. search needs) mul-row-number
-    sub-row-number part-row-number-start part-row-number-end (λ c κs. search needs) (λ c. search needs)
-    (λ c. search needs) array-copy-out-result returns)
+    sub-row-number part-row-number-start part-row-number-end (λ c κs. search needs) (λ c κs. search needs)
+    returns)

@@ -1,8 +1,10 @@
-use borrow.Author.Needs.{needs}
-use borrow.Author.Tests.{lt-ltb, le-ltb}
+use lib.ListN.{List·getD-eq-default}
+use Rattle.isa_ranges.proofs.Operations.{past}
 use Rattle.isa_ranges.proofs.unary_operation.Statement.{statement}
 use Rattle.isa_ranges.proofs.unary_operation.Tie as tie
 
 pub unary-operation-spec : {M : Type 1} → statement M
 unary-operation-spec =
-    tie.close (tie.spec (λ c. search (needs, lt-ltb, le-ltb)) (λ c. search (needs, lt-ltb, le-ltb)) (λ c. search (needs, lt-ltb, le-ltb)))
+    tie.close
+    (tie.spec (λ c. rw (c .match .keys1)) (λ c. rw (c .match .keys2))
+    (λ c. let h = past (c .before .args .op) 2 (c .match .rest) in rw List·getD-eq-default))

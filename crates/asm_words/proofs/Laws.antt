@@ -26,7 +26,7 @@ use Rattle.asm_words.specs.declared.Valued.the-variants as val
 use Rattle.asm_words.specs.Words.{meaning, each, branches, operations, unaries, moves, valuedWords, otherWords, keywords}
 use Rattle.asm_words.specs.Words.{registers, conditions, emulated, words, wordOf, registerOf, conditionOf}
 use Rattle.asm_words.specs.Words.{flags, flagOf, withBit, flagsFrom}
-use Rattle.asm_words.specs.Rows.{numberIn, valuedAt, plainAt, keywordAt, wordAt}
+use Rattle.asm_words.specs.Rows.{numberIn, valuedAt, plainAt, groups, nthOf, wordAt}
 
 -- ---- a test of each row
 abbrev every : {A : Type 0} → (A → Bool) → List A → Bool
@@ -300,7 +300,7 @@ abbrev numbered : String × Word → Word
 numbered r = wordAt (numberOf (r .1))
 
 numbers-say : map numbered words ≡ map says words
-unfolding wordAt keywordAt valuedAt plainAt numberOf keyNumber valuedNumber words keywords valuedWords branches operations unaries
+unfolding wordAt nthOf groups valuedAt plainAt numberOf keyNumber valuedNumber words keywords valuedWords branches operations unaries
     moves otherWords registers conditions emulated
 numbers-say = refl
 

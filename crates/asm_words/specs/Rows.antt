@@ -33,10 +33,15 @@ plainAt n =
     getD (key.Equ ∷ key.End ∷ key.Mov ∷ key.Swap ∷ key.Swpb ∷ key.Sxt ∷ key.SetCc ∷ key.ClrCc ∷ key.Cex ∷ key.Ld ∷ key.St
     ∷ key.Ldr ∷ []) n key.Str
 
-unfoldable pub keywordAt : ℕ → Keyword
-keywordAt n =
-    cond (ltb n 15) (key.Value (valuedAt n)) (cond (ltb n 27) (key.Arithmetic (n - 15)) (cond (ltb n 30) (key.Unary (n - 27))
-    (cond (ltb n 34) (key.MovImm (n - 30)) (plainAt (n - 34)))))
+-- the keywords in groups, end to end: how many there are in a group, and what the k-th of them is
+unfoldable pub groups : List (ℕ × (ℕ → Keyword))
+groups =
+    (15, λ k. key.Value (valuedAt k)) ∷ (12, key.Arithmetic) ∷ (3, key.Unary) ∷ (4, key.MovImm) ∷ (13, plainAt) ∷ []
 
+unfoldable pub nthOf : List (ℕ × (ℕ → Keyword)) → ℕ → Keyword
+nthOf [] n = key.Str
+nthOf (g ∷ gs) n = cond (ltb n (g .0)) ((g .1) n) (nthOf gs (n - g .0))
+
+-- no word, the keywords, and then the words that are only reserved
 unfoldable pub wordAt : ℕ → Word
-wordAt n = cond (eqb n 0) Free (cond (ltb n 48) (Begins (keywordAt (n - 1))) Reserved)
+wordAt n = cond (eqb n 0) Free (cond (ltb n 48) (Begins (nthOf groups (n - 1))) Reserved)

@@ -5,7 +5,7 @@ ghost use mathlib.Core.Path.{_≡_};
 ghost use Prim.Native.Nat.{_≤_, _<_};
 ghost use lib.ListN.{drop};
 ghost use Rattle.asm_text.specs.Text.{word};
-ghost use Rattle.asm_words.specs.Rows.{numberIn, Says, valuedAt, plainAt, keywordAt, wordAt};
+ghost use Rattle.asm_words.specs.Rows.{numberIn, Says, valuedAt, plainAt, groups, nthOf, wordAt};
 ghost use Rattle.asm_words.specs.Words.{wordOf, free?, registerOf, conditionOf};
 ghost use Rattle.asm_words.specs.Words.{flagOf, withBit, flagsOf};
 
@@ -415,9 +415,10 @@ fn plain_at(n: u8) -> Keyword
     }
 }
 
-// What begins a statement, by its number.
+// What begins a statement, by its number below 47.
 fn keyword_at(n: u8) -> Keyword
-    ensures { λ r. ⌜ r ≡ keywordAt n ⌝ }
+    requires { ⌜ n < 47 ⌝ }
+    ensures { λ r. ⌜ r ≡ nthOf groups n ⌝ }
 {
     if n < 15 {
         return Keyword::Value(valued_at(n));

@@ -11,4 +11,9 @@ returns-13 c = let h = past (c .before .args .n) 12 (c .match .rest) in rw List�
 pub plain-at-spec : {M : Type 1} → statement M
 plain-at-spec =
     tie.close
-    (tie.spec (λ c. unfold plainAt in rw (c .match .keys1)) (λ c. unfold plainAt in rw (c .match .keys2)) (λ c. unfold plainAt in rw (c .match .keys3)) (λ c. unfold plainAt in rw (c .match .keys4)) (λ c. unfold plainAt in rw (c .match .keys5)) (λ c. unfold plainAt in rw (c .match .keys6)) (λ c. unfold plainAt in rw (c .match .keys7)) (λ c. unfold plainAt in rw (c .match .keys8)) (λ c. unfold plainAt in rw (c .match .keys9)) (λ c. unfold plainAt in rw (c .match .keys10)) (λ c. unfold plainAt in rw (c .match .keys11)) (λ c. unfold plainAt in rw (c .match .keys12)) returns-13)
+    (tie.spec (λ c. unfold plainAt in rw (c .match .keys1)) (λ c. unfold plainAt in rw (c .match .keys2))
+    (λ c. unfold plainAt in rw (c .match .keys3)) (λ c. unfold plainAt in rw (c .match .keys4))
+    (λ c. unfold plainAt in rw (c .match .keys5)) (λ c. unfold plainAt in rw (c .match .keys6))
+    (λ c. unfold plainAt in rw (c .match .keys7)) (λ c. unfold plainAt in rw (c .match .keys8))
+    (λ c. unfold plainAt in rw (c .match .keys9)) (λ c. unfold plainAt in rw (c .match .keys10))
+    (λ c. unfold plainAt in rw (c .match .keys11)) (λ c. unfold plainAt in rw (c .match .keys12)) returns-13)

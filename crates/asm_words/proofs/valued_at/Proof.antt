@@ -12,4 +12,7 @@ returns-8 c = let h = past (c .before .args .n) 7 (c .match .rest) in rw List·g
 pub valued-at-spec : {M : Type 1} → statement M
 valued-at-spec =
     tie.close
-    (tie.spec (λ c. omega (arith, past (c .before .args .n) 7 (c .match .rest))) (λ c. unfold valuedAt in rw (c .match .keys1)) (λ c. unfold valuedAt in rw (c .match .keys2)) (λ c. unfold valuedAt in rw (c .match .keys3)) (λ c. unfold valuedAt in rw (c .match .keys4)) (λ c. unfold valuedAt in rw (c .match .keys5)) (λ c. unfold valuedAt in rw (c .match .keys6)) (λ c. unfold valuedAt in rw (c .match .keys7)) returns-8)
+    (tie.spec (λ c. omega (arith, past (c .before .args .n) 7 (c .match .rest))) (λ c. unfold valuedAt in rw (c .match .keys1))
+    (λ c. unfold valuedAt in rw (c .match .keys2)) (λ c. unfold valuedAt in rw (c .match .keys3))
+    (λ c. unfold valuedAt in rw (c .match .keys4)) (λ c. unfold valuedAt in rw (c .match .keys5))
+    (λ c. unfold valuedAt in rw (c .match .keys6)) (λ c. unfold valuedAt in rw (c .match .keys7)) returns-8)

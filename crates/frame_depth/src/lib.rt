@@ -2,7 +2,6 @@
 ghost use mathlib.Core.Path.{_≡_};
 ghost use Prim.Native.Nat.{_<_};
 ghost use Rattle.machine.specs.Depth.{deeper, shallower, depthAfter};
-ghost use Rattle.frame_depth.specs.Moved.{movedBy};
 use machine::Act;
 use machine::Depth;
 
@@ -37,43 +36,14 @@ pub fn pulled(p: Depth) -> Depth
     }
 }
 
-// What an act does to the open frames.
-pub enum Move {
-    Nothing,
-    Pushes,
-    Pulls,
-}
-
-// The depth after a move.
-fn by(m: Move, p: Depth) -> Depth
-    requires { ⌜ p .opened < 4294967295 ⌝ }
-    ensures { λ r. ⌜ r ≡ movedBy m p ⌝ }
-{
-    match m {
-        Move::Nothing => p,
-        Move::Pushes => pushed(p),
-        Move::Pulls => pulled(p),
-    }
-}
-
-// The depth after an act: only an entry that pushes and a return that pulls move it. The move is a
-// constant of each arm, so that nothing is left of it in the compiled code.
+// The depth after an act: only an entry that pushes and a return that pulls move it.
 pub fn moved(a: Act, p: Depth) -> Depth
     requires { ⌜ p .opened < 4294967295 ⌝ }
     ensures { λ r. ⌜ r ≡ depthAfter a p ⌝ }
 {
     match a {
-        Act::Stopped => by(Move::Nothing, p),
-        Act::Pull => by(Move::Pulls, p),
-        Act::Chain(..) => by(Move::Nothing, p),
-        Act::Accept(..) => by(Move::Pushes, p),
-        Act::Sleep => by(Move::Nothing, p),
-        Act::Fault(..) => by(Move::Pushes, p),
-        Act::Halt => by(Move::Nothing, p),
-        Act::Skip => by(Move::Nothing, p),
-        Act::Trap(..) => by(Move::Pushes, p),
-        Act::Plain => by(Move::Nothing, p),
-        Act::Loads { .. } => by(Move::Nothing, p),
-        Act::Stores { .. } => by(Move::Nothing, p),
+        Act::Pull => pulled(p),
+        Act::Accept(..) | Act::Fault(..) | Act::Trap(..) => pushed(p),
+        _ => p,
     }
 }

@@ -11,3 +11,4 @@ pub mod Writes
 pub mod Twins
 pub mod Vectors
 pub mod Records
+pub mod Acts

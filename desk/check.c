@@ -13,12 +13,12 @@
 
 void find_text(struct check *c, const char *name, uint32_t line, const struct text *says)
 {
-    add_plain(&c->found, name, strlen(name));
-    if (line)
-        addf(&c->found, ":%lu", (unsigned long)line);
-    addf(&c->found, ": ");
-    add_plain(&c->found, says->at, says->length);
+    struct text found = {0};
+    add_at(&found, name, line);
+    add_bytes(&found, says->at, says->length);
+    add_plain(&c->found, found.at, found.length);
     addf(&c->found, "\n");
+    drop_text(&found);
     c->many++;
 }
 

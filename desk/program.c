@@ -205,11 +205,17 @@ int open_program(const struct paper *p, const struct program *program, struct ma
     return 1;
 }
 
+int say_refusal(const char *name, uint32_t line, unsigned refusal, const char *words)
+{
+    say_at(name, line, "R%u: %s", refusal, words);
+    return REFUSED;
+}
+
 int say_fault(const char *name, const struct fault *f)
 {
     const char *told = f->file ? f->file->path : name;
     if (f->refusal)
-        say_at(told, f->line, "R%u: %s", f->refusal, f->why.at);
+        say_refusal(told, f->line, f->refusal, f->why.at);
     else
         say_at(name, 0, "%s", f->why.at);
     if (f->refusal == XM23_REFUSED_SREC_FORM && ends_in(told, ".paper"))

@@ -4,12 +4,6 @@
 #include "sound.h"
 #include "desk.h"
 
-static int tell_refusal(const struct paper *p, const struct verdict *v)
-{
-    say_at(p->name, 0, "R%u: %s", v->refusal, xm23_refusal_text(v->refusal));
-    return REFUSED;
-}
-
 /* A line for each finding, in the order of their steps. */
 static int tell_findings(const struct verdict *v)
 {
@@ -35,7 +29,7 @@ static int judge_program(const struct paper *p, const struct program *program)
     int status;
     if (open_program(p, program, &m, &f)) {
         struct verdict *v = judge_run(p, &m);
-        status = v->refusal ? tell_refusal(p, v) : tell_findings(v);
+        status = v->refusal ? say_refusal(p->name, 0, v->refusal, xm23_refusal_text(v->refusal)) : tell_findings(v);
         drop_verdict(v);
     } else {
         status = say_fault(program->name, &f);

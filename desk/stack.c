@@ -71,10 +71,8 @@ static int tell_bytes(const struct paper *p, const struct assembled *a, const ch
     uint8_t vectors[XM23_VECTORS_SIZE];
     struct text t = {0};
     int status;
-    if (n.refusal) {
-        say_at(p->name, n.line, "R%u: %s", n.refusal, xm23_refusal_text(n.refusal));
-        return REFUSED;
-    }
+    if (n.refusal)
+        return say_refusal(p->name, n.line, n.refusal, xm23_refusal_text(n.refusal));
     if (!p->devices) {
         say_at(p->name, 0, "has no line 'use DEVICE BYTES'");
         return REFUSED;

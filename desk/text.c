@@ -227,7 +227,7 @@ void say_text(const char *format, ...)
     tell(&t);
 }
 
-static void add_place(struct text *t, const char *name, uint32_t line)
+void add_at(struct text *t, const char *name, uint32_t line)
 {
     addf(t, "%s:", name);
     if (line)
@@ -239,7 +239,7 @@ void say_at(const char *name, uint32_t line, const char *format, ...)
 {
     struct text t = {0};
     va_list list;
-    add_place(&t, name, line);
+    add_at(&t, name, line);
     va_start(list, format);
     add_list(&t, format, list);
     va_end(list);
@@ -249,7 +249,7 @@ void say_at(const char *name, uint32_t line, const char *format, ...)
 void say_of(const char *name, uint32_t line, const char *word, size_t length, const char *what)
 {
     struct text t = {0};
-    add_place(&t, name, line);
+    add_at(&t, name, line);
     addf(&t, "'");
     add_bytes(&t, word, length < MOST_WORD ? length : MOST_WORD);
     addf(&t, "%s' %s", length < MOST_WORD ? "" : "..", what);

@@ -33,8 +33,10 @@ void add_html_lines(struct text *t, const char *bytes, size_t length);
 
 int ends_in(const char *name, const char *end); /* a name, in these letters */
 
-/* Prints `xm23: ` or `name:line: ` (line 0: `name: `) and the text as one line on standard error, as add_plain has it;
- * say_of begins it with a word in quotes, of a long one the first bytes. */
+void add_at(struct text *t, const char *name, uint32_t line); /* `name:line: `, of line 0 `name: ` */
+
+/* Prints `xm23: ` or a place and the text as one line on standard error, as add_plain has it; say_of begins it with a
+ * word in quotes, of a long one the first bytes. */
 void say_text(const char *format, ...);
 void say_at(const char *name, uint32_t line, const char *format, ...);
 void say_of(const char *name, uint32_t line, const char *word, size_t length, const char *what);

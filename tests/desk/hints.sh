@@ -198,7 +198,7 @@ for word in events sound back dis; do
     expect "$word" 1 '' ".*/ret.asm:1: $form.*column 2: RET is written MOV LR,PC" \
         "$xm23" $word $([ $word = dis ] || echo "$paper") "$room/ret.asm"
 done
-expect 'report' 1 '' ".*/ret.asm: R17: line 1: .* missing: column 2: RET is written MOV LR,PC" \
+expect 'report' 1 '' "$room/ret.asm:1: $form.$room/ret.asm:1: column 2: RET is written MOV LR,PC" \
     "$xm23" report -o "$room/ret.html" "$paper" "$room/ret.asm"
 same 'its page' "$(grep -c '<p id="hint">column 2: RET is written MOV LR,PC</p>' "$room/ret.html")" 1
 printf 'steps 5\nsource ret.asm\n' > "$room/p.paper"

@@ -72,10 +72,10 @@ int xm23_desk_asm(int argc, char **argv)
         else if (option == 's')
             start = optarg;
         else
-            return misused("asm");
+            return wrong_option("asm", option, NULL);
     }
     if (argc - optind != 1)
-        return misused("asm");
+        return wrong_words("asm", argc - optind, argv + optind, 1);
     if (overwrites(to, argv[optind]))
         return UNREADABLE;
     status = take_file(argv[optind], &p);

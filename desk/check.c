@@ -210,9 +210,11 @@ int xm23_desk_check(int argc, char **argv)
 {
     static struct paper p;
     static struct check c;
-    int status;
-    if (getopt(argc, argv, "+:") != -1 || argc - optind < 1 || argc - optind > 2)
-        return misused("check");
+    int option = getopt(argc, argv, "+:"), status;
+    if (option != -1)
+        return wrong_option("check", option, NULL);
+    if (argc - optind < 1 || argc - optind > 2)
+        return wrong_words("check", argc - optind, argv + optind, 2);
     status = read_paper(argv[optind], &p);
     if (status == DONE) {
         c.paper = &p;

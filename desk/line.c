@@ -166,9 +166,9 @@ static int tell_input(void)
 int xm23_desk_line(int argc, char **argv)
 {
     struct text words = {0};
-    int status;
-    if (getopt(argc, argv, "+:") != -1)
-        return misused("line");
+    int option = getopt(argc, argv, "+:"), status;
+    if (option != -1)
+        return wrong_option("line", option, NULL);
     if (optind == argc)
         return tell_input();
     for (int i = optind; i < argc; i++)

@@ -109,13 +109,14 @@ int overwrites_program(const char *to, const struct program *p)
 
 /* ---- loading */
 
-/* A refused text; of a first line that is no S-record, how a source is told from S-records. */
-static int refused(uint64_t reply, struct fault *f)
+/* A refused text; of a first line that is no S-record, that there is none, or how a source is told from S-records. */
+static int refused(uint64_t reply, size_t length, struct fault *f)
 {
     f->refusal = XM23_REFUSAL(reply);
     f->line = XM23_LOAD_LINE(reply);
-    addf(&f->why, "%s%s", xm23_refusal_text(f->refusal),
-        f->refusal == XM23_REFUSED_SREC_FORM && f->line == 1 ? " (a source's name ends in .asm)" : "");
+    addf(&f->why, "%s", xm23_refusal_text(f->refusal));
+    if (f->refusal == XM23_REFUSED_SREC_FORM && f->line == 1)
+        addf(&f->why, length ? " (a source's name ends in .asm)" : " (the file is empty)");
     return 0;
 }
 
@@ -128,7 +129,7 @@ int load_srec(const char *text, size_t length, struct assembled *a, struct fault
     memset(a->set, 0xFF, sizeof a->set);
     reply = xm23_load_srec(a->memory, sizeof a->memory, bytes, length, 0);
     if (XM23_REFUSAL(reply))
-        return refused(reply, f);
+        return refused(reply, length, f);
     xm23_load_srec(a->set, sizeof a->set, bytes, length, 0);
     for (unsigned at = 0; at < XM23_MEMORY_SIZE; at++)
         a->set[at] = a->set[at] == a->memory[at];

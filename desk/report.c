@@ -52,10 +52,10 @@ int xm23_desk_report(int argc, char **argv)
         else if (option == 's')
             s.sound = 1;
         else if (option != 'a' || !(s.asked = step_word(optarg, &s.around)))
-            return misused("report");
+            return wrong_option("report", option, NO_STEP);
     }
     if (argc - optind != 2)
-        return misused("report");
+        return wrong_words("report", argc - optind, argv + optind, 2);
     if (overwrites(to, argv[optind]))
         return UNREADABLE;
     status = read_paper(argv[optind], &p);

@@ -55,7 +55,10 @@ static int sound_file(const char *paper, const char *name)
 
 int xm23_desk_sound(int argc, char **argv)
 {
-    if (getopt(argc, argv, "+:") != -1)
-        return misused("sound");
-    return argc - optind == 2 ? sound_file(argv[optind], argv[optind + 1]) : misused("sound");
+    int option = getopt(argc, argv, "+:");
+    if (option != -1)
+        return wrong_option("sound", option, NULL);
+    if (argc - optind != 2)
+        return wrong_words("sound", argc - optind, argv + optind, 2);
+    return sound_file(argv[optind], argv[optind + 1]);
 }

@@ -102,9 +102,11 @@ int xm23_desk_stack(int argc, char **argv)
 {
     static struct assembled a;
     static struct paper p;
-    int status;
-    if (getopt(argc, argv, "+:") != -1 || argc - optind < 1 || argc - optind > 2)
-        return misused("stack");
+    int option = getopt(argc, argv, "+:"), status;
+    if (option != -1)
+        return wrong_option("stack", option, NULL);
+    if (argc - optind < 1 || argc - optind > 2)
+        return wrong_words("stack", argc - optind, argv + optind, 2);
     status = read_paper(argv[optind], &p);
     if (status == DONE) {
         status = argv[optind + 1] ? with_file(&p, argv[optind + 1], &a) : tell_bytes(&p, &a, NULL);

@@ -229,7 +229,7 @@ void say_text(const char *format, ...)
 
 void add_at(struct text *t, const char *name, uint32_t line)
 {
-    addf(t, "%s:", name);
+    addf(t, "%s:", *name ? name : "''");
     if (line)
         addf(t, "%lu:", (unsigned long)line);
     addf(t, " ");

@@ -33,7 +33,7 @@ void add_html_lines(struct text *t, const char *bytes, size_t length);
 
 int ends_in(const char *name, const char *end); /* a name, in these letters */
 
-void add_at(struct text *t, const char *name, uint32_t line); /* `name:line: `, of line 0 `name: ` */
+void add_at(struct text *t, const char *name, uint32_t line); /* `name:line: `, of line 0 `name: `, an empty name as '' */
 
 /* Prints `xm23: ` or a place and the text as one line on standard error, as add_plain has it; say_of begins it with a
  * word in quotes, of a long one the first bytes. */

@@ -9,7 +9,6 @@ top=$PWD
 paper=$top/examples/sitting/sum.paper
 sound=$top/examples/sitting/programs/sound.s19
 line='0 120 001F 0120 0000 0006 0000 FFFF 0800 1016 0003 00 00000000 1'
-usage() { echo "usage: xm23 $1 .*"; }
 
 # ---- the program itself
 expect 'no word' 2 '' 'usage: xm23 .*' "$xm23"

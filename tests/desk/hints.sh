@@ -218,7 +218,7 @@ printf ' SETPRI #7\n END\n' > "$room/halt.asm"
 expect 'a program that halts' 0 '1 2 .*' '' "$xm23" run "$room/halt.asm"
 expect 'a source at fault' 1 R17 ".*column 2: RET is written MOV LR,PC" "$xm23" run "$room/ret.asm"
 expect 'no such program' 3 '' 'no/such: No such file.*' "$xm23" run no/such
-expect 'no word' 2 '' 'usage: xm23 run .*' "$xm23" run
+expect 'no word' 2 '' "$(usage run)" "$xm23" run
 
 # ---- sources near lawful ones
 rounds=$([ "$checked" ] && echo 150 || echo 600)

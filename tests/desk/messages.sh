@@ -1,6 +1,6 @@
 #!/usr/bin/env bash
 # What xm23 says on standard error: messages.sh [PROGRAM], build/xm23 if none is named. A refusal has one form whichever
-# subcommand tells it, file:line: Rn: text.
+# subcommand tells it, file:line: Rn: text; every message names the program or a file, and says what is wrong.
 set -u
 cd "$(dirname "$0")/../.."
 . tests/shell/expect.sh
@@ -58,4 +58,82 @@ for subcommand in run mark report check events sound back stack copies; do
     told sound.s19 "$srec" $subcommand srec.paper
     told sound.s19 "$name" $subcommand source.paper
 done
+
+# ---- bad usage: what is wrong, and how it is used; misused SUBCOMMAND WRONG [WORD..]
+misused() { expect "$1 ${*:3}" 2 '' "$(usage "$1" "$2")" "$xm23" "$1" "${@:3}"; }
+subcommands=$("$xm23" --help | sed -n 's/^  \([a-z]*\) .*/\1/p')
+for subcommand in $subcommands; do
+    misused $subcommand '-x is no option' -x
+    misused $subcommand '-\\x1B is no option' $'-\e'
+    misused $subcommand "no option begins with -- but --help, which stands directly behind '$subcommand'" --no
+done
+for subcommand in run mark report back events sound copies asm dis paper check stack; do
+    misused $subcommand 'no file is named'
+    misused $subcommand 'no file is named' --
+done
+for subcommand in mark report copies asm dis paper card; do
+    misused $subcommand '-o has no value behind it' -o
+done
+for subcommand in mark report back events sound copies; do
+    misused $subcommand "a name is missing behind 'sum.paper'" sum.paper
+done
+for subcommand in run report back events sound check stack; do
+    misused $subcommand "'c' is one word too many" a b c
+    misused $subcommand "'-l' is one word too many: options stand before all other words" sum.paper sound.s19 -l
+done
+for subcommand in asm dis paper; do
+    misused $subcommand "'n\\\\x0Al' is one word too many" a $'n\nl'
+done
+misused card "'a' is one word too many" a
+misused mark "'sound.s19' is one word too many" -0 sum.paper sound.s19
+step='is no step, 0 to 4294967295'
+misused run "-n 'x' $step" -n x sum.paper sound.s19
+misused run "-n '' $step" -n '' sum.paper sound.s19
+misused report "-a '-1' $step" -a -1 sum.paper sound.s19
+misused back "-a '4294967296' $step" -a 4294967296 sum.paper sound.s19
+misused back "-n '1025' is no number of steps, 1 to 1024" -n 1025 sum.paper sound.s19
+misused back "-w 'tick' is no address, base sixteen, 0 to FFFF, and no name" -w tick sum.paper sound.s19
+misused back '-w has no value behind it' -a 5 -w
+misused asm '-s has no value behind it' -s
+misused mark "-j '65' is no number of workers, 1 to 64" -j 65 sum.paper sound.s19
+misused mark "-j '\\\\x1B\\[2J' is no number of workers, 1 to 64" -j $'\e[2J' sum.paper sound.s19
+# Behind a paper everything is a name.
+expect 'options behind the names' 1 '' \
+    $'-o: No such file or directory: options stand before all other words\nother: No such file or directory' \
+    "$xm23" mark sum.paper sound.s19 -o other
+expect 'the same of copies' 3 '.*' '-o: is not compared: No such file or directory: options stand before all other words.other: .*' \
+    "$xm23" copies sum.paper sound.s19 -o other
+lines() { printf "$@" | "$xm23" mark -0 sum.paper; }
+expect 'lines in place of zero bytes' 1 '' \
+    "xm23: standard input has lines, where a zero byte ends a name: 'find .. -print0' writes it so"$'\nsound.s19.*: No such file.*' \
+    lines 'sound.s19\nsum.s19\n'
+cp sound.s19 $'a\nline.s19'
+expect 'a name with a line in it' 0 '' '' lines 'sound.s19\0a\nline.s19\0'
+
+# ---- names: empty, and in folders that are not there
+echo END > good.asm
+for words in 'run' 'run sum.paper' 'check' 'asm' 'dis' 'paper' 'report sum.paper' 'mark sum.paper'; do
+    expect "$words ''" "$([ "$words" = 'mark sum.paper' ] && echo 1 || echo 3)" '' "'': No such file or directory" "$xm23" $words ''
+done
+for words in 'report -o @ sum.paper sound.s19' 'asm -o @ good.asm' 'dis -o @ sound.s19' 'paper -o @ sum.paper' 'card -o @'; do
+    words=${words/@/no/such}
+    expect "$words" 3 '' 'no/such: cannot be written: the folder that it would be in is not there' "$xm23" $words
+done
+expect 'asm -o ""' 3 '' "'': cannot be written: No such file or directory" "$xm23" asm -o '' good.asm
+expect 'mark -o ""' 3 '' "'': cannot be replaced by a marking: give the folder a name of its own" "$xm23" mark -o '' sum.paper sound.s19
+expect 'mark into no folder' 3 '' 'no/such: cannot be made: the folder that it would be in is not there' \
+    "$xm23" mark -o no/such sum.paper sound.s19
+
+# ---- files: empty ones, and a run that is asked for a step
+rule='a line is no S0, S1 or S9, has a wrong count, or S9 is not last or missing'
+told empty.s19 "empty.s19:1: R10: $rule (the file is empty)" run
+: > empty
+told empty "empty:1: R10: $rule (the file is empty)" dis
+echo > blank.s19
+told blank.s19 "blank.s19:1: R10: $rule (a source's name ends in .asm)" run
+expect 'a step of a refused program' 1 R11 "$checksum" "$xm23" run -n 5 sum.paper sum.s19
+{ cat sum.paper && printf 'award 1 R0 = 0\npass 1\n'; } > points.paper
+expect 'a step, where points are given' 1 R11 "$checksum" "$xm23" run -n 5 points.paper sum.s19
+expect 'with the legend' 1 $'R11\n\n  refusal 11        a line\'s checksum differs' "$checksum" "$xm23" run -l -n 5 points.paper sum.s19
+expect 'and without a step' 1 R11 "$checksum.points.paper:[0-9]+: another line .*points.paper:[0-9]+: .*" "$xm23" run points.paper sum.s19
 count

@@ -8,7 +8,6 @@ cd "$(dirname "$0")/../.."
 xm23=$(realpath "${1:-build/xm23}")
 top=$PWD
 cd "$room" || exit 1
-usage() { echo "usage: xm23 $1 .*"; }
 
 # A clock that ticks 4,000 times, its handler a source of the paper; two million steps would not fit, one does.
 cat > clock.asm << 'END'

@@ -35,9 +35,10 @@ struct subcommand {
 
 extern const struct subcommand subcommands[];
 
-/* Bad usage of a subcommand: what is wrong, and the usage line. USAGE. */
-int wrong_option(const char *name, int option, const char *what); /* as getopt gave it; `what` is wrong with its value */
-int wrong_words(const char *name, int many, char **words, int most); /* behind the options, of which so many are taken */
+/* Bad usage of a subcommand: what is wrong, and the usage line. USAGE. An option as getopt gave it, with what is wrong
+ * with its value; the words behind the options, of which so many are taken. */
+int wrong_option(const char *name, int option, const char *what);
+int wrong_words(const char *name, int many, char **words, int most);
 const char *late_option(const char *word); /* of a word that leads to nothing: that options come first, or empty */
 
 #endif

@@ -216,6 +216,12 @@ int ends_in(const char *name, const char *end)
     return length >= letters && strcmp(name + length - letters, end) == 0;
 }
 
+int has_order_mark(const char *bytes, size_t length)
+{
+    return (length >= 3 && memcmp(bytes, "\xEF\xBB\xBF", 3) == 0) ||
+           (length >= 2 && (memcmp(bytes, "\xFF\xFE", 2) == 0 || memcmp(bytes, "\xFE\xFF", 2) == 0));
+}
+
 void say_text(const char *format, ...)
 {
     struct text t = {0};

@@ -32,8 +32,9 @@ void add_plain_lines(struct text *t, const char *bytes, size_t length); /* line 
 void add_html_lines(struct text *t, const char *bytes, size_t length);
 
 int ends_in(const char *name, const char *end); /* a name, in these letters */
+int has_order_mark(const char *bytes, size_t length); /* whether a text begins with that of UTF-8 or of UTF-16 */
 
-void add_at(struct text *t, const char *name, uint32_t line); /* `name:line: `, of line 0 `name: `, an empty name as '' */
+void add_at(struct text *t, const char *name, uint32_t line); /* `name:line: `; line 0: `name: `; no name: '' */
 
 /* Prints `xm23: ` or a place and the text as one line on standard error, as add_plain has it; say_of begins it with a
  * word in quotes, of a long one the first bytes. */

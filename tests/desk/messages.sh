@@ -35,6 +35,8 @@ for subcommand in 'run sum.paper' run 'report -o page.html sum.paper' 'check sum
     told folder "$form" $subcommand
 done
 told name.asm "$name" asm
+expect 'asm of S-records' 1 '' 'sound.s19:4: R17: .*.sound.s19: by its name it is a file of S-records, and no source.*' \
+    "$xm23" asm sound.s19
 expect 'copies' 3 '.*compared.*' "$checksum.$name.$form" "$xm23" copies sum.paper sum.s19 name.asm folder sound.s19
 : > empty.s19
 told empty.s19 "$("$xm23" run empty.s19 2>&1 > /dev/null)" report -o page.html sum.paper
@@ -131,6 +133,15 @@ told empty.s19 "empty.s19:1: R10: $rule (the file is empty)" run
 told empty "empty:1: R10: $rule (the file is empty)" dis
 echo > blank.s19
 told blank.s19 "blank.s19:1: R10: $rule (a source's name ends in .asm)" run
+{ printf '\xEF\xBB\xBF' && cat sound.s19; } > mark.s19
+told mark.s19 "mark.s19:1: R10: $rule (it begins with a byte order mark)" run
+save='begins with a byte order mark: save the paper as UTF-8 without one'
+printf '\xEF\xBB\xBFsteps 5\n' > mark.paper
+told sound.s19 "mark.paper:1: '\\xEF\\xBB\\xBFsteps' $save" run mark.paper
+printf '\xFF\xFEs\0t\0' > mark.paper
+told sound.s19 "mark.paper:1: '\\xFF\\xFEs\\x00t\\x00' $save" check mark.paper
+printf 'steps 5\n\xEF\xBB\xBFsteps 5\n' > mark.paper
+like 'on another line it is none' "$("$xm23" run mark.paper sound.s19 2>&1)" "mark.paper:2: .* begins no line of a paper: .*"
 expect 'a step of a refused program' 1 R11 "$checksum" "$xm23" run -n 5 sum.paper sum.s19
 { cat sum.paper && printf 'award 1 R0 = 0\npass 1\n'; } > points.paper
 expect 'a step, where points are given' 1 R11 "$checksum" "$xm23" run -n 5 points.paper sum.s19

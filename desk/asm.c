@@ -46,6 +46,8 @@ static int assemble_program(const struct program *p, const char *to, const char 
     int status = REFUSED;
     if (!assemble_source(p->files[0].bytes, p->files[0].length, &a, &f)) {
         say_fault(p->name, &f);
+        if (ends_in(p->name, ".s19"))
+            say_at(p->name, 0, "by its name it is a file of S-records, and no source");
     } else if (put_start(p, start, &a)) {
         tell_lone(p, start);
         if (listing)

@@ -223,8 +223,6 @@ int say_fault(const char *name, const struct fault *f)
         say_at(name, 0, "%s", f->why.at);
     if (f->refusal == XM23_REFUSED_SREC_FORM && ends_in(told, ".paper"))
         say_at(told, 0, "by its name it is a paper: the program stands behind it");
-    if (f->refusal == XM23_REFUSED_SOURCE_FORM && ends_in(told, ".s19"))
-        say_at(told, 0, "by its name it is a file of S-records, and no source");
     if (f->hint[0])
         say_at(told, f->line, "%s", f->hint);
     return REFUSED;

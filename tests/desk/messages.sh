@@ -35,7 +35,7 @@ for subcommand in 'run sum.paper' run 'report -o page.html sum.paper' 'check sum
     told folder "$form" $subcommand
 done
 told name.asm "$name" asm
-expect 'asm of S-records' 1 '' 'sound.s19:4: R17: .*.sound.s19: by its name it is a file of S-records, and no source.*' \
+expect 'asm of S-records' 1 '' 'sound.s19:4: R17: .*.sound.s19: by its name it is a file of S-records, and no source' \
     "$xm23" asm sound.s19
 expect 'copies' 3 '.*compared.*' "$checksum.$name.$form" "$xm23" copies sum.paper sum.s19 name.asm folder sound.s19
 : > empty.s19

@@ -46,6 +46,8 @@ static int assemble_program(const struct program *p, const char *to, const char 
     int status = REFUSED;
     if (!assemble_source(p->files[0].bytes, p->files[0].length, &a, &f)) {
         say_fault(p->name, &f);
+        if (ends_in(p->name, ".s19"))
+            say_at(p->name, 0, "by its name it is a file of S-records, and no source");
     } else if (put_start(p, start, &a)) {
         tell_lone(p, start);
         if (listing)
@@ -72,10 +74,10 @@ int xm23_desk_asm(int argc, char **argv)
         else if (option == 's')
             start = optarg;
         else
-            return misused("asm");
+            return wrong_option("asm", option, NULL);
     }
     if (argc - optind != 1)
-        return misused("asm");
+        return wrong_words("asm", argc - optind, argv + optind, 1);
     if (overwrites(to, argv[optind]))
         return UNREADABLE;
     status = take_file(argv[optind], &p);

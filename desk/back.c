@@ -207,16 +207,19 @@ static int names_byte(const char *word)
 int xm23_desk_back(int argc, char **argv)
 {
     static struct backwards b;
-    int option, good = 1;
-    while (good && (option = getopt(argc, argv, "+:a:n:w:")) != -1) {
+    const char *wrong = NULL;
+    int option;
+    while ((option = getopt(argc, argv, "+:a:n:w:")) != -1) {
         if (option == 'a')
-            good = b.asked = step_word(optarg, &b.count);
+            wrong = (b.asked = step_word(optarg, &b.count)) ? NULL : NO_STEP;
         else if (option == 'n')
-            good = (b.most = number_of(optarg)) > 0;
+            wrong = (b.most = number_of(optarg)) ? NULL : "is no number of steps, 1 to 1024";
         else if (option == 'w')
-            good = names_byte(b.byte = optarg);
-        else
-            good = 0;
+            wrong = names_byte(b.byte = optarg) ? NULL : "is no address, base sixteen, 0 to FFFF, and no name";
+        if (wrong || option == ':' || option == '?')
+            return wrong_option("back", option, wrong);
     }
-    return good && argc - optind == 2 ? back_file(argv[optind], argv[optind + 1], &b) : misused("back");
+    if (argc - optind != 2)
+        return wrong_words("back", argc - optind, argv + optind, 2);
+    return back_file(argv[optind], argv[optind + 1], &b);
 }

@@ -381,11 +381,11 @@ int xm23_desk_card(int argc, char **argv)
     int option, status;
     while ((option = getopt(argc, argv, "+:o:")) != -1) {
         if (option != 'o')
-            return misused("card");
+            return wrong_option("card", option, NULL);
         to = optarg;
     }
     if (argc != optind)
-        return misused("card");
+        return wrong_words("card", argc - optind, argv + optind, 0);
     status = add_card(&t) ? write_file(to, &t) : REFUSED;
     drop_text(&t);
     return status;

@@ -13,12 +13,12 @@
 
 void find_text(struct check *c, const char *name, uint32_t line, const struct text *says)
 {
-    add_plain(&c->found, name, strlen(name));
-    if (line)
-        addf(&c->found, ":%lu", (unsigned long)line);
-    addf(&c->found, ": ");
-    add_plain(&c->found, says->at, says->length);
+    struct text found = {0};
+    add_at(&found, name, line);
+    add_bytes(&found, says->at, says->length);
+    add_plain(&c->found, found.at, found.length);
     addf(&c->found, "\n");
+    drop_text(&found);
     c->many++;
 }
 
@@ -210,9 +210,11 @@ int xm23_desk_check(int argc, char **argv)
 {
     static struct paper p;
     static struct check c;
-    int status;
-    if (getopt(argc, argv, "+:") != -1 || argc - optind < 1 || argc - optind > 2)
-        return misused("check");
+    int option = getopt(argc, argv, "+:"), status;
+    if (option != -1)
+        return wrong_option("check", option, NULL);
+    if (argc - optind < 1 || argc - optind > 2)
+        return wrong_words("check", argc - optind, argv + optind, 2);
     status = read_paper(argv[optind], &p);
     if (status == DONE) {
         c.paper = &p;

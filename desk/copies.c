@@ -31,7 +31,7 @@ static int compare_one(struct compared *c, size_t i)
     int good = read_program(c->names[i], c->kind, c->shared, &p, &why);
     c->taken = c->to && overwrites_program(c->to, &p);
     if (!good)
-        say_at(c->names[i], 0, "is not compared: %s", why.at);
+        say_at(c->names[i], 0, "is not compared: %s%s", why.at, late_option(c->names[i]));
     else if (!(good = load_program(&p, &a, &f)))
         say_fault(c->names[i], &f);
     else if ((good = take_prints(&prints, c->paper, &a)) != 0)
@@ -193,10 +193,10 @@ int xm23_desk_copies(int argc, char **argv)
         else if (option == 'L')
             c.kind = LINKED_FILE;
         else
-            return misused("copies");
+            return wrong_option("copies", option, NULL);
     }
     if (argc - optind < 2)
-        return misused("copies");
+        return wrong_words("copies", argc - optind, argv + optind, argc);
     status = read_paper(argv[optind], &p);
     if (status != DONE)
         return status;

@@ -34,6 +34,11 @@ struct subcommand {
 };
 
 extern const struct subcommand subcommands[];
-int misused(const char *name); /* the usage line on standard error; USAGE */
+
+/* Bad usage of a subcommand: what is wrong, and the usage line. USAGE. An option as getopt gave it, with what is wrong
+ * with its value; the words behind the options, of which so many are taken. */
+int wrong_option(const char *name, int option, const char *what);
+int wrong_words(const char *name, int many, char **words, int most);
+const char *late_option(const char *word); /* of a word that leads to nothing: that options come first, or empty */
 
 #endif

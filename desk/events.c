@@ -213,8 +213,10 @@ int xm23_desk_events(int argc, char **argv)
     int option, rows = 0;
     while ((option = getopt(argc, argv, "+:c")) != -1) {
         if (option != 'c')
-            return misused("events");
+            return wrong_option("events", option, NULL);
         rows = 1;
     }
-    return argc - optind == 2 ? events_file(argv[optind], argv[optind + 1], rows) : misused("events");
+    if (argc - optind != 2)
+        return wrong_words("events", argc - optind, argv + optind, 2);
+    return events_file(argv[optind], argv[optind + 1], rows);
 }

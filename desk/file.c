@@ -98,6 +98,11 @@ int is_trouble(int problem)
 
 /* ---- writing */
 
+const char *unmade(const char *name, int problem)
+{
+    return problem == ENOENT && *name ? "the folder that it would be in is not there" : strerror(problem);
+}
+
 int write_all(int file, const struct text *t)
 {
     size_t done = 0;
@@ -196,6 +201,6 @@ int write_file(const char *name, const struct text *t)
     else
         problem = no_regular(name) ? write_through(name, t) : write_beside(name, t);
     if (problem)
-        say_at(output ? "standard output" : name, 0, "cannot be written: %s", strerror(problem));
+        say_at(output ? "standard output" : name, 0, "cannot be written: %s", unmade(name, problem));
     return problem ? UNREADABLE : DONE;
 }

@@ -24,6 +24,9 @@ int is_trouble(int problem);
 /* As many bytes of a name as leave room for what marks a name beside it; no character is cut in two. */
 size_t short_length(const char *name);
 
+/* What stands against a file or a folder that is to be made, in words. */
+const char *unmade(const char *name, int problem);
+
 /* Writes all of a text to an open file. 0 with errno. */
 int write_all(int file, const struct text *t);
 

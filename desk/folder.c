@@ -17,7 +17,7 @@
 
 static int cannot(const struct folder *f, const char *what)
 {
-    say_at(f->name, 0, "cannot be %s: %s", what, strerror(errno));
+    say_at(f->name, 0, "cannot be %s: %s", what, unmade(f->name, errno));
     return UNREADABLE;
 }
 

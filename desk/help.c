@@ -1,6 +1,7 @@
 /* The subcommands, and what --help says of each. */
 #include <stdio.h>
 #include <string.h>
+#include <unistd.h>
 
 #include "desk.h"
 #include "sound.h"
@@ -187,10 +188,41 @@ const struct subcommand subcommands[] = {
     {NULL, NULL, NULL, NULL, NULL},
 };
 
-int misused(const char *name)
+/* ---- bad usage */
+
+static int tell_usage(const char *name)
 {
     for (const struct subcommand *s = subcommands; s->name; s++)
         if (strcmp(s->name, name) == 0)
             fprintf(stderr, "usage: %s ('xm23 %s --help' says more)\n", s->usage, s->name);
     return USAGE;
+}
+
+int wrong_option(const char *name, int option, const char *what)
+{
+    if (option == ':')
+        say_text("%s: -%c has no value behind it", name, optopt);
+    else if (option == '?' && optopt == '-')
+        say_text("%s: no option begins with -- but --help, which stands directly behind '%s'", name, name);
+    else if (option == '?')
+        say_text("%s: -%c is no option", name, optopt);
+    else
+        say_text("%s: -%c '%s' %s", name, option, optarg, what);
+    return tell_usage(name);
+}
+
+const char *late_option(const char *word)
+{
+    return word[0] == '-' ? ": options stand before all other words" : "";
+}
+
+int wrong_words(const char *name, int many, char **words, int most)
+{
+    if (many > most)
+        say_text("%s: '%s' is one word too many%s", name, words[most], late_option(words[most]));
+    else if (many)
+        say_text("%s: a name is missing behind '%s'", name, words[many - 1]);
+    else
+        say_text("%s: no file is named", name);
+    return tell_usage(name);
 }

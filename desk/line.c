@@ -134,12 +134,16 @@ void add_legend(struct text *t, const char *line)
 
 /* ---- the command */
 
-/* A line that was printed, and its legend. A number other than 0 is that of the line at fault. */
-static int tell_printed(const char *name, uint32_t number, const char *bytes)
+/* The first line of some bytes, which was printed, and its legend. A number other than 0 is that of the line at fault. */
+static int tell_printed(const char *name, uint32_t number, const char *bytes, size_t length)
 {
     struct text t = {0};
+    size_t end = 0;
     int status = REFUSED;
-    char *line = take_printed(name, number, bytes, bytes + strcspn(bytes, "\r\n"));
+    char *line;
+    while (end < length && bytes[end] != '\r' && bytes[end] != '\n')
+        end++;
+    line = take_printed(name, number, bytes, bytes + end);
     if (line) {
         addf(&t, "%s\n\n", line);
         add_legend(&t, line);
@@ -155,7 +159,7 @@ static int tell_input(void)
     struct text why = {0};
     size_t length;
     char *bytes = read_file("/dev/stdin", ANY_FILE, MOST_TEXT, &length, &why);
-    int status = bytes ? tell_printed("standard input", 1, bytes) : UNREADABLE;
+    int status = bytes ? tell_printed("standard input", 1, bytes, length) : UNREADABLE;
     if (!bytes)
         say_at("standard input", 0, "%s", why.at);
     free(bytes);
@@ -166,14 +170,14 @@ static int tell_input(void)
 int xm23_desk_line(int argc, char **argv)
 {
     struct text words = {0};
-    int status;
-    if (getopt(argc, argv, "+:") != -1)
-        return misused("line");
+    int option = getopt(argc, argv, "+:"), status;
+    if (option != -1)
+        return wrong_option("line", option, NULL);
     if (optind == argc)
         return tell_input();
     for (int i = optind; i < argc; i++)
         addf(&words, "%s ", argv[i]);
-    status = tell_printed("xm23", 0, words.at);
+    status = tell_printed("xm23", 0, words.at, words.length);
     drop_text(&words);
     return status;
 }

@@ -84,11 +84,11 @@ int xm23_desk_dis(int argc, char **argv)
     int option, status;
     while ((option = getopt(argc, argv, "+:o:")) != -1) {
         if (option != 'o')
-            return misused("dis");
+            return wrong_option("dis", option, NULL);
         to = optarg;
     }
     if (argc - optind != 1)
-        return misused("dis");
+        return wrong_words("dis", argc - optind, argv + optind, 1);
     status = take_program(argv[optind], &p);
     if (status == DONE)
         status = list(&p, to);

@@ -92,6 +92,13 @@ static int mark_paper(struct sitting *s, const char *name, const char *folder)
 
 /* ---- the command */
 
+/* Lines where zero bytes should end names, told before the one name that they come to leads to no file. */
+static void tell_lines(const char *name, size_t length)
+{
+    if (strlen(name) == length && strchr(name, '\n'))
+        say_text("standard input has lines, where a zero byte ends a name: 'find .. -print0' writes it so");
+}
+
 /* The names that standard input has, each ended by a zero byte. */
 static int names_from_input(struct sitting *s)
 {
@@ -103,6 +110,7 @@ static int names_from_input(struct sitting *s)
             s->names = (char **)room_for(s->names, (places = 2 * places + 64) * sizeof *s->names);
         s->names[s->many] = (char *)room_for(NULL, (size_t)length + 1);
         memcpy(s->names[s->many++], name, (size_t)length + 1);
+        tell_lines(name, (size_t)length);
     }
     free(name);
     if (ferror(stdin))
@@ -153,10 +161,10 @@ int xm23_desk_mark(int argc, char **argv)
             s.sound = 1;
         listed |= option == '0';
         if (option == ':' || option == '?' || !s.workers)
-            return misused("mark");
+            return wrong_option("mark", option, "is no number of workers, 1 to 64");
     }
     if (listed ? argc - optind != 1 : argc - optind < 2)
-        return misused("mark");
+        return wrong_words("mark", argc - optind, argv + optind, listed ? 1 : argc);
     if (listed) {
         status = names_from_input(&s);
     } else {

@@ -95,10 +95,9 @@ static void put_prints(const struct sitting *s, struct marked *m)
 static void run_marked(const struct sitting *s, struct marked *m)
 {
     struct row *r = &m->row;
-    struct fault f = {0};
     m->o.screen = &m->screen;
     m->o.shown = s->paper->awards.many ? m->shown : NULL;
-    m->ran = open_program(s->paper, &m->program, &m->before, &f);
+    m->ran = open_program(s->paper, &m->program, &m->before, &m->fault);
     if (m->ran) {
         add_line(&r->line, &m->before, s->paper, s->paper->steps);
         memcpy(&m->after, &m->before, sizeof m->after);
@@ -111,10 +110,8 @@ static void run_marked(const struct sitting *s, struct marked *m)
         put_awards(s->paper, m);
         put_prints(s, m);
     } else {
-        put_fault(r, &f);
-        memcpy(m->hint, f.hint, sizeof m->hint);
+        put_fault(r, &m->fault);
     }
-    drop_text(&f.why);
 }
 
 /* Nothing of an earlier program stays. */
@@ -172,5 +169,6 @@ void drop_marked(struct marked *m)
         drop_text(&m->shown[d]);
     drop_verdict(m->verdict);
     free_names(&m->names);
+    drop_text(&m->fault.why);
     drop_program(&m->program);
 }

@@ -56,7 +56,7 @@ struct marked {
     struct walk walk;
     struct names names;
     struct verdict *verdict; /* of sound.h; NULL where it was not judged */
-    char hint[sizeof ((struct fault *)0)->hint]; /* of a source that is refused */
+    struct fault fault; /* why it did not run, where it could be read */
     int ran;
 };
 

@@ -95,10 +95,11 @@ static void add_verdict(struct text *t, const struct row *r)
 
 static void add_hint_of(struct text *t, const struct marked *m)
 {
-    if (!m->hint[0])
+    const char *hint = m->fault.hint;
+    if (!hint[0])
         return;
     addf(t, "<p id=\"hint\">");
-    add_html(t, m->hint, strlen(m->hint));
+    add_html(t, hint, strlen(hint));
     addf(t, "</p>\n");
 }
 

@@ -48,7 +48,7 @@ static int lay_srec(struct paper *p)
         addf(&p->srec, "S9030000FC\n");
     good = load_srec(p->srec.at, p->srec.length, a, &f);
     if (!good)
-        say_at(p->name, p->srec_lines[f.line - 1], "R%u: %s", f.refusal, xm23_refusal_text(f.refusal));
+        say_refusal(p->name, p->srec_lines[f.line - 1], f.refusal, xm23_refusal_text(f.refusal));
     for (unsigned at = 0; good && at < XM23_MEMORY_SIZE; at++)
         if (a->set[at] && !p->set[at])
             p->memory[at] = a->memory[at], p->set[at] = SRECORD;
@@ -160,12 +160,15 @@ static int judge(const struct paper *p)
 {
     unsigned refusal = refusal_of(p);
     uint32_t first = 0, line = line_at_fault(p, refusal, &first);
+    struct text words = {0};
+    if (refusal == XM23_ACCEPTED)
+        return 1;
+    addf(&words, "%s", xm23_refusal_text(refusal));
     if (first)
-        say_at(p->name, line, "R%u: %s: lines %lu and %lu", refusal, xm23_refusal_text(refusal), (unsigned long)first,
-               (unsigned long)line);
-    else if (refusal)
-        say_at(p->name, line, "R%u: %s", refusal, xm23_refusal_text(refusal));
-    return refusal == XM23_ACCEPTED;
+        addf(&words, ": lines %lu and %lu", (unsigned long)first, (unsigned long)line);
+    say_refusal(p->name, line, refusal, words.at);
+    drop_text(&words);
+    return 0;
 }
 
 /* Those of event lines by themselves, which stand in order, and then with those that other lines make. */

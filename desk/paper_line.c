@@ -226,6 +226,8 @@ static int take_line(struct paper *p, uint32_t line, const char *at, const char 
         return srec(p, line, at, end);
     if (!next_word(&r, &w))
         return 1;
+    if (line == 1 && has_order_mark(w.at, w.length))
+        return wrong_word(&r, &w, "begins with a byte order mark: save the paper as UTF-8 without one");
     if (like_comment(&w))
         return wrong_word(&r, &w, "is no number: a comment begins with ;");
     if (memchr("0123456789#$", w.at[0], 12))

@@ -132,11 +132,11 @@ int xm23_desk_paper(int argc, char **argv)
     int option, status;
     while ((option = getopt(argc, argv, "+:o:")) != -1) {
         if (option != 'o')
-            return misused("paper");
+            return wrong_option("paper", option, NULL);
         to = optarg;
     }
     if (argc - optind != 1)
-        return misused("paper");
+        return wrong_words("paper", argc - optind, argv + optind, 1);
     status = read_paper(argv[optind], &p);
     if (status == DONE) {
         status = overwrites_paper(to, &p) ? UNREADABLE : print_paper(&p, to);

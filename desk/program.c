@@ -109,13 +109,16 @@ int overwrites_program(const char *to, const struct program *p)
 
 /* ---- loading */
 
-/* A refused text; of a first line that is no S-record, how a source is told from S-records. */
-static int refused(uint64_t reply, struct fault *f)
+/* A refused text; of a first line that is no S-record, what it may be, or how a source is told from S-records. */
+static int refused(uint64_t reply, const char *text, size_t length, struct fault *f)
 {
     f->refusal = XM23_REFUSAL(reply);
     f->line = XM23_LOAD_LINE(reply);
-    addf(&f->why, "%s%s", xm23_refusal_text(f->refusal),
-        f->refusal == XM23_REFUSED_SREC_FORM && f->line == 1 ? " (a source's name ends in .asm)" : "");
+    addf(&f->why, "%s", xm23_refusal_text(f->refusal));
+    if (f->refusal == XM23_REFUSED_SREC_FORM && f->line == 1)
+        addf(&f->why, " (%s)", !length ? "the file is empty"
+                               : has_order_mark(text, length) ? "it begins with a byte order mark"
+                                                              : "a source's name ends in .asm");
     return 0;
 }
 
@@ -128,7 +131,7 @@ int load_srec(const char *text, size_t length, struct assembled *a, struct fault
     memset(a->set, 0xFF, sizeof a->set);
     reply = xm23_load_srec(a->memory, sizeof a->memory, bytes, length, 0);
     if (XM23_REFUSAL(reply))
-        return refused(reply, f);
+        return refused(reply, text, length, f);
     xm23_load_srec(a->set, sizeof a->set, bytes, length, 0);
     for (unsigned at = 0; at < XM23_MEMORY_SIZE; at++)
         a->set[at] = a->set[at] == a->memory[at];
@@ -205,11 +208,17 @@ int open_program(const struct paper *p, const struct program *program, struct ma
     return 1;
 }
 
+int say_refusal(const char *name, uint32_t line, unsigned refusal, const char *words)
+{
+    say_at(name, line, "R%u: %s", refusal, words);
+    return REFUSED;
+}
+
 int say_fault(const char *name, const struct fault *f)
 {
     const char *told = f->file ? f->file->path : name;
     if (f->refusal)
-        say_at(told, f->line, "R%u: %s", f->refusal, f->why.at);
+        say_refusal(told, f->line, f->refusal, f->why.at);
     else
         say_at(name, 0, "%s", f->why.at);
     if (f->refusal == XM23_REFUSED_SREC_FORM && ends_in(told, ".paper"))

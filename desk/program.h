@@ -76,7 +76,9 @@ unsigned starting_file(const struct program *p); /* the one that has the PC: pro
 void add_spans(struct text *t, const uint8_t *memory, const uint8_t *set, unsigned kind);
 void add_srec(struct text *t, const struct assembled *a);
 
-/* Tells a refusal of a program, with the file that it is of. REFUSED. */
-int say_fault(const char *name, const struct fault *f);
+/* Tells a refusal of the library, by its number and in words: that of a file, or of its line where one is at fault.
+ * REFUSED. */
+int say_refusal(const char *name, uint32_t line, unsigned refusal, const char *words);
+int say_fault(const char *name, const struct fault *f); /* of a program, with the file that it is of */
 
 #endif

@@ -10,8 +10,7 @@ static int tell_verdict(const struct paper *p, const struct marked *m)
 {
     int enough;
     if (!m->ran)
-        say_at(m->row.name, 0, "%s%s%s%s%s", m->row.line.at, m->row.line.length ? ": " : "", m->row.says.at,
-               m->hint[0] ? ": " : "", m->hint);
+        say_fault(m->row.name, &m->fault);
     else if (m->row.agrees == 0)
         say_at(p->name, p->expected_line, "another line was expected: %s", p->expected);
     enough = points_enough(p, m->row.met);
@@ -53,10 +52,10 @@ int xm23_desk_report(int argc, char **argv)
         else if (option == 's')
             s.sound = 1;
         else if (option != 'a' || !(s.asked = step_word(optarg, &s.around)))
-            return misused("report");
+            return wrong_option("report", option, NO_STEP);
     }
     if (argc - optind != 2)
-        return misused("report");
+        return wrong_words("report", argc - optind, argv + optind, 2);
     if (overwrites(to, argv[optind]))
         return UNREADABLE;
     status = read_paper(argv[optind], &p);

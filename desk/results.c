@@ -357,7 +357,7 @@ static int write_sums(const struct sitting *s, const struct folder *f, const str
 static void tell_missing(const struct row *r)
 {
     if (!r->digest[0] && strcmp(r->says.at, strerror(ENOENT)) == 0)
-        say_at(r->name, 0, "%s", r->says.at);
+        say_at(r->name, 0, "%s%s", r->says.at, late_option(r->name));
 }
 
 static int tally_rows(const struct sitting *s, const struct folder *f, const struct rows *rows, struct tally *all)

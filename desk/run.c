@@ -68,6 +68,15 @@ static uint64_t add_points(struct text *t, const struct paper *p, const struct m
     return w.met;
 }
 
+/* Why a program does not run, which is told, as its line: nothing where that has no number. */
+static void add_refused(struct text *line, const struct program *program, const struct fault *f)
+{
+    say_fault(program->name, f);
+    add_bytes(line, "", 0);
+    if (f->refusal)
+        addf(line, "R%u", f->refusal);
+}
+
 static int run_program(const struct paper *p, const struct program *program, int legend)
 {
     static struct machine m;
@@ -84,10 +93,7 @@ static int run_program(const struct paper *p, const struct program *program, int
         if (legend)
             run_machine(&m, p, p->steps, &o);
     } else {
-        say_fault(program->name, &f);
-        add_bytes(&line, "", 0);
-        if (f.refusal)
-            addf(&line, "R%u", f.refusal);
+        add_refused(&line, program, &f);
     }
     status = tell_line(p, line.at, &screen, &awards, legend);
     if (status == DONE) {
@@ -108,23 +114,24 @@ static int run_early(const struct paper *p, const struct program *program, const
     struct text line = {0}, screen = {0}, awards = {0};
     struct outcome o = {0};
     struct fault f = {0};
-    uint32_t step;
-    int status = REFUSED;
-    if (!open_program(p, program, &m, &f)) {
-        drop_text(&f.why);
-        return run_program(p, program, a->legend);
-    }
-    memcpy(&after, &m, sizeof after);
-    run_machine(&after, p, p->steps, &o);
-    if (find_step(program->name, &m, o.steps, a->count, 1, &step)) {
+    uint32_t step = 0;
+    int ran = open_program(p, program, &m, &f), status;
+    if (ran) {
+        memcpy(&after, &m, sizeof after);
+        run_machine(&after, p, p->steps, &o);
+        if (!find_step(program->name, &m, o.steps, a->count, 1, &step))
+            return REFUSED;
         add_line(&line, &m, p, step);
         o.screen = &screen;
         run_machine(&m, p, step, &o);
-        status = tell_line(p, line.at, &screen, &awards, a->legend);
+    } else {
+        add_refused(&line, program, &f);
     }
+    status = tell_line(p, line.at, &screen, &awards, a->legend);
     drop_text(&line);
     drop_text(&screen);
-    return status;
+    drop_text(&f.why);
+    return status == DONE && !ran ? REFUSED : status;
 }
 
 static int run_file(const struct paper *p, const char *name, const struct asked *a)
@@ -154,10 +161,10 @@ int xm23_desk_run(int argc, char **argv)
         if (option == 'l')
             a.legend = 1;
         else if (option != 'n' || !(a.early = step_word(optarg, &a.count)))
-            return misused("run");
+            return wrong_option("run", option, NO_STEP);
     }
     if (argc - optind != 1 && argc - optind != 2)
-        return misused("run");
+        return wrong_words("run", argc - optind, argv + optind, 2);
     status = argc - optind == 1 ? no_paper(&p) : read_paper(argv[optind], &p);
     if (status == DONE) {
         status = run_file(&p, argv[argc - 1], &a);

@@ -4,12 +4,6 @@
 #include "sound.h"
 #include "desk.h"
 
-static int tell_refusal(const struct paper *p, const struct verdict *v)
-{
-    say_at(p->name, 0, "R%u: %s", v->refusal, xm23_refusal_text(v->refusal));
-    return REFUSED;
-}
-
 /* A line for each finding, in the order of their steps. */
 static int tell_findings(const struct verdict *v)
 {
@@ -35,7 +29,7 @@ static int judge_program(const struct paper *p, const struct program *program)
     int status;
     if (open_program(p, program, &m, &f)) {
         struct verdict *v = judge_run(p, &m);
-        status = v->refusal ? tell_refusal(p, v) : tell_findings(v);
+        status = v->refusal ? say_refusal(p->name, 0, v->refusal, xm23_refusal_text(v->refusal)) : tell_findings(v);
         drop_verdict(v);
     } else {
         status = say_fault(program->name, &f);
@@ -61,7 +55,10 @@ static int sound_file(const char *paper, const char *name)
 
 int xm23_desk_sound(int argc, char **argv)
 {
-    if (getopt(argc, argv, "+:") != -1)
-        return misused("sound");
-    return argc - optind == 2 ? sound_file(argv[optind], argv[optind + 1]) : misused("sound");
+    int option = getopt(argc, argv, "+:");
+    if (option != -1)
+        return wrong_option("sound", option, NULL);
+    if (argc - optind != 2)
+        return wrong_words("sound", argc - optind, argv + optind, 2);
+    return sound_file(argv[optind], argv[optind + 1]);
 }

@@ -71,10 +71,8 @@ static int tell_bytes(const struct paper *p, const struct assembled *a, const ch
     uint8_t vectors[XM23_VECTORS_SIZE];
     struct text t = {0};
     int status;
-    if (n.refusal) {
-        say_at(p->name, n.line, "R%u: %s", n.refusal, xm23_refusal_text(n.refusal));
-        return REFUSED;
-    }
+    if (n.refusal)
+        return say_refusal(p->name, n.line, n.refusal, xm23_refusal_text(n.refusal));
     if (!p->devices) {
         say_at(p->name, 0, "has no line 'use DEVICE BYTES'");
         return REFUSED;
@@ -104,9 +102,11 @@ int xm23_desk_stack(int argc, char **argv)
 {
     static struct assembled a;
     static struct paper p;
-    int status;
-    if (getopt(argc, argv, "+:") != -1 || argc - optind < 1 || argc - optind > 2)
-        return misused("stack");
+    int option = getopt(argc, argv, "+:"), status;
+    if (option != -1)
+        return wrong_option("stack", option, NULL);
+    if (argc - optind < 1 || argc - optind > 2)
+        return wrong_words("stack", argc - optind, argv + optind, 2);
     status = read_paper(argv[optind], &p);
     if (status == DONE) {
         status = argv[optind + 1] ? with_file(&p, argv[optind + 1], &a) : tell_bytes(&p, &a, NULL);

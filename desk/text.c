@@ -216,6 +216,12 @@ int ends_in(const char *name, const char *end)
     return length >= letters && strcmp(name + length - letters, end) == 0;
 }
 
+int has_order_mark(const char *bytes, size_t length)
+{
+    return (length >= 3 && memcmp(bytes, "\xEF\xBB\xBF", 3) == 0) ||
+           (length >= 2 && (memcmp(bytes, "\xFF\xFE", 2) == 0 || memcmp(bytes, "\xFE\xFF", 2) == 0));
+}
+
 void say_text(const char *format, ...)
 {
     struct text t = {0};
@@ -227,9 +233,9 @@ void say_text(const char *format, ...)
     tell(&t);
 }
 
-static void add_place(struct text *t, const char *name, uint32_t line)
+void add_at(struct text *t, const char *name, uint32_t line)
 {
-    addf(t, "%s:", name);
+    addf(t, "%s:", *name ? name : "''");
     if (line)
         addf(t, "%lu:", (unsigned long)line);
     addf(t, " ");
@@ -239,7 +245,7 @@ void say_at(const char *name, uint32_t line, const char *format, ...)
 {
     struct text t = {0};
     va_list list;
-    add_place(&t, name, line);
+    add_at(&t, name, line);
     va_start(list, format);
     add_list(&t, format, list);
     va_end(list);
@@ -249,7 +255,7 @@ void say_at(const char *name, uint32_t line, const char *format, ...)
 void say_of(const char *name, uint32_t line, const char *word, size_t length, const char *what)
 {
     struct text t = {0};
-    add_place(&t, name, line);
+    add_at(&t, name, line);
     addf(&t, "'");
     add_bytes(&t, word, length < MOST_WORD ? length : MOST_WORD);
     addf(&t, "%s' %s", length < MOST_WORD ? "" : "..", what);

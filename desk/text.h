@@ -32,9 +32,12 @@ void add_plain_lines(struct text *t, const char *bytes, size_t length); /* line 
 void add_html_lines(struct text *t, const char *bytes, size_t length);
 
 int ends_in(const char *name, const char *end); /* a name, in these letters */
+int has_order_mark(const char *bytes, size_t length); /* whether a text begins with that of UTF-8 or of UTF-16 */
 
-/* Prints `xm23: ` or `name:line: ` (line 0: `name: `) and the text as one line on standard error, as add_plain has it;
- * say_of begins it with a word in quotes, of a long one the first bytes. */
+void add_at(struct text *t, const char *name, uint32_t line); /* `name:line: `; line 0: `name: `; no name: '' */
+
+/* Prints `xm23: ` or a place and the text as one line on standard error, as add_plain has it; say_of begins it with a
+ * word in quotes, of a long one the first bytes. */
 void say_text(const char *format, ...);
 void say_at(const char *name, uint32_t line, const char *format, ...);
 void say_of(const char *name, uint32_t line, const char *word, size_t length, const char *what);

@@ -73,6 +73,7 @@ struct part closing_part(uint32_t steps, uint32_t idle);
 struct part part_around(uint32_t steps, uint32_t step);
 
 int step_word(const char *word, uint32_t *count); /* the count that a word of a command is, base ten; 0: it is none */
+#define NO_STEP "is no step, 0 to 4294967295"     /* what is then wrong with it */
 
 /* The steps of a run before the step of a count, which it takes, or, with `end`, which it ends before: 0, which has
  * been told of the program, where it does neither. */

@@ -7,7 +7,6 @@ cd "$(dirname "$0")/../.."
 xm23=$(realpath "${1:-build/xm23}")
 top=$PWD
 sitting=$top/examples/sitting
-usage() { echo "usage: xm23 $1 .*"; }
 cd "$room" || exit 1
 
 # found WHAT LINES PAPER [MODEL]: the findings, a bar between two; model is a source.

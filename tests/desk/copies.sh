@@ -128,8 +128,8 @@ expect 'an endless file' 3 '1 program compared.*' '/dev/zero: is not compared: i
 printf 'steps\n' > wrong.paper
 expect 'a mistake in the paper' 1 '' 'wrong.paper:1: .*' "$xm23" copies wrong.paper alice.asm bob.asm
 expect 'no paper' 3 '' 'no/paper: .*' "$xm23" copies no/paper alice.asm bob.asm
-expect 'one word' 2 '' 'usage: xm23 copies .*' "$xm23" copies p.paper
-expect 'an option' 2 '' 'usage: xm23 copies .*' "$xm23" copies -x p.paper alice.asm
+expect 'one word' 2 '' "$(usage copies)" "$xm23" copies p.paper
+expect 'an option' 2 '' "$(usage copies)" "$xm23" copies -x p.paper alice.asm
 expect 'a name that is hostile' 1 "same words, 41: alice.asm, a\\\\x1B\[31m\\\\x0A<b>.asm.*" '' \
     sh -c "cp alice.asm \"\$1\" && '$xm23' copies -o hostile.html p.paper alice.asm \"\$1\"" - $'a\e[31m\n<b>.asm'
 same 'on the page' "$(grep -c '&#60;b&#62;.asm' hostile.html)" 1

@@ -9,7 +9,6 @@ top=$PWD
 paper=$top/examples/sitting/sum.paper
 sound=$top/examples/sitting/programs/sound.s19
 line='0 120 001F 0120 0000 0006 0000 FFFF 0800 1016 0003 00 00000000 1'
-usage() { echo "usage: xm23 $1 .*"; }
 
 # ---- the program itself
 expect 'no word' 2 '' 'usage: xm23 .*' "$xm23"
@@ -264,7 +263,7 @@ same 'to standard output' "$("$xm23" report sum.paper programs/stops_early.s19 2
 same 'with its steps, as far as the closing ones' \
     "$(sed -n '/<h2>The last 32 steps before the closing ones</,/<\/table>/p' "$room/report.html" | grep '^<tr><td' |
         sed -n 's/<tr><td class="n">\([0-9]*\)<.*/\1/p' | tr '\n' ' ')" "$(seq -s ' ' 45 76) "
-expect 'report of a refused program' 1 '' "programs/refused.s19: R11: line 2: a line's checksum differs" \
+expect 'report of a refused program' 1 '' "programs/refused.s19:2: R11: a line's checksum differs" \
     "$xm23" report -o "$room/report.html" sum.paper programs/refused.s19
 same 'says so' "$(grep -c '>Refused: not the expected line<' "$room/report.html")" 1
 same 'and has no walk' "$(grep -c 'id="walk"' "$room/report.html")" 0

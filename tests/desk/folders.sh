@@ -126,7 +126,7 @@ expect 'run' 1 'R18' 'alice/handler2.asm:4: R18: a name is unknown.*' "$xm23" ru
 expect 'with a slash' 1 'R18' 'alice/handler2.asm:4: R18: .*' "$xm23" run "$paper" alice/
 expect 'dis' 1 '' 'alice/handler2.asm:4: R18: .*' "$xm23" dis alice
 expect 'stack' 1 '' 'alice/handler2.asm:4: R18: .*' "$xm23" stack "$paper" alice
-expect 'report' 1 '' 'alice: R18: handler2.asm, line 4: a name is unknown.*' "$xm23" report -o page.html "$paper" alice
+expect 'report' 1 '' 'alice/handler2.asm:4: R18: a name is unknown.*' "$xm23" report -o page.html "$paper" alice
 expect 'mark' 1 '' '' "$xm23" mark -o marks "$paper" alice
 like 'as a row' "$(cells marks line says)" 'R18\|handler2.asm, line 4: a name is unknown.*'
 sed '2s/..$/00/' "$sound" > alice/handler2.s19

@@ -198,7 +198,7 @@ for word in events sound back dis; do
     expect "$word" 1 '' ".*/ret.asm:1: $form.*column 2: RET is written MOV LR,PC" \
         "$xm23" $word $([ $word = dis ] || echo "$paper") "$room/ret.asm"
 done
-expect 'report' 1 '' ".*/ret.asm: R17: line 1: .* missing: column 2: RET is written MOV LR,PC" \
+expect 'report' 1 '' "$room/ret.asm:1: $form.$room/ret.asm:1: column 2: RET is written MOV LR,PC" \
     "$xm23" report -o "$room/ret.html" "$paper" "$room/ret.asm"
 same 'its page' "$(grep -c '<p id="hint">column 2: RET is written MOV LR,PC</p>' "$room/ret.html")" 1
 printf 'steps 5\nsource ret.asm\n' > "$room/p.paper"
@@ -218,7 +218,7 @@ printf ' SETPRI #7\n END\n' > "$room/halt.asm"
 expect 'a program that halts' 0 '1 2 .*' '' "$xm23" run "$room/halt.asm"
 expect 'a source at fault' 1 R17 ".*column 2: RET is written MOV LR,PC" "$xm23" run "$room/ret.asm"
 expect 'no such program' 3 '' 'no/such: No such file.*' "$xm23" run no/such
-expect 'no word' 2 '' 'usage: xm23 run .*' "$xm23" run
+expect 'no word' 2 '' "$(usage run)" "$xm23" run
 
 # ---- sources near lawful ones
 rounds=$([ "$checked" ] && echo 150 || echo 600)

@@ -72,9 +72,11 @@ wrong 'R alone' 'R' "'R' is no refusal: R and its number"
 wrong 'an escape' $'\e[31m0 0' "'\\\\x1B\[31m0' is no reason: 0 to 1"
 wrong 'a long word' "$(printf '%0100d' 1)" "'0{40}\.\.' is no reason: 0 to 1"
 expect 'no line in the command' 1 '' "xm23: 'x' is no reason: 0 to 1" "$xm23" line x
-expect 'an option' 2 '' 'usage: xm23 line .*' "$xm23" line -x
+expect 'an option' 2 '' "$(usage line)" "$xm23" line -x
 zero() { printf '0 0 \0 0000' | "$xm23" line; }
-expect 'a zero byte' 1 '' 'standard input:1: the line ends before R0: .*' zero
+expect 'a zero byte' 1 '' "standard input:1: '\\\\x00' is no R0: .*" zero
+behind() { printf 'R10\0 0000' | "$xm23" line; }
+expect 'a zero byte behind a refusal' 1 '' "standard input:1: 'R10\\\\x00' is no refusal: R and its number" behind
 folder() { "$xm23" line < /; }
 expect 'a folder' 3 '' 'standard input: is a folder' folder
 endless() { "$xm23" line < /dev/zero; }

@@ -327,12 +327,12 @@ cp "$sound" names/--
 expect 'behind --' 0 '' '' bash -c 'cd names && exec "$0" mark -o ../named -- "$1" *' "$xm23" "$paper"
 same 'is a name like any other' "$(cells named agrees | sort | uniq -c | tr -d ' ')" 4yes
 expect 'run of --help' 0 '0 120 001F .*' '' bash -c 'cd names && exec "$0" run "$1" --help' "$xm23" "$paper"
-expect '--help elsewhere' 2 '' 'usage: xm23 mark .*' "$xm23" mark -o x --help "$paper" a.s19
+expect '--help elsewhere' 2 '' "$(usage mark)" "$xm23" mark -o x --help "$paper" a.s19
 expect '--help behind the subcommand' 0 'usage: xm23 mark .*' '' "$xm23" mark --help nonsense
 expect 'no name' 2 '' 'xm23: standard input names no program' "$xm23" mark -o none -0 "$paper" < /dev/null
 same 'is no marking' "$(ls -d none* 2> /dev/null)" ''
 for j in 4294967297 18446744073709551617 65 0 00 +4 ' 4' 4x 0x4 -1; do
-    expect "mark -j '$j'" 2 '' 'usage: xm23 mark .*' "$xm23" mark -j "$j" "$paper" a.s19
+    expect "mark -j '$j'" 2 '' "$(usage mark)" "$xm23" mark -j "$j" "$paper" a.s19
 done
 
 # ---- limits: what one program may take of a sitting

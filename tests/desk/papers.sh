@@ -186,9 +186,9 @@ same 'on a page' "$(grep -c "${both% }" marks/pages/*)" 1
 same 'in the table' "$(grep -c "${both% }" marks/index.html)" 1
 
 # ---- the command
-expect 'no paper' 2 '' 'usage: xm23 paper .*' "$xm23" paper
-expect 'two papers' 2 '' 'usage: xm23 paper .*' "$xm23" paper in/p.paper in/p.paper
-expect 'an option that it has not' 2 '' 'usage: xm23 paper .*' "$xm23" paper -x in/p.paper
+expect 'no paper' 2 '' "$(usage paper)" "$xm23" paper
+expect 'two papers' 2 '' "$(usage paper)" "$xm23" paper in/p.paper in/p.paper
+expect 'an option that it has not' 2 '' "$(usage paper)" "$xm23" paper -x in/p.paper
 expect 'no such paper' 3 '' 'none: No such file.*' "$xm23" paper none
 expect 'help' 0 'usage: xm23 paper .*' '' "$xm23" paper --help
 kept=$(cat in/clock.asm in/p.paper)

@@ -230,7 +230,7 @@ expect 'more frames than are watched' 1 \
 same 'a run that xm23_run takes on' "$("$xm23" run deep.paper deep.asm | cut -d ' ' -f 1,2,14)" '0 2000 300'
 
 # ---- use and misuse
-usage='usage: xm23 sound PAPER PROGRAM \(.*'
+usage=$(usage sound)
 expect 'help' 0 'usage: xm23 sound PAPER PROGRAM.*Status 0: sound.*' '' "$xm23" sound --help
 expect 'one word' 2 '' "$usage" "$xm23" sound clock.paper
 expect 'three words' 2 '' "$usage" "$xm23" sound clock.paper the_model.asm the_model.asm

@@ -8,7 +8,6 @@ cd "$(dirname "$0")/../.."
 xm23=$(realpath "${1:-build/xm23}")
 top=$PWD
 cd "$room" || exit 1
-usage() { echo "usage: xm23 $1 .*"; }
 
 # A clock that ticks 4,000 times, its handler a source of the paper; two million steps would not fit, one does.
 cat > clock.asm << 'END'
@@ -211,7 +210,7 @@ expect 'report -a beyond the end' 1 '' "mine.asm: step 1001000 is beyond the end
 expect 'report -a before the start' 1 '' "mine.asm: step 5 is before the start: $has" \
     "$xm23" report -a 5 -o none.html long.paper mine.asm
 same 'writes no page' "$(ls none.html 2> /dev/null)" ''
-expect 'report -a of a refused program' 1 '' '.*refused.s19: R11: .*' \
+expect 'report -a of a refused program' 1 '' '.*refused.s19:2: R11: .*' \
     "$xm23" report -a 5 -o refused.html "$sitting/sum.paper" "$sitting/programs/refused.s19"
 same 'writes its page' "$(grep -c '>Refused: ' refused.html)" 1
 

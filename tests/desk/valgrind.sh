@@ -34,6 +34,8 @@ clean 'the same in a model' 1 check "$paper" "$room/lone.asm"
 clean 'the same on a page' 1 report -o "$room/lone.html" "$paper" "$room/lone.asm"
 clean 'report of no program' 3 report -o "$room/report.html" "$paper" no/such
 clean 'run to a step' 0 run -n 46 "$paper" "$programs/sound.s19"
+clean 'run to a step of a refused program' 1 run -n 46 "$paper" "$programs/refused.s19"
+clean 'a value that is none' 2 run -n x "$paper" "$programs/sound.s19"
 clean 'run to no step' 1 run -n 461 "$paper" "$programs/sound.s19"
 clean 'report of a step' 1 report -a 60 -o "$room/report.html" "$paper" "$programs/screen.asm"
 clean 'report of no step' 1 report -a 600 -o "$room/report.html" "$paper" "$programs/screen.asm"

@@ -37,6 +37,12 @@ expect() {
     like "$what: errors" "$(cat "$room/err")" "$err"
 }
 
+# usage SUBCOMMAND [WRONG]: the pattern of what xm23 tells of bad usage: what is wrong, and how it is used.
+usage() {
+    local line=$'[^\n]+'
+    printf 'xm23: %s: %s\nusage: xm23 %s %s' "$1" "${2:-$line}" "$1" "$line"
+}
+
 # noise COUNT: random bytes, the same in every run.
 noise() {
     python3 -c 'import random, sys; sys.stdout.buffer.write(random.Random(23).randbytes(int(sys.argv[1])))' "$1"

@@ -15,6 +15,10 @@ use Rattle.isa.specs.declared.Encoded.the-variants.{Word, Refused}
 abbrev pub whenFits : Bool → ℕ → Encoded
 whenFits fits w = cond fits (Word w) Refused
 
+-- Three fields below their limits, the last below 8: MOV, SWAP, SRA to COMP, CEX. [003 14]
+abbrev pub threeWord : ℕ → ℕ → ℕ → ℕ → ℕ → ℕ → Encoded
+threeWord base high middle x y z = whenFits (ltb x high && ltb y middle && ltb z 8) (base + x * 64 + y * 8 + z)
+
 -- SWPB and SXT, which differ in the word that all fields zero have. [003 14; 02 §14]
 abbrev pub registerWord : ℕ → ℕ → ℕ → Encoded
 registerWord base dst ignored = whenFits (ltb dst 8 && ltb ignored 2) (base + ignored * 64 + dst)

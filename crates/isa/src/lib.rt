@@ -2,12 +2,12 @@
 // `decode` is total: a word that is not in the table of section 14 decodes to `Illegal`.
 // `encode` refuses `Illegal` and an instruction with a field that its format cannot hold.
 ghost use mathlib.Core.Path.{_≡_};
-ghost use Prim.Native.Nat.{_<_, _≤_, _+_};
+ghost use Prim.Native.Nat.{_<_, _≤_, _+_, _*_};
 ghost use lib.Dec.{ltb};
 ghost use Rattle.isa.specs.Decode.{unaryOf, controlOf, miscOf, memoryOf, relativeOf};
 ghost use Rattle.isa.specs.Decode.{decodeOf};
 ghost use Rattle.isa.specs.Encode.{whenFits, encodeOf, registerWord};
-ghost use Rattle.isa.specs.Encode.{indexedWord, relativeWord};
+ghost use Rattle.isa.specs.Encode.{threeWord, indexedWord, relativeWord};
 use word::magnitude;
 use word::offset_bits;
 use word::signed;
@@ -327,6 +327,25 @@ fn encode_branch(cond: u8, off: i16) -> Encoded
     Encoded::Word(0x2000 + cond as u16 * 1024 + offset_bits(512, off))
 }
 
+// Three fields, x below high, y below middle and z below 8: MOV, SWAP, SRA to COMP, CEX. base is
+// the word with all fields zero.
+fn encode_three(base: u16, high: u8, middle: u8, x: u8, y: u8, z: u8) -> Encoded
+    requires { ⌜ base + high * 64 ≤ 65536 ⌝ }
+    requires { ⌜ middle ≤ 8 ⌝ }
+    ensures { λ r. ⌜ r ≡ threeWord base high middle x y z ⌝ }
+{
+    if high <= x {
+        return Encoded::Refused;
+    }
+    if middle <= y {
+        return Encoded::Refused;
+    }
+    if 8 <= z {
+        return Encoded::Refused;
+    }
+    Encoded::Word(base + x as u16 * 64 + y as u16 * 8 + z as u16)
+}
+
 // ADD to BIS.
 fn encode_alu(op: u8, rc: u8, wb: u8, src: u8, dst: u8) -> Encoded
     ensures { λ r. ⌜ r ≡ encodeOf (Instr.Alu op rc wb src dst) ⌝ }
@@ -349,54 +368,6 @@ fn encode_alu(op: u8, rc: u8, wb: u8, src: u8, dst: u8) -> Encoded
     Encoded::Word(
         0x4000 + op as u16 * 256 + rc as u16 * 128 + wb as u16 * 64 + src as u16 * 8 + dst as u16,
     )
-}
-
-// MOV between registers.
-fn encode_mov(wb: u8, src: u8, dst: u8) -> Encoded
-    ensures { λ r. ⌜ r ≡ encodeOf (Instr.Mov wb src dst) ⌝ }
-{
-    if 2 <= wb {
-        return Encoded::Refused;
-    }
-    if 8 <= src {
-        return Encoded::Refused;
-    }
-    if 8 <= dst {
-        return Encoded::Refused;
-    }
-    Encoded::Word(0x4C00 + wb as u16 * 64 + src as u16 * 8 + dst as u16)
-}
-
-// SWAP.
-fn encode_swap(src: u8, dst: u8, ignored: u8) -> Encoded
-    ensures { λ r. ⌜ r ≡ encodeOf (Instr.Swap src dst ignored) ⌝ }
-{
-    if 8 <= src {
-        return Encoded::Refused;
-    }
-    if 8 <= dst {
-        return Encoded::Refused;
-    }
-    if 2 <= ignored {
-        return Encoded::Refused;
-    }
-    Encoded::Word(0x4C80 + ignored as u16 * 64 + src as u16 * 8 + dst as u16)
-}
-
-// SRA, RRC, COMP.
-fn encode_unary(op: u8, wb: u8, dst: u8) -> Encoded
-    ensures { λ r. ⌜ r ≡ encodeOf (Instr.Unary op wb dst) ⌝ }
-{
-    if 3 <= op {
-        return Encoded::Refused;
-    }
-    if 2 <= wb {
-        return Encoded::Refused;
-    }
-    if 8 <= dst {
-        return Encoded::Refused;
-    }
-    Encoded::Word(0x4D00 + wb as u16 * 64 + op as u16 * 8 + dst as u16)
 }
 
 // SWPB and SXT; base is the word with all fields zero.
@@ -422,22 +393,6 @@ fn encode_one(base: u16, limit: u8, x: u8) -> Encoded
         return Encoded::Refused;
     }
     Encoded::Word(base + x as u16)
-}
-
-// CEX.
-fn encode_cex(cond: u8, true_count: u8, false_count: u8) -> Encoded
-    ensures { λ r. ⌜ r ≡ encodeOf (Instr.Cex cond «true_count» «false_count») ⌝ }
-{
-    if 16 <= cond {
-        return Encoded::Refused;
-    }
-    if 8 <= true_count {
-        return Encoded::Refused;
-    }
-    if 8 <= false_count {
-        return Encoded::Refused;
-    }
-    Encoded::Word(0x5000 + cond as u16 * 64 + true_count as u16 * 8 + false_count as u16)
 }
 
 // LD and ST; base is the word with all fields zero.
@@ -522,9 +477,9 @@ pub fn encode(i: Instr) -> Encoded
             src,
             dst,
         } => encode_alu(op, rc, wb, src, dst),
-        Instr::Mov { wb, src, dst } => encode_mov(wb, src, dst),
-        Instr::Swap { src, dst, ignored } => encode_swap(src, dst, ignored),
-        Instr::Unary { op, wb, dst } => encode_unary(op, wb, dst),
+        Instr::Mov { wb, src, dst } => encode_three(0x4C00, 2, 8, wb, src, dst),
+        Instr::Swap { src, dst, ignored } => encode_three(0x4C80, 2, 8, ignored, src, dst),
+        Instr::Unary { op, wb, dst } => encode_three(0x4D00, 2, 3, wb, op, dst),
         Instr::Swpb { dst, ignored } => encode_register(0x4D18, dst, ignored),
         Instr::Sxt { dst, ignored } => encode_register(0x4D20, dst, ignored),
         Instr::SetPri { level } => encode_one(0x4D80, 8, level),
@@ -535,7 +490,7 @@ pub fn encode(i: Instr) -> Encoded
             cond,
             true_count,
             false_count,
-        } => encode_cex(cond, true_count, false_count),
+        } => encode_three(0x5000, 16, 8, cond, true_count, false_count),
         Instr::Ld {
             prpo,
             dec,

@@ -2,6 +2,7 @@
 ghost use mathlib.Core.Path.{_≡_};
 ghost use Prim.Native.Nat.{_<_};
 ghost use Rattle.machine.specs.Depth.{deeper, shallower, depthAfter};
+ghost use Rattle.frame_depth.specs.Moved.{movedBy};
 use machine::Act;
 use machine::Depth;
 
@@ -36,14 +37,34 @@ pub fn pulled(p: Depth) -> Depth
     }
 }
 
-// The depth after an act: only an entry that pushes and a return that pulls move it.
+// What an act does to the open frames.
+pub enum Move {
+    Nothing,
+    Pushes,
+    Pulls,
+}
+
+// The depth after a move.
+fn by(m: Move, p: Depth) -> Depth
+    requires { ⌜ p .opened < 4294967295 ⌝ }
+    ensures { λ r. ⌜ r ≡ movedBy m p ⌝ }
+{
+    match m {
+        Move::Nothing => p,
+        Move::Pushes => pushed(p),
+        Move::Pulls => pulled(p),
+    }
+}
+
+// The depth after an act: only an entry that pushes and a return that pulls move it. The move is a
+// constant of each arm, so that nothing is left of it in the compiled code.
 pub fn moved(a: Act, p: Depth) -> Depth
     requires { ⌜ p .opened < 4294967295 ⌝ }
     ensures { λ r. ⌜ r ≡ depthAfter a p ⌝ }
 {
     match a {
-        Act::Pull => pulled(p),
-        Act::Accept(..) | Act::Fault(..) | Act::Trap(..) => pushed(p),
-        _ => p,
+        Act::Pull => by(Move::Pulls, p),
+        Act::Accept(..) | Act::Fault(..) | Act::Trap(..) => by(Move::Pushes, p),
+        _ => by(Move::Nothing, p),
     }
 }

@@ -52,18 +52,9 @@ fn address_of(a: Act, stack: u16) -> u16
     ensures { λ r. ⌜ ((c : Core) → sp c ≡ stack → r ≡ addressOf a c) ⌝ }
 {
     match a {
-        Act::Stopped => 0,
-        Act::Pull => 0,
-        Act::Chain(..) => 0,
-        Act::Accept(..) => frame_at(stack),
-        Act::Sleep => 0,
-        Act::Fault(..) => frame_at(stack),
-        Act::Halt => 0,
-        Act::Skip => 0,
-        Act::Trap(..) => frame_at(stack),
-        Act::Plain => 0,
-        Act::Loads { .. } => 0,
+        Act::Accept(..) | Act::Fault(..) | Act::Trap(..) => frame_at(stack),
         Act::Stores { byte, at, .. } => stored_at(byte, at),
+        _ => 0,
     }
 }
 

@@ -53,23 +53,13 @@ pub fn shown_by(mem: &[u8], a: Act) -> Showing
         → listed (s .count) r ≡ loggedOf a s) ⌝ }
 {
     match a {
-        Act::Stopped => Showing::Nothing,
-        Act::Pull => Showing::Nothing,
-        Act::Chain(..) => Showing::Nothing,
-        Act::Accept(..) => Showing::Nothing,
-        Act::Sleep => Showing::Nothing,
-        Act::Fault(..) => Showing::Nothing,
-        Act::Halt => Showing::Nothing,
-        Act::Skip => Showing::Nothing,
-        Act::Trap(..) => Showing::Nothing,
-        Act::Plain => Showing::Nothing,
-        Act::Loads { .. } => Showing::Nothing,
         Act::Stores { byte, at, value } => {
             if byte & (at.0 % 2 != 1) {
                 return Showing::Nothing;
             }
             shown_on(mem, memory::word_of(at).0, odd_byte(byte, value))
         }
+        _ => Showing::Nothing,
     }
 }
 

@@ -88,18 +88,8 @@ pub fn seen_by(mem: &[u8], a: Act) -> u16
     ensures { λ r. ⌜ r ≡ seenOf a (now (mem .entry)) ⌝ }
 {
     match a {
-        Act::Stopped => 0,
-        Act::Pull => 0,
-        Act::Chain(..) => 0,
-        Act::Accept(..) => 0,
-        Act::Sleep => 0,
-        Act::Fault(..) => 0,
-        Act::Halt => 0,
-        Act::Skip => 0,
-        Act::Trap(..) => 0,
-        Act::Plain => 0,
         Act::Loads { byte, at, .. } => value_at(mem, byte, at),
-        Act::Stores { .. } => 0,
+        _ => 0,
     }
 }
 
@@ -128,18 +118,14 @@ fn tell(a: Act, seen: u16, pc: u16, psw: u16) -> Told
     ensures { λ r. ⌜ r ≡ toldOf a seen pc psw ⌝ }
 {
     match a {
-        Act::Stopped => telling(0, 0, 0),
         Act::Pull => telling(0, pc, psw),
         Act::Chain(d) => telling(d, pc, psw),
         Act::Accept(d) => telling(d, pc, psw),
-        Act::Sleep => telling(0, 0, 0),
         Act::Fault(v) => telling(v, pc, psw),
-        Act::Halt => telling(0, 0, 0),
-        Act::Skip => telling(0, 0, 0),
         Act::Trap(v) => telling(v, pc, psw),
-        Act::Plain => telling(0, 0, 0),
         Act::Loads { byte, at, .. } => telling(byte as u8, at.0, seen),
         Act::Stores { byte, at, value } => telling(byte as u8, at.0, operand(byte, value)),
+        _ => telling(0, 0, 0),
     }
 }
 

@@ -4,7 +4,7 @@ use Rattle.writers.proofs.Laws.{foreign-within, two-first}
 use Rattle.writers.specs.First.{firstIn, foreignIn, TrapsWithin}
 use Rattle.resume.specs.Frames.{readsOf, frameSpan, vectorSpan}
 use Rattle.machine.specs.Memory.{span}
-use Rattle.machine.specs.State.{pc, sp}
+use Rattle.machine.specs.State.{pc}
 use Rattle.machine_laws.proofs.Acts.{of-these}
 use mathlib.Core.List.{[], _∷_}
 use mathlib.Core.Path.{refl, sym, ap, subst, _∙_}
@@ -23,13 +23,18 @@ foreign-vector-requires c κs =
 
 returns : tie.Need-returns
 returns c k p q =
-    let s = c .before .before .before .args in
-    let f = foreignIn (now (s .writers)) in
-    c .foreign-frame .ensures ∙ ap (λ (x : ℕ). firstIn f (frameSpan x)) (sym q)
-    ∙ ap (firstIn f) (sym (of-these (λ z. readsOf z k) (frameSpan (sp k)) (1 ∷ 2 ∷ []) refl (s .act) (c .before .match .keys1)))
+    let f = foreignIn (now (c .before .before .before .before .args .writers)) in
+    c .foreign-frame .ensures ∙ ap (λ (s : ℕ). firstIn f (frameSpan s)) (sym q)
+    ∙ ap (λ z. firstIn f (readsOf z k)) (sym (c .before .enum-told .given .1))
 
 returns-2 : tie.Need-returns-2
 returns-2 c k p q =
+    let f = foreignIn (now (c .before .before .before .before .args .writers)) in
+    c .foreign-frame2 .ensures ∙ ap (λ (s : ℕ). firstIn f (frameSpan s)) (sym q)
+    ∙ ap (λ z. firstIn f (readsOf z k)) (sym (c .before .enum-told2 .given .1))
+
+returns-3 : tie.Need-returns-3
+returns-3 c k p q =
     let s : tie.Start = search in
     let w = now (s .args .writers) in
     let g = c .before .before .before .before .act .given in
@@ -39,8 +44,8 @@ returns-2 c k p q =
     (c .either .ensures)
     ∙ ap (λ z. firstIn (foreignIn w) (readsOf z k)) (sym (g .1))
 
-returns-3 : tie.Need-returns-3
-returns-3 c k p q =
+returns-4 : tie.Need-returns-4
+returns-4 c k p q =
     let s : tie.Start = search in
     let w = now (s .args .writers) in
     let g = c .before .before .before .before .act2 .given in
@@ -50,22 +55,28 @@ returns-3 c k p q =
     (c .either2 .ensures)
     ∙ ap (λ z. firstIn (foreignIn w) (readsOf z k)) (sym (g .1))
 
-returns-4 : tie.Need-returns-4
-returns-4 c k p q =
-    let s = c .before .before .before .args in
-    let f = foreignIn (now (s .writers)) in
-    c .foreign-word3 .ensures ∙ ap (λ (x : ℕ). firstIn f (span false x)) (sym p)
-    ∙ ap (firstIn f) (sym (of-these (λ z. readsOf z k) (span false (pc k)) (9 ∷ 11 ∷ []) refl (s .act) (c .before .match .keys4)))
-
 returns-5 : tie.Need-returns-5
 returns-5 c k p q =
+    let f = foreignIn (now (c .before .before .before .before .args .writers)) in
+    c .foreign-word3 .ensures ∙ ap (λ (s : ℕ). firstIn f (span false s)) (sym p)
+    ∙ ap (λ z. firstIn f (readsOf z k)) (sym (c .before .enum-told3 .given .1))
+
+returns-6 : tie.Need-returns-6
+returns-6 c k p q =
+    let f = foreignIn (now (c .before .before .before .before .args .writers)) in
+    c .foreign-word4 .ensures ∙ ap (λ (s : ℕ). firstIn f (span false s)) (sym p)
+    ∙ ap (λ z. firstIn f (readsOf z k)) (sym (c .before .enum-told4 .given .1))
+
+returns-7 : tie.Need-returns-7
+returns-7 c k p q =
     let s = c .before .before .args in
     ap (firstIn (foreignIn (now (s .writers)))) (sym (of-these (λ z. readsOf z k) [] (0 ∷ 3 ∷ 4 ∷ 5 ∷ 6 ∷ 7 ∷ []) refl (s .act)
-    (c .match .keys5)))
+    (c .match .keys7)))
 
 pub foreign-read-spec : {M : Type 1} → statement M
 foreign-read-spec =
     tie.close
-    (tie.spec (λ c κs. search needs) (λ c. search needs) foreign-vector-requires
+    (tie.spec (λ c. search needs) (λ c κs. search needs) (λ c. search needs) (λ c κs. search needs) (λ c. search needs) foreign-vector-requires
     (λ c κs. search needs) (λ c κs. search needs) (λ c. search needs) (λ c κs. search needs)
-    (λ c κs. search needs) (λ c κs. search needs) (λ c κs. search needs) returns returns-2 returns-3 returns-4 returns-5)
+    (λ c κs. search needs) (λ c κs. search needs) (λ c. search needs) (λ c κs. search needs) (λ c. search needs) (λ c κs. search needs)
+    returns returns-2 returns-3 returns-4 returns-5 returns-6 returns-7)

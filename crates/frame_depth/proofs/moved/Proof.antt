@@ -17,7 +17,8 @@ returns-2 c =
 returns-3 : tie.Need-returns-3
 returns-3 c =
     let s = c .before .before .args in
-    c .by3 .ensures ∙ sym (of-these (λ a. depthAfter a (s .p)) (s .p) (0 ∷ 2 ∷ 4 ∷ 6 ∷ 7 ∷ 9 ∷ 10 ∷ 11 ∷ []) refl (s .a) (c .before .match .keys3))
+    c .by3 .ensures
+    ∙ sym (of-these (λ a. depthAfter a (s .p)) (s .p) (0 ∷ 2 ∷ 4 ∷ 6 ∷ 7 ∷ 9 ∷ 10 ∷ 11 ∷ []) refl (s .a) (c .before .match .keys3))
 
 pub moved-spec : {M : Type 1} → statement M
 moved-spec =

@@ -28,7 +28,8 @@ returns-2 c s e =
 
 returns-3 : tie.Need-returns-3
 returns-3 c s e =
-    sym (of-these (λ x. loggedOf x s) [] (0 ∷ 1 ∷ 2 ∷ 3 ∷ 4 ∷ 5 ∷ 6 ∷ 7 ∷ 8 ∷ 9 ∷ 10 ∷ []) refl (c .before .before .args .a) (c .match .keys2))
+    let a = c .before .before .args .a in
+    sym (of-these (λ x. loggedOf x s) [] (0 ∷ 1 ∷ 2 ∷ 3 ∷ 4 ∷ 5 ∷ 6 ∷ 7 ∷ 8 ∷ 9 ∷ 10 ∷ []) refl a (c .match .keys2))
 
 pub shown-by-spec : {M : Type 1} → statement M
 shown-by-spec =

@@ -64,40 +64,7 @@ fn kind(x: Statement) -> u8
         Statement::End => 7,
         Statement::Byte(_) => 2,
         Statement::Word(_) => 3,
-        Statement::Fixed(_) => 1,
-        Statement::Bl(_) => 1,
-        Statement::Branch { cond: _, target: _ } => 1,
-        Statement::Constant {
-            op: _,
-            wb: _,
-            value: _,
-            dst: _,
-        } => 1,
-        Statement::SetPri(_) => 1,
-        Statement::Svc(_) => 1,
-        Statement::Cex {
-            cond: _,
-            true_count: _,
-            false_count: _,
-        } => 1,
-        Statement::MovImm {
-            op: _,
-            plain: _,
-            value: _,
-            dst: _,
-        } => 1,
-        Statement::Ldr {
-            off: _,
-            wb: _,
-            src: _,
-            dst: _,
-        } => 1,
-        Statement::Str {
-            off: _,
-            wb: _,
-            src: _,
-            dst: _,
-        } => 1,
+        _ => 1,
     }
 }
 

@@ -226,41 +226,7 @@ pub fn layout_of(x: Statement) -> Layout
         Statement::Bss(v) => Layout::Space(v),
         Statement::End => Layout::Stop,
         Statement::Byte(_) => Layout::Bytes(1),
-        Statement::Word(_) => Layout::Bytes(2),
-        Statement::Fixed(_) => Layout::Bytes(2),
-        Statement::Bl(_) => Layout::Bytes(2),
-        Statement::Branch { cond: _, target: _ } => Layout::Bytes(2),
-        Statement::Constant {
-            op: _,
-            wb: _,
-            value: _,
-            dst: _,
-        } => Layout::Bytes(2),
-        Statement::SetPri(_) => Layout::Bytes(2),
-        Statement::Svc(_) => Layout::Bytes(2),
-        Statement::Cex {
-            cond: _,
-            true_count: _,
-            false_count: _,
-        } => Layout::Bytes(2),
-        Statement::MovImm {
-            op: _,
-            plain: _,
-            value: _,
-            dst: _,
-        } => Layout::Bytes(2),
-        Statement::Ldr {
-            off: _,
-            wb: _,
-            src: _,
-            dst: _,
-        } => Layout::Bytes(2),
-        Statement::Str {
-            off: _,
-            wb: _,
-            src: _,
-            dst: _,
-        } => Layout::Bytes(2),
+        _ => Layout::Bytes(2),
     }
 }
 

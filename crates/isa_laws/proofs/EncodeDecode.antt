@@ -71,7 +71,7 @@ in-memory w h k =
       lt-ltb w 0x6000 (omega arith),
     )
 
-in-relative : (w : ℕ) → 0x8000 ≤ w → decodeOf w ≡ relativeOf w
+pub in-relative : (w : ℕ) → 0x8000 ≤ w → decodeOf w ≡ relativeOf w
 unfolding decodeOf
 in-relative w h =
     simp (

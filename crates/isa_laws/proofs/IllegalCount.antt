@@ -20,5 +20,5 @@ not-not false = refl
 
 pub illegal-count : IllegalCount
 illegal-count =
-    count-same 65536 (λ w. not (isLegal (decodeOf w))) illegal? (λ w h. ap not (legal-operation w h) ∙ not-not (illegal? w))
+    count-same 65536 (λ w. not (isLegal (decodeOf w))) illegal? (λ w h. ap not (legal-operation w) ∙ not-not (illegal? w))
     ∙ count-rows (λ o. sameOperation o op.Illegal) ∙ counted

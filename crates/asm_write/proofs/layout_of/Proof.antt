@@ -1,84 +1,52 @@
--- An arm for each statement, in the order of `Statement`: the arm tells which it is, and there the definition computes.
--- Instructions are all alike: two bytes.
+use mathlib.Core.Path.{_≡_, refl, sym, ap}
+use mathlib.Core.List.{List, [], _∷_}
+use Prim.Native.Nat.{ℕ}
+use types.Run.{OneOf, miss}
+use denote.Enum.Declared.{tagOf}
+use Rattle.asm_line.specs.declared.Statement.{Statement}
+use Rattle.asm_line.specs.declared.Statement.the-variants as st
+use Rattle.asm_line.proofs.Statement.{the-type}
+use Rattle.asm_write.specs.declared.Layout.the-variants.{Bytes}
 use Rattle.asm_write.specs.Written.{layoutOf}
-use mathlib.Core.Path.{sym, ap}
 use borrow.Author.Needs.{needs}
 use Rattle.asm_write.proofs.layout_of.Statement.{statement}
 use Rattle.asm_write.proofs.layout_of.Tie as tie
 
-returns : tie.Need-returns
-unfolding layoutOf
-returns c = sym (ap layoutOf (c .enum-told .given .1))
+-- WORD and the instructions, by the numbers of their constructors
+others : List ℕ
+others = 5 ∷ 7 ∷ 8 ∷ 9 ∷ 10 ∷ 11 ∷ 12 ∷ 13 ∷ 14 ∷ 15 ∷ 16 ∷ []
 
-returns-2 : tie.Need-returns-2
-unfolding layoutOf
-returns-2 c = sym (ap layoutOf (c .before .x .given .1))
-
-returns-3 : tie.Need-returns-3
-unfolding layoutOf
-returns-3 c = sym (ap layoutOf (c .before .x2 .given .1))
-
-returns-4 : tie.Need-returns-4
-unfolding layoutOf
-returns-4 c = sym (ap layoutOf (c .before .x3 .given .1))
-
-returns-5 : tie.Need-returns-5
-unfolding layoutOf
-returns-5 c = sym (ap layoutOf (c .enum-told2 .given .1))
-
-returns-6 : tie.Need-returns-6
-unfolding layoutOf
-returns-6 c = sym (ap layoutOf (c .enum-told3 .given .1))
+two-bytes : (x : Statement) → OneOf others (tagOf the-type x) → Bytes 2 ≡ layoutOf x
+unfolding layoutOf others
+two-bytes st.Nothing k = absurd (miss others 0 tt k)
+two-bytes (st.Org v) k = absurd (miss others 1 tt k)
+two-bytes (st.Equ v) k = absurd (miss others 2 tt k)
+two-bytes (st.Bss v) k = absurd (miss others 3 tt k)
+two-bytes (st.Byte v) k = absurd (miss others 4 tt k)
+two-bytes (st.Word v) k = refl
+two-bytes st.End k = absurd (miss others 6 tt k)
+two-bytes (st.Fixed i) k = refl
+two-bytes (st.Bl v) k = refl
+two-bytes (st.Branch a v) k = refl
+two-bytes (st.Constant a b v d) k = refl
+two-bytes (st.SetPri v) k = refl
+two-bytes (st.Svc v) k = refl
+two-bytes (st.Cex a v u) k = refl
+two-bytes (st.MovImm a b v d) k = refl
+two-bytes (st.Ldr v a b d) k = refl
+two-bytes (st.Str v a b d) k = refl
 
 returns-7 : tie.Need-returns-7
-unfolding layoutOf
-returns-7 c = sym (ap layoutOf (c .enum-told4 .given .1))
-
-returns-8 : tie.Need-returns-8
-unfolding layoutOf
-returns-8 c = sym (ap layoutOf (c .enum-told5 .given .1))
-
-returns-9 : tie.Need-returns-9
-unfolding layoutOf
-returns-9 c = sym (ap layoutOf (c .enum-told6 .given .1))
-
-returns-10 : tie.Need-returns-10
-unfolding layoutOf
-returns-10 c = sym (ap layoutOf (c .enum-told7 .given .1))
-
-returns-11 : tie.Need-returns-11
-unfolding layoutOf
-returns-11 c = sym (ap layoutOf (c .enum-told8 .given .1))
-
-returns-12 : tie.Need-returns-12
-unfolding layoutOf
-returns-12 c = sym (ap layoutOf (c .enum-told9 .given .1))
-
-returns-13 : tie.Need-returns-13
-unfolding layoutOf
-returns-13 c = sym (ap layoutOf (c .enum-told10 .given .1))
-
-returns-14 : tie.Need-returns-14
-unfolding layoutOf
-returns-14 c = sym (ap layoutOf (c .enum-told11 .given .1))
-
-returns-15 : tie.Need-returns-15
-unfolding layoutOf
-returns-15 c = sym (ap layoutOf (c .enum-told12 .given .1))
-
-returns-16 : tie.Need-returns-16
-unfolding layoutOf
-returns-16 c = sym (ap layoutOf (c .enum-told13 .given .1))
-
-returns-17 : tie.Need-returns-17
-unfolding layoutOf
-returns-17 c = sym (ap layoutOf (c .enum-told14 .given .1))
+unfolding others
+returns-7 c = two-bytes (c .before .args .x) (c .match .keys7)
 
 pub layout-of-spec : {M : Type 1} → statement M
 layout-of-spec =
     tie.close
     (tie.spec (λ c. search needs) (λ c. search needs) (λ c. search needs) (λ c. search needs) (λ c. search needs) (λ c. search needs)
-    (λ c. search needs) (λ c. search needs) (λ c. search needs) (λ c. search needs) (λ c. search needs) (λ c. search needs)
-    (λ c. search needs) (λ c. search needs) (λ c. search needs) (λ c. search needs) (λ c. search needs) returns returns-2 returns-3
-    returns-4 returns-5 returns-6 returns-7 returns-8 returns-9 returns-10 returns-11 returns-12 returns-13 returns-14 returns-15 returns-16
-    returns-17)
+    (λ c. unfold layoutOf in sym (ap layoutOf (c .enum-told .given .1)))
+    (λ c. unfold layoutOf in sym (ap layoutOf (c .before .x .given .1)))
+    (λ c. unfold layoutOf in sym (ap layoutOf (c .before .x2 .given .1)))
+    (λ c. unfold layoutOf in sym (ap layoutOf (c .before .x3 .given .1)))
+    (λ c. unfold layoutOf in sym (ap layoutOf (c .enum-told2 .given .1)))
+    (λ c. unfold layoutOf in sym (ap layoutOf (c .enum-told3 .given .1))) returns-7)

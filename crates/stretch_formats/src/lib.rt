@@ -59,7 +59,7 @@ pub fn operation(
     let s = operand(regs, k, w, constant);
     let op = operands::binary(n);
     if (n == 5) | (n == 9) {
-        flags::work(op, byte, reg(regs, w % 8), s, last, sum, over);
+        flags_work::work(op, byte, reg(regs, w % 8), s, last, sum, over);
         return pc;
     }
     if byte {

@@ -23,18 +23,18 @@ use stretch_registers::reg;
 use stretch_registers::target;
 
 // The operand of an operation's word: the register, or the constant, of bits 5 to 3.
-fn operand(regs: &[u16; 8], k: &[u16; 8], w: usize, row: usize) -> u16
+fn operand(regs: &[u16; 8], k: &[u16; 8], w: usize, constant: bool) -> u16
     requires { ⌜ now k ≡ constants ⌝ }
-    ensures { λ r. ⌜ r ≡ cond (eqb (row / 2 % 2) 1) (constantOf (w / 8 % 8))
+    ensures { λ r. ⌜ r ≡ cond constant (constantOf (w / 8 % 8))
         (getD (now (regs .entry)) (w / 8 % 8) 0) ⌝ }
 {
-    if row / 2 % 2 == 1 {
+    if constant {
         return reg(k, w / 8 % 8);
     }
     reg(regs, w / 8 % 8)
 }
 
-// 4000 to 4BFF: ADD to BIS. `row` is w / 64.
+// 4000 to 4BFF: ADD to BIS. `row` is w / 64; `constant` says what it says of the operand.
 pub fn operation(
     regs: &mut [u16; 8],
     k: &[u16; 8],
@@ -44,9 +44,10 @@ pub fn operation(
     pc: usize,
     w: usize,
     row: usize,
+    constant: bool,
 ) -> usize
     requires { ⌜ Past pc (now regs) × (now k ≡ constants) × (w / 64 ≡ row)
-        × (0x100 ≤ row) × (row < 0x130) ⌝ }
+        × (0x100 ≤ row) × (row < 0x130) × (constant ≡ eqb (row / 2 % 2) 1) ⌝ }
     ensures { λ r. ⌜ ((free : Bool) (m : List ℕ) (psw cex : ℕ) → Taken free (decodeOf w)
         (now (regs .entry))
         (held psw (now (last .entry)) (now (sum .entry)) (now (over .entry))) cex m
@@ -55,13 +56,16 @@ pub fn operation(
 {
     let n = (row / 4 % 16) as u8;
     let byte = row % 2 == 1;
-    let s = operand(regs, k, w, row);
+    let s = operand(regs, k, w, constant);
     let op = operands::binary(n);
     if (n == 5) | (n == 9) {
-        flags::work(op, byte, reg(regs, w % 8), s, last, sum, over);
+        flags_work::work(op, byte, reg(regs, w % 8), s, last, sum, over);
         return pc;
     }
-    compute(regs, last, sum, over, pc, w, op, byte, s)
+    if byte {
+        return compute(regs, last, sum, over, pc, w, op, true, s);
+    }
+    compute(regs, last, sum, over, pc, w, op, false, s)
 }
 
 // 2000 to 3FFF: a branch. `row` is w / 512: where it is a number, condition and sign are known.

@@ -64,7 +64,7 @@ pub fn compute(
     if dst == 7 {
         return LEFT_ALONE;
     }
-    let v = flags::work(op, byte, reg(regs, dst), s, last, sum, over);
+    let v = flags_work::work(op, byte, reg(regs, dst), s, last, sum, over);
     set_reg(regs, dst, v);
     pc
 }

@@ -2,11 +2,12 @@
 -- past the word w, m the memory, p the PSW, x the CEX state. Assumes nothing.
 use Prim.Native.Nat.{ℕ, _+_, _/_, _%_, _<_, _≤_}
 use native.Mathlib.Omega.{arith}
-use mathlib.Core.Bool.{Bool, true≢false}
+use mathlib.Core.Bool.{Bool, true, false, true≢false}
 use mathlib.Core.List.{List}
-use mathlib.Core.Logic.{inl, inr, ⊎-elim}
+use mathlib.Core.Logic.{_⊎_, inl, inr, ⊎-elim}
 use mathlib.Core.Path.{_≡_, refl, sym, ap, subst, _∙_}
-use borrow.Author.Tests.{lt-ltb, le-ltb}
+use lib.Dec.{eqb}
+use borrow.Author.Tests.{lt-ltb, le-ltb, eq-eqb, ne-eqb}
 use Rattle.word.specs.Psw.{asleep?, current}
 use Rattle.isa.specs.declared.Instr.the-variants as i
 use Rattle.isa.specs.Decode.{controlOf, decodeOf}
@@ -47,6 +48,17 @@ module _ (w : ℕ) where
         lt-ltb w 0x4E00 k,
       )
       refl
+
+-- ---- the two rows of an operation on a register and on a constant
+
+module _ (row : ℕ) (low : 0x100 ≤ row) (high : row < 0x12E) (even : row / 2 % 2 ≡ 0) where
+  pub first-row : (0x100 ≤ row) × (row < 0x130) × (false ≡ eqb (row / 2 % 2) 1)
+  first-row = (low, omega arith, sym (ne-eqb (row / 2 % 2) 1 (omega arith)))
+
+  pub second-row : (n : ℕ) → (n ≡ row) ⊎ (n ≡ row + 2) → (n ≡ row → ⊥)
+      → (n ≡ row + 2) × (0x100 ≤ row + 2) × (row + 2 < 0x130) × (true ≡ eqb ((row + 2) / 2 % 2) 1)
+  second-row n e f =
+      (⊎-elim (λ q. absurd (f q)) (λ q. q) e, omega arith, omega arith, sym (eq-eqb ((row + 2) / 2 % 2) 1 (omega arith)))
 
 -- ---- SETPRI
 

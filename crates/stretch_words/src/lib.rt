@@ -1,13 +1,20 @@
 // Words by their leading bits: each is done by the function of its format (crate stretch_formats),
 // or left alone. `k` has the constants that a source field can name; the PSW is `psw` with the
 // flags that `last`, `sum` and `over` keep (crate flags); `free` says that no line waits. take_word
-// has the first rows; a word with none goes on to logic_word, and so on up the file. A row is the
+// has the first rows; a word with none goes on to move_word, and so on up the file. A row is the
 // word's leading bits as a number, and hands that number on: what it says of operation, operand and
-// width is then known where the row is compiled, and all rows together become one table.
+// width is then known where the row is compiled, and all rows together become one table, of which
+// the test in either_operand becomes a part.
+ghost use mathlib.Core.Bool.{Bool};
+ghost use mathlib.Core.List.{List};
+ghost use mathlib.Core.Logic.{_⊎_};
+ghost use mathlib.Core.Path.{_≡_};
+ghost use Prim.Native.Nat.{ℕ, _+_, _/_, _%_, _<_, _≤_};
 ghost use Rattle.isa.specs.Decode.{decodeOf};
 ghost use Rattle.flags.specs.Kept.{held};
+ghost use Rattle.stretch_registers.specs.Effected.{Past};
 ghost use Rattle.stretch_memory.specs.Served.{Taken};
-ghost use Rattle.stretch_formats.specs.Ready.{Ready};
+ghost use Rattle.stretch_formats.specs.Ready.{Ready, constants};
 use stretch_formats::far_word;
 use stretch_formats::operation;
 use stretch_memory::load_indexed;
@@ -65,59 +72,34 @@ fn move_word(
     }
 }
 
-// XOR to BIS, by operand and width.
-fn logic_word(
+// Two rows of one operation and width: `row`, whose operand is a register, and row + 2, whose
+// operand is a constant.
+fn either_operand(
     regs: &mut [u16; 8],
-    mem: &mut [u8],
     k: &[u16; 8],
-    psw: &mut u16,
-    free: bool,
     last: &mut u32,
     sum: &mut u32,
     over: &mut u32,
-    cex: &mut u16,
     pc: usize,
     w: usize,
+    row: usize,
 ) -> usize
-    requires { ⌜ Ready pc w (now regs) (now mem) (now k) ⌝ }
-    ensures { λ r. ⌜ Taken free (decodeOf w)
+    requires { ⌜ Past pc (now regs) × (now k ≡ constants)
+        × ((w / 64 ≡ row) ⊎ (w / 64 ≡ row + 2))
+        × (0x100 ≤ row) × (row < 0x12E) × (row / 2 % 2 ≡ 0) ⌝ }
+    ensures { λ r. ⌜ ((free : Bool) (m : List ℕ) (psw cex : ℕ) → Taken free (decodeOf w)
         (now (regs .entry))
-        (held (now (psw .entry)) (now (last .entry)) (now (sum .entry)) (now (over .entry)))
-        (now (cex .entry)) (now (mem .entry))
+        (held psw (now (last .entry)) (now (sum .entry)) (now (over .entry))) cex m
         (now (regs .exit))
-        (held (now (psw .exit)) (now (last .exit)) (now (sum .exit)) (now (over .exit)))
-        (now (cex .exit)) (now (mem .exit)) r ⌝ }
+        (held psw (now (last .exit)) (now (sum .exit)) (now (over .exit))) cex m r) ⌝ }
 {
-    match w / 64 {
-        0x118 => operation(regs, k, last, sum, over, pc, w, 0x118),
-        0x119 => operation(regs, k, last, sum, over, pc, w, 0x119),
-        0x11A => operation(regs, k, last, sum, over, pc, w, 0x11A),
-        0x11B => operation(regs, k, last, sum, over, pc, w, 0x11B),
-        0x11C => operation(regs, k, last, sum, over, pc, w, 0x11C),
-        0x11D => operation(regs, k, last, sum, over, pc, w, 0x11D),
-        0x11E => operation(regs, k, last, sum, over, pc, w, 0x11E),
-        0x11F => operation(regs, k, last, sum, over, pc, w, 0x11F),
-        0x120 => operation(regs, k, last, sum, over, pc, w, 0x120),
-        0x121 => operation(regs, k, last, sum, over, pc, w, 0x121),
-        0x122 => operation(regs, k, last, sum, over, pc, w, 0x122),
-        0x123 => operation(regs, k, last, sum, over, pc, w, 0x123),
-        0x124 => operation(regs, k, last, sum, over, pc, w, 0x124),
-        0x125 => operation(regs, k, last, sum, over, pc, w, 0x125),
-        0x126 => operation(regs, k, last, sum, over, pc, w, 0x126),
-        0x127 => operation(regs, k, last, sum, over, pc, w, 0x127),
-        0x128 => operation(regs, k, last, sum, over, pc, w, 0x128),
-        0x129 => operation(regs, k, last, sum, over, pc, w, 0x129),
-        0x12A => operation(regs, k, last, sum, over, pc, w, 0x12A),
-        0x12B => operation(regs, k, last, sum, over, pc, w, 0x12B),
-        0x12C => operation(regs, k, last, sum, over, pc, w, 0x12C),
-        0x12D => operation(regs, k, last, sum, over, pc, w, 0x12D),
-        0x12E => operation(regs, k, last, sum, over, pc, w, 0x12E),
-        0x12F => operation(regs, k, last, sum, over, pc, w, 0x12F),
-        _ => move_word(regs, mem, k, psw, free, last, sum, over, cex, pc, w),
+    if w / 64 == row {
+        return operation(regs, k, last, sum, over, pc, w, row, false);
     }
+    operation(regs, k, last, sum, over, pc, w, row + 2, true)
 }
 
-// Any word; ADD to CMP by operand and width.
+// Any word; ADD to BIS by operand and width.
 pub fn take_word(
     regs: &mut [u16; 8],
     mem: &mut [u8],
@@ -141,30 +123,30 @@ pub fn take_word(
         (now (cex .exit)) (now (mem .exit)) r ⌝ }
 {
     match w / 64 {
-        0x100 => operation(regs, k, last, sum, over, pc, w, 0x100),
-        0x101 => operation(regs, k, last, sum, over, pc, w, 0x101),
-        0x102 => operation(regs, k, last, sum, over, pc, w, 0x102),
-        0x103 => operation(regs, k, last, sum, over, pc, w, 0x103),
-        0x104 => operation(regs, k, last, sum, over, pc, w, 0x104),
-        0x105 => operation(regs, k, last, sum, over, pc, w, 0x105),
-        0x106 => operation(regs, k, last, sum, over, pc, w, 0x106),
-        0x107 => operation(regs, k, last, sum, over, pc, w, 0x107),
-        0x108 => operation(regs, k, last, sum, over, pc, w, 0x108),
-        0x109 => operation(regs, k, last, sum, over, pc, w, 0x109),
-        0x10A => operation(regs, k, last, sum, over, pc, w, 0x10A),
-        0x10B => operation(regs, k, last, sum, over, pc, w, 0x10B),
-        0x10C => operation(regs, k, last, sum, over, pc, w, 0x10C),
-        0x10D => operation(regs, k, last, sum, over, pc, w, 0x10D),
-        0x10E => operation(regs, k, last, sum, over, pc, w, 0x10E),
-        0x10F => operation(regs, k, last, sum, over, pc, w, 0x10F),
-        0x110 => operation(regs, k, last, sum, over, pc, w, 0x110),
-        0x111 => operation(regs, k, last, sum, over, pc, w, 0x111),
-        0x112 => operation(regs, k, last, sum, over, pc, w, 0x112),
-        0x113 => operation(regs, k, last, sum, over, pc, w, 0x113),
-        0x114 => operation(regs, k, last, sum, over, pc, w, 0x114),
-        0x115 => operation(regs, k, last, sum, over, pc, w, 0x115),
-        0x116 => operation(regs, k, last, sum, over, pc, w, 0x116),
-        0x117 => operation(regs, k, last, sum, over, pc, w, 0x117),
-        _ => logic_word(regs, mem, k, psw, free, last, sum, over, cex, pc, w),
+        0x100 | 0x102 => either_operand(regs, k, last, sum, over, pc, w, 0x100),
+        0x101 | 0x103 => either_operand(regs, k, last, sum, over, pc, w, 0x101),
+        0x104 | 0x106 => either_operand(regs, k, last, sum, over, pc, w, 0x104),
+        0x105 | 0x107 => either_operand(regs, k, last, sum, over, pc, w, 0x105),
+        0x108 | 0x10A => either_operand(regs, k, last, sum, over, pc, w, 0x108),
+        0x109 | 0x10B => either_operand(regs, k, last, sum, over, pc, w, 0x109),
+        0x10C | 0x10E => either_operand(regs, k, last, sum, over, pc, w, 0x10C),
+        0x10D | 0x10F => either_operand(regs, k, last, sum, over, pc, w, 0x10D),
+        0x110 | 0x112 => either_operand(regs, k, last, sum, over, pc, w, 0x110),
+        0x111 | 0x113 => either_operand(regs, k, last, sum, over, pc, w, 0x111),
+        0x114 | 0x116 => either_operand(regs, k, last, sum, over, pc, w, 0x114),
+        0x115 | 0x117 => either_operand(regs, k, last, sum, over, pc, w, 0x115),
+        0x118 | 0x11A => either_operand(regs, k, last, sum, over, pc, w, 0x118),
+        0x119 | 0x11B => either_operand(regs, k, last, sum, over, pc, w, 0x119),
+        0x11C | 0x11E => either_operand(regs, k, last, sum, over, pc, w, 0x11C),
+        0x11D | 0x11F => either_operand(regs, k, last, sum, over, pc, w, 0x11D),
+        0x120 | 0x122 => either_operand(regs, k, last, sum, over, pc, w, 0x120),
+        0x121 | 0x123 => either_operand(regs, k, last, sum, over, pc, w, 0x121),
+        0x124 | 0x126 => either_operand(regs, k, last, sum, over, pc, w, 0x124),
+        0x125 | 0x127 => either_operand(regs, k, last, sum, over, pc, w, 0x125),
+        0x128 | 0x12A => either_operand(regs, k, last, sum, over, pc, w, 0x128),
+        0x129 | 0x12B => either_operand(regs, k, last, sum, over, pc, w, 0x129),
+        0x12C | 0x12E => either_operand(regs, k, last, sum, over, pc, w, 0x12C),
+        0x12D | 0x12F => either_operand(regs, k, last, sum, over, pc, w, 0x12D),
+        _ => move_word(regs, mem, k, psw, free, last, sum, over, cex, pc, w),
     }
 }

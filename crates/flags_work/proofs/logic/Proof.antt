@@ -1,9 +1,9 @@
--- `flags::logic` meets its contract. Assumes nothing.
+-- `flags_work::logic` meets its contract. Assumes nothing.
 use denote.Ref.{now}
-use Rattle.flags.proofs.Sums.{logic-psw}
+use Rattle.flags_work.proofs.Sums.{logic-psw}
 use borrow.Author.Needs.{needs}
-use Rattle.flags.proofs.logic.Statement.{statement}
-use Rattle.flags.proofs.logic.Tie as tie
+use Rattle.flags_work.proofs.logic.Statement.{statement}
+use Rattle.flags_work.proofs.logic.Tie as tie
 
 returns : tie.Need-returns
 returns c =

@@ -1,9 +1,9 @@
--- `flags::add` meets its contract. Assumes nothing.
+-- `flags_work::add` meets its contract. Assumes nothing.
 use denote.Ref.{now}
-use Rattle.flags.proofs.Sums.{sum-value, sum-psw, over-lt}
+use Rattle.flags_work.proofs.Sums.{sum-value, sum-psw, over-lt}
 use borrow.Author.Needs.{needs}
-use Rattle.flags.proofs.add.Statement.{statement}
-use Rattle.flags.proofs.add.Tie as tie
+use Rattle.flags_work.proofs.add.Statement.{statement}
+use Rattle.flags_work.proofs.add.Tie as tie
 
 placed-requires-2 : tie.Need-placed-requires-2
 placed-requires-2 c κs =

@@ -1,4 +1,4 @@
--- `flags::shift` meets its contract: half a number of the width below a bit is again one of the width. Assumes nothing.
+-- `flags_work::shift` meets its contract: half a number of the width below a bit is again one of the width. Assumes nothing.
 use mathlib.Core.Path.{_≡_, ap, _∙_}
 use denote.Ref.{now}
 use native.Mathlib.Omega.{arith}
@@ -6,10 +6,10 @@ use Prim.Native.Nat.{_+_, _*_, _/_}
 use Rattle.word.specs.Width.{widthOf, withLow}
 use Rattle.word.proofs.Laws.{fits-word}
 use Rattle.alu.specs.Alu.{halved}
-use Rattle.flags.proofs.Sums.{shift-psw, halved-lt}
+use Rattle.flags_work.proofs.Sums.{shift-psw, halved-lt}
 use borrow.Author.Needs.{needs}
-use Rattle.flags.proofs.shift.Statement.{statement}
-use Rattle.flags.proofs.shift.Tie as tie
+use Rattle.flags_work.proofs.shift.Statement.{statement}
+use Rattle.flags_work.proofs.shift.Tie as tie
 
 mul-logic : tie.Need-mul-logic
 mul-logic c =

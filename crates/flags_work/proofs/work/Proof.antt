@@ -6,10 +6,10 @@ use lib.Dec.{leb}
 use lib.Bits.{bitAnd, bitOr, bitXor, and-lt, or-lt, xor-lt}
 use Rattle.word.specs.Width.{bit}
 use Rattle.alu.specs.Alu.{aluOf}
-use Rattle.flags.proofs.Arms.{held-carry-of, adds, compares, sums, joins, looks, shifts, clears, raises, swaps, extends}
+use Rattle.flags_work.proofs.Arms.{held-carry-of, adds, compares, sums, joins, looks, shifts, clears, raises, swaps, extends}
 use borrow.Author.Needs.{needs}
-use Rattle.flags.proofs.work.Statement.{statement}
-use Rattle.flags.proofs.work.Tie as tie
+use Rattle.flags_work.proofs.work.Statement.{statement}
+use Rattle.flags_work.proofs.work.Tie as tie
 
 logic-requires : tie.Need-logic-requires
 logic-requires c κs =

@@ -1,10 +1,10 @@
--- `flags::placed` meets its contract. Assumes nothing.
+-- `flags_work::placed` meets its contract. Assumes nothing.
 use mathlib.Core.Path.{refl}
 use Rattle.word.specs.Width.{widthOf}
 use native.Mathlib.Omega.{arith}
 use borrow.Author.Needs.{needs}
-use Rattle.flags.proofs.placed.Statement.{statement}
-use Rattle.flags.proofs.placed.Tie as tie
+use Rattle.flags_work.proofs.placed.Statement.{statement}
+use Rattle.flags_work.proofs.placed.Tie as tie
 
 returns : tie.Need-returns
 unfolding widthOf

@@ -5,7 +5,6 @@ use Prim.Native.Nat.{ℕ, _+_}
 use Prim.Native.Char.{code}
 use lib.Dec.{eqb}
 use Rattle.asm_value.specs.declared.Value.{Value}
-use Rattle.asm_value.specs.declared.Value.the-variants.{Known, Unknown, Outside}
 use Rattle.asm_value.specs.Value.{fitted, joined}
 use Rattle.asm_text.specs.Text.{byteAt, blank?, after}
 use Rattle.asm_expr.specs.Grammar.{Expr, number, name, binary, Parse, parsed, malformed}

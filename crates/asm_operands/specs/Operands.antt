@@ -1,6 +1,6 @@
 -- What may stand between a statement's word and the end of its line: registers, values, flags, a condition, an address,
 -- with commas between them. Places are of one line's bytes s; `look` gives the values of names. Assumes nothing.
-use mathlib.Core.Bool.{Bool, true, false, cond, _||_, _&&_, not}
+use mathlib.Core.Bool.{Bool, false, cond, _||_, not}
 use mathlib.Core.List.{List}
 use Prim.Native.Nat.{ℕ, _+_}
 use Prim.Native.Char.{code}
@@ -10,7 +10,7 @@ use Rattle.asm_value.specs.declared.Value.{Value}
 use Rattle.asm_text.specs.Text.{byteAt, blank?, nameByte?, after, word}
 use Rattle.asm_words.specs.Words.{registerOf, conditionOf, flagsOf}
 use Rattle.asm_expr.specs.declared.Answer.{Answer}
-use Rattle.asm_expr.specs.declared.Answer.the-variants.{Parsed, Malformed}
+use Rattle.asm_expr.specs.declared.Answer.the-variants.{Malformed}
 use Rattle.asm_expr.specs.Grammar.{Parse, parsed, malformed, named?, factorOf}
 use Rattle.asm_expr.specs.Meaning.{answerOf}
 use Rattle.asm_operands.specs.declared.Found.{Found}

@@ -4,7 +4,6 @@ use Prim.Native.Nat.{ℕ, _<_, _≤_}
 use mathlib.Core.Bool.{Bool, true}
 use mathlib.Core.List.{List}
 use mathlib.Core.Path.{_≡_}
-use lib.ListN.{length}
 use Rattle.machine.specs.State.{Core, State}
 use Rattle.machine.specs.Events.{eventAt, eventCount}
 use Rattle.machine.specs.Refusal.{inOrderBelow}

@@ -1,7 +1,7 @@
 -- What code is told of a step, and the findings after it (document 01, "Resumption"; document 02, §13).
 -- Assumes nothing.
 use Prim.Native.Nat.{ℕ}
-use mathlib.Core.Bool.{Bool, true}
+use mathlib.Core.Bool.{true}
 use mathlib.Core.Path.{_≡_}
 use Rattle.machine.specs.State.{pc}
 use Rattle.machine.specs.Devices.{device?}

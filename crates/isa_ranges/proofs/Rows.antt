@@ -1,6 +1,6 @@
 -- The rows are right: each word of a row has the row's operation and, by its leading bits, the row's ends. The last three bits tell
 -- neither, and one test is computed, row by row, at each of the 8,192 words that have them 0. Assumes nothing.
-use Prim.Native.Nat.{ℕ, zero, suc, _+_, _-_, _*_, _/_, _%_, _<_, _≤_}
+use Prim.Native.Nat.{ℕ, suc, _+_, _-_, _*_, _/_, _%_, _<_, _≤_}
 use mathlib.Core.Path.{_≡_, refl, sym, ap, _∙_}
 use mathlib.Core.Bool.{Bool, true, _&&_}
 use mathlib.Core.List.{List, [], _∷_}

@@ -1,7 +1,7 @@
 -- The two calls on a journal, on their raw buffers and numbers: reply and all that they leave (document 02, §8).
 -- Assumes nothing.
 use Prim.Native.Nat.{ℕ}
-use mathlib.Core.Bool.{Bool, cond, not}
+use mathlib.Core.Bool.{cond, not}
 use mathlib.Core.List.{List, [], _∷_, _++_}
 use lib.Dec.{eqb, ltb}
 use lib.ListN.{length}
@@ -13,7 +13,7 @@ use Rattle.machine.specs.Refusal.{Rule, rule, callRules, firstBroken, refusalNu
 use Rattle.machine.specs.Call.{Closing, closingOf, runOn}
 use Rattle.machine.specs.Depth.{deepestFrom}
 use Rattle.journal.specs.Ring.{Journal, journalAfter, journalFits}
-use Rattle.journal.specs.Back.{Lent, lentOf, backOf}
+use Rattle.journal.specs.Back.{Lent, backOf}
 
 -- The rules of a run with a journal: those of the run call, and then 14, "which follows 9". [02 §8]
 abbrev pub journalRules : (memory r events log : List ℕ) → Journal → (n : ℕ) → List Rule

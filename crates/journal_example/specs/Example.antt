@@ -6,9 +6,9 @@ use Prim.Native.Nat.{ℕ}
 use mathlib.Core.List.{List, [], _∷_}
 use lib.ListN.{replicate}
 use Rattle.machine.specs.Memory.{write, commit}
-use Rattle.journal.specs.Ring.{Journal, journalOf}
+use Rattle.journal.specs.Ring.{journalOf}
 use Rattle.journal.specs.Back.{Lent, lentOf}
-use Rattle.journal_laws.specs.Session.{Call, runs, backs, lentAfter}
+use Rattle.journal_laws.specs.Session.{Call, runs, backs}
 
 -- zeros but for vector 9's entry point, 1, and bytes 7 and 9 where the frame will stand. [01 Entry]
 abbrev pub memory : List ℕ

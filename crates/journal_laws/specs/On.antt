@@ -11,12 +11,11 @@ use Rattle.machine.specs.declared.Verdict.the-variants.{Accepted}
 use Rattle.machine.specs.Events.{Event, eventsOf, eventCount}
 use Rattle.machine.specs.Record.{stateIn}
 use Rattle.machine.specs.Refusal.{eventsFit, eventsFitBelow, inOrderBelow, twinsBelow, callVerdict, accepted?}
-use Rattle.machine.specs.Logged.{Logged, recordsOf}
-use Rattle.machine.specs.Call.{Closing, roomOf, runOn, runCallOf}
+use Rattle.machine.specs.Logged.{recordsOf}
+use Rattle.machine.specs.Call.{roomOf, runOn, runCallOf}
 use Rattle.machine_laws.specs.Bounds.{Each, Bytes}
-use Rattle.journal.specs.Ring.{Journal}
 use Rattle.journal.specs.Back.{Lent, lentOf}
-use Rattle.journal.specs.Call.{journalVerdict, backVerdict, BackClosing, backCallOf}
+use Rattle.journal.specs.Call.{journalVerdict, backVerdict, backCallOf}
 use Rattle.journal_laws.specs.Past.{Past, SameDue}
 use Rattle.journal_laws.specs.Session.{Call, runs, left, lentAfter, Course, earlierBy, courseFrom, Began, Found}
 

@@ -1,6 +1,6 @@
 -- What the journal stands for: the steps taken, newest first (document 02, §8). Assumes nothing.
 use Prim.Native.Nat.{ℕ, zero, suc, _<_}
-use mathlib.Core.Bool.{Bool, false, cond}
+use mathlib.Core.Bool.{false, cond}
 use mathlib.Core.List.{List, [], _∷_}
 use mathlib.Core.Path.{_≡_}
 use lib.Dec.{eqb}
@@ -11,7 +11,7 @@ use Rattle.machine.specs.Step.{stepOf}
 use Rattle.machine.specs.Run.{runOf}
 use Rattle.machine_laws.specs.Bounds.{Each, Tidy, EventFits}
 use Rattle.journal.specs.Record.{journalRecord}
-use Rattle.journal.specs.Ring.{Journal, recordAt}
+use Rattle.journal.specs.Ring.{recordAt}
 use Rattle.journal.specs.Back.{Lent, lentOf, lowered}
 
 -- One step taken: the state before it, and the event list of its run. [02 §8]

@@ -11,12 +11,10 @@ use Rattle.machine.specs.declared.Verdict.the-variants.{Accepted}
 use Rattle.machine.specs.Events.{eventsOf}
 use Rattle.machine.specs.Record.{stateIn, recordOf}
 use Rattle.machine.specs.Refusal.{accepted?}
-use Rattle.machine.specs.Logged.{Logged}
-use Rattle.machine.specs.Call.{Closing, runOn}
+use Rattle.machine.specs.Call.{runOn}
 use Rattle.machine_laws.specs.Bounds.{Each, Bytes}
-use Rattle.journal.specs.Ring.{Journal}
 use Rattle.journal.specs.Back.{Lent, lentOf}
-use Rattle.journal.specs.Call.{journalVerdict, JournalClosing, runJournalOf, backVerdict, BackClosing, backCallOf}
+use Rattle.journal.specs.Call.{journalVerdict, JournalClosing, runJournalOf, backVerdict, backCallOf}
 use Rattle.journal_laws.specs.Past.{Past, pastsOf}
 
 -- one call: a run whose steps are kept, with its event list, log and n, or going back k. [02 §8]

@@ -7,9 +7,9 @@ use Prim.Native.Nat.{ℕ}
 use mathlib.Core.List.{List, [], _∷_, _++_}
 use lib.ListN.{replicate}
 use Rattle.machine.specs.Memory.{Write, write, wordWrites, commit}
-use Rattle.journal.specs.Ring.{Journal, journalOf}
+use Rattle.journal.specs.Ring.{journalOf}
 use Rattle.journal.specs.Back.{Lent, lentOf}
-use Rattle.journal.specs.Call.{BackClosing, backCallOf}
+use Rattle.journal.specs.Call.{backCallOf}
 use Rattle.journal_laws.specs.Session.{Call, runs, lentAfter}
 use Rattle.journal_laws.specs.On.{plain, keeping, Leg, leg}
 

@@ -1,7 +1,7 @@
 -- Parts of the line, as single functions write them (document 01, "Sheet for the markers").
 -- Assumes nothing.
 use Prim.Native.Nat.{ℕ}
-use mathlib.Core.List.{List, [], _∷_, _++_}
+use mathlib.Core.List.{List, _++_}
 use lib.ListN.{getD}
 use Rattle.machine.specs.declared.Machine.{Machine}
 use Rattle.text.specs.Text.{hexOf}

@@ -4,7 +4,6 @@
 use Prim.Native.Nat.{ℕ, _+_, _*_, _-_, _/_, _%_, _^_}
 use mathlib.Core.Bool.{Bool, true, false, cond, not, _&&_, _||_}
 use mathlib.Core.List.{List, [], _∷_, _++_}
-use mir.Val.{boolByte}
 use lib.Dec.{eqb, ltb}
 use Rattle.word.specs.Psw.{bitOf, putBit}
 use Rattle.machine.specs.State.{State}

@@ -1,13 +1,13 @@
 -- Vectors, the best waiting line, entry and return (document 01, "One step, in order", "Entry", "Return").
 -- Assumes nothing.
 use Prim.Native.Nat.{ℕ, zero, suc, _+_, _*_, _/_, _%_}
-use mathlib.Core.Bool.{Bool, true, false, cond, _&&_}
-use mathlib.Core.List.{List, [], _∷_, _++_}
-use lib.Dec.{eqb, ltb}
+use mathlib.Core.Bool.{Bool, cond, _&&_}
+use mathlib.Core.List.{List, _++_}
+use lib.Dec.{ltb}
 use lib.ListN.{set}
 use Rattle.word.specs.Width.{bit}
 use Rattle.word.specs.Psw.{current, previous}
-use Rattle.machine.specs.State.{Core, reg, lr, sp, pc, wrap, down}
+use Rattle.machine.specs.State.{Core, lr, sp, pc, wrap, down}
 use Rattle.machine.specs.Memory.{byteAt, wordAt, even, Write, wordWrites}
 use Rattle.machine.specs.Devices.{waiting}
 

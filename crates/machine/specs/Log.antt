@@ -1,7 +1,7 @@
 -- What the screen showed (document 02, §1): the records that a step adds to the log. A record is 8 bytes,
 -- little-endian, no header: 0-3 the step count before the step, 4 device, 5 byte, 6-7 zero. Assumes nothing.
 use Prim.Native.Nat.{ℕ, _%_}
-use mathlib.Core.Bool.{Bool, true, false, cond, not, _&&_}
+use mathlib.Core.Bool.{true, false, cond, not, _&&_}
 use mathlib.Core.List.{List, [], _∷_, _++_}
 use lib.Dec.{eqb, ltb}
 use Rattle.machine.specs.declared.Act.{Act}

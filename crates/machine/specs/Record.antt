@@ -2,7 +2,6 @@
 -- state; 20 zero; 21 halted; 22-25 step count; 26-29 the lines' counts; 30-31 zero; all little-endian.
 -- Assumes nothing.
 use Prim.Native.Nat.{ℕ, _+_, _*_, _/_, _%_}
-use mathlib.Core.Bool.{Bool}
 use mathlib.Core.List.{List, [], _∷_}
 use mir.Val.{boolByte}
 use lib.Dec.{eqb}

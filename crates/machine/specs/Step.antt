@@ -1,7 +1,7 @@
 -- One step of the machine, in the seven points of document 01, "One step, in order". A plan reads the state and says
 -- what the step does; its performance gives what the step leaves, memory's change being a list of byte writes.
 -- Assumes nothing.
-use Prim.Native.Nat.{ℕ, suc, _+_, _%_}
+use Prim.Native.Nat.{ℕ, _+_, _%_}
 use mathlib.Core.Bool.{Bool, true, false, cond, not, _&&_, _||_}
 use mathlib.Core.List.{List, []}
 use lib.Dec.{eqb, ltb}

@@ -10,7 +10,6 @@ ghost use Rattle.machine.specs.State.{State};
 ghost use Rattle.machine.specs.Log.{shown, shownOn, loggedOf, shownBytes, logBytes};
 ghost use Rattle.output_log.specs.Showing.{storedOf, listed};
 use machine::Act;
-use machine::ByteAddr;
 
 // What a step shows: nothing, or a byte on a device.
 pub enum Showing {

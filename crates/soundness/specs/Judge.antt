@@ -2,13 +2,12 @@
 -- the whole answer of the call that does it, on raw buffers (docs/CALLS.md, xm23_judge; document 01, "Resumption",
 -- "Who can be turned back").
 -- Assumes nothing.
-use Prim.Native.Nat.{ℕ, zero, suc, _+_, _*_, _≤_}
+use Prim.Native.Nat.{ℕ, zero, suc, _+_, _≤_}
 use mathlib.Core.Bool.{Bool, true, false, cond, not, _&&_, _||_}
 use mathlib.Core.List.{List, [], _∷_, _++_}
 use mathlib.Core.Path.{_≡_}
 use lib.Dec.{eqb}
 use lib.ListN.{length, replicate}
-use mir.Val.{boolByte}
 use Rattle.machine.specs.State.{State}
 use Rattle.machine.specs.Memory.{lowByte, highByte}
 use Rattle.machine.specs.Record.{stateIn, recordOf, countByte}
@@ -24,7 +23,7 @@ use Rattle.resume.specs.Resume.{Premises}
 use Rattle.soundness.specs.Findings.{Kind, started, faulted, unopened, trapped, unclosed, changed, slept, device}
 use Rattle.soundness.specs.Findings.{foreign, Finding, nothing, findAfter, startFinding, openFinding, kindsFound}
 use Rattle.soundness.specs.Findings.{foundOf}
-use Rattle.soundness.specs.Watch.{Held, Watch, unwatched, noDevice?, openIn, seenBy, watchAfter, watch, noted}
+use Rattle.soundness.specs.Watch.{Watch, unwatched, noDevice?, openIn, seenBy, watchAfter, watch, noted}
 
 -- The state reached, the steps done, what is carried, what has been found, and whether a step was not taken because it
 -- would have opened one frame too many. [call judge]

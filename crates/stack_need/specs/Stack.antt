@@ -1,7 +1,7 @@
 -- How far below the application's SP the handlers' stacks reach (document 02, §9), in the run of an accepted start,
 -- event list and step count: demand 2's run, at the byte buffers of the run call.
 -- Assumes nothing.
-use Prim.Native.Nat.{ℕ, zero, suc, _+_, _*_, _%_, _<_, _≤_}
+use Prim.Native.Nat.{ℕ, zero, suc, _+_, _%_, _<_, _≤_}
 use mathlib.Core.Bool.{Bool, true, false, cond}
 use mathlib.Core.List.{List, [], _∷_}
 use mathlib.Core.Logic.{_⊎_}
@@ -13,7 +13,6 @@ use Rattle.machine.specs.Events.{Event, eventsOf}
 use Rattle.machine.specs.declared.Act.{Act}
 use Rattle.machine.specs.declared.Act.the-variants as acts
 use Rattle.machine.specs.Step.{outcomeOf}
-use Rattle.machine_laws.specs.Bounds.{Bytes}
 use Rattle.resume.specs.Frames.{none?, after, due, act, frames}
 use Rattle.resume.specs.Depth.{lowest, DepthPremises}
 use Rattle.stack_need.specs.Need.{given?, useOf, needOf, needRefused?}

@@ -6,8 +6,8 @@ use Rattle.machine.specs.declared.Access.{Access}
 use Rattle.machine.specs.declared.Access.the-variants as asks
 use Rattle.machine.specs.declared.Act.{Act}
 use Rattle.machine.specs.declared.Act.the-variants as act
-use Rattle.machine.specs.State.{coreOf, State, Core}
-use Rattle.machine.specs.Step.{Plan, planned, perform, closed}
+use Rattle.machine.specs.State.{coreOf}
+use Rattle.machine.specs.Step.{Plan, planned}
 use Rattle.step_plan.specs.declared.Planned.{Planned}
 
 -- the registers lent, with the PSW, the CEX state and the act that a plan gives back

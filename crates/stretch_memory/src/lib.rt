@@ -4,7 +4,6 @@
 ghost use mathlib.Core.Bool.{Bool, true, false, cond};
 ghost use mathlib.Core.Path.{_≡_};
 ghost use Prim.Native.Nat.{ℕ, _/_, _%_, _<_, _≤_};
-ghost use lib.Dec.{eqb};
 ghost use lib.ListN.{length, getD, set};
 ghost use Rattle.word.specs.Offset.{signedOf};
 ghost use Rattle.isa.specs.declared.Instr.the-variants as Instr;

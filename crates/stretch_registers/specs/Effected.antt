@@ -2,7 +2,7 @@
 -- leftAlone where it was left alone, and so was everything; any other has the next PC for its low sixteen bits, and is
 -- above leftAlone where that PC may be odd.
 -- Assumes nothing.
-use Prim.Native.Nat.{ℕ, _<_, _≤_, _+_, _*_, _/_, _%_}
+use Prim.Native.Nat.{ℕ, _<_, _≤_, _*_, _/_, _%_}
 use mathlib.Core.Bool.{Bool, true, false}
 use mathlib.Core.List.{List}
 use mathlib.Core.Logic.{_⊎_}

@@ -18,7 +18,7 @@ ghost use Rattle.machine.specs.State.{moved, doubled};
 ghost use Rattle.word.specs.Offset.{signedOf};
 ghost use Rattle.flags.specs.Kept.{held};
 ghost use Rattle.stretch_registers.specs.Effected.{leftAlone, odd, Past, Done, Tried};
-ghost use Rattle.stretch_registers.specs.Effected.{Computes, Lowers, outcome};
+ghost use Rattle.stretch_registers.specs.Effected.{Computes, Lowers};
 use alu::Op;
 
 // What is no PC, and says that a word was left alone; and how far above a PC its answer is where it

@@ -19,8 +19,8 @@ use Rattle.machine.specs.Run.{runOf}
 use Rattle.machine.specs.Logged.{runLogged}
 use Rattle.machine.specs.Uneventful.{nextAct}
 use Rattle.machine_laws.specs.Bounds.{Each, OfDevice}
-use Rattle.trace.specs.Trace.{Entry, effectOn, eventsTraced, actEntry, stepTraced, asked, tracedOf, entryBytes}
-use Rattle.trace.specs.Traced.{Traced, traced, ranOf, reasonTraced, runTraced, tracesOf, joined}
+use Rattle.trace.specs.Trace.{Entry, effectOn, eventsTraced, actEntry, asked, tracedOf, entryBytes}
+use Rattle.trace.specs.Traced.{Traced, ranOf, reasonTraced, runTraced, tracesOf, joined}
 use Rattle.trace.specs.Call.{Closing, refusalOf, turnedBack, roomOf, closing, runOn, traceCallOf}
 use Rattle.trace.specs.Kinds.{allKinds, actKinds, Fewer}
 use Rattle.trace.specs.Before.{eventsBefore, Apart}

@@ -1,10 +1,10 @@
 -- Group by group: a number that is in none of the groups before has their sizes taken off, one after the other.
-use Prim.Native.Nat.{_-_, _<_, _≤_}
+use Prim.Native.Nat.{_-_}
 use mathlib.Core.Path.{_≡_, ap, _∙_}
 use native.Mathlib.Omega.{arith}
 use borrow.Author.Needs.{needs}
 use borrow.Author.Tests.{lt-ltb, le-ltb}
-use Rattle.asm_words.specs.declared.Keyword.the-variants.{Value, Arithmetic, Unary, MovImm}
+use Rattle.asm_words.specs.declared.Keyword.the-variants.{Value, Unary, MovImm}
 use Rattle.asm_words.specs.Rows.{plainAt, groups, nthOf}
 use Rattle.asm_words.proofs.keyword_at.Statement.{statement}
 use Rattle.asm_words.proofs.keyword_at.Tie as tie

@@ -28,7 +28,7 @@ pub fn advance_by_value(
         (now (log .entry)) n (now (deepest .entry)) (r .reply)
         (stateOf (r .machine) (now (memory .exit))) (now (log .exit)) (now (deepest .exit)) ⌝ }
 {
-    let verdict = refusal::advance_verdict(m, memory, events, log, n);
+    let verdict = refusal::fields::advance_verdict(m, memory, events, log, n);
     let refused = refusal::refusal_number(verdict);
     if refused != 0 {
         return Advanced {
@@ -54,7 +54,7 @@ pub fn step_by_value(m: Machine, memory: &mut [u8], events: &[u8]) -> Advanced
         × (stateOf (r .machine) (now (memory .exit))
         ≡ stepAdvance (stateOf m (now (memory .entry))) (now (events .entry)) .state) ⌝ }
 {
-    let turned = refusal::refusal_number(refusal::start_verdict(m, memory, events, 1));
+    let turned = refusal::refusal_number(refusal::fields::start_verdict(m, memory, events, 1));
     if turned != 0 {
         return Advanced {
             machine: m,

@@ -1,17 +1,17 @@
-// Whether a run's buffers and step count are accepted, or the first rule that they break; and the same
-// of a machine that is held open, by its fields.
+// Whether a run's buffers and step count are accepted, or the first rule that they break; `fields` has
+// the same of a machine that is held open.
 ghost use mathlib.Core.Path.{_≡_};
 ghost use mathlib.Core.Bool.{cond};
 ghost use Prim.Native.Nat.{_≤_};
 ghost use lib.Dec.{ltb};
 ghost use lib.ListN.{length};
-ghost use Rattle.machine.specs.State.{stateOf};
-ghost use Rattle.machine.specs.Record.{fourAt, recordOf};
+ghost use Rattle.machine.specs.Record.{fourAt};
 ghost use Rattle.machine.specs.Refusal.{recordFits, verdictOf, callVerdict, refusalNumber};
 use little_endian::four_at;
 use little_endian::two_at;
-use machine::Machine;
 use machine::Verdict;
+
+pub mod fields;
 
 // Rule 4: the bits and bytes of a record that are zero, and a halted mark of 0 or 1. The answer is
 // the same in any order; in this one the run around it compiles best.
@@ -94,45 +94,6 @@ pub fn call_verdict(memory: &[u8], state: &[u8], events: &[u8], log: &[u8], n: u
         (now (events .entry)) (now (log .entry)) n ⌝ }
 {
     let start = verdict(memory, state, events, n);
-    if refusal_number(start) != 0 {
-        return start;
-    }
-    if log.len() % 8 != 0 {
-        return Verdict::LogLength;
-    }
-    Verdict::Accepted
-}
-
-// The first rule of a start from a machine's own record that is broken. The record is not written:
-// of its length and of its bytes that are no field no rule can be broken.
-pub fn start_verdict(m: Machine, memory: &[u8], events: &[u8], n: u64) -> Verdict
-    ensures { λ r. ⌜ r ≡ verdictOf (now (memory .entry)) (recordOf (stateOf m (now (memory .entry))))
-        (now (events .entry)) n ⌝ }
-{
-    if memory.len() != 65536 {
-        return Verdict::MemoryLength;
-    }
-    if 1000000 < n {
-        return Verdict::StepCount;
-    }
-    if 4294967295 < m.rest.count as u64 + n {
-        return Verdict::StepCount;
-    }
-    if m.rest.psw / 512 % 16 != 0 {
-        return Verdict::RecordBits;
-    }
-    if 128 <= m.rest.cex {
-        return Verdict::RecordBits;
-    }
-    event_rules::events_verdict(events)
-}
-
-// The first rule of an advance that is broken: those of its start, and then that of its log.
-pub fn advance_verdict(m: Machine, memory: &[u8], events: &[u8], log: &[u8], n: u64) -> Verdict
-    ensures { λ r. ⌜ r ≡ callVerdict (now (memory .entry))
-        (recordOf (stateOf m (now (memory .entry)))) (now (events .entry)) (now (log .entry)) n ⌝ }
-{
-    let start = start_verdict(m, memory, events, n);
     if refusal_number(start) != 0 {
         return start;
     }

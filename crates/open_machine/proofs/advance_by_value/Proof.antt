@@ -5,7 +5,7 @@ use native.Mathlib.Omega.{arith}
 use borrow.Author.Needs.{needs}
 use Rattle.turn.proofs.Laws.{behind-none, events-fit, events-ordered}
 use Rattle.run_answer.proofs.Calls.{call-passed}
-use Rattle.refusal.proofs.Fields.{count-fits}
+use Rattle.refusal.proofs.Own.{count-fits}
 use Rattle.open_machine.proofs.Laws.{advance-refused, advance-ran, few-steps, few-records, figure-kept, figure-ran}
 use Rattle.open_machine.proofs.advance_by_value.Statement.{statement}
 use Rattle.open_machine.proofs.advance_by_value.Tie as tie

@@ -8,7 +8,7 @@ use borrow.Author.Needs.{needs}
 use Rattle.word.proofs.Laws.{bit-le}
 use Rattle.machine.specs.State.{stateOf}
 use Rattle.turn.proofs.Laws.{events-fit, events-ordered}
-use Rattle.refusal.proofs.Fields.{count-fits}
+use Rattle.refusal.proofs.Own.{count-fits}
 use Rattle.open_machine.proofs.Laws.{step-passed, step-refused, step-ran, run-one}
 use Rattle.open_machine.proofs.step_by_value.Statement.{statement}
 use Rattle.open_machine.proofs.step_by_value.Tie as tie

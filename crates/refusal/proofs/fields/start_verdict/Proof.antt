@@ -12,9 +12,9 @@ use Rattle.machine.specs.State.{stateOf}
 use Rattle.machine.specs.Record.{recordOf}
 use Rattle.machine.specs.Refusal.{Rule, firstBroken, verdictOf}
 use Rattle.event_rules.proofs.Laws.{holds, breaks}
-use Rattle.refusal.proofs.Fields.{fieldRules, fields-verdict}
-use Rattle.refusal.proofs.start_verdict.Statement.{statement}
-use Rattle.refusal.proofs.start_verdict.Tie as tie
+use Rattle.refusal.proofs.Own.{fieldRules, fields-verdict}
+use Rattle.refusal.proofs.fields.start_verdict.Statement.{statement}
+use Rattle.refusal.proofs.fields.start_verdict.Tie as tie
 
 abbrev rules : tie.Start → List Rule
 rules s = fieldRules (s .args .m .rest) (now (s .args .memory)) (now (s .args .events)) (s .args .n)

@@ -1,8 +1,8 @@
 -- The start's verdict where it refuses, then the log's length. Assumes nothing.
 use borrow.Author.Needs.{needs}
 use Rattle.refusal.proofs.Logs.{start-refused, log-refused, none-refused}
-use Rattle.refusal.proofs.advance_verdict.Statement.{statement}
-use Rattle.refusal.proofs.advance_verdict.Tie as tie
+use Rattle.refusal.proofs.fields.advance_verdict.Statement.{statement}
+use Rattle.refusal.proofs.fields.advance_verdict.Tie as tie
 
 returns : tie.Need-returns
 returns c = start-refused _ _ _ _ _ _ _ (c .before .before .start-verdict .ensures) (c .before .refusal-number .ensures .0) (c .if1 .taken)

@@ -6,9 +6,6 @@ use Rattle.machine_laws.proofs.Acts.{of-these}
 use Rattle.frame_depth.proofs.moved.Statement.{statement}
 use Rattle.frame_depth.proofs.moved.Tie as tie
 
-returns : tie.Need-returns
-returns c = c .by .ensures ∙ ap (λ a. depthAfter a (c .before .before .before .args .p)) (sym (c .before .enum-told .given .1))
-
 returns-2 : tie.Need-returns-2
 returns-2 c =
     let s = c .before .before .args in
@@ -23,4 +20,6 @@ returns-3 c =
 pub moved-spec : {M : Type 1} → statement M
 moved-spec =
     tie.close
-    (tie.spec (λ c. search needs) (λ c κs. search needs) (λ c κs. search needs) (λ c κs. search needs) returns returns-2 returns-3)
+    (tie.spec (λ c. search needs) (λ c κs. search needs) (λ c κs. search needs) (λ c κs. search needs)
+    (λ c. c .by .ensures ∙ ap (λ a. depthAfter a (c .before .before .before .args .p)) (sym (c .before .enum-told .given .1)))
+    returns-2 returns-3)

@@ -17,7 +17,7 @@ use Rattle.isa.specs.declared.Instr.{Instr}
 use Rattle.isa.specs.declared.Instr.the-variants as Instr
 use Rattle.machine.specs.declared.Access.{Access}
 use Rattle.machine.specs.declared.Access.the-variants.{Nothing, Load, Store}
-use Rattle.machine.specs.State.{Core, coreOf, moved, doubled, withPsw}
+use Rattle.machine.specs.State.{Core, coreOf, put, moved, doubled, withPsw}
 use Rattle.machine.specs.Effect.{Effect, effect, effectOf, plainly, operated, operand, binaryOp, unaryOp, flagsOnly?, takenOf}
 use Rattle.machine.specs.Effect.{byteAddr, moves?, adjusted, adjust, indexed}
 use Rattle.execute.specs.declared.Executed.{Executed}
@@ -36,6 +36,20 @@ Written l l′ x y i v = (l′ ≡ set l i v) × (y ≡ cond (eqb i 7) 0 x)
 effect-parts : {l : List ℕ} {d : Executed} {a : Access} (c : Core) → l ≡ c .regs → d .psw ≡ c .psw → d .cex ≡ c .cex → d .access ≡ a
     → effectWith l d ≡ effect c a
 effect-parts c r p x a i = record { core = record { regs = r i; psw = p i; cex = x i }; access = a i }
+
+-- a register written, and nothing asked
+pub writing : (l l′ : List ℕ) (p x y i : ℕ) {v w : ℕ} {d : Executed} → v ≡ w → Written l l′ x y i v → AsksNothing d p y
+    → effectWith l′ d ≡ plainly (put (coreOf l p x) i w)
+writing l l′ p x y i {v} {w} e h n = effect-parts (put (coreOf l p x) i w) (h .0 ∙ ap (set l i) e) (n .0) (n .1 ∙ h .1) (n .2)
+
+-- two registers written, each with what the other held
+pub swapping : (l m n : List ℕ) (p x y z src dst : ℕ) {s t : ℕ} {d : Executed} → s ≡ getD l src 0 → t ≡ getD l dst 0
+    → Written l m x y src t → Written m n y z dst s → AsksNothing d p z
+    → effectWith n d ≡ plainly (put (put (coreOf l p x) src (getD l dst 0)) dst (getD l src 0))
+swapping l m n p x y z src dst es et h k a =
+    effect-parts (put (put (coreOf l p x) src (getD l dst 0)) dst (getD l src 0))
+    (k .0 ∙ λ i. set ((h .0 ∙ ap (set l src) et) i) dst (es i)) (a .0)
+    (a .1 ∙ k .1 ∙ ap (cond (eqb dst 7) 0) (h .1)) (a .2)
 
 -- ---- the arms of `execute`
 

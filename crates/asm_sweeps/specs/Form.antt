@@ -6,7 +6,6 @@ use mathlib.Core.List.{List, [], _∷_}
 use Rattle.text_lines.specs.Lines.{linesOf}
 use Rattle.asm_value.specs.declared.Value.{Value}
 use Rattle.asm_value.specs.declared.Value.the-variants.{Unknown}
-use Rattle.asm_line.specs.declared.Statement.{Statement}
 use Rattle.asm_line.specs.declared.Reading.{Reading}
 use Rattle.asm_line.specs.declared.Reading.the-variants.{Line, Fault}
 use Rattle.asm_line.specs.Line.{lineOf}

@@ -10,11 +10,9 @@ use Rattle.text_lines.specs.Lines.{linesOf}
 use Rattle.asm_value.specs.declared.Value.{Value}
 use Rattle.asm_value.specs.declared.Value.the-variants.{Known, Unknown, Outside}
 use Rattle.asm_text.specs.Text.{word, lookUp}
-use Rattle.asm_line.specs.declared.Statement.{Statement}
 use Rattle.asm_line.specs.declared.Reading.{Reading}
 use Rattle.asm_line.specs.declared.Reading.the-variants.{Line, Fault}
 use Rattle.asm_line.specs.Line.{lineOf}
-use Rattle.asm_write.specs.declared.Layout.{Layout}
 use Rattle.asm_write.specs.declared.Next.{Next}
 use Rattle.asm_write.specs.declared.Next.the-variants as next
 use Rattle.asm_write.specs.Written.{layoutOf, nextOf, nameValue}

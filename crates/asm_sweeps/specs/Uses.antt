@@ -1,7 +1,7 @@
 -- The third sweep: the values of all other statements, with all names; and the verdict (document 02, §12).
 -- Assumes nothing.
-use Prim.Native.Nat.{ℕ, _+_, min}
-use mathlib.Core.Bool.{Bool, cond, not}
+use Prim.Native.Nat.{ℕ, min}
+use mathlib.Core.Bool.{cond, not}
 use mathlib.Core.List.{List, [], _∷_}
 use lib.Dec.{eqb}
 use Rattle.text_lines.specs.Lines.{linesOf}
@@ -9,7 +9,6 @@ use Rattle.asm_value.specs.declared.Value.{Value}
 use Rattle.asm_text.specs.Text.{lookUp}
 use Rattle.asm_fits.specs.declared.Fit.{Fit}
 use Rattle.asm_fits.specs.declared.Fit.the-variants.{Number, Unknown, Outside}
-use Rattle.asm_line.specs.declared.Statement.{Statement}
 use Rattle.asm_line.specs.declared.Reading.{Reading}
 use Rattle.asm_line.specs.declared.Reading.the-variants.{Line, Fault}
 use Rattle.asm_line.specs.Line.{lineOf}

@@ -246,18 +246,6 @@ start-step h k = rw (add-one h) (order-at starts starts-ordered h (omega (arith,
 
 -- ---- the code's numbers of words
 
--- n is none of the first k numbers, as the last arm of a `match` has it
-abbrev pub Past : ℕ → ℕ → Type 0
-Past n zero = Unit {0}
-Past n (suc k) = Past n k × (n ≡ k → ⊥)
-
-next : (n k : ℕ) → k ≤ n → (n ≡ k → ⊥) → suc k ≤ n
-next n k p q = omega arith
-
-pub past : (n k : ℕ) → Past n k → k ≤ n
-past n zero p = omega arith
-past n (suc k) p = next n k (past n k (p .0)) (p .1)
-
 valuedNumber : Valued → ℕ
 valuedNumber val.Org = 1
 valuedNumber val.Bss = 2

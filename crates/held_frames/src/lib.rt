@@ -9,7 +9,7 @@ ghost use lib.Seq.{sets};
 ghost use Rattle.word.specs.Width.{bit};
 ghost use Rattle.machine.specs.Entry.{frameByte};
 ghost use Rattle.resume.specs.Frames.{acceptsNone?};
-ghost use Rattle.soundness.specs.Findings.{pull?, fault?, return?, vectorOf, bytesAt};
+ghost use Rattle.soundness.specs.Findings.{bytesAt};
 ghost use Rattle.soundness.specs.Findings.{differing, same?, changesOf};
 ghost use Rattle.soundness.specs.Judge.{holds?};
 ghost use Rattle.held_frames.specs.Rows.{rowRegisters, rowBytes, rowKept, keptWith, rowOf};

@@ -1,28 +1,15 @@
 -- An operation is told by its number: in the list of all operations each stands at its own number, so operations of one number are the
 -- same, and those of two numbers are not. Assumes nothing.
-use Prim.Native.Nat.{ℕ, zero, suc, _≤_}
+use Prim.Native.Nat.{ℕ}
 use mathlib.Core.Path.{_≡_, refl, sym, ap, _∙_}
 use mathlib.Core.Bool.{true, not}
 use mathlib.Core.List.{List, [], _∷_}
-use native.Mathlib.Omega.{arith}
 use lib.Dec.{T, eqb, eqb→eq}
 use lib.ListN.{getD}
 use borrow.Author.Tests.{eq-eqb}
 use Rattle.isa_ranges.specs.declared.Operation.{Operation}
 use Rattle.isa_ranges.specs.declared.Operation.the-variants as op
 use Rattle.isa_ranges.specs.Operation.{operationNumber, sameOperation}
-
--- n is none of the first k numbers, as the last arm of a `match` has it
-abbrev Past : ℕ → ℕ → Type 0
-Past n zero = Unit {0}
-Past n (suc k) = Past n k × (n ≡ k → ⊥)
-
-next : (n k : ℕ) → k ≤ n → (n ≡ k → ⊥) → suc k ≤ n
-next n k p q = omega arith
-
-pub past : (n k : ℕ) → Past n k → k ≤ n
-past n zero p = omega arith
-past n (suc k) p = next n k (past n k (p .0)) (p .1)
 
 -- all of them, by number
 operations : List Operation

@@ -3,7 +3,7 @@
 use mathlib.Core.Path.{_≡_, refl, ap, _∙_}
 use mathlib.Core.Bool.{Bool, true, false}
 use mathlib.Core.List.{List, [], _∷_, _++_}
-use Prim.Native.Nat.{ℕ, zero, suc, _+_, _*_, _%_, _<_, _≤_, zero-le}
+use Prim.Native.Nat.{ℕ, zero, suc, _+_, _*_, _%_, _<_, _≤_}
 use native.Mathlib.Nat.{not-suc-le-zero, le-of-suc-le-suc}
 use native.Mathlib.Omega.{arith}
 use lib.IntN.{ℤ, pos, negsuc, negℤ, _*ℤ_}
@@ -17,18 +17,6 @@ use Rattle.machine.specs.State.{moved, doubled}
 use Rattle.machine.specs.Cex.{conditionOf}
 
 -- ---- tables
-
--- n is none of the first k numbers, as the last arm of a `match` has it
-abbrev pub Past : ℕ → ℕ → Type 0
-Past n zero = Unit {0}
-Past n (suc k) = Past n k × (n ≡ k → ⊥)
-
-next : (n k : ℕ) → k ≤ n → (n ≡ k → ⊥) → suc k ≤ n
-next n k p q = omega arith
-
-pub past : (n k : ℕ) → Past n k → k ≤ n
-past n zero p = zero-le
-past n (suc k) p = next n k (past n k (p .0)) (p .1)
 
 -- a table's last entry serves as its default
 pub last-entry : (l : List ℕ) (x d k : ℕ) → k < suc (length l) → getD (l ++ x ∷ []) k d ≡ getD l k x

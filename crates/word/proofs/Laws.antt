@@ -168,3 +168,17 @@ or-bit k p =
     ap₂ bitOr (sym (split p k)) (omega arith)
     ∙ or-block k (p / 2 ^ k) 1 (p % 2 ^ k) 0 (mod-lt p (pow-pos k)) (pow-pos k)
     ∙ rw (odd (p / 2 ^ k), or-zero-r (p % 2 ^ k), shr-shr p k 1) (rw (pow-add 2 k 1) (omega arith))
+
+-- ---- the last arm of a `match` on a number
+
+-- n is none of the first k numbers, as that arm has it
+abbrev pub Past : ℕ → ℕ → Type 0
+Past n zero = Unit {0}
+Past n (suc k) = Past n k × (n ≡ k → ⊥)
+
+onward : (n k : ℕ) → k ≤ n → (n ≡ k → ⊥) → suc k ≤ n
+onward n k p q = omega arith
+
+pub past : (n k : ℕ) → Past n k → k ≤ n
+past n zero p = omega arith
+past n (suc k) p = onward n k (past n k (p .0)) (p .1)

@@ -1,6 +1,6 @@
 use lib.ListN.{List·getD-eq-default}
 use Rattle.asm_words.specs.Rows.{plainAt}
-use Rattle.asm_words.proofs.Laws.{past}
+use Rattle.word.proofs.Laws.{past}
 use Rattle.asm_words.proofs.plain_at.Statement.{statement}
 use Rattle.asm_words.proofs.plain_at.Tie as tie
 

@@ -1,7 +1,7 @@
 use native.Mathlib.Omega.{arith}
 use lib.ListN.{List·getD-eq-default}
 use Rattle.asm_words.specs.Rows.{valuedAt}
-use Rattle.asm_words.proofs.Laws.{past}
+use Rattle.word.proofs.Laws.{past}
 use Rattle.asm_words.proofs.valued_at.Statement.{statement}
 use Rattle.asm_words.proofs.valued_at.Tie as tie
 

@@ -3,7 +3,8 @@ use Prim.Native.Nat.{_*_}
 use native.Mathlib.Omega.{arith}
 use borrow.Author.Needs.{needs}
 use Rattle.machine.specs.Cex.{conditionOf}
-use Rattle.operands.proofs.Laws.{past, never}
+use Rattle.word.proofs.Laws.{past}
+use Rattle.operands.proofs.Laws.{never}
 use Rattle.flags.proofs.Conditions.{equal-kept, carry-kept, negative-kept, overflow-kept, higher-kept, greater-kept}
 use Rattle.flags.proofs.even_condition.Statement.{statement}
 use Rattle.flags.proofs.even_condition.Tie as tie

@@ -1,7 +1,7 @@
 -- `operands::binary` meets its contract. Assumes nothing.
 use lib.ListN.{List·getD-eq-default}
 use Rattle.machine.specs.Effect.{binaryOp}
-use Rattle.operands.proofs.Laws.{past}
+use Rattle.word.proofs.Laws.{past}
 use Rattle.operands.proofs.binary.Statement.{statement}
 use Rattle.operands.proofs.binary.Tie as tie
 

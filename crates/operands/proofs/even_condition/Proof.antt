@@ -4,7 +4,8 @@ use native.Mathlib.Omega.{arith}
 use Prim.Native.Nat.{_*_}
 use borrow.Author.Needs.{needs}
 use Rattle.machine.specs.Cex.{conditionOf}
-use Rattle.operands.proofs.Laws.{past, never}
+use Rattle.word.proofs.Laws.{past}
+use Rattle.operands.proofs.Laws.{never}
 use Rattle.operands.proofs.even_condition.Statement.{statement}
 use Rattle.operands.proofs.even_condition.Tie as tie
 

@@ -2,7 +2,7 @@
 use lib.ListN.{List·getD-eq-default}
 use borrow.Author.Needs.{needs}
 use Rattle.machine.specs.Effect.{immediateOf}
-use Rattle.operands.proofs.Laws.{past}
+use Rattle.word.proofs.Laws.{past}
 use Rattle.operands.proofs.immediate.Statement.{statement}
 use Rattle.operands.proofs.immediate.Tie as tie
 

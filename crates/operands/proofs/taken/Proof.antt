@@ -3,7 +3,7 @@ use native.Mathlib.Nat.{div-one}
 use lib.ListN.{List·getD-eq-default}
 use borrow.Author.Needs.{needs}
 use Rattle.machine.specs.Effect.{takenOf}
-use Rattle.operands.proofs.Laws.{past}
+use Rattle.word.proofs.Laws.{past}
 use Rattle.operands.proofs.taken.Statement.{statement}
 use Rattle.operands.proofs.taken.Tie as tie
 

@@ -1,7 +1,7 @@
 -- `operands::unary` meets its contract. Assumes nothing.
 use lib.ListN.{List·getD-eq-default}
 use Rattle.machine.specs.Effect.{unaryOp}
-use Rattle.operands.proofs.Laws.{past}
+use Rattle.word.proofs.Laws.{past}
 use Rattle.operands.proofs.unary.Statement.{statement}
 use Rattle.operands.proofs.unary.Tie as tie
 

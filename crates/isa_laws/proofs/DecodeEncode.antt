@@ -83,7 +83,8 @@ module _ (base w : ℕ) where
       let f = lt-ltb (mag z) 64 (signed-mag 64 (w / 128 % 128) (omega arith)) in
       let b = bits-signed 64 (w / 128 % 128) (omega arith) in
       let s = joined base (w / 128 % 128) (w / 64 % 2) (w / 8 % 8) (w % 8) (w % 64) (w % 128) w
-      (sym (mod-mul w (omega arith) (omega arith))) (sym (mod-mul w (omega arith) (omega arith))) (ap (λ (n : ℕ). base + n) (sym (mod-mul w (omega arith) (omega arith))) ∙ e) in
+      (sym (mod-mul w (omega arith) (omega arith))) (sym (mod-mul w (omega arith) (omega arith)))
+      (ap (λ (n : ℕ). base + n) (sym (mod-mul w (omega arith) (omega arith))) ∙ e) in
       rw (f, lt-ltb (w / 64 % 2) 2 (omega arith), lt-ltb (w / 8 % 8) 8 (omega arith), lt-ltb (w % 8) 8 (omega arith))
       (ap Word (ap (λ (n : ℕ). base + n * 128 + w / 64 % 2 * 64 + w / 8 % 8 * 8 + w % 8) b ∙ s))
 

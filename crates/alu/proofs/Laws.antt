@@ -262,5 +262,4 @@ alu-value-word op byte d s p h =
     ⊎-elim (λ (e : aluOf op w d s p .value / 2 ^ w ≡ d / 2 ^ w).
     same-fits (aluOf op w d s p .value) d 16 (same-above (aluOf op w d s p .value) d w 16 (width-le byte) e) h)
     (λ (o : (op ≡ Swpb) ⊎ (op ≡ Sxt)). ⊎-elim (λ (e : op ≡ Swpb). rw e (swapped-word w d s p h))
-    (λ (e : op ≡ Sxt). rw e (extended-word w d s p)) o)
-    (alu-high-kept op w d s p (width-pos byte))
+    (λ (e : op ≡ Sxt). rw e (extended-word w d s p)) o) (alu-high-kept op w d s p (width-pos byte))

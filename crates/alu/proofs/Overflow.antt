@@ -60,16 +60,11 @@ turned-order k a b e ha hb =
     (λ (p : h ≤ a). ⊎-elim
     (λ (q : h ≤ b). rw (upper-turned k a p ha, upper-turned k b q hb, le-leb h a p, le-leb h b q)
     (same-order (a - h) (b - h) a b (λ l. omega arith) (λ l. omega arith)))
-    (λ (q : b < h). rw (upper-turned k a p ha, lower-turned k b q, le-leb h a p, lt-leb h b q)
-    (lt-ltb (a - h) (h + b) (omega arith)))
-    (order h b))
-    (λ (p : a < h). ⊎-elim
-    (λ (q : h ≤ b). rw (lower-turned k a p, upper-turned k b q hb, lt-leb h a p, le-leb h b q)
-    (le-ltb (h + a) (b - h) (omega arith)))
+    (λ (q : b < h). rw (upper-turned k a p ha, lower-turned k b q, le-leb h a p, lt-leb h b q) (lt-ltb (a - h) (h + b) (omega arith)))
+    (order h b)) (λ (p : a < h). ⊎-elim
+    (λ (q : h ≤ b). rw (lower-turned k a p, upper-turned k b q hb, lt-leb h a p, le-leb h b q) (le-ltb (h + a) (b - h) (omega arith)))
     (λ (q : b < h). rw (lower-turned k a p, lower-turned k b q, lt-leb h a p, lt-leb h b q)
-    (same-order (h + a) (h + b) a b (λ l. omega arith) (λ l. omega arith)))
-    (order h b))
-    (order h a))
+    (same-order (h + a) (h + b) a b (λ l. omega arith) (λ l. omega arith))) (order h b)) (order h a))
 
 -- ---- V of a difference
 
@@ -87,8 +82,7 @@ difference-sign h m a b e ha hb s =
     ⊎-elim (λ (p : h ≤ a). ⊎-elim (λ (q : h ≤ b). (omega arith, omega arith))
     (λ (q : b < h). absurd (true≢false (sym s ∙ ap₂ Bool·beq (le-leb h a p) (lt-leb h b q)))) (order h b))
     (λ (p : a < h). ⊎-elim (λ (q : h ≤ b). absurd (true≢false (sym s ∙ ap₂ Bool·beq (lt-leb h a p) (le-leb h b q))))
-    (λ (q : b < h). (omega arith, omega arith)) (order h b))
-    (order h a) in
+    (λ (q : b < h). (omega arith, omega arith)) (order h b)) (order h a) in
     let d = a + (m - 1 - b) + 1 in
     ⊎-elim
     (λ (q : b ≤ a). let t : m ≤ d = omega arith in

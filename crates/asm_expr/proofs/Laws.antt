@@ -70,8 +70,7 @@ letter-name b h = rw h
 reach-name : (s : List ℕ) (i : ℕ) → letter? (byteAt s i) ≡ true → Reach s i (nameAt s i)
 unfolding nameAt
 reach-name s i h = reach-cond s i (free? (wordOf (word (drop i s)))) _ _
-    (λ q. after-ahead nameByte? name-zero s i (letter-name (byteAt s i) h))
-    (λ q. tt)
+    (λ q. after-ahead nameByte? name-zero s i (letter-name (byteAt s i) h)) (λ q. tt)
 
 reach-plain : (s : List ℕ) (i : ℕ) → Reach s i (plainAt s i)
 unfolding plainAt
@@ -81,8 +80,7 @@ reach-plain s i = reach-cond s i (letter? (byteAt s i)) _ _ (reach-name s i)
     (λ q. reach-later s i (i + 2) (digitsAt true 10 s (i + 2)) (omega arith) (reach-digits true 10 (omega arith) s (i + 2)))
     (λ q. reach-later s i (i + 1) (digitsAt false 10 s (i + 1)) (omega arith) (reach-digits false 10 (omega arith) s (i + 1))))
     (λ q. reach-cond s i (eqb (byteAt s i) 36) _ _
-    (λ q. reach-later s i (i + 1) (digitsAt false 16 s (i + 1)) (omega arith) (reach-digits false 16 (omega arith) s (i + 1)))
-    (λ q. tt)))
+    (λ q. reach-later s i (i + 1) (digitsAt false 16 s (i + 1)) (omega arith) (reach-digits false 16 (omega arith) s (i + 1))) (λ q. tt)))
 
 -- a byte that is b, not 0, lies in the source
 pub byte-is-in : (s : List ℕ) (i b : ℕ) → byteAt s i ≡ suc b → i < length s
@@ -92,8 +90,7 @@ reach-closed : (s : List ℕ) (e : Expr) (i : ℕ) → Reach s i (closed s e i)
 unfolding closed
 reach-closed s e i = reach-cond s i (eqb (byteAt s (after blank? s i)) 41) _ _
     (λ q. let h = byte-is-in s (after blank? s i) 40 (eqb-true (byteAt s (after blank? s i)) 41 q) in
-    (omega (arith, after-le blank? s i), omega arith))
-    (λ q. tt)
+    (omega (arith, after-le blank? s i), omega arith)) (λ q. tt)
 
 reach-chain : (sign : ℕ → Bool) (part : ℕ → Parse) (s : List ℕ) → ((i : ℕ) → Reach s i (part i))
     → (n : ℕ) (e : Expr) (o i : ℕ) → o < i → i ≤ length s → Reach s o (chain sign part s n e i)
@@ -102,8 +99,7 @@ reach-chain sign part s r zero e o i h k = (h, k)
 reach-chain sign part s r (suc n) e o i h k = reach-cond s o (sign (byteAt s (after blank? s i))) _ _
     (λ q. reach-follow s o (part (after blank? s i + 1)) _
     (reach-later s o (after blank? s i + 1) (part (after blank? s i + 1)) (omega (arith, after-le blank? s i)) (r (after blank? s i + 1)))
-    (λ d j a b. reach-chain sign part s r n (binary (byteAt s (after blank? s i)) e d) o j a b))
-    (λ q. (h, k))
+    (λ d j a b. reach-chain sign part s r n (binary (byteAt s (after blank? s i)) e d) o j a b)) (λ q. (h, k))
 
 pub reach-parts : (sign : ℕ → Bool) (part : ℕ → Parse) (s : List ℕ) → ((i : ℕ) → Reach s i (part i)) → (i : ℕ)
     → Reach s i (partsOf sign part s i)

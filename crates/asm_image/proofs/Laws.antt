@@ -84,8 +84,7 @@ either false e = let z : _≡_ {A = ℕ} 1 0 = ap (λ (x : Bool). cond x 1 0) e 
 room-of : (size p : ℕ) → misplaced? size p ≡ false → 0 < size → p + size ≤ 65536
 unfolding misplaced?
 room-of size p h k = bool-cases (ltb 65536 (p + size))
-    (λ q. absurd (either (eqb size 2 && eqb (p % 2) 1) (rw (lt-ltb 0 size k, q) at h)))
-    (λ q. ltb-false 65536 (p + size) q)
+    (λ q. absurd (either (eqb size 2 && eqb (p % 2) 1) (rw (lt-ltb 0 size k, q) at h))) (λ q. ltb-false 65536 (p + size) q)
 
 -- 1 for a number
 abbrev numbers : Fit → ℕ
@@ -166,8 +165,7 @@ module _ (r s : Reading) (er : r ≡ s) (p : ℕ) where
 
 -- ---- the loop
 module _ (look : List ℕ → Value) (t : List ℕ) (at stop next p : ℕ) (m k : List ℕ) (here : LineAt t at stop next)
-    (e : k ≡ imageOf (statementsAt p (lineOf look (lineAt t at stop))) m)
-    (b : Bool) (eb : b ≡ end? (lineOf look (lineAt t at stop))) where
+    (e : k ≡ imageOf (statementsAt p (lineOf look (lineAt t at stop))) m) (b : Bool) (eb : b ≡ end? (lineOf look (lineAt t at stop))) where
   pub store-end : b ≡ true → k ≡ imageOf (placedFrom look (linesOf (drop at t)) p) m
   store-end h = e ∙ image-end look t at stop next p m here (sym eb ∙ h)
 

@@ -98,8 +98,7 @@ module _ (n : List ℕ) (v : Value) (b : Table) where
 
   named-even : Even b → Even (namedOf n v b)
   named-even h = bool-cases told
-      (λ q. subst Even (sym (named-is true q)) h)
-      (λ q. subst Even (sym (named-is false q))
+      (λ q. subst Even (sym (named-is true q)) h) (λ q. subst Even (sym (named-is false q))
       (length-append (b .names) (n ∷ []) ∙ ap (λ (k : ℕ). k + 1) h ∙ sym (length-append (b .values) (storedOf v ∷ []))))
 
   note-line : (w : Value) → noteValue (b .tally) w .line ≡ b .tally .line
@@ -114,8 +113,7 @@ module _ (n : List ℕ) (v : Value) (b : Table) where
 
   named-line : namedOf n v b .tally .line ≡ b .tally .line
   named-line = bool-cases told
-      (λ q. ap (λ (x : Table). x .tally .line) (named-is true q))
-      (λ q. ap (λ (x : Table). x .tally .line) (named-is false q) ∙ note-line v)
+      (λ q. ap (λ (x : Table). x .tally .line) (named-is true q)) (λ q. ap (λ (x : Table). x .tally .line) (named-is false q) ∙ note-line v)
 
   named-place : namedOf n v b .tally .place ≡ b .tally .place
   named-place = bool-cases told
@@ -398,8 +396,7 @@ module _ (f : List ℕ → Value) (l : List ℕ) (ls : List (List ℕ)) (b : Tab
       let u1 : (m : List ℕ) → Up (look a m) (f m) = subst (λ (d : Bool). (m : List ℕ) → Up (look (cond d a t) m) (f m)) q up in
       subst (λ (d : Bool). AllValued f (givenAt p l (Line n j y) ++ cond d [] rest)) (sym (sym stop ∙ q))
       (valued-append f (givenAt p l (Line n j y)) []
-      (name-valued f l n j x y b p hp o (line-sound l n j x b ev h c1) u1) tt))
-      (λ q.
+      (name-valued f l n j x y b p hp o (line-sound l n j x b ev h c1) u1) tt)) (λ q.
       let c1 : Clean (t .tally) = subst (λ (d : Bool). Clean (cond d a t .tally)) q c in
       let u1 : (m : List ℕ) → Up (look t m) (f m) = subst (λ (d : Bool). (m : List ℕ) → Up (look (cond d a t) m) (f m)) q up in
       let ca : Clean (a .tally) = table-clean ls (nextOn a) (line-even l r b ev) (on-line l r b) c1 in

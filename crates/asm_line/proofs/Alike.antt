@@ -128,8 +128,7 @@ module _ (U : Value → Value → Type 0) (O : Statement → Statement → Type 
     unfolding conditional
     conditional-alike i = alike-having (conditionAt s i) _ _
         (λ c j. alike-valued (commaValue f s j) (commaValue f′ s j) _ _ (same-comma j)
-        (λ t u k g. alike-valued (commaValue f s k) (commaValue f′ s k) _ _ (same-comma k)
-        (λ v w l h. (refl, R .of-counts c t u v w g h))))
+        (λ t u k g. alike-valued (commaValue f s k) (commaValue f′ s k) _ _ (same-comma k) (λ v w l h. (refl, R .of-counts c t u v w g h))))
 
     move-byte : (op i : ℕ) → Alike (moveByte f s op i) (moveByte f′ s op i)
     unfolding moveByte
@@ -146,8 +145,7 @@ module _ (U : Value → Value → Type 0) (O : Statement → Statement → Type 
     unfolding storeRelative
     store-relative i = alike-having (widthAt s i) _ _ (λ b j. alike-having (registerAt s j) _ _
         (λ r k. alike-having (commaRegister s k) _ _
-        (λ d l. alike-valued (commaValue f s l) (commaValue f′ s l) _ _ (same-comma l)
-        (λ v w n h. (refl, R .of-store b r d v w h)))))
+        (λ d l. alike-valued (commaValue f s l) (commaValue f′ s l) _ _ (same-comma l) (λ v w n h. (refl, R .of-store b r d v w h)))))
 
     with-alike : (named : Bool) (k : Keyword) (i : ℕ) → Alike (statementWith f s named k i) (statementWith f′ s named k i)
     unfolding statementWith

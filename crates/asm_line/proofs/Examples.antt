@@ -8,9 +8,8 @@ use Rattle.isa.specs.declared.Instr.the-variants as instr
 use Rattle.asm_value.specs.declared.Value.the-variants.{Known, Unknown}
 use Rattle.asm_value.specs.Value.{fitted, applied, joined}
 use Rattle.asm_text.specs.Text.{ascii, blank?, letter?, nameByte?, digitOf, digit?, span, after, numeral, word, same}
-use Rattle.asm_words.specs.Words.{meaning, branches, operations, unaries, moves, valuedWords, otherWords, keywords, registers}
-use Rattle.asm_words.specs.Words.{conditions, emulated, words, wordOf, free?, registerOf, conditionOf, flags, flagOf, withBit, flagsFrom}
-use Rattle.asm_words.specs.Words.{flagsOf}
+use Rattle.asm_words.specs.Words.{meaning, branches, operations, unaries, moves, valuedWords, otherWords, keywords, registers, conditions}
+use Rattle.asm_words.specs.Words.{emulated, words, wordOf, free?, registerOf, conditionOf, flags, flagOf, withBit, flagsFrom, flagsOf}
 use Rattle.asm_expr.specs.Grammar.{named?, digitsAt, nameAt, plainAt, closed, plus?, times?, chain, partsOf, factorWith, factorOf}
 use Rattle.asm_expr.specs.Meaning.{valueOf, answerOf}
 use Rattle.asm_operands.specs.Operands.{over?, wordBelow, registerAt, conditionAt, flagsAt, widthAt, valueAt, nameless?, number?, comma?}

@@ -112,8 +112,7 @@ flags-below s i = word-below 32 flagsOf s i
 width-below : (s : List ℕ) (i : ℕ) → Below 2 (widthAt s i)
 unfolding widthAt
 width-below s i = below-cond 2 (not (eqb (byteAt s i) 46)) _ _ (λ q. omega arith)
-    (λ q. below-cond 2 (nameByte? (byteAt s (i + 2))) _ _ (λ q. tt)
-    (λ q. below-cond 2 (eqb (byteAt s (i + 1)) 66) _ _ (λ q. omega arith)
+    (λ q. below-cond 2 (nameByte? (byteAt s (i + 2))) _ _ (λ q. tt) (λ q. below-cond 2 (eqb (byteAt s (i + 1)) 66) _ _ (λ q. omega arith)
     (λ q. below-cond 2 (eqb (byteAt s (i + 1)) 87) _ _ (λ q. omega arith) (λ q. tt))))
 
 comma-register-below : (s : List ℕ) (i : ℕ) → Below 8 (commaRegister s i)
@@ -232,8 +231,7 @@ module _ (look : List ℕ → Value) (s : List ℕ) where
   on-flags : (set : Bool) (i : ℕ) → Holds (onFlags s set i)
   unfolding onFlags encodeOf
   on-flags set i = holds-having 32 (flagsAt s i) _ (flags-below s i)
-      (λ f j e. one-of set (instr.SetCc f) (instr.ClrCc f) (worded (ltb f 32) _ (lt-ltb f 32 e))
-      (worded (ltb f 32) _ (lt-ltb f 32 e)))
+      (λ f j e. one-of set (instr.SetCc f) (instr.ClrCc f) (worded (ltb f 32) _ (lt-ltb f 32 e)) (worded (ltb f 32) _ (lt-ltb f 32 e)))
 
   conditional-holds : (i : ℕ) → Holds (conditional look s i)
   unfolding conditional
@@ -264,8 +262,7 @@ module _ (look : List ℕ → Value) (s : List ℕ) where
   load-relative : (i : ℕ) → Holds (loadRelative look s i)
   unfolding loadRelative
   load-relative i = holds-having 2 (widthAt s i) _ (width-below s i)
-      (λ w j b. holds-having 8 (registerAt s j) _ (register-below s j)
-      (λ r k h. holds-valued (commaValue look s k) _
+      (λ w j b. holds-having 8 (registerAt s j) _ (register-below s j) (λ r k h. holds-valued (commaValue look s k) _
       (λ v l. holds-having 8 (commaRegister s l) _ (comma-register-below s l) (λ d n e. (b, h, e)))))
 
   store-relative : (i : ℕ) → Holds (storeRelative look s i)

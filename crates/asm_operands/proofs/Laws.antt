@@ -129,8 +129,7 @@ unfolding applied
 known-applied op x y =
     bool-cases (eqb op 43) (λ q. rw q (known-fitted (x +ℤ y)))
     (λ q. rw q (bool-cases (eqb op 45) (λ r. rw r (known-fitted (x -ℤ y)))
-    (λ r. rw r (bool-cases (eqb op 42) (λ t. rw t (known-fitted (x *ℤ y)))
-    (λ t. rw t (known-quotient x y))))))
+    (λ r. rw r (bool-cases (eqb op 42) (λ t. rw t (known-fitted (x *ℤ y))) (λ t. rw t (known-quotient x y))))))
 
 known-joined : (op : ℕ) (a b : Value) → known? (joined op a b) ≡ known? a && known? b
 unfolding joined

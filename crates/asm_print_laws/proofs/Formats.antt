@@ -36,9 +36,8 @@ use Rattle.asm_print.specs.Print.{withComma, targetOf, phrase, textFor, textAt}
 use Rattle.asm_print_laws.specs.Theorems.{TextSays}
 use Rattle.asm_print_laws.proofs.Pieces.{condition-spells, flags-spells, branch-spells, operation-spells, unary-spells}
 use Rattle.asm_print_laws.proofs.Pieces.{move-spells, mnemonics}
-use Rattle.asm_print_laws.proofs.Statements.{one-number, two-registers, with-constant, moves, exchanges, unaries}
-use Rattle.asm_print_laws.proofs.Statements.{of-register, of-flags, conditionals, move-byte, load-relative, store-relative, loads}
-use Rattle.asm_print_laws.proofs.Statements.{stores}
+use Rattle.asm_print_laws.proofs.Statements.{one-number, two-registers, with-constant, moves, exchanges, unaries, of-register}
+use Rattle.asm_print_laws.proofs.Statements.{of-flags, conditionals, move-byte, load-relative, store-relative, loads, stores}
 use Rattle.asm_print_laws.proofs.Fits.{count-fits, byte-fits, offset-fits, constant-fits, branch-fits, coded-is}
 use Rattle.asm_print_laws.proofs.Lines.{mnemonic-line, name-plain, all-plain, register-plain, number-plain, hex-plain}
 use Rattle.asm_print_laws.proofs.Lines.{with-comma-plain, phrase-plain}

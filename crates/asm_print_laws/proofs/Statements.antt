@@ -31,10 +31,9 @@ use Rattle.asm_line.specs.Line.{statementAt, lineFrom, lineOf}
 use Rattle.asm_print.specs.Print.{conditionText, registerText, numberText, hexText, flagsText, addressText, idle?, withComma, sizeMark}
 use Rattle.asm_print_laws.proofs.Here.{Ends, low-name, word-all, first-of, first-all, here-past, here-after, begins, begins-blank}
 use Rattle.asm_print_laws.proofs.Pieces.{Spells}
-use Rattle.asm_print_laws.proofs.Operands.{FoundAt, ValueAt, Clear, width-read, first-register}
-use Rattle.asm_print_laws.proofs.Operands.{first-condition, first-flags, first-number, first-hex, first-hex-nameless}
-use Rattle.asm_print_laws.proofs.Operands.{comma-register, comma-number}
-use Rattle.asm_print_laws.proofs.Operands.{comma-read, register-none, register-solid, solid, over-end, address-read}
+use Rattle.asm_print_laws.proofs.Operands.{FoundAt, ValueAt, Clear, width-read, first-register, first-condition, first-flags}
+use Rattle.asm_print_laws.proofs.Operands.{first-number, first-hex, first-hex-nameless, comma-register, comma-number, comma-read}
+use Rattle.asm_print_laws.proofs.Operands.{register-none, register-solid, solid, over-end, address-read}
 
 -- a statement is read, and the line is over
 pub record StatedAs (s : List ℕ) (f : Stated) (x : Statement) : Type 0 where

@@ -162,10 +162,7 @@ module _ (a b : ℕ) where
 module _ (r s : Reading) (e : r ≡ s) where
   pub form-line : (named : Bool) (q : ℕ) (x : Statement) (lay : Layout) (b : Bool) → r ≡ Line named q x
       → lay ≡ layoutOf x → b ≡ stops? lay → (false ≡ faulty? s) × (b ≡ end? s)
-  form-line named q x lay b er el eb = (
-    sym (ap faulty? (sym e ∙ er)),
-    eb ∙ ap stops? el ∙ sym (ap end? (sym e ∙ er)),
-  )
+  form-line named q x lay b er el eb = (sym (ap faulty? (sym e ∙ er)), eb ∙ ap stops? el ∙ sym (ap end? (sym e ∙ er)))
 
   pub form-none : r ≡ Fault → (true ≡ faulty? s) × (false ≡ end? s)
   form-none er = (sym (ap faulty? (sym e ∙ er)), sym (ap end? (sym e ∙ er)))

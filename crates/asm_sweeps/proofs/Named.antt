@@ -50,8 +50,7 @@ module _ (s : List ℕ) where
       (λ k. let h : q < length s = kind-in letter? letter-zero s q k in
       either (over? s (after blank? s (after nameByte? s q))) (Line true q Nothing)
       (ended s true q (statementAt look s true (after blank? s (after nameByte? s q)))) (λ d z. h)
-      (λ d. ended-in true q (λ z. h) (statementAt look s true (after blank? s (after nameByte? s q)))))
-      (λ k. tt)))
+      (λ d. ended-in true q (λ z. h) (statementAt look s true (after blank? s (after nameByte? s q))))) (λ k. tt)))
 
 pub line-named : (look : List ℕ → Value) (l : List ℕ) (q : ℕ) (x : Statement) → lineOf look l ≡ Line true q x → q < length l
 unfolding lineOf

@@ -196,8 +196,7 @@ module _ (b : ℕ) (w : List ℕ) (ls : List (List ℕ)) where
 crlf-is : (b : ℕ) (t : List ℕ) → startsCrLf (b ∷ t) ≡ true → (b ≡ 13) × (startsLf t ≡ true)
 crlf-is b t h =
     bool-cases (eqb b 13)
-    (λ q. (eqb-true b 13 q, rw q at h))
-    (λ q. let z : _≡_ {A = Bool} false true = rw q at h in absurd (bools z))
+    (λ q. (eqb-true b 13 q, rw q at h)) (λ q. let z : _≡_ {A = Bool} false true = rw q at h in absurd (bools z))
 
 lf-lines : (t : List ℕ) → startsLf t ≡ true → linesOf t ≡ [] ∷ linesOf (behind t)
 unfolding linesOf
@@ -239,15 +238,12 @@ after-byte t k (m ∷ ms) em f g = g ms (em ∙ ap (λ (x : List ℕ). x ∷ ms)
 line-stops : (u : List ℕ) (k : ℕ) (ls : List (List ℕ)) → linesOf u ≡ take k u ∷ ls → nameByte? (getD u k 0) ≡ false
 line-stops [] k ls e = name-zero
 line-stops (b ∷ t) zero ls e = bool-cases (eqb b 10)
-    (λ q. ap nameByte? (eqb-true b 10 q) ∙ ten)
-    (λ q. bool-cases (startsCrLf (b ∷ t))
-    (λ r. ap nameByte? (crlf-is b t r .0) ∙ thirteen)
+    (λ q. ap nameByte? (eqb-true b 10 q) ∙ ten) (λ q. bool-cases (startsCrLf (b ∷ t)) (λ r. ap nameByte? (crlf-is b t r .0) ∙ thirteen)
     (λ r. absurd (onto-none b [] ls (linesOf t) (lines-char b t q r ∙ e))))
 line-stops (b ∷ t) (suc k) ls e =
     let again : (ms : List (List ℕ)) → linesOf t ≡ take k t ∷ ms → nameByte? (getD t k 0) ≡ false = line-stops t k in
     bool-cases (eqb b 10)
-    (λ q. absurd (lf-none b (take k t) ls (linesOf t) (lines-lf b t q ∙ e)))
-    (λ q. bool-cases (startsCrLf (b ∷ t))
+    (λ q. absurd (lf-none b (take k t) ls (linesOf t) (lines-lf b t q ∙ e))) (λ q. bool-cases (startsCrLf (b ∷ t))
     (λ r. absurd (lf-none b (take k t) ls (linesOf (behind t)) (sym (lf-lines t (crlf-is b t r .1)) ∙ lines-crlf b t q r ∙ e)))
     (λ r. after-byte t k (linesOf t) refl (onto-more b (take k t) ls (linesOf t) (lines-char b t q r ∙ e)) again))
 

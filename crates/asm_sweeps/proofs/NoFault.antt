@@ -16,10 +16,8 @@ least-none : (a b : ℕ) → leastOf a b ≡ 0 → (a ≡ 0) × (b ≡ 0)
 unfolding leastOf
 least-none a b e =
     bool-cases (eqb a 0)
-    (λ q. (eqb-true a 0 q, ap (λ (x : Bool). cond x b (cond (eqb b 0) a (min a b))) (sym q) ∙ e))
-    (λ q. bool-cases (eqb b 0)
-    (λ r. let z : a ≡ 0 = (rw (q, r) at e) in (z, eqb-true b 0 r))
-    (λ r. let z : min a b ≡ 0 = (rw (q, r) at e) in
+    (λ q. (eqb-true a 0 q, ap (λ (x : Bool). cond x b (cond (eqb b 0) a (min a b))) (sym q) ∙ e)) (λ q. bool-cases (eqb b 0)
+    (λ r. let z : a ≡ 0 = (rw (q, r) at e) in (z, eqb-true b 0 r)) (λ r. let z : min a b ≡ 0 = (rw (q, r) at e) in
     let n = eqb-false a 0 q in let m = eqb-false b 0 r in absurd (omega (arith, n, m, z))))
 
 -- the arms of the verdict, by their tests

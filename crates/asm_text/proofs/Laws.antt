@@ -22,8 +22,7 @@ clash {b = b} p q = let z : _≡_ {A = Bool} true false = sym p ∙ q in let e :
 -- a test of two bounds
 pub both-true : (lo b hi : ℕ) → leb lo b && leb b hi ≡ true → (lo ≤ b) × (b ≤ hi)
 both-true lo b hi e = bool-cases (leb lo b)
-    (λ q. (leb-true lo b q, leb-true b hi (rw q at e)))
-    (λ q. let z : _≡_ {A = Bool} false true = rw q at e in clash e (rw q))
+    (λ q. (leb-true lo b q, leb-true b hi (rw q at e))) (λ q. let z : _≡_ {A = Bool} false true = rw q at e in clash e (rw q))
 
 -- by whether a place is before the end
 pub place-cases : {X : Type 0} (s : List ℕ) (i : ℕ) → (i < length s → X) → (length s ≤ i → X) → X
@@ -47,8 +46,7 @@ module _ (p : ℕ → Bool) where
   pub after-stop : (s : List ℕ) (i : ℕ) → p (byteAt s i) ≡ false → after p s i ≡ i
   unfolding after span
   after-stop s i h = place-cases s i
-      (λ k. rw (drop-cons s i 0 k, h) (omega arith))
-      (λ k. rw (drop-of-length-le s k) (omega arith))
+      (λ k. rw (drop-cons s i 0 k, h) (omega arith)) (λ k. rw (drop-of-length-le s k) (omega arith))
 
   pub after-le : (s : List ℕ) (i : ℕ) → i ≤ after p s i
   unfolding after
@@ -76,8 +74,7 @@ pub sat-numeral : (base : ℕ) → 1 ≤ base → (n : ℕ) (l : List ℕ) → s
 unfolding numeral sat
 sat-numeral base hb n [] = refl
 sat-numeral base hb n (b ∷ l) = bool-cases (digit? base b)
-    (λ q. rw q (rw (cut base n (digitOf b) hb) (sat-numeral base hb (n * base + digitOf b) l)))
-    (λ q. rw q)
+    (λ q. rw q (rw (cut base n (digitOf b) hb) (sat-numeral base hb (n * base + digitOf b) l))) (λ q. rw q)
 
 pub no-digit : (base : ℕ) → base ≤ 16 → digit? base 0 ≡ false
 unfolding digit? digitOf
@@ -96,8 +93,7 @@ module _ (base : ℕ) (s : List ℕ) (i : ℕ) where
   pub sat-stop : (n : ℕ) → base ≤ digitOf (byteAt s i) → sat base n (drop i s) ≡ n
   unfolding digit? sat
   sat-stop n h = place-cases s i
-      (λ k. rw (drop-cons s i 0 k, le-ltb (digitOf (byteAt s i)) base h))
-      (λ k. rw (drop-of-length-le s k))
+      (λ k. rw (drop-cons s i 0 k, le-ltb (digitOf (byteAt s i)) base h)) (λ k. rw (drop-of-length-le s k))
 
   pub digits-more : base ≤ 16 → digitOf (byteAt s i) < base → after (digit? base) s (i + 1) ≡ after (digit? base) s i
   unfolding digit?
@@ -125,8 +121,7 @@ word-more s i h =
 pub word-stop : (s : List ℕ) (i : ℕ) → nameByte? (byteAt s i) ≡ false → word (drop i s) ≡ []
 unfolding word
 word-stop s i h = place-cases s i
-    (λ k. rw (drop-cons s i 0 k, h))
-    (λ k. rw (drop-of-length-le s k))
+    (λ k. rw (drop-cons s i 0 k, h)) (λ k. rw (drop-of-length-le s k))
 
 -- ---- a word's spelling and key, byte by byte
 module _ (s : List ℕ) (i n : ℕ) where
@@ -153,8 +148,7 @@ module _ (t : List ℕ) (i : ℕ) (s : List ℕ) (j : ℕ) where
   pub same-stop : nameByte? (byteAt t i) ≡ false → same (word (drop i t)) (word (drop j s)) ≡ not (nameByte? (byteAt s j))
   unfolding same
   same-stop h = bool-cases (nameByte? (byteAt s j))
-      (λ q. rw (word-stop t i h, word-more s j q, q))
-      (λ q. rw (word-stop t i h, word-stop s j q, q))
+      (λ q. rw (word-stop t i h, word-more s j q, q)) (λ q. rw (word-stop t i h, word-stop s j q, q))
 
   pub same-short : nameByte? (byteAt t i) ≡ true → nameByte? (byteAt s j) ≡ false
       → same (word (drop i t)) (word (drop j s)) ≡ false

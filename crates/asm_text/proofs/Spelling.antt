@@ -63,8 +63,7 @@ spelled-once w v x y e h =
     let n : number 0 w ≡ number 0 v =
     sym (uncut w 0 (omega arith) h) ∙ e ∙ uncut v 0 (omega arith) (omega (arith, e, h)) in
     bool-cases (ltb (length w) (length v))
-    (λ q. absurd (shorter w v 0 x y (ltb-true (length w) (length v) q) (sym n)))
-    (λ q. bool-cases (ltb (length v) (length w))
+    (λ q. absurd (shorter w v 0 x y (ltb-true (length w) (length v) q) (sym n))) (λ q. bool-cases (ltb (length v) (length w))
     (λ z. absurd (shorter v w 0 y x (ltb-true (length v) (length w) z) n))
     (λ z. same-length w v 0 0 x y (omega (arith, ltb-false (length w) (length v) q, ltb-false (length v) (length w) z)) n .1))
 
@@ -78,8 +77,7 @@ word-bytes : (l : List ℕ) → Bytes (word l)
 unfolding word
 word-bytes [] = tt
 word-bytes (b ∷ l) = bool-cases (nameByte? b)
-    (λ q. let r = name-range b q in rw q (r .0, r .1, word-bytes l))
-    (λ q. rw q tt)
+    (λ q. let r = name-range b q in rw q (r .0, r .1, word-bytes l)) (λ q. rw q tt)
 
 -- the words of two texts
 pub same-spelling : (s t : List ℕ) → spelled (word s) ≡ spelled (word t) → spelled (word s) < 2 ^ 48 → word s ≡ word t

@@ -91,8 +91,7 @@ sweep-good look (l ∷ ls) t h c =
     let u = line-clean r t (line-lawful look l) h (v .0) in (
       u .0,
       subst (λ (b : Bool). AllGood (statementsAt (t .place) r ++ cond b [] more)) (sym q)
-          (good-append (statementsAt (t .place) r) more (u .1)
-          (subst (λ (p : ℕ). AllGood (placedFrom look ls p)) (place-on r t) (v .1))),
+          (good-append (statementsAt (t .place) r) more (u .1) (subst (λ (p : ℕ). AllGood (placedFrom look ls p)) (place-on r t) (v .1))),
     ))
 
 -- every statement of a source without a fault is good
@@ -153,8 +152,7 @@ module _ (m s : List ℕ) where
 pub refused-keeps : RefusedKeeps
 refused-keeps m s h =
     bool-cases (eqb (v m s .refusal) 0)
-    (λ q. absurd (h (refusal-is m s ∙ eqb-true (v m s .refusal) 0 q)))
-    (λ q. kept m s q)
+    (λ q. absurd (h (refusal-is m s ∙ eqb-true (v m s .refusal) 0 q))) (λ q. kept m s q)
 
 pub call-keeps : CallKeeps
 call-keeps m s a h =

@@ -163,8 +163,7 @@ module _ (m s : List ℕ) (x : Placed) (after : List Placed) (h : Assembles m s 
 pub words-decode : WordsDecode
 words-decode m s x after h u w =
     by-size (x .place) (x .statement) (decodeOf (wordIn (assembleCallOf m s .memory) (x .place))) (decodeOf (n m s x after h))
-    (λ k. ap decodeOf (word-is m s x after h k u w))
-    (means (x .place) (x .statement) (n m s x after h) (number m s x after h))
+    (λ k. ap decodeOf (word-is m s x after h k u w)) (means (x .place) (x .statement) (n m s x after h) (number m s x after h))
 
 pub word-data : WordHeld
 unfolding layoutOf numberOf

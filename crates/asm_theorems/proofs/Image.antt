@@ -28,8 +28,7 @@ for-length : (size n : ℕ) → length (bytesFor size n) ≤ size
 unfolding bytesFor
 for-length size n =
     bool-cases (eqb size 0) (λ q. rw q (omega arith))
-    (λ q. bool-cases (eqb size 1)
-    (λ r. rw (q, r) (let e = eqb-true size 1 r in omega arith))
+    (λ q. bool-cases (eqb size 1) (λ r. rw (q, r) (let e = eqb-true size 1 r in omega arith))
     (λ r. rw (q, r) (let e = eqb-false size 0 q in let d = eqb-false size 1 r in omega (arith, e, d))))
 
 bytes-length : (size : ℕ) (f : Fit) → length (bytesWith size f) ≤ size

@@ -140,14 +140,10 @@ constant-is (negsuc k) n e =
 constant-is (pos k) n e =
     bool-cases (ltb k 3)
     (λ q. at k (number-inj k n (rw q at e)) (let d = ltb-true k 3 q in omega arith) (first-three k (ltb-true k 3 q)))
-    (λ a. bool-cases (eqb k 4)
-    (λ q. at 3 (number-inj 3 n (rw (a, q) at e)) (omega arith) (ap pos (eqb-true k 4 q)))
-    (λ b. bool-cases (eqb k 8)
-    (λ q. at 4 (number-inj 4 n (rw (a, b, q) at e)) (omega arith) (ap pos (eqb-true k 8 q)))
-    (λ d. bool-cases (eqb k 16)
-    (λ q. at 5 (number-inj 5 n (rw (a, b, d, q) at e)) (omega arith) (ap pos (eqb-true k 16 q)))
-    (λ f. bool-cases (eqb k 32)
-    (λ q. at 6 (number-inj 6 n (rw (a, b, d, f, q) at e)) (omega arith) (ap pos (eqb-true k 32 q)))
+    (λ a. bool-cases (eqb k 4) (λ q. at 3 (number-inj 3 n (rw (a, q) at e)) (omega arith) (ap pos (eqb-true k 4 q)))
+    (λ b. bool-cases (eqb k 8) (λ q. at 4 (number-inj 4 n (rw (a, b, q) at e)) (omega arith) (ap pos (eqb-true k 8 q)))
+    (λ d. bool-cases (eqb k 16) (λ q. at 5 (number-inj 5 n (rw (a, b, d, q) at e)) (omega arith) (ap pos (eqb-true k 16 q)))
+    (λ f. bool-cases (eqb k 32) (λ q. at 6 (number-inj 6 n (rw (a, b, d, f, q) at e)) (omega arith) (ap pos (eqb-true k 32 q)))
     (λ q. absurd (outside-not n (rw (a, b, d, f, q) at e)))))))
   where
     at : (i : ℕ) → i ≡ n → i < 8 → pos k ≡ getD constants i (pos 0) → (n < 8) × (pos k ≡ getD constants n (pos 0))
@@ -201,12 +197,10 @@ steps-are half p t n hh ht e =
     bool-cases (eqb (wayOf p t % 2) 0)
     (λ a. bool-cases (ltb (wayOf p t / 2) half)
     (λ b. up half p t (wayOf p t) hh ht refl (eqb-true _ 0 a) n (ltb-true (wayOf p t / 2) half b)
-    (sym (number-inj (wayOf p t / 2) n (rw (a, b) at e))))
-    (λ b. bool-cases (ltb (wayOf p t / 2) (32768 - half))
+    (sym (number-inj (wayOf p t / 2) n (rw (a, b) at e)))) (λ b. bool-cases (ltb (wayOf p t / 2) (32768 - half))
     (λ d. absurd (outside-not n (rw (a, b, d) at e)))
     (λ d. down half p t (wayOf p t) hh ht refl (eqb-true _ 0 a) n (ltb-false (wayOf p t / 2) (32768 - half) d)
-    (sym (number-inj (wayOf p t / 2 - (32768 - half - half)) n (rw (a, b, d) at e))))))
-    (λ a. absurd (outside-not n (rw a at e)))
+    (sym (number-inj (wayOf p t / 2 - (32768 - half - half)) n (rw (a, b, d) at e)))))) (λ a. absurd (outside-not n (rw a at e)))
 
 branch-to : (half p : ℕ) (f : Fit) (n : ℕ) → branchTo half p f ≡ Number n
     → (t : ℕ) × (f ≡ Number t) × (stepsOf half (wayOf p t) ≡ Number n)

@@ -79,8 +79,7 @@ mag-negℤ (negsuc n) = omega arith
 
 mag-sub : (a b : ℕ) → mag (subℕ a b) ≤ a + b
 mag-sub a b = bool-cases (ltb a b)
-    (λ q. let h : a < b = ltb-true a b q in rw q (omega arith))
-    (λ q. rw q (omega arith))
+    (λ q. let h : a < b = ltb-true a b q in rw q (omega arith)) (λ q. rw q (omega arith))
 
 mag-add : (x y : ℤ) → mag (x +ℤ y) ≤ suc (mag x + mag y)
 mag-add (pos a) (pos b) = omega arith

@@ -23,9 +23,8 @@ use Rattle.asm_words.specs.declared.Keyword.{Keyword}
 use Rattle.asm_words.specs.declared.Keyword.the-variants as key
 use Rattle.asm_words.specs.declared.Valued.{Valued}
 use Rattle.asm_words.specs.declared.Valued.the-variants as val
-use Rattle.asm_words.specs.Words.{meaning, each, branches, operations, unaries, moves, valuedWords, otherWords, keywords}
-use Rattle.asm_words.specs.Words.{registers, conditions, emulated, words, wordOf, registerOf, conditionOf}
-use Rattle.asm_words.specs.Words.{flags, flagOf, withBit, flagsFrom}
+use Rattle.asm_words.specs.Words.{meaning, each, branches, operations, unaries, moves, valuedWords, otherWords, keywords, registers}
+use Rattle.asm_words.specs.Words.{conditions, emulated, words, wordOf, registerOf, conditionOf, flags, flagOf, withBit, flagsFrom}
 use Rattle.asm_words.specs.Rows.{numberIn, valuedAt, plainAt, groups, nthOf, wordAt}
 
 -- ---- a test of each row
@@ -67,8 +66,7 @@ module _ {A : Type 0} (none : A) (t : List ℕ) (p : ℕ) (e : p ≡ spelled (wo
       let parts = and-parts (same (word l) l) (ltb (spelled l) 281474976710656) h in
       let own : word l ≡ l = same-is (word l) l (parts .0) in
       bool-cases (same l (word t))
-      (λ q. eq-eqb (spelled l) p (ap spelled (same-is l (word t) q) ∙ sym e) ∙ sym q)
-      (λ q. ne-eqb (spelled l) p (λ z.
+      (λ q. eq-eqb (spelled l) p (ap spelled (same-is l (word t) q) ∙ sym e) ∙ sym q) (λ q. ne-eqb (spelled l) p (λ z.
       let small : spelled (word t) < 281474976710656 =
       omega (arith, ltb-true (spelled l) 281474976710656 (parts .1), sym e ∙ sym z) in
       let alike : word t ≡ l = same-spelling t l (sym e ∙ sym z ∙ ap spelled (sym own)) small ∙ own in
@@ -128,10 +126,8 @@ found q [] p e f g = g refl
 found q (r ∷ rs) p e f g =
     let h = and-parts (q r) (every q rs) e in
     bool-cases (eqb (r / 256) p)
-    (λ t. f (record { row = r; is = eqb-true (r / 256) p t; says = rw t; tested = h .0 }))
-    (λ t. found q rs p (h .1)
-    (λ (x : Hit q rs p). f (record { row = x .row; is = x .is; says = rw t (x .says); tested = x .tested }))
-    (λ z. g (rw t z)))
+    (λ t. f (record { row = r; is = eqb-true (r / 256) p t; says = rw t; tested = h .0 })) (λ t. found q rs p (h .1)
+    (λ (x : Hit q rs p). f (record { row = x .row; is = x .is; says = rw t (x .says); tested = x .tested })) (λ z. g (rw t z)))
 
 -- ---- the conditions
 pub condition-is : (p : ℕ) (t : List ℕ) → p ≡ spelled (word t) → numberIn 16 (packed conditions) p ≡ conditionOf (word t)
@@ -331,8 +327,7 @@ unfolding inGroup inWords
 group-is p = found inGroup rowsOf p all-in-group
     (λ (x : Hit inGroup rowsOf p).
     let t = eqb-true (numberIn 0 (group (x .row / 256 % 61)) (x .row / 256)) (x .row % 256) (x .tested) in
-    (rw (x .is) at t) ∙ sym (x .says))
-    (λ z. found inWords (group (p % 61)) p (in-group inWords (p % 61) all-in-words)
+    (rw (x .is) at t) ∙ sym (x .says)) (λ z. found inWords (group (p % 61)) p (in-group inWords (p % 61) all-in-words)
     (λ (x : Hit inWords (group (p % 61)) p).
     let t = eqb-true (numberIn 0 rowsOf (x .row / 256)) (x .row % 256) (x .tested) in
     x .says ∙ sym (rw (x .is) at t))

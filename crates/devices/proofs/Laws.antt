@@ -40,8 +40,7 @@ device-lt b (suc n) k f h =
     (λ (l : n ≤ k).
     let e : k ≡ n = omega arith in
     rw e (ltb-true (byteAt b (8 * n + 4)) 8 (and-eq-true-iff (ltb (byteAt b (8 * n + 4)) 8) _ .0 (p .1) .0)))
-    (λ (l : k < n). device-lt b n k (p .0) l)
-    (order n k)
+    (λ (l : k < n). device-lt b n k (p .0) l) (order n k)
 
 -- the step of record j
 abbrev pub stepAt : List ℕ → ℕ → ℕ
@@ -57,8 +56,7 @@ step-next b (suc (suc n)) k o h =
     (λ (l : n ≤ k).
     let e : k ≡ n = omega arith in
     rw e (leb-true (stepAt b n) (stepAt b (suc n)) (p .1)))
-    (λ (l : k < n). step-next b (suc n) k (p .0) (omega arith))
-    (order n k)
+    (λ (l : k < n). step-next b (suc n) k (p .0) (omega arith)) (order n k)
 
 step-later : (b : List ℕ) (n i d : ℕ) → inOrderBelow b n ≡ true → i + d < n → stepAt b i ≤ stepAt b (i + d)
 step-later b n i zero o h = let e : i + 0 ≡ i = omega arith in rw e (omega arith)
@@ -154,8 +152,7 @@ module _ (b : List ℕ) (k : ℕ) where
   index-none-due next s o p l =
       sym (index-start next s p)
       ∙ ⊎-elim
-      (λ (e : eventCount b ≤ next). index-end next s e)
-      (λ (h : next < eventCount b). index-later next s o h (l h))
+      (λ (e : eventCount b ≤ next). index-end next s e) (λ (h : next < eventCount b). index-later next s o h (l h))
       (order (eventCount b) next)
 
   -- a record of a step not above k is behind the step after k

@@ -48,8 +48,7 @@ pub swapping : (l m n : List ℕ) (p x y z src dst : ℕ) {s t : ℕ} {d : Execu
     → effectWith n d ≡ plainly (put (put (coreOf l p x) src (getD l dst 0)) dst (getD l src 0))
 swapping l m n p x y z src dst es et h k a =
     effect-parts (put (put (coreOf l p x) src (getD l dst 0)) dst (getD l src 0))
-    (k .0 ∙ λ i. set ((h .0 ∙ ap (set l src) et) i) dst (es i)) (a .0)
-    (a .1 ∙ k .1 ∙ ap (cond (eqb dst 7) 0) (h .1)) (a .2)
+    (k .0 ∙ λ i. set ((h .0 ∙ ap (set l src) et) i) dst (es i)) (a .0) (a .1 ∙ k .1 ∙ ap (cond (eqb dst 7) 0) (h .1)) (a .2)
 
 -- ---- the arms of `execute`
 

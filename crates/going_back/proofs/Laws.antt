@@ -79,8 +79,7 @@ state-turn s j p i l h f k g =
     bool-cases (eqb i k)
     (λ q. let e : i ≡ k = eq-of q in
     subst (λ x. byteAt (set s i (byteAt j (64 * p + i))) x ≡ byteAt j (64 * p + x)) e (getD-set-same s i (byteAt j (64 * p + i)) 0
-    (omega arith)))
-    (λ q. let e : i ≢ k = neq-of q in getD-set-other s i k (byteAt j (64 * p + i)) 0 (omega arith) ∙ f k (omega arith))
+    (omega arith))) (λ q. let e : i ≢ k = neq-of q in getD-set-other s i k (byteAt j (64 * p + i)) 0 (omega arith) ∙ f k (omega arith))
 
 -- a buffer of 32 bytes that are those of the record
 pub state-copied : (s j : List ℕ) (p : ℕ) → length s ≡ 32 → 64 * p + 64 ≤ length j → ((i : ℕ) → i < 32 → byteAt s i ≡ byteAt j (64 * p + i))

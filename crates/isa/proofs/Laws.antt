@@ -24,8 +24,7 @@ unary-fields w =
 control-fields : (w : ℕ) → Fields (controlOf w)
 control-fields w =
     bool-cases (ltb w 0x4D88) (λ q. rw q (omega arith))
-    (λ q. rw q (bool-cases (ltb w 0x4DA0) (λ p. rw p tt)
-    (λ p. rw p (bool-cases (ltb w 0x4DB0) (λ o. rw o (omega arith))
+    (λ q. rw q (bool-cases (ltb w 0x4DA0) (λ p. rw p tt) (λ p. rw p (bool-cases (ltb w 0x4DB0) (λ o. rw o (omega arith))
     (λ o. rw o (bool-cases (ltb w 0x4DC0) (λ n. rw n tt)
     (λ n. rw n (bool-cases (ltb w 0x4DE0) (λ m. rw m (omega arith)) (λ m. rw m (omega arith))))))))))
 
@@ -39,8 +38,7 @@ misc-fields w =
 memory-fields : (w : ℕ) → Fields (memoryOf w)
 memory-fields w =
     bool-cases (ltb w 0x5400) (λ q. rw q (omega arith, omega arith, omega arith))
-    (λ q. rw q (bool-cases (ltb w 0x5800) (λ p. rw p tt)
-    (λ p. rw p (bool-cases (ltb w 0x5C00)
+    (λ q. rw q (bool-cases (ltb w 0x5800) (λ p. rw p tt) (λ p. rw p (bool-cases (ltb w 0x5C00)
     (λ o. rw o (omega arith, omega arith, omega arith, omega arith, omega arith, omega arith))
     (λ o. rw o (omega arith, omega arith, omega arith, omega arith, omega arith, omega arith))))))
 
@@ -60,7 +58,5 @@ decode-fields w =
     (λ q. rw q (bool-cases (ltb w 0x4000) (λ p. rw p (omega arith, signed-mag 512 (w % 1024) (omega arith)))
     (λ p. rw p (bool-cases (ltb w 0x4C00)
     (λ o. rw o (alu-op w (ltb-false w 0x4000 p) (ltb-true w 0x4C00 o), omega arith, omega arith, omega arith, omega arith))
-    (λ o. rw o (bool-cases (ltb w 0x5000) (λ n. rw n (misc-fields w))
-    (λ n. rw n (bool-cases (ltb w 0x6000) (λ m. rw m (memory-fields w))
-    (λ m. rw m (bool-cases (ltb w 0x8000) (λ l. rw l (omega arith, omega arith, omega arith))
-    (λ l. rw l (relative-fields w))))))))))))
+    (λ o. rw o (bool-cases (ltb w 0x5000) (λ n. rw n (misc-fields w)) (λ n. rw n (bool-cases (ltb w 0x6000) (λ m. rw m (memory-fields w))
+    (λ m. rw m (bool-cases (ltb w 0x8000) (λ l. rw l (omega arith, omega arith, omega arith)) (λ l. rw l (relative-fields w))))))))))))

@@ -73,8 +73,7 @@ next-in o h first (row ∷ rest) t w l f =
     let k : w ≤ row .0 = leb-true w (row .0) q in
     bool-cases (isOf o (row .1))
     (λ p. rw (p, lt-ltb w (first + (suc (row .0) - first)) (omega arith), le-ltb w first l)
-    (next-here o w h (omega arith) (inside w (omega arith) k ∙ p)))
-    (λ p.
+    (next-here o w h (omega arith) (inside w (omega arith) k ∙ p))) (λ p.
     let e : suc (row .0) - w + w ≡ suc (row .0) = omega arith in
     let s : nextOf o w ≡ nextOf o (suc (row .0)) =
     skip-to o (suc (row .0) - w) w h (omega arith) (λ u a c. inside u a (omega arith) ∙ p) ∙ ap (nextOf o) e in
@@ -84,8 +83,7 @@ next-in o h first (row ∷ rest) t w l f =
     (λ q.
     let k : suc (row .0) ≤ w = leb-false w (row .0) q in
     bool-cases (isOf o (row .1))
-    (λ p. rw (p, le-ltb w (first + (suc (row .0) - first)) (omega arith)) (above w (omega arith) k))
-    (λ p. rw p (above w (omega arith) k)))
+    (λ p. rw (p, le-ltb w (first + (suc (row .0) - first)) (omega arith)) (above w (omega arith) k)) (λ p. rw p (above w (omega arith) k)))
 
 next-rows : (o w : ℕ) → 0 < o → nextOf o w ≡ firstAmong (blocksIn 0 rows o) w
 next-rows o w h = next-in o h 0 rows rows-follow w (omega arith) (λ u a b. ap (isOf o) (row-operation u b))

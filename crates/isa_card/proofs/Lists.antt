@@ -108,8 +108,7 @@ least-in (suc n) o w v h s e =
     bool-cases (means o w)
     (λ q.
     let d : w ≡ v = ap foundIn (sym (next-here o w h (omega arith) q) ∙ e) in
-    (ap (means o) (sym d) ∙ q, omega arith, omega arith, λ u a b. absurd (omega arith)))
-    (λ q.
+    (ap (means o) (sym d) ∙ q, omega arith, omega arith, λ u a b. absurd (omega arith))) (λ q.
     let i : Least o (suc w) v = least-in n o (suc w) v h (omega arith) (sym (next-skip o w h (omega arith) q) ∙ e) in
     let l : suc w ≤ v = i .1 in (
       i .0,
@@ -127,8 +126,7 @@ next-least (suc o) w v e =
     (λ q.
     let l : w < 65536 = ltb-true w 65536 q in
     let i : Least (suc o) w v = least-in (65536 - w) (suc o) w v h (omega arith) e in
-    (h, i .0, i .1, i .2, i .3))
-    (λ q. absurd (not-found (nextOf (suc o) w) v (next-end (suc o) w h (ltb-false w 65536 q)) e))
+    (h, i .0, i .1, i .2, i .3)) (λ q. absurd (not-found (nextOf (suc o) w) v (next-end (suc o) w h (ltb-false w 65536 q)) e))
 
 none-in : (n o w : ℕ) → 0 < o → n + w ≡ 65536 → nextOf o w ≡ Nothing → (u : ℕ) → w ≤ u → u < 65536 → means o u ≡ false
 none-in zero o w h s e u a b = absurd (omega arith)
@@ -160,14 +158,12 @@ among-in (suc n) o w v l u =
     bool-cases (means o w)
     (λ q. ap (among v) (words-yes o w n q)
     ∙ ap (λ (b : Bool). b || among v (wordsFrom o (suc w) n)) (eq-eqb v w (sym z)) ∙ sym q ∙ ap (means o) z)
-    (λ q. ap (among v) (words-no o w n q) ∙ among-below n o (suc w) v (omega arith) ∙ sym q ∙ ap (means o) z))
-    (λ (z : w < v).
+    (λ q. ap (among v) (words-no o w n q) ∙ among-below n o (suc w) v (omega arith) ∙ sym q ∙ ap (means o) z)) (λ (z : w < v).
     bool-cases (means o w)
     (λ q. ap (among v) (words-yes o w n q)
     ∙ ap (λ (b : Bool). b || among v (wordsFrom o (suc w) n)) (ne-eqb v w (λ e. omega arith))
     ∙ among-in n o (suc w) v z (omega arith))
-    (λ q. ap (among v) (words-no o w n q) ∙ among-in n o (suc w) v z (omega arith)))
-    (eq-or-lt-of-le l)
+    (λ q. ap (among v) (words-no o w n q) ∙ among-in n o (suc w) v z (omega arith))) (eq-or-lt-of-le l)
 
 pub list-exact : ListExact
 list-exact o w h = among-in 65536 o 0 w (omega arith) (omega arith)

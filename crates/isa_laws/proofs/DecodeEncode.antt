@@ -181,10 +181,7 @@ wordIn (Word w) = w
 wordIn Refused = 0
 
 pub same-word : SameWord
-same-word v w hv hw ev ew = (
-  λ e. ap wordIn (sym (decode-encode v hv ev) ∙ ap encodeOf e ∙ decode-encode w hw ew),
-  λ e. ap decodeOf e,
-)
+same-word v w hv hw ev ew = (λ e. ap wordIn (sym (decode-encode v hv ev) ∙ ap encodeOf e ∙ decode-encode w hw ew), λ e. ap decodeOf e)
 
 illegal-of : (i : Instr) → isLegal i ≡ false → i ≡ Illegal
 illegal-of Illegal e = refl

@@ -22,5 +22,4 @@ pub at : (n : ℕ) (f : ℕ → Bool) → T (allBelow n f) → (k : ℕ) → k <
 at zero f t k h = absurd (not-suc-le-zero h)
 at (suc n) f t k h =
     ⊎-elim (λ (e : k ≡ n). subst (λ (m : ℕ). T (f m)) (sym e) (left (f n) (allBelow n f) t))
-    (λ (l : k < n). at n f (right (f n) (allBelow n f) t) k l)
-    (eq-or-lt-of-le (le-of-suc-le-suc h))
+    (λ (l : k < n). at n f (right (f n) (allBelow n f) t) k l) (eq-or-lt-of-le (le-of-suc-le-suc h))

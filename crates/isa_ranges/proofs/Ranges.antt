@@ -57,8 +57,7 @@ unbroken-in first (row ∷ rest) w v t l u =
     let r = follows-rest first row rest t in
     let g : suc (row .0) ≤ endsIn (suc (row .0)) rest w .first = first-ge (suc (row .0)) rest w r in
     bool-cases (leb w (row .0))
-    (λ q. let b : v ≤ row .0 = rw q at u in rw (q, le-leb v (row .0) b) refl)
-    (λ q.
+    (λ q. let b : v ≤ row .0 = rw q at u in rw (q, le-leb v (row .0) b) refl) (λ q.
     let a : endsIn (suc (row .0)) rest w .first ≤ v = rw q at l in
     let b : v ≤ endsIn (suc (row .0)) rest w .last = rw q at u in
     rw (q, lt-leb v (row .0) (omega arith)) (unbroken-in (suc (row .0)) rest w v r a b))

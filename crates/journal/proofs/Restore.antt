@@ -37,8 +37,7 @@ InEight a b = (i : ℕ) × ((i < 8) × (b ≡ wrap (a + i)))
 store-covered : (f b i : ℕ) → i < 8 → f < 65536 → b < 65536 → b ≡ f + i → (f < 16 → b < 16) → (b < 16) ⊎ InEight (cond (device? f) 0 f) b
 store-covered f b i l h k e d =
     bool-cases (device? f)
-    (λ q. inl (d (lt-of q)))
-    (λ q. rw q (inr (i, (l, omega arith))))
+    (λ q. inl (d (lt-of q))) (λ q. rw q (inr (i, (l, omega arith))))
 
 pub act-covered : (a : Act) (c : Core) (b : ℕ) → ActFits a → b < 65536 → MayWrite a c b → (b < 16) ⊎ InEight (addressOf a c) b
 unfolding addressOf
@@ -71,10 +70,8 @@ step-covered ev s b f t h k n =
     let p = planOf d in
     let fits = plan-fits d (deliver-tidy (s .count) ev s f t) in
     step-byte ev s b f h (rw (t .size) k)
-    (bool-cases (writes? (outcomeOf d .writes) b)
-    (λ q. ⊎-elim (λ (l : b < 16). absurd (omega arith)) (λ e. absurd (n e))
-    (act-covered (p .act) (p .core) b (fits .1) k (perform-writes (p .act) (p .core) (d .lines) (d .mem) b (fits .0) q)))
-    (λ q. q))
+    (bool-cases (writes? (outcomeOf d .writes) b) (λ q. ⊎-elim (λ (l : b < 16). absurd (omega arith)) (λ e. absurd (n e))
+    (act-covered (p .act) (p .core) b (fits .1) k (perform-writes (p .act) (p .core) (d .lines) (d .mem) b (fits .0) q))) (λ q. q))
 
 -- ---- bytes put back
 
@@ -88,9 +85,7 @@ unfolding over writes?
 over-from m [] b y f h = h refl
 over-from m (w ∷ ws) b y f h =
     over-from m ws b (cond (eqb (w .addr) b) (w .value) y) (f .1)
-    (λ e. bool-cases (eqb (w .addr) b)
-    (λ q. rw q (f .0 ∙ ap (byteAt m) (eq-of q)))
-    (λ q. rw q (h (rw (q, e) refl))))
+    (λ e. bool-cases (eqb (w .addr) b) (λ q. rw q (f .0 ∙ ap (byteAt m) (eq-of q))) (λ q. rw q (h (rw (q, e) refl))))
 
 placed-from : (m : List ℕ) (a n : ℕ) → From m (placed a (bytesFrom m a n))
 unfolding placed bytesFrom
@@ -103,8 +98,7 @@ placed-hit m a zero i h = absurd (omega arith)
 placed-hit m a (suc n) zero h = rw (is-eq {m = wrap a} {n = wrap (a + 0)} (omega arith)) refl
 placed-hit m a (suc n) (suc i) h =
     bool-cases (eqb (wrap a) (wrap (a + suc i)))
-    (λ q. rw q refl)
-    (λ q. rw q (subst (λ x. writes? (placed (suc a) (bytesFrom m (suc a) n)) (wrap x) ≡ true) (suc-add a i
+    (λ q. rw q refl) (λ q. rw q (subst (λ x. writes? (placed (suc a) (bytesFrom m (suc a) n)) (wrap x) ≡ true) (suc-add a i
     ∙ sym (add-suc a i)) (placed-hit m (suc a) n i (omega arith))))
 
 -- ---- the fields of a record

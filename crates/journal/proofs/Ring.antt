@@ -52,8 +52,7 @@ module _ (b e : List ℕ) (p : ℕ) (l : length e ≡ 64) where
       apart : (i : ℕ) → i < 64 → (64 * q + i < 64 * p) ⊎ (64 * p + length e ≤ 64 * q + i)
       apart i k =
           bool-cases (ltb q p)
-          (λ r. let g : q < p = lt-of r in inl (omega arith))
-          (λ r. let g : p ≤ q = ge-of r in inr (omega arith))
+          (λ r. let g : q < p = lt-of r in inl (omega arith)) (λ r. let g : p ≤ q = ge-of r in inr (omega arith))
 
 -- ---- a journal that is not refused
 
@@ -96,20 +95,17 @@ fits-ring j f =
 following-lt : (r p : ℕ) → p < r → following r p < r
 following-lt r p h =
     bool-cases (eqb (p + 1) r)
-    (λ q. rw q (omega arith))
-    (λ q. let n : p + 1 ≢ r = neq-of q in rw q (omega arith))
+    (λ q. rw q (omega arith)) (λ q. let n : p + 1 ≢ r = neq-of q in rw q (omega arith))
 
 preceding-lt : (r p : ℕ) → p < r → preceding r p < r
 preceding-lt r p h =
     bool-cases (eqb p 0)
-    (λ q. rw q (omega arith))
-    (λ q. rw q (omega arith))
+    (λ q. rw q (omega arith)) (λ q. rw q (omega arith))
 
 pub preceding-following : (r p : ℕ) → p < r → preceding r (following r p) ≡ p
 preceding-following r p h =
     bool-cases (eqb (p + 1) r)
-    (λ q. let e : p + 1 ≡ r = eq-of q in rw q (omega arith))
-    (λ q. rw (q, not-eq {m = p + 1} {n = 0} (omega arith)) (omega arith))
+    (λ q. let e : p + 1 ≡ r = eq-of q in rw q (omega arith)) (λ q. rw (q, not-eq {m = p + 1} {n = 0} (omega arith)) (omega arith))
 
 pub lowered-zero : (r p : ℕ) → loweredPlace r p 0 ≡ p
 lowered-zero r p = rw (not-lt {m = p} {n = 0} (omega arith)) (omega arith)
@@ -127,15 +123,13 @@ preceding-lowered r p d h k =
 pub lowered-lt : (r p k : ℕ) → p < r → k ≤ r → loweredPlace r p k < r
 lowered-lt r p k h l =
     bool-cases (ltb p k)
-    (λ q. let g : p < k = lt-of q in rw q (omega arith))
-    (λ q. rw q (omega arith))
+    (λ q. let g : p < k = lt-of q in rw q (omega arith)) (λ q. rw q (omega arith))
 
 -- fewer than r places back lies another place
 pub lowered-other : (r p d : ℕ) → p < r → 0 < d → d < r → loweredPlace r p d ≢ p
 lowered-other r p d h k l =
     bool-cases (ltb p d)
-    (λ q. rw q (omega arith))
-    (λ q. let g : d ≤ p = ge-of q in rw q (omega arith))
+    (λ q. rw q (omega arith)) (λ q. let g : d ≤ p = ge-of q in rw q (omega arith))
 
 -- ---- keeping and lowering
 
@@ -164,5 +158,4 @@ module _ (j : Journal) (f : RingFits j) where
       more : j .kept ≤ placesOf (j .bytes) → oneMore (placesOf (j .bytes)) (j .kept) ≤ placesOf (j .bytes)
       more k =
           bool-cases (ltb (j .kept) (placesOf (j .bytes)))
-          (λ q. let g : j .kept < placesOf (j .bytes) = lt-of q in rw q (omega arith))
-          (λ q. rw q k)
+          (λ q. let g : j .kept < placesOf (j .bytes) = lt-of q in rw q (omega arith)) (λ q. rw q k)

@@ -78,10 +78,7 @@ module _ (s : State) (t : Tidy s) (fits : s .count ≤ 4294967295) where
             ap not (is-eq size-is),
             (
               not-lt sum,
-              (
-                ap not record-fits,
-                (ap not (e .whole), (ap not (e .fields), (ap not (e .order), (e .twins, tt)))),
-              ),
+              (ap not record-fits, (ap not (e .whole), (ap not (e .fields), (ap not (e .order), (e .twins, tt))))),
             ),
           ),
         ),

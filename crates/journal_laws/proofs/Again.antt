@@ -45,8 +45,7 @@ deliver-due k (e ∷ es) s =
 pub step-due : (ev ev′ : List Event) (s : State) → dueAt (s .count) ev ≡ dueAt (s .count) ev′ → stepOf ev s ≡ stepOf ev′ s
 step-due ev ev′ s e =
     bool-cases (s .halted)
-    (λ q. step-halted ev s q ∙ sym (step-halted ev′ s q))
-    (λ q. step-live ev s q
+    (λ q. step-halted ev s q ∙ sym (step-halted ev′ s q)) (λ q. step-live ev s q
     ∙ ap finished (deliver-due (s .count) ev s ∙ ap (λ l. deliverAt (s .count) l s) e ∙ sym (deliver-due (s .count) ev′ s))
     ∙ sym (step-live ev′ s q))
 

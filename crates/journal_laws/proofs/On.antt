@@ -31,9 +31,8 @@ use Rattle.journal.proofs.Calls.{after-zero, after-next, journal-call, journal-
 use Rattle.journal.proofs.Calls.{back-passed, back-answer}
 use Rattle.journal_laws.specs.Past.{Past, next, Recalls, SameDue, earlier}
 use Rattle.journal_laws.specs.Session.{Call, lentAfter, Course, without, earlierBy, courseFrom, Began, Found}
-use Rattle.journal_laws.specs.On.{Way, plain, keeping, Leg, verdictBy, leftBy, legVerdict, legLeft, legSteps, ranOn}
-use Rattle.journal_laws.specs.On.{Part, part, did, asked, total, DueAgain, Again, RunsOn}
-use Rattle.journal_laws.specs.On.{LawfulLeg, LongEnough, LogsEnough, AllAccepted, RunsOnAgain}
+use Rattle.journal_laws.specs.On.{Way, plain, keeping, Leg, verdictBy, leftBy, legVerdict, legLeft, legSteps, ranOn, Part, part, did}
+use Rattle.journal_laws.specs.On.{asked, total, DueAgain, Again, RunsOn, LawfulLeg, LongEnough, LogsEnough, AllAccepted, RunsOnAgain}
 use Rattle.journal_laws.proofs.Recall.{recalls-most, back-journal}
 use Rattle.journal_laws.proofs.Again.{next-tidy, next-count, earlier-found, earlier-tidy, earlier-count, again-part}
 use Rattle.journal_laws.proofs.Accepted.{verdict-again}
@@ -209,8 +208,7 @@ module _ (a : Leg) (k : ℕ) (y z : Lent) (h : List Past) (b : Bytes (y .state))
   leg-goes : (d : ℕ) → legSteps a z ≡ d → d ≤ k → SameDue ev (drop (k - d) h) d → Found (legLeft a z) (before (k - d) y h)
   leg-goes d e l due =
       bool-cases (accepted? (legVerdict a z))
-      (λ q. let v = is-accepted (legVerdict a z) (eq-of q) in went d (sym (steps-accepted a z v) ∙ e) v l due)
-      (λ q.
+      (λ q. let v = is-accepted (legVerdict a z) (eq-of q) in went d (sym (steps-accepted a z v) ∙ e) v l due) (λ q.
       let none = steps-refused a z q in
       let k-is : k ≡ k - d = omega arith in
       let same = same-by (a .way) (a .events) (a .log) (a .n) z q in

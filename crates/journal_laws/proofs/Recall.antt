@@ -110,8 +110,7 @@ module _ (ev : List Event) (s : State) (j : Journal) (h : List Past) (t : Taken 
   kept-more k l w = (
     newest,
     walk (j .bytes) e (j .place) (record-whole ev s) (f .place) k 0 (j .place) (lowered (keep e j) .place) (j .kept) (lowered
-        (keep e j) .kept)
-        (s .mem) (recordOf s) h (omega arith) (sym (lowered-zero (placesOf (j .bytes)) (j .place)))
+        (keep e j) .kept) (s .mem) (recordOf s) h (omega arith) (sym (lowered-zero (placesOf (j .bytes)) (j .place)))
         (came ∙ sym (lowered-zero (placesOf (j .bytes)) (j .place))) w,
   )
 
@@ -182,11 +181,9 @@ module _ (ev : List Event) (s : State) (j : Journal) where
       let i = journalAfter ev s j n in
       subst (Stands (at (suc n))) (sym (past-next n h))
       (subst (λ (x : Run). Stands (lentOf (x .state .mem) (recordOf (x .state)) (journalAfter ev s j (suc n)))
-      (past u ev ∷ pastsOf ev s n h))
-      (sym (run-next ev s n live))
+      (past u ev ∷ pastsOf ev s n h)) (sym (run-next ev s n live))
       (subst (λ (k : Journal). Stands (lentOf (stepOf ev u .mem) (recordOf (stepOf ev u)) k) (past u ev ∷ pastsOf ev s n h)) (sym
-      (after-next ev s j n))
-      (keep-fits i (g .0) (journalRecord ev u), keep-recalls ev u i (pastsOf ev s n h) taken (g .0) (g .1))))
+      (after-next ev s j n)) (keep-fits i (g .0) (journalRecord ev u), keep-recalls ev u i (pastsOf ev s n h) taken (g .0) (g .1))))
 
 -- ---- going back
 
@@ -254,10 +251,7 @@ back-earlier (suc k) n x (t ∷ h) w =
     let l = g .enough in
     record {
       enough = omega arith;
-      found = record {
-        memory = ap (λ y. y .memory) e ∙ g .found .memory;
-        state = ap (λ y. y .state) e ∙ g .found .state;
-      };
+      found = record { memory = ap (λ y. y .memory) e ∙ g .found .memory; state = ap (λ y. y .state) e ∙ g .found .state };
     }
 
 -- the steps of the course k steps earlier

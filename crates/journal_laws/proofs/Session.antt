@@ -83,10 +83,7 @@ module _ (events log : List ℕ) (n : ℕ) (x : Lent) (h : List Past) (be : Byte
   found-run : Found (left (runs events log n) x) (courseAfter (runs events log n) (courseOf (x .memory) (x .state) h))
   found-run =
       let e = journal-answer (x .memory) (x .state) events log (x .journal) n ok in
-      record {
-        memory = ap (λ (y : JournalClosing). y .closing .memory) e;
-        state = ap (λ (y : JournalClosing). y .closing .state) e;
-      }
+      record { memory = ap (λ (y : JournalClosing). y .closing .memory) e; state = ap (λ (y : JournalClosing). y .closing .state) e }
 
   recalls-run : Recalls (left (runs events log n) x) (pastsOf ev s (X .steps) h) (left (runs events log n) x .journal .kept)
   recalls-run =
@@ -172,8 +169,7 @@ told-call a x c b t =
     bool-cases (taken? a x)
     (λ q. subst (λ (v : Bool). Told (left a x) (cond v (courseAfter a c) c)) (sym q)
     (subst (λ (d : Course). Told (left a x) (courseAfter a d)) e (told-accepted a x (c .steps) b (subst (Told x) (sym e) t) q)))
-    (λ q. subst (λ (v : Bool). Told (left a x) (cond v (courseAfter a c) c)) (sym q)
-    (subst (λ y. Told y c) (sym (left-refused a x q)) t))
+    (λ q. subst (λ (v : Bool). Told (left a x) (cond v (courseAfter a c) c)) (sym q) (subst (λ y. Told y c) (sym (left-refused a x q)) t))
 
 told-session : (cs : List Call) (x : Lent) (c : Course) → Each CallBytes cs → Told x c → Told (lentAfter cs x) (courseIn cs x c)
 unfolding lentAfter courseIn

@@ -109,13 +109,9 @@ module _ (b : List ℕ) (a : ℕ) where
       → (x0 ∷ x1 ∷ x2 ∷ x3 ∷ x4 ∷ x5 ∷ x6 ∷ x7 ∷ []) ≡ bytesFrom b a 8
   eight-wrapped x0 x1 x2 x3 x4 x5 x6 x7 p1 p2 p3 p4 p5 p6 p7 h e0 q1 e1 q2 e2 q3 e3 q4 e4 q5 e5 q6 e6 q7 e7 =
       listed x0 x1 x2 x3 x4 x5 x6 x7
-      (there x0 a a e0 (omega arith))
-      (there x1 p1 (suc a) e1 (omega arith))
-      (there x2 p2 (suc (suc a)) e2 (omega arith))
-      (there x3 p3 (suc (suc (suc a))) e3 (omega arith))
-      (there x4 p4 (suc (suc (suc (suc a)))) e4 (omega arith))
-      (there x5 p5 (suc (suc (suc (suc (suc a))))) e5 (omega arith))
-      (there x6 p6 (suc (suc (suc (suc (suc (suc a)))))) e6 (omega arith))
+      (there x0 a a e0 (omega arith)) (there x1 p1 (suc a) e1 (omega arith)) (there x2 p2 (suc (suc a)) e2 (omega arith))
+      (there x3 p3 (suc (suc (suc a))) e3 (omega arith)) (there x4 p4 (suc (suc (suc (suc a)))) e4 (omega arith))
+      (there x5 p5 (suc (suc (suc (suc (suc a))))) e5 (omega arith)) (there x6 p6 (suc (suc (suc (suc (suc (suc a)))))) e6 (omega arith))
       (there x7 p7 (suc (suc (suc (suc (suc (suc (suc a))))))) e7 (omega arith))
 
 -- the first eight device bytes are those from address 0 on

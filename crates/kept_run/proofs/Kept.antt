@@ -47,8 +47,7 @@ module _ (b : List ℕ) (r : Ring) (ev : List Event) (s : State) where
   kept-free n j none x f =
       f
       ∙ bool-cases (eqb (length b) 0)
-      (λ q. rw q refl)
-      (λ q. let z = none q in let same : n ≡ n + j = omega arith in ap (keptOver b r ev s) same)
+      (λ q. rw q refl) (λ q. let z = none q in let same : n ≡ n + j = omega arith in ap (keptOver b r ev s) same)
 
   -- one step more from the state t; e is its record, where a journal is lent
   pub kept-next : (n : ℕ) (t : State) → t ≡ runOf ev s n .state
@@ -63,8 +62,7 @@ module _ (b : List ℕ) (r : Ring) (ev : List Event) (s : State) where
       let z = journalAfter ev s (journalWith b r) n in
       same
       ∙ bool-cases (eqb (length b) 0)
-      (λ q. rw q refl)
-      (λ q.
+      (λ q. rw q refl) (λ q.
       let more : keep e z ≡ journalAfter ev s (journalWith b r) (n + 1) =
       ap (λ v. keep v z) (ee q)
       ∙ ap (λ u. keep (journalRecord ev u) z) et

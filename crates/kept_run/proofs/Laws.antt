@@ -48,19 +48,11 @@ use Rattle.kept_run.proofs.Kept.{kept-next, record-kept}
 pub carried : {x : Logged} {lent regs regs′ m m′ log : List ℕ} {t : Rest} {d a : ℕ} {b b′ : Bool}
     → m′ ≡ m → regs′ ≡ regs → b′ ≡ b → Reached x lent (stateWith regs t m) d a log b → Reached x lent (stateWith regs′ t m′) d a log b′
 carried {t = t} em er eb h =
-    record {
-      state = (λ i. stateWith (er i) t (em i)) ∙ h .state;
-      steps = h .steps;
-      added = h .added;
-      log = h .log;
-      short = eb ∙ h .short;
-    }
+    record { state = (λ i. stateWith (er i) t (em i)) ∙ h .state; steps = h .steps; added = h .added; log = h .log; short = eb ∙ h .short }
 
 module _
     (ev : List Event) (s₀ : State) (k : ℕ) (lent regs : List ℕ) (t : Rest) (mem : List ℕ) (done added : ℕ) (log : List ℕ)
-    (h : Reached (runLogged ev s₀ k done) lent (stateWith regs t mem) done added log false)
-    (live : t .halted ≡ false)
-    (l : ℕ) (m : List ℕ)
+    (h : Reached (runLogged ev s₀ k done) lent (stateWith regs t mem) done added log false) (live : t .halted ≡ false) (l : ℕ) (m : List ℕ)
     (delivered : (c : Core) (b : Bool) → stateFrom c l b (t .count) m ≡ deliverAt (t .count) ev (stateFrom c (t .lines) b (t .count) mem))
     (q : Plan) (planned : q ≡ planOf (stateFrom (coreWith regs t) l (t .halted) (t .count) m))
     (x : Showing) (shows : (s : State) → s .mem ≡ m → listed (s .count) x ≡ loggedOf (q .act) s)
@@ -144,18 +136,14 @@ late-of here full due n e q =
 -- a step given up, from what the loop holds before its events: memory is put back, and the run ends
 module _
     (b : List ℕ) (s₀ : State) (k : ℕ) (lent regs : List ℕ) (t : Rest) (mem : List ℕ) (done added : ℕ) (log : List ℕ)
-    (h : Reached (runLogged (eventsOf b) s₀ k done) lent (stateWith regs t mem) done added log false)
-    (live : t .halted ≡ false)
-    (l : ℕ) (m : List ℕ)
-    (delivered : (c : Core) (g : Bool)
+    (h : Reached (runLogged (eventsOf b) s₀ k done) lent (stateWith regs t mem) done added log false) (live : t .halted ≡ false)
+    (l : ℕ) (m : List ℕ) (delivered : (c : Core) (g : Bool)
     → stateFrom c l g (t .count) m ≡ deliverAt (t .count) (eventsOf b) (stateFrom c (t .lines) g (t .count) mem))
     (q : Plan) (planned : q ≡ planOf (stateFrom (coreWith regs t) l (t .halted) (t .count) m))
     (x : Showing) (shows : (s : State) → s .mem ≡ m → listed (s .count) x ≡ loggedOf (q .act) s)
-    (lacks : Bool) (test : (n : ℕ) → lacks ≡ ltb k (added + length (listed n x)))
-    (up : lacks ≡ true)
+    (lacks : Bool) (test : (n : ℕ) → lacks ≡ ltb k (added + length (listed n x))) (up : lacks ≡ true)
     (next due : ℕ) (awaits : Awaits b next due (t .count)) (ordered : Ordered b) (fits : eventsFitBelow b (eventCount b) ≡ true)
-    (size : 16 ≤ length mem)
-    (here wanted : Bool) (wants : wanted ≡ here || (eqb added k && leb due (t .count)))
+    (size : 16 ≤ length mem) (here wanted : Bool) (wants : wanted ≡ here || (eqb added k && leb due (t .count)))
     (kept : List ℕ) (keeps : wanted ≡ true → kept ≡ take 16 mem) where
   pub undone-memory : cond wanted (sets m 0 kept) m ≡ mem
   undone-memory =

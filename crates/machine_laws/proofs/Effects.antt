@@ -80,8 +80,7 @@ cex-tidy c x t h = record { eight = t .eight; words = t .words; psw-word = t .ps
 lowered-small : (x : ℕ) → x < 128 → lowered x < 128
 lowered-small x h =
     bool-cases (eqb (trueCount x) 0)
-    (λ q. rw q (bool-cases (eqb (falseCount x) 0) (λ r. rw r h) (λ r. rw r (omega arith))))
-    (λ q. rw q (omega arith))
+    (λ q. rw q (bool-cases (eqb (falseCount x) 0) (λ r. rw r h) (λ r. rw r (omega arith)))) (λ q. rw q (omega arith))
 
 pub advanced-tidy : (c : Core) → TidyCore c → TidyCore (advanced c)
 unfolding advanced
@@ -103,8 +102,7 @@ moved-word a (negsuc n) = omega arith
 adjusted-word : (a dec inc wb : ℕ) → a < 65536 → adjusted a dec inc wb < 65536
 adjusted-word a dec inc wb h =
     bool-cases (moves? dec inc)
-    (λ q. rw q (bool-cases (eqb inc 1) (λ r. rw r (omega arith)) (λ r. rw r (omega arith))))
-    (λ q. rw q h)
+    (λ q. rw q (bool-cases (eqb inc 1) (λ r. rw r (omega arith)) (λ r. rw r (omega arith)))) (λ q. rw q h)
 
 indexed-word : (c : Core) (r prpo dec inc wb : ℕ) → TidyCore c → indexed c r prpo dec inc wb < 65536
 indexed-word c r prpo dec inc wb t =
@@ -159,8 +157,7 @@ operated-tidy : (c : Core) (op : Op) (b : Bool) (dst s : ℕ) → TidyCore c →
 operated-tidy c op b dst s t =
     psw-tidy (put c dst (aluOf op (widthOf b) (reg c dst) s (c .psw) .value)) (aluOf op (widthOf b) (reg c dst) s (c .psw) .psw)
     (put-tidy c dst _ t (alu-value-word op b (reg c dst) s (c .psw) (t .words dst)))
-    (alu-psw-word op (widthOf b) (reg c dst) s (c .psw) (t .psw-word))
-    (alu-unused op (widthOf b) (reg c dst) s (c .psw) ∙ t .psw-zeros)
+    (alu-psw-word op (widthOf b) (reg c dst) s (c .psw) (t .psw-word)) (alu-unused op (widthOf b) (reg c dst) s (c .psw) ∙ t .psw-zeros)
 
 alu-tidy : (c : Core) (op rc wb src dst : ℕ) → TidyCore c → TidyCore (effectOf c (i.Alu op rc wb src dst) .core)
 unfolding effectOf
@@ -185,8 +182,7 @@ effect-tidy c (i.Swpb dst _) f t = operated-tidy c Swpb false dst 0 t
 effect-tidy c (i.Sxt dst _) f t = operated-tidy c Sxt false dst 0 t
 effect-tidy c (i.SetPri level) f t =
     bool-cases (ltb (current (c .psw)) level)
-    (λ q. rw q t)
-    (λ q. rw q (psw-tidy c _ t (level-word (c .psw) level (t .psw-word) f) (level-zeros (c .psw) level (t .psw-zeros) f)))
+    (λ q. rw q t) (λ q. rw q (psw-tidy c _ t (level-word (c .psw) level (t .psw-word) f) (level-zeros (c .psw) level (t .psw-zeros) f)))
 effect-tidy c (i.Svc v) f t = t
 effect-tidy c (i.SetCc f) h t =
     let l = low-five (c .psw) (bitOr (c .psw % 32) (allowedFlags (c .psw) f)) (t .psw-word) (t .psw-zeros) (set-lt (c .psw) f h) in
@@ -216,8 +212,7 @@ adjust-eight : (c : Core) (r dec inc wb : ℕ) → length (adjust c r dec inc wb
 adjust-eight c r dec inc wb =
     let x = put c r (adjusted (reg c r) dec inc wb) in
     bool-cases (moves? dec inc)
-    (λ q. ap (λ b. length (cond b x c .regs)) q ∙ length-set (c .regs) r _)
-    (λ q. ap (λ b. length (cond b x c .regs)) q)
+    (λ q. ap (λ b. length (cond b x c .regs)) q ∙ length-set (c .regs) r _) (λ q. ap (λ b. length (cond b x c .regs)) q)
 
 pub effect-eight : (c : Core) (n : Instr) → length (effectOf c n .core .regs) ≡ length (c .regs)
 unfolding effectOf

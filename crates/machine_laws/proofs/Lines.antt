@@ -102,8 +102,7 @@ module _ (l d : ℕ) where
   raised-count : eventsWaiting (raised l d) d ≡ cond (ltb (eventsWaiting l d) 15) (eventsWaiting l d + 1) 15
   raised-count =
       bool-cases (ltb (eventsWaiting l d) 15)
-      (λ q. rw q (more-count (4 * d) l (lt-of q)))
-      (λ q. rw q (let h = ge-of q in full (l / 2 ^ (4 * d)) h))
+      (λ q. rw q (more-count (4 * d) l (lt-of q))) (λ q. rw q (let h = ge-of q in full (l / 2 ^ (4 * d)) h))
     where
       full : (q : ℕ) → 15 ≤ q % 16 → q % 16 ≡ 15
       full q h = omega arith
@@ -112,8 +111,7 @@ module _ (l d : ℕ) where
   fallen-count : eventsWaiting (fallen l d) d ≡ eventsWaiting l d - 1
   fallen-count =
       bool-cases (waiting l d)
-      (λ q. rw q (taken (lt-of q)))
-      (λ q. rw q (let h = ge-of q in none (l / 2 ^ (4 * d) % 16) h))
+      (λ q. rw q (taken (lt-of q))) (λ q. rw q (let h = ge-of q in none (l / 2 ^ (4 * d) % 16) h))
     where
       none : (c : ℕ) → c ≤ 0 → c ≡ c - 1
       none c h = omega arith
@@ -131,8 +129,7 @@ module _ (l d : ℕ) where
     raised-other : eventsWaiting (raised l d) e ≡ eventsWaiting l e
     raised-other =
         bool-cases (ltb (eventsWaiting l d) 15)
-        (λ q. rw q (more-elsewhere (4 * d) l (lt-of q) (4 * e) (apart d e other)))
-        (λ q. rw q refl)
+        (λ q. rw q (more-elsewhere (4 * d) l (lt-of q) (4 * e) (apart d e other))) (λ q. rw q refl)
 
     fallen-other : eventsWaiting (fallen l d) e ≡ eventsWaiting l e
     fallen-other =

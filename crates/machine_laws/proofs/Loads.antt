@@ -32,8 +32,7 @@ loaded-last c prpo dec inc r l m eight h even =
     let w = wordAt m (indexed (advanced c) r prpo dec inc 0) in
     let x = effectOf (advanced c) (Ld prpo dec inc 0 r r) in
     subst (λ p. reg (perform (p .act) (p .core) l m .core) r ≡ w)
-    (sym (granted-even c (x .core) (x .access) m (ap (λ n. eqb n 1) even)))
-    (getD-set-same moved r w 0 (subst (λ (n : ℕ). r < n) e h))
+    (sym (granted-even c (x .core) (x .access) m (ap (λ n. eqb n 1) even))) (getD-set-same moved r w 0 (subst (λ (n : ℕ). r < n) e h))
 
 -- ---- what the code of a load leaves
 

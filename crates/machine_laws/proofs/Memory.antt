@@ -56,16 +56,14 @@ unfolding over writes?
 over-unwritten [] a x e = refl
 over-unwritten (w ∷ ws) a x e =
     bool-cases (eqb (w .addr) a)
-    (λ q. absurd (true≢false (rw q at e)))
-    (λ q. rw q (over-unwritten ws a x (rw q at e)))
+    (λ q. absurd (true≢false (rw q at e))) (λ q. rw q (over-unwritten ws a x (rw q at e)))
 
 pub over-written : (ws : List Write) (a x y : ℕ) → writes? ws a ≡ true → over ws a x ≡ over ws a y
 unfolding over writes?
 over-written [] a x y e = absurd (false≢true e)
 over-written (w ∷ ws) a x y e =
     bool-cases (eqb (w .addr) a)
-    (λ q. rw q refl)
-    (λ q. rw q (over-written ws a x y (rw q at e)))
+    (λ q. rw q refl) (λ q. rw q (over-written ws a x y (rw q at e)))
 
 pub over-append : (ws vs : List Write) (a x : ℕ) → over (ws ++ vs) a x ≡ over vs a (over ws a x)
 unfolding over

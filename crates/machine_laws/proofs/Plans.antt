@@ -29,12 +29,8 @@ pub instruction-cases : (c : Core) (m : List ℕ) (R : Plan → Type 0)
 unfolding instructionOf
 instruction-cases c m R sleeps odd skip runs =
     bool-cases (asleep? (c .psw))
-    (λ q. rw q (sleeps q))
-    (λ q. bool-cases (eqb (pc c % 2) 1)
-    (λ q₁. rw (q, q₁) (odd q q₁))
-    (λ q₁. bool-cases (skips? (c .cex))
-    (λ q₂. rw (q, q₁, q₂) (skip q q₁ q₂))
-    (λ q₂. rw (q, q₁, q₂) (runs q q₁ q₂))))
+    (λ q. rw q (sleeps q)) (λ q. bool-cases (eqb (pc c % 2) 1) (λ q₁. rw (q, q₁) (odd q q₁)) (λ q₁. bool-cases (skips? (c .cex))
+    (λ q₂. rw (q, q₁, q₂) (skip q q₁ q₂)) (λ q₂. rw (q, q₁, q₂) (runs q q₁ q₂))))
 
 -- point 7: an odd word access, or any other
 pub granted-cases : (c x : Core) (a : Access) (m : List ℕ) (R : Plan → Type 0)

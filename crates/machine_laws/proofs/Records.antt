@@ -214,8 +214,7 @@ unfolding eventsFitBelow
 fit-below b zero e k h = absurd (omega arith)
 fit-below b (suc n) e k h =
     bool-cases (ltb k n)
-    (λ q. fit-below b n (and-left (eventsFitBelow b n) (eventFits b n) e) k (lt-of q))
-    (λ q.
+    (λ q. fit-below b n (and-left (eventsFitBelow b n) (eventFits b n) e) k (lt-of q)) (λ q.
     let g : n ≤ k = ge-of q in
     let w : n ≡ k = omega arith in
     subst (λ x. eventFits b x ≡ true) w (and-right (eventsFitBelow b n) (eventFits b n) e))
@@ -226,8 +225,7 @@ order-below b zero e k h = absurd (omega arith)
 order-below b (suc zero) e k h = absurd (omega arith)
 order-below b (suc (suc n)) e k h =
     bool-cases (ltb k n)
-    (λ q. let l : k < n = lt-of q in order-below b (suc n) (and-left (inOrderBelow b (suc n)) (inOrder b n) e) k (omega arith))
-    (λ q.
+    (λ q. let l : k < n = lt-of q in order-below b (suc n) (and-left (inOrderBelow b (suc n)) (inOrder b n) e) k (omega arith)) (λ q.
     let g : n ≤ k = ge-of q in
     let w : n ≡ k = omega arith in
     subst (λ x. inOrder b x ≡ true) w (and-right (inOrderBelow b (suc n)) (inOrder b n) e))

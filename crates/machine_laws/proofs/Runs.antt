@@ -47,8 +47,7 @@ module _ (ev : List Event) (s : State) where
   pub run-step : (k : ℕ) → runOf ev s (suc k) .state ≡ stepOf ev (runOf ev s k .state)
   run-step k =
       bool-cases (runOf ev s k .state .halted)
-      (λ h. ap (λ r. r .state) (run-halted k h) ∙ sym (step-halted ev (runOf ev s k .state) h))
-      (λ h. ap (λ r. r .state) (run-next k h))
+      (λ h. ap (λ r. r .state) (run-halted k h) ∙ sym (step-halted ev (runOf ev s k .state) h)) (λ h. ap (λ r. r .state) (run-next k h))
 
   -- a halted machine stays as it is
   pub run-stays : (k j : ℕ) → runOf ev s k .state .halted ≡ true → runOf ev s (k + j) ≡ runOf ev s k
@@ -67,8 +66,7 @@ module _ (ev : List Event) (s : State) where
   pub live-before : (k : ℕ) → runOf ev s (suc k) .state .halted ≡ false → runOf ev s k .state .halted ≡ false
   live-before k h =
       bool-cases (runOf ev s k .state .halted)
-      (λ q. absurd (true≢false (sym q ∙ sym (ap (λ r. r .state .halted) (run-halted k q)) ∙ h)))
-      (λ q. q)
+      (λ q. absurd (true≢false (sym q ∙ sym (ap (λ r. r .state .halted) (run-halted k q)) ∙ h))) (λ q. q)
 
   -- the steps done: at most n, and n unless halted
   pub steps-le : (n : ℕ) → runOf ev s n .steps ≤ n
@@ -76,8 +74,7 @@ module _ (ev : List Event) (s : State) where
   steps-le (suc n) =
       let p = steps-le n in
       bool-cases (runOf ev s n .state .halted)
-      (λ h. rw (ap (λ r. r .steps) (run-halted n h)) (omega arith))
-      (λ h. rw (ap (λ r. r .steps) (run-next n h)) (omega arith))
+      (λ h. rw (ap (λ r. r .steps) (run-halted n h)) (omega arith)) (λ h. rw (ap (λ r. r .steps) (run-next n h)) (omega arith))
 
   pub steps-all : (n : ℕ) → runOf ev s n .state .halted ≡ false → runOf ev s n .steps ≡ n
   steps-all zero h = ap (λ r. r .steps) run-zero

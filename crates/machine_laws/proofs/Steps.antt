@@ -50,8 +50,7 @@ event-status-byte t h = put-lt 2 (putBit 3 t (of? t || dba? t)) true 8 (lit< tt)
 event-values : (e : Event) (t : ℕ) → e .byte < 256 → t < 256 → ByteValues (eventWrites e t)
 event-values e t h k =
     bool-cases (input? t)
-    (λ q. rw q (h, (event-status-byte t k, tt)))
-    (λ q. rw q (event-status-byte t k, tt))
+    (λ q. rw q (h, (event-status-byte t k, tt))) (λ q. rw q (event-status-byte t k, tt))
 
 pub event-tidy : (e : Event) (s : State) → EventFits e → Tidy s → Tidy (eventOn e s)
 unfolding eventOn
@@ -90,8 +89,7 @@ pub event-size : (e : Event) (s : State) → length (eventOn e s .mem) ≡ lengt
 unfolding eventOn
 event-size e s =
     bool-cases (ena? (byteAt (s .mem) (statusOf (e .device))))
-    (λ q. rw q (commit-length (eventWrites e (byteAt (s .mem) (statusOf (e .device)))) (s .mem)))
-    (λ q. rw q refl)
+    (λ q. rw q (commit-length (eventWrites e (byteAt (s .mem) (statusOf (e .device)))) (s .mem))) (λ q. rw q refl)
 
 -- a field that no event changes is the same after all of them
 module _ {A : Type 0} (field : State → A) (keeps : (e : Event) (s : State) → field (eventOn e s) ≡ field s) where
@@ -131,12 +129,9 @@ interrupt-fits : (c : Core) (l : ℕ) (m : List ℕ) → InterruptFits (interrup
 unfolding interruptOf InterruptFits
 interrupt-fits c l m =
     bool-cases (returns? c)
-    (λ q. bool-cases (above m (best l m) (previous (c .psw)))
-    (λ r. rw (q, r) (above-there m (best l m) (previous (c .psw)) r))
-    (λ r. rw (q, r) tt))
-    (λ q. bool-cases (above m (best l m) (current (c .psw)))
-    (λ r. rw (q, r) (above-there m (best l m) (current (c .psw)) r))
-    (λ r. rw (q, r) tt))
+    (λ q. bool-cases (above m (best l m) (previous (c .psw))) (λ r. rw (q, r) (above-there m (best l m) (previous (c .psw)) r))
+    (λ r. rw (q, r) tt)) (λ q. bool-cases (above m (best l m) (current (c .psw)))
+    (λ r. rw (q, r) (above-there m (best l m) (current (c .psw)) r)) (λ r. rw (q, r) tt))
 
 abbrev PlanFits : Plan → Type 0
 PlanFits p = TidyCore (p .core) × ActFits (p .act)
@@ -151,8 +146,7 @@ allowed-fits c x (Store byte a v) m t u f = (u, f)
 allowed-fits c x (Fault v) m t u f = faulting-fits c (advanced c) v t (advanced-tidy c t) f
 allowed-fits c x (Trap v) m t u f =
     bool-cases (ltb (current (c .psw)) (priority m v))
-    (λ q. rw q (u, f))
-    (λ q. rw q (faulting-fits c (advanced c) 10 t (advanced-tidy c t) (lit< tt)))
+    (λ q. rw q (u, f)) (λ q. rw q (faulting-fits c (advanced c) 10 t (advanced-tidy c t) (lit< tt)))
 
 granted-fits : (c x : Core) (a : Access) (m : List ℕ) → TidyCore c → TidyCore x → AccessFits a → PlanFits (granted c x a m)
 granted-fits c x a m t u f =
@@ -164,9 +158,7 @@ instruction-fits c m t =
     let f = decode-fields (wordAt m (pc c)) in
     let a = advanced-tidy c t in
     instruction-cases c m PlanFits
-    (λ q. (t, tt))
-    (λ q r. faulting-fits c c 9 t t (lit< tt))
-    (λ q r o. (a, tt))
+    (λ q. (t, tt)) (λ q r. faulting-fits c c 9 t t (lit< tt)) (λ q r o. (a, tt))
     (λ q r o. granted-fits c (effectOf (advanced c) n .core) (effectOf (advanced c) n .access) m t
     (effect-tidy (advanced c) n f a) (effect-access (advanced c) n f a))
 
@@ -175,10 +167,7 @@ unfolding InterruptFits
 plan-fits s t =
     let f = interrupt-fits (s .core) (s .lines) (s .mem) in
     plan-cases s PlanFits
-    (λ h. (t .core, tt))
-    (λ h q. (t .core, tt))
-    (λ d h q. (t .core, subst InterruptFits q f))
-    (λ d h q. (t .core, subst InterruptFits q f))
+    (λ h. (t .core, tt)) (λ h q. (t .core, tt)) (λ d h q. (t .core, subst InterruptFits q f)) (λ d h q. (t .core, subst InterruptFits q f))
     (λ h q. instruction-fits (s .core) (s .mem) (t .core))
 
 -- ---- what a step leaves
@@ -300,8 +289,7 @@ byte-values m a v h k =
       tt,
     ))
     (λ q. bool-cases (device? a && not (input? (byteAt m (a - 1))))
-    (λ r. rw (q, r) (k, (put-lt 2 (byteAt m (a - 1)) false 8 (lit< tt) (h (a - 1)), tt)))
-    (λ r. rw (q, r) (k, tt)))
+    (λ r. rw (q, r) (k, (put-lt 2 (byteAt m (a - 1)) false 8 (lit< tt) (h (a - 1)), tt))) (λ r. rw (q, r) (k, tt)))
 
 store-values : (byte : Bool) (m : List ℕ) (a v : ℕ) → Bytes m → ByteValues (storeWrites byte m a v)
 store-values true m a v h = byte-values m a (lowByte v) h (omega arith)
@@ -349,8 +337,7 @@ step-tidy ev s f t =
 pub step-length : (ev : List Event) (s : State) → length (stepOf ev s .mem) ≡ length (s .mem)
 step-length ev s =
     bool-cases (s .halted)
-    (λ h. ap (λ t. length (t .mem)) (step-halted ev s h))
-    (λ h. ap (λ t. length (t .mem)) (step-live ev s h)
+    (λ h. ap (λ t. length (t .mem)) (step-halted ev s h)) (λ h. ap (λ t. length (t .mem)) (step-live ev s h)
     ∙ commit-length (outcomeOf (deliver ev s) .writes) (deliver ev s .mem) ∙ deliver-size (s .count) ev s)
 
 -- the count gains one
@@ -372,6 +359,5 @@ module _ (ev : List Event) (s : State) where
   run-count (suc k) =
       let p = run-count k in
       bool-cases (runOf ev s k .state .halted)
-      (λ h. rw (run-halted ev s k h) p)
-      (λ h. ap (λ r. r .state .count) (run-next ev s k h) ∙ step-count ev (runOf ev s k .state) h
+      (λ h. rw (run-halted ev s k h) p) (λ h. ap (λ r. r .state .count) (run-next ev s k h) ∙ step-count ev (runOf ev s k .state) h
       ∙ rw (p, ap (λ r. r .steps) (run-next ev s k h)) (omega arith))

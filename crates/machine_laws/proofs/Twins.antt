@@ -28,8 +28,7 @@ module _ (b : List ℕ) where
   event-met s d zero j h e f = absurd (omega arith)
   event-met s d (suc n) j h e f =
       bool-cases (ltb j n)
-      (λ q. or-left (same n s d) (event-met s d n j (lt-of q) e f))
-      (λ q.
+      (λ q. or-left (same n s d) (event-met s d n j (lt-of q) e f)) (λ q.
       let g : n ≤ j = ge-of q in
       let w : j ≡ n = omega arith in
       or-right (eventBelow b s d n) (subst (λ i. same i s d ≡ true) w (and-both (is-eq e) (is-eq f))))
@@ -74,8 +73,7 @@ module _ (b : List ℕ) where
       let s = eventAt b k .step in
       let d = eventAt b k .device in
       bool-cases (eventBelow b s d m)
-      (λ q. found-at k n h m (omega arith) q)
-      (λ q.
+      (λ q. found-at k n h m (omega arith) q) (λ q.
       let f : same m s d ≡ true = sym (ap (λ x. x || same m s d) q) ∙ e in
       record {
         one = m;

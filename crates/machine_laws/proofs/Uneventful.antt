@@ -25,8 +25,7 @@ module _ (ev : List Event) (s : State) where
   pub uneventful-append : (m n : ℕ) → Uneventful ev s m → Uneventful ev (runOf ev s m .state) n → Uneventful ev s (m + n)
   uneventful-append m n f g i h =
       bool-cases (ltb i m)
-      (λ q. f i (lt-of q))
-      (λ q.
+      (λ q. f i (lt-of q)) (λ q.
       let l : m ≤ i = ge-of q in
       let e : m + (i - m) ≡ i = omega arith in
       subst (λ j. uneventful? (nextAct ev (runOf ev s j .state)) ≡ true) e

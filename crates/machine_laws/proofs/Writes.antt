@@ -38,24 +38,21 @@ devices-untouched (w ∷ ws) a p h =
 in-devices : (ws : List Write) (a : ℕ) → InDevices ws → writes? ws a ≡ true → a < 16
 in-devices ws a p e =
     bool-cases (ltb a 16)
-    (λ q. lt-of q)
-    (λ q. absurd (false≢true (sym (devices-untouched ws a p (ge-of q)) ∙ e)))
+    (λ q. lt-of q) (λ q. absurd (false≢true (sym (devices-untouched ws a p (ge-of q)) ∙ e)))
 
 -- ---- events write device registers alone
 
 event-devices : (e : Event) (t : ℕ) → OfDevice e → InDevices (eventWrites e t)
 event-devices e t h =
     bool-cases (input? t)
-    (λ q. rw q (omega arith, (omega arith, tt)))
-    (λ q. rw q (omega arith, tt))
+    (λ q. rw q (omega arith, (omega arith, tt))) (λ q. rw q (omega arith, tt))
 
 event-bytes : (e : Event) (s : State) (a : ℕ) → OfDevice e → 16 ≤ a → a < length (s .mem) → byteAt (eventOn e s .mem) a ≡ byteAt (s .mem) a
 unfolding eventOn
 event-bytes e s a f h k =
     let t = byteAt (s .mem) (statusOf (e .device)) in
     bool-cases (ena? t)
-    (λ q. rw q (unwritten (eventWrites e t) (s .mem) a k (devices-untouched (eventWrites e t) a (event-devices e t f) h)))
-    (λ q. rw q refl)
+    (λ q. rw q (unwritten (eventWrites e t) (s .mem) a k (devices-untouched (eventWrites e t) a (event-devices e t f) h))) (λ q. rw q refl)
 
 pub fits-devices : (ev : List Event) → Each EventFits ev → Each OfDevice ev
 fits-devices [] f = tt
@@ -76,16 +73,13 @@ pub load-devices : (byte : Bool) (m : List ℕ) (a : ℕ) → InDevices (loadWri
 load-devices byte m a =
     let b = cond byte a (even a) in
     bool-cases (status? b)
-    (λ q. rw q (lt-of (and-left (ltb b 16) (eqb (b % 2) 0) q), tt))
-    (λ q. rw q tt)
+    (λ q. rw q (lt-of (and-left (ltb b 16) (eqb (b % 2) 0) q), tt)) (λ q. rw q tt)
 
 pub store-devices : (m : List ℕ) (a v : ℕ) → device? a ≡ true → InDevices (byteWrites m a v)
 store-devices m a v q =
     let h : a < 16 = lt-of q in
     bool-cases (eqb (a % 2) 0)
-    (λ r. rw (q, r) (h, tt))
-    (λ r. bool-cases (input? (byteAt m (a - 1)))
-    (λ t. rw (q, r, t) (h, tt))
+    (λ r. rw (q, r) (h, tt)) (λ r. bool-cases (input? (byteAt m (a - 1))) (λ t. rw (q, r, t) (h, tt))
     (λ t. rw (q, r, t) (h, (omega arith, tt))))
 
 -- outside the device registers a store writes its byte and no other
@@ -107,8 +101,7 @@ byte-written m a v b e =
 either : (ws vs : List Write) (b : ℕ) → writes? (ws ++ vs) b ≡ true → (writes? ws b ≡ true) ⊎ (writes? vs b ≡ true)
 either ws vs b e =
     bool-cases (writes? ws b)
-    (λ q. inl q)
-    (λ q. inr (ap (λ x. x || writes? vs b) (sym q) ∙ sym (writes-append ws vs b) ∙ e))
+    (λ q. inl q) (λ q. inr (ap (λ x. x || writes? vs b) (sym q) ∙ sym (writes-append ws vs b) ∙ e))
 
 store-written : (byte : Bool) (m : List ℕ) (a v b : ℕ) → writes? (storeWrites byte m a v) b ≡ true → Among b (span byte a) ⊎ (b < 16)
 store-written true m a v b e = ⊎-elim (λ (q : b ≡ a). inl (inl q)) (λ (q : b < 16). inr q) (byte-written m a (lowByte v) b e)
@@ -147,8 +140,7 @@ unfolding writes?
 written-place [] b e = absurd (false≢true e)
 written-place (w ∷ ws) b e =
     bool-cases (eqb (w .addr) b)
-    (λ q. inl (sym (eq-of q)))
-    (λ q. inr (written-place ws b (rw q at e)))
+    (λ q. inl (sym (eq-of q))) (λ q. inr (written-place ws b (rw q at e)))
 
 push-written : (c : Core) (b : ℕ) → sp c < 65536 → writes? (pushes c) b ≡ true → Pushed c b
 unfolding pushes
@@ -177,8 +169,7 @@ pub step-byte : (ev : List Event) (s : State) (a : ℕ) → Each EventFits ev �
     → writes? (outcomeOf (deliver ev s) .writes) a ≡ false → byteAt (stepOf ev s .mem) a ≡ byteAt (s .mem) a
 step-byte ev s a f h k w =
     bool-cases (s .halted)
-    (λ q. ap (λ t. byteAt (t .mem) a) (step-halted ev s q))
-    (λ q.
+    (λ q. ap (λ t. byteAt (t .mem) a) (step-halted ev s q)) (λ q.
     ap (λ t. byteAt (t .mem) a) (step-live ev s q)
     ∙ unwritten (outcomeOf (deliver ev s) .writes) (deliver ev s .mem) a (rw (deliver-size (s .count) ev s) k) w
     ∙ deliver-bytes (s .count) ev s a (fits-devices ev f) h k)

@@ -121,8 +121,7 @@ word-stored : (m : List ℕ) (a v : ℕ) → two-stored m (even a) v ≡ commit 
 word-stored m a v =
     sym
     (commit-append
-    (byteWrites m (even a) (lowByte v))
-    (byteWrites (commit (byteWrites m (even a) (lowByte v)) m) (even a + 1) (highByte v))
+    (byteWrites m (even a) (lowByte v)) (byteWrites (commit (byteWrites m (even a) (lowByte v)) m) (even a + 1) (highByte v))
     m)
 
 module _ (m : List ℕ) {l : List ℕ} (w v : ℕ) where
@@ -146,8 +145,7 @@ module _ (m : List ℕ) {l : List ℕ} (w v : ℕ) where
       8 ≤ w → l ≡ set (set m (2 * w) (lowByte v)) (2 * w + 1) (highByte v) → l ≡ commit (storeWrites false m (2 * w) v) m
   store-above h e =
       store-two {a = 2 * w} refl
-      (store-plain m (2 * w) (lowByte v) (omega arith))
-      (e ∙ store-plain (set m (2 * w) (lowByte v)) (2 * w + 1) (highByte v) (omega arith))
+      (store-plain m (2 * w) (lowByte v) (omega arith)) (e ∙ store-plain (set m (2 * w) (lowByte v)) (2 * w + 1) (highByte v) (omega arith))
 
   pub store-even : (a : ℕ) → w ≡ a / 2 → l ≡ commit (storeWrites false m (2 * w) v) m → l ≡ commit (storeWrites false m a v) m
   store-even a e s =

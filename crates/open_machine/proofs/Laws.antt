@@ -150,8 +150,7 @@ run-one s b t e =
     bool-cases (s .halted)
     (λ h.
     let live : runOf ev s 0 .state .halted ≡ true = ap (λ r. r .state .halted) z ∙ h in
-    (λ i. ran ((e ∙ step-halted ev s h) i) (boolByte (not (h i)))) ∙ sym z ∙ sym (run-halted ev s 0 live))
-    (λ h.
+    (λ i. ran ((e ∙ step-halted ev s h) i) (boolByte (not (h i)))) ∙ sym z ∙ sym (run-halted ev s 0 live)) (λ h.
     let live : runOf ev s 0 .state .halted ≡ false = ap (λ r. r .state .halted) z ∙ h in
     (λ i. ran (e i) (boolByte (not (h i))))
     ∙ sym (run-next ev s 0 live ∙ ap (λ r. ran (stepOf ev (r .state)) (suc (r .steps))) z))

@@ -63,24 +63,21 @@ pub store-even : (byte : Bool) (a : ByteAddr) (v : ℕ) (s : State) → byte && 
     → [] ≡ loggedOf (act.Stores byte a v) s
 store-even true a v s h =
     bool-cases (eqb (a .0 % 2) 1)
-    (λ q. absurd (false≢true (ap not (sym q) ∙ h)))
-    (λ q. rw q refl)
+    (λ q. absurd (false≢true (ap not (sym q) ∙ h))) (λ q. rw q refl)
 store-even false a v s h = absurd (false≢true h)
 
 pub store-odd : (byte : Bool) (a : ByteAddr) (v : ℕ) (s : State) → byte && not (eqb (a .0 % 2) 1) ≡ false
     → shownOn (s .count) (s .mem) (wordNumber (a .0)) (storedOf byte v) ≡ loggedOf (act.Stores byte a v) s
 store-odd true a v s h =
     bool-cases (eqb (a .0 % 2) 1)
-    (λ q. rw q refl)
-    (λ q. absurd (true≢false (ap not (sym q) ∙ h)))
+    (λ q. rw q refl) (λ q. absurd (true≢false (ap not (sym q) ∙ h)))
 store-odd false a v s h = refl
 
 -- one record more passes the room exactly where it is full
 pub full-is : (added room : ℕ) → added ≤ room → eqb added room ≡ ltb room (added + 1)
 full-is added room h =
     bool-cases (eqb added room)
-    (λ q. let e : added ≡ room = eq-of q in let l : room < added + 1 = omega arith in q ∙ sym (is-lt l))
-    (λ q.
+    (λ q. let e : added ≡ room = eq-of q in let l : room < added + 1 = omega arith in q ∙ sym (is-lt l)) (λ q.
     let n : added ≢ room = neq-of q in
     let l : added + 1 ≤ room = omega (arith, n) in
     q ∙ sym (not-lt l))

@@ -24,8 +24,7 @@ use Rattle.printed_line.specs.Slices.{outOfRoom}
 out-short : (x : Logged) → outOfRoom (reasonLogged x) ≡ x .short
 out-short x =
     bool-cases (x .short)
-    (λ q. rw q refl)
-    (λ q. bool-cases (x .state .halted) (λ h. rw (q, h) refl) (λ h. rw (q, h) refl))
+    (λ q. rw q refl) (λ q. bool-cases (x .state .halted) (λ h. rw (q, h) refl) (λ h. rw (q, h) refl))
 
 module _ (ev : List Event) (s : State) where
   pub slices-start : ran s 0 ≡ runOf ev s 0

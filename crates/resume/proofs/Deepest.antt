@@ -125,8 +125,7 @@ module _ (ev : List Event) (s : State) where
       let r = found n in
       let below = r .1 in
       bool-cases (ltb d l)
-      (λ q. (suc n, omega arith, sym (ap (λ t. cond t l d) q)))
-      (λ q. (r .0, omega arith, r .2 ∙ sym (ap (λ t. cond t l d) q)))
+      (λ q. (suc n, omega arith, sym (ap (λ t. cond t l d) q))) (λ q. (r .0, omega arith, r .2 ∙ sym (ap (λ t. cond t l d) q)))
 
   pub deepest-reached : (n : ℕ) → Reaches ev s n (deepestOf ev s n)
   deepest-reached n =

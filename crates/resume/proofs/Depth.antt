@@ -95,12 +95,8 @@ unfolding interruptOf Above
 interrupt-above c l m =
     let d = best l m in
     bool-cases (returns? c)
-    (λ q. bool-cases (above m d (previous (c .psw)))
-    (λ r. rw (q, r) (lt-of (and-right (ltb d 8) _ r)))
-    (λ r. rw (q, r) tt))
-    (λ q. bool-cases (above m d (current (c .psw)))
-    (λ r. rw (q, r) (lt-of (and-right (ltb d 8) _ r)))
-    (λ r. rw (q, r) tt))
+    (λ q. bool-cases (above m d (previous (c .psw))) (λ r. rw (q, r) (lt-of (and-right (ltb d 8) _ r))) (λ r. rw (q, r) tt))
+    (λ q. bool-cases (above m d (current (c .psw))) (λ r. rw (q, r) (lt-of (and-right (ltb d 8) _ r))) (λ r. rw (q, r) tt))
 
 -- the same of the act
 abbrev Higher : (p q : ℕ) (m : List ℕ) → Act → Type 0
@@ -139,10 +135,7 @@ plan-higher s =
     let q = previous (s .core .psw) in
     let u = interrupt-above (s .core) (s .lines) (s .mem) in
     plan-cases s (λ x. Faultless (x .act) → Higher p q (s .mem) (x .act))
-    (λ h c. tt)
-    (λ h e c. tt)
-    (λ d h e c. subst (Above p q (s .mem)) e u)
-    (λ d h e c. subst (Above p q (s .mem)) e u)
+    (λ h c. tt) (λ h e c. tt) (λ d h e c. subst (Above p q (s .mem)) e u) (λ d h e c. subst (Above p q (s .mem)) e u)
     (λ h e c. steady-higher p q (s .mem) (instructionOf (s .core) (s .mem) .act) (instruction-steady (s .core) (s .mem) c))
 
 -- ---- an instruction that is no SETPRI keeps both priorities
@@ -186,9 +179,7 @@ instruction-priorities c m =
     let x = effectOf (advanced c) n in
     instruction-cases c m
     (λ p. Faultless (p .act) → svc? (p .act) ≡ false → executes? (p .act) && setPri? n ≡ false → SamePriorities (p .core .psw) (c .psw))
-    (λ q h u e. (refl, refl))
-    (λ q r h u e. absurd (faulting-faults c c 9 h))
-    (λ q r o h u e. (refl, refl))
+    (λ q h u e. (refl, refl)) (λ q r h u e. absurd (faulting-faults c c 9 h)) (λ q r o h u e. (refl, refl))
     (λ q r o h u e. granted-priorities c (x .core) m n (executed-priorities c n (decode-fields (wordAt m (pc c)))) (x .access) h u e)
 
 plan-priorities : (s : State) → Faultless (planOf s .act) → svc? (planOf s .act) ≡ false → setsPriority? s ≡ false
@@ -198,10 +189,7 @@ plan-priorities s =
     plan-cases s
     (λ p. Faultless (p .act) → svc? (p .act) ≡ false → executes? (p .act) && b ≡ false → Steady (p .act)
     → SamePriorities (p .core .psw) (s .core .psw))
-    (λ h c u e st. absurd st)
-    (λ h q c u e st. absurd st)
-    (λ d h q c u e st. absurd st)
-    (λ d h q c u e st. absurd st)
+    (λ h c u e st. absurd st) (λ h q c u e st. absurd st) (λ d h q c u e st. absurd st) (λ d h q c u e st. absurd st)
     (λ h q c u e st. instruction-priorities (s .core) (s .mem) c u e)
 
 perform-steady : (a : Act) → Steady a → svc? a ≡ false → (c : Core) (l : ℕ) (m : List ℕ)
@@ -279,8 +267,7 @@ module _ (ev : List Event) (s : State) where
   unfolding lowest
   lowest-falls k =
       bool-cases (none? (frames ev s (suc k)))
-      (λ q. rw q (lesser-left (lowest ev s k) (current (after ev s (suc k) .core .psw))))
-      (λ q. rw q (omega arith))
+      (λ q. rw q (lesser-left (lowest ev s k) (current (after ev s (suc k) .core .psw)))) (λ q. rw q (omega arith))
 
   lowest-later : (j k : ℕ) → lowest ev s (k + j) ≤ lowest ev s k
   lowest-later zero k = rw (add-zero k) (omega arith)
@@ -387,8 +374,7 @@ module _ (memory r events : List ℕ) (n : ℕ) (P : DepthPremises memory r even
           let pr = entered-priorities (vectorPsw m d) (current (c .psw)) (false || faulted? (c .psw)) (omega arith) in
           let sv : Saved (after ev s (suc k)) c =
           saves c m (due-tidy k .core) (due-tidy k .size) d (current (c .psw)) (false || faulted? (c .psw)) (after ev s (suc k))
-          (ap (λ t. t .core) next-is ∙ ap (λ x. x .core) out)
-          (ap (λ t. t .mem) next-is ∙ ap (λ x. commit (x .writes) m) out) in
+          (ap (λ t. t .core) next-is ∙ ap (λ x. x .core) out) (ap (λ t. t .mem) next-is ∙ ap (λ x. commit (x .writes) m) out) in
           let saved-is : savedPsw (after ev s (suc k)) ≡ c .psw =
           ap (λ x. wordAt (after ev s (suc k) .mem) (wrap (x + 2))) (sv .stack) ∙ sv .psw-word in
           let up : current (c .psw) < priority m d = higher (acts.Accept d) q in
@@ -466,8 +452,7 @@ module _ (memory r events : List ℕ) (n : ℕ) (P : DepthPremises memory r even
       chained-next d q f fs l ls o g =
           let new = priority (due ev s k .mem) d ∷ ls in
           subst (λ x. Deep p (after ev s (suc k) .core .psw) x new)
-          (sym (devices-chained (after ev s (suc k)) (f ∷ fs) (devices (f ∷ fs) o)))
-          (onto (f ∷ fs) new (chained-deep d q f fs l ls o g))
+          (sym (devices-chained (after ev s (suc k)) (f ∷ fs) (devices (f ∷ fs) o))) (onto (f ∷ fs) new (chained-deep d q f fs l ls o g))
 
       next : (a : Act) → act ev s k ≡ a → (fs : List Frame) (ls : List ℕ) → frames ev s k ≡ fs → levels ev s k ≡ ls → Calm a fs
           → Next a fs ls

@@ -213,8 +213,7 @@ module _ (memory r events : List ℕ) (n : ℕ) (P : WiderPremises memory r even
       unfolding foreign?
       unwritten-own a e =
           bool-cases (writes? (outcomeOf (due ev s k) .writes) a)
-          (λ q. absurd (true≢false (rw (q, other) at e)))
-          (λ q. (q, rw q at e))
+          (λ q. absurd (true≢false (rw (q, other) at e))) (λ q. (q, rw q at e))
 
       other-step : Sim ev s (suc k)
       other-step =
@@ -270,9 +269,7 @@ module _ (memory r events : List ℕ) (n : ℕ) (P : WiderPremises memory r even
         instruction-step =
             application-step instruction-mine (both .live) (both .no-lines)
             (subst (λ c. asleep? (c .psw) ≡ false) (ap (λ t. t .core) next-is ∙ both .core) (P .never-sleeps k below instruction-mine))
-            (λ o. both .core)
-            (λ o. absurd (true≢false (sym still-own ∙ o)))
-            (both .bytes)
+            (λ o. both .core) (λ o. absurd (true≢false (sym still-own ∙ o))) (both .bytes)
 
       -- A return, pulled or chained.
       module _ (a : Act) (p-is : planOf (due ev s k) ≡ planned (due ev s k .core) a) (h : acceptsNone? a ≡ true)
@@ -306,10 +303,8 @@ module _ (memory r events : List ℕ) (n : ℕ) (P : WiderPremises memory r even
             let o-is = free-pulled .left in
             let c-is = ap (λ o. o .core) o-is in
             application-step return-mine (ap (λ o. o .halted) o-is) (ap (λ o. o .lines) o-is)
-            (ap (λ c. asleep? (c .psw)) c-is ∙ pulled-awake (due ev s k .core) (due ev s k .mem))
-            (λ o. here o ∙ sym c-is)
-            (λ o. subst (λ c. Outer c (frames ev s (suc k))) (sym c-is) (outer o))
-            (λ b l d w.
+            (ap (λ c. asleep? (c .psw)) c-is ∙ pulled-awake (due ev s k .core) (due ev s k .mem)) (λ o. here o ∙ sym c-is)
+            (λ o. subst (λ c. Outer c (frames ev s (suc k))) (sym c-is) (outer o)) (λ b l d w.
             ap (λ ws. byteAt (commit ws (due ev s k .mem)) b) nothing-written
             ∙ ap (λ m. byteAt m b) (commit-none (due ev s k .mem))
             ∙ due-bytes b l d (w (ap (λ ws. writes? ws b) nothing-written))
@@ -352,15 +347,13 @@ module _ (memory r events : List ℕ) (n : ℕ) (P : WiderPremises memory r even
           let a-is = act-is (acts.Chain d) p-is refl (returns-as (chains d) e tt) refl refl in
           let some : none? (frames ev s k) ≡ false = subst (λ a. Calm a (frames ev s k)) a-is (P .calm k below) in
           list-cases (frames ev s k)
-          (λ q. absurd (true≢false (sym (ap none? q) ∙ some)))
-          (λ f fs q.
+          (λ q. absurd (true≢false (sym (ap none? q) ∙ some))) (λ f fs q.
           let o : f .own && own? fs ≡ true = sym (ap own? q) ∙ own in
           let is : frames ev s (suc k) ≡ frame (after ev s (suc k)) false ∷ fs =
           frames-next (acts.Chain d) a-is ∙ ap (chained (after ev s (suc k))) q
           ∙ ap (λ b. cond b (frame (after ev s (suc k)) false) f ∷ fs) (and-left (f .own) (own? fs) o) in
           return-step (acts.Chain d) p-is refl (returns-as (chains d) e tt) refl refl
-          (λ z. absurd (false≢true (sym (ap own? is) ∙ z)))
-          (λ z. subst (Outer (pulled (due ev s k .core) (due ev s k .mem))) (sym is)
+          (λ z. absurd (false≢true (sym (ap own? is) ∙ z))) (λ z. subst (Outer (pulled (due ev s k .core) (due ev s k .mem))) (sym is)
           (outer-in (pulled (due ev s k .core) (due ev s k .mem)) (frame (after ev s (suc k)) false) fs (and-right (f .own) (own? fs) o)
           (chain-holds d e))))
 
@@ -373,8 +366,7 @@ module _ (memory r events : List ℕ) (n : ℕ) (P : WiderPremises memory r even
           let sv : Saved (after ev s (suc k)) (free ev s k .core) =
           subst (Saved (after ev s (suc k))) core-is
           (saves c (due ev s k .mem) (due-tidy k .core) (due-tidy k .size) d (current (c .psw)) (false || faulted? (c .psw))
-          (after ev s (suc k))
-          (ap (λ t. t .core) next-is ∙ ap (λ o. o .core) o-is)
+          (after ev s (suc k)) (ap (λ t. t .core) next-is ∙ ap (λ o. o .core) o-is)
           (ap (λ t. t .mem) next-is ∙ ap (λ o. commit (o .writes) (due ev s k .mem)) o-is)) in
           record {
             tidy = after-tidy (suc k) .core;
@@ -388,8 +380,7 @@ module _ (memory r events : List ℕ) (n : ℕ) (P : WiderPremises memory r even
           let a-is : act ev s k ≡ acts.Accept d = ap (λ p. p .act) (plan-is (accepts d) e) in
           let is = frames-next (acts.Accept d) a-is in
           other-step (rw (own, ap acceptsNone? a-is) refl)
-          (λ z. absurd (false≢true (sym (ap own? is) ∙ z)))
-          (λ z. subst (Outer (free ev s k .core)) (sym is)
+          (λ z. absurd (false≢true (sym (ap own? is) ∙ z))) (λ z. subst (Outer (free ev s k .core)) (sym is)
           (outer-in (free ev s k .core) (frame (after ev s (suc k)) false) (frames ev s k) own (entry-holds d e)))
 
       own-step : Sim ev s (suc k)
@@ -445,8 +436,7 @@ module _ (memory r events : List ℕ) (n : ℕ) (P : WiderPremises memory r even
       unfolding Next
       pulled-next a =
           list-cases (frames ev s k)
-          (λ q. absurd (true≢false (sym (ap own? q) ∙ device)))
-          (λ f fs q.
+          (λ q. absurd (true≢false (sym (ap own? q) ∙ device))) (λ f fs q.
           let o : f .own && own? fs ≡ false = sym (ap own? q) ∙ device in
           let w : Outer (free ev s k .core) (f ∷ fs) = subst (Outer (free ev s k .core)) q (S .outer device) in
           subst (λ gs. Next (older gs)) (sym q) (
@@ -459,17 +449,14 @@ module _ (memory r events : List ℕ) (n : ℕ) (P : WiderPremises memory r even
       unfolding Next
       chained-next =
           list-cases (frames ev s k)
-          (λ q. absurd (true≢false (sym (ap own? q) ∙ device)))
-          (λ f fs q.
+          (λ q. absurd (true≢false (sym (ap own? q) ∙ device))) (λ f fs q.
           let o : f .own && own? fs ≡ false = sym (ap own? q) ∙ device in
           let w : Outer (free ev s k .core) (f ∷ fs) = subst (Outer (free ev s k .core)) q (S .outer device) in
           let t = after ev s (suc k) in
           let g = cond (f .own) (frame t false) f in
           subst (λ gs. Next (chained t gs)) (sym q)
-          (bool-cases (own? fs)
-          (λ z. subst (λ b. Next (cond b (frame t false) f ∷ fs)) (sym (newest-device f fs o z))
-          ((λ y. absurd (false≢true (sym o ∙ y))), (λ y. w)))
-          (λ z. (
+          (bool-cases (own? fs) (λ z. subst (λ b. Next (cond b (frame t false) f ∷ fs)) (sym (newest-device f fs o z))
+          ((λ y. absurd (false≢true (sym o ∙ y))), (λ y. w))) (λ z. (
             (λ y. absurd (false≢true (sym z ∙ and-right (g .own) (own? fs) y))),
             (λ y. outer-over (free ev s k .core) g fs z (outer-under (free ev s k .core) f fs z w)),
           ))))

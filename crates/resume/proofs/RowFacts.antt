@@ -38,8 +38,7 @@ from : (P : ℕ → Type 0) (n k : ℕ) → From P k n → (j : ℕ) → k ≤ j
 from P zero k u j h l = absurd (omega arith)
 from P (suc n) k u j h l =
     bool-cases (eqb k j)
-    (λ q. subst P (eq-of q) (u .0))
-    (λ q. let d : k ≢ j = neq-of q in from P n (suc k) (u .1) j (omega arith) (omega arith))
+    (λ q. subst P (eq-of q) (u .0)) (λ q. let d : k ≢ j = neq-of q in from P n (suc k) (u .1) j (omega arith) (omega arith))
 
 pub below : (P : ℕ → Type 0) (n : ℕ) → From P 0 n → (k : ℕ) → k < n → P k
 below P n u k h = from P n 0 u k (omega arith) (omega arith)

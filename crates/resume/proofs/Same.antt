@@ -43,10 +43,8 @@ pub quiet : (c : Core) (l : ℕ) (m m′ : List ℕ) → interruptOf c l m ≡ n
 unfolding interruptOf Nothing?
 quiet c l m m′ e =
     bool-cases (returns? c)
-    (λ q. bool-cases (above m (best l m) (previous (c .psw)))
-    (λ r. absurd (subst Nothing? (sym (rw (q, r) at e)) tt))
-    (λ r. absurd (subst Nothing? (sym (rw (q, r) at e)) tt)))
-    (λ q. rw (q, no-best m′) refl)
+    (λ q. bool-cases (above m (best l m) (previous (c .psw))) (λ r. absurd (subst Nothing? (sym (rw (q, r) at e)) tt))
+    (λ r. absurd (subst Nothing? (sym (rw (q, r) at e)) tt))) (λ q. rw (q, no-best m′) refl)
 
 -- where a return is pulled or chained with some lines waiting, it is pulled with none
 abbrev pub Returns? : Interrupt → Type 0
@@ -59,9 +57,7 @@ pub returning : (c : Core) (l : ℕ) (m m′ : List ℕ) → Returns? (interrupt
 unfolding interruptOf
 returning c l m m′ h =
     bool-cases (returns? c)
-    (λ q. rw (q, no-best m′) refl)
-    (λ q. bool-cases (above m (best l m) (current (c .psw)))
-    (λ r. absurd (rw (q, r) at h))
+    (λ q. rw (q, no-best m′) refl) (λ q. bool-cases (above m (best l m) (current (c .psw))) (λ r. absurd (rw (q, r) at h))
     (λ r. absurd (rw (q, r) at h)))
 
 -- ---- instructions
@@ -103,12 +99,8 @@ pub instruction-same : (c : Core) (m m′ : List ℕ) → Faultless (instruction
 unfolding instructionOf
 instruction-same c m m′ h r =
     bool-cases (asleep? (c .psw))
-    (λ q. rw q refl)
-    (λ q. bool-cases (eqb (pc c % 2) 1)
-    (λ q₁. rw (q, q₁) refl)
-    (λ q₁. bool-cases (skips? (c .cex))
-    (λ q₂. rw (q, q₁, q₂) refl)
-    (λ q₂.
+    (λ q. rw q refl) (λ q. bool-cases (eqb (pc c % 2) 1) (λ q₁. rw (q, q₁) refl) (λ q₁. bool-cases (skips? (c .cex))
+    (λ q₂. rw (q, q₁, q₂) refl) (λ q₂.
     let e = effectOf (advanced c) (decodeOf (wordAt m (pc c))) in
     let h₁ : Faultless (granted c (e .core) (e .access) m .act) = rw (q, q₁, q₂) at h in
     let r₁ : Each (λ a. byteAt m a ≡ byteAt m′ a) (readsOf (granted c (e .core) (e .access) m .act) c) = rw (q, q₁, q₂) at r in

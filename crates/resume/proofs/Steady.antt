@@ -74,8 +74,7 @@ module _ (c x : Core) (m : List ℕ) where
   unfolding granted
   trap-granted v h =
       bool-cases (ltb (current (c .psw)) (priority m v))
-      (λ q. rw q refl)
-      (λ q. absurd (faulting-faults c (advanced c) 10 (rw q at h)))
+      (λ q. rw q refl) (λ q. absurd (faulting-faults c (advanced c) 10 (rw q at h)))
 
   allowed-steady : (a : Access) → Faultless (allowed c x a m .act) → Steady (allowed c x a m .act)
   unfolding granted
@@ -94,10 +93,7 @@ pub instruction-steady : (c : Core) (m : List ℕ) → Faultless (instructionOf 
 instruction-steady c m =
     let e = effectOf (advanced c) (decodeOf (wordAt m (pc c))) in
     instruction-cases c m (λ p. Faultless (p .act) → Steady (p .act))
-    (λ q h. tt)
-    (λ q r h. absurd (faulting-faults c c 9 h))
-    (λ q r o h. tt)
-    (λ q r o h. granted-steady c (e .core) m (e .access) h)
+    (λ q h. tt) (λ q r h. absurd (faulting-faults c c 9 h)) (λ q r o h. tt) (λ q r o h. granted-steady c (e .core) m (e .access) h)
 
 -- A step without a fault of a machine that is not halted does not halt it.
 perform-live : (a : Act) (c : Core) (l : ℕ) (m : List ℕ) → Faultless a → (a ≡ acts.Stopped → ⊥) → perform a c l m .halted ≡ false
@@ -137,9 +133,7 @@ pub plan-moves : (s : State) → s .halted ≡ false → Faultless (planOf s .ac
 unfolding Stopped?
 plan-moves s live =
     plan-cases s (λ p. Faultless (p .act) → p .act ≡ acts.Stopped → ⊥)
-    (λ h c e. true≢false (sym h ∙ live))
-    (λ h q c e. subst Stopped? (sym e) tt)
-    (λ d h q c e. subst Stopped? (sym e) tt)
+    (λ h c e. true≢false (sym h ∙ live)) (λ h q c e. subst Stopped? (sym e) tt) (λ d h q c e. subst Stopped? (sym e) tt)
     (λ d h q c e. subst Stopped? (sym e) tt)
     (λ h q c e. steady-moves (instructionOf (s .core) (s .mem) .act) (instruction-steady (s .core) (s .mem) c) e)
 
@@ -149,8 +143,5 @@ finished-live s live h = perform-live (planOf s .act) (planOf s .core) (s .lines
 pub plan-core : (s : State) → Faultless (planOf s .act) → (Steady (planOf s .act) → ⊥) → planOf s .core ≡ s .core
 plan-core s =
     plan-cases s (λ p. Faultless (p .act) → (Steady (p .act) → ⊥) → p .core ≡ s .core)
-    (λ h c u. refl)
-    (λ h q c u. refl)
-    (λ d h q c u. refl)
-    (λ d h q c u. refl)
+    (λ h c u. refl) (λ h q c u. refl) (λ d h q c u. refl) (λ d h q c u. refl)
     (λ h q c u. absurd (u (instruction-steady (s .core) (s .mem) c)))

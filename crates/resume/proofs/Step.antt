@@ -66,8 +66,7 @@ module _ (d f : State) (g : ℕ → Bool) (size : length (d .mem) ≡ 65536) (al
   read-same : (a : ℕ) → (device? a ≡ false) × (g a ≡ false) → byteAt (d .mem) a ≡ byteAt (f .mem) a
   read-same a h =
       bool-cases (ltb a 65536)
-      (λ q. bytes a (lt-of q) (h .0) (h .1))
-      (λ q.
+      (λ q. bytes a (lt-of q) (h .0) (h .1)) (λ q.
       let big : 65536 ≤ a = ge-of q in
       List·getD-eq-default (d .mem) 0 (omega arith) ∙ sym (List·getD-eq-default (f .mem) 0 (omega arith)))
 

@@ -68,8 +68,7 @@ fetch-plan s w live quiet awake even whole fetched =
 abbrev interrupted : Core → (d p : ℕ) → Interrupt
 interrupted c d p =
     cond (returns? c)
-    (cond (ltb d 8 && ltb (previous (c .psw)) p) (chains d) pulls)
-    (cond (ltb d 8 && ltb (current (c .psw)) p) (accepts d) nothing)
+    (cond (ltb d 8 && ltb (previous (c .psw)) p) (chains d) pulls) (cond (ltb d 8 && ltb (current (c .psw)) p) (accepts d) nothing)
 
 pub interrupt-is : (c : Core) (l d p : ℕ) (m : List ℕ) → best l m ≡ d → priority m d ≡ p → interruptOf c l m ≡ interrupted c d p
 unfolding interruptOf
@@ -192,8 +191,7 @@ module _ (ev : List Event) (s : State) where
     pub next-row : (d′ : State) (c′ : Core) (a′ : Act) → deliver ev (known (o .core) (o .lines) (m + 1) (ws ++ o .writes)) ≡ d′
         → planOf d′ ≡ planned c′ a′
         → Row (suc k) (known (o .core) (o .lines) (m + 1) (ws ++ o .writes)) d′ c′ a′
-        (framesAfter a (known (o .core) (o .lines) (m + 1) (ws ++ o .writes)) fs)
-        (cond (ownStep? a fs) (suc n) n)
+        (framesAfter a (known (o .core) (o .lines) (m + 1) (ws ++ o .writes)) fs) (cond (ownStep? a fs) (suc n) n)
         (λ x. cond (writes? (o .writes) x) (not (ownWrites? a fs)) (g x))
     next-row d′ c′ a′ then does =
         record {

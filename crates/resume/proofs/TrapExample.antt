@@ -33,9 +33,8 @@ use Rattle.resume.proofs.RowFacts.{ReadsOwn, calm-at, no-trap, own-trap
 use Rattle.resume.proofs.RowFacts.{own-at}
 use Rattle.resume.proofs.TrapRows.{ev, s, row0, row1, row2, row3, row4, row5, row6, row7, row8, row9, row10, row11, row12, row13}
 use Rattle.resume.proofs.TrapRows.{trap-plan, nested-plan, loaded-is, c0, c0′, c1, c2, c2′, c3, c4, c5, c6, c7, c8, c9, c10, c11}
-use Rattle.resume.proofs.TrapRows.{c12, c13}
-use Rattle.resume.proofs.TrapRows.{c14, c15, trapPush, nestedPush, word, trapped, stored, nested, entered, waiting, trapFrame}
-use Rattle.resume.proofs.TrapRows.{nestedFrame, entryFrame, chainedFrame, both, g1, g2, g3}
+use Rattle.resume.proofs.TrapRows.{c12, c13, c14, c15, trapPush, nestedPush, word, trapped, stored, nested, entered, waiting}
+use Rattle.resume.proofs.TrapRows.{trapFrame, nestedFrame, entryFrame, chainedFrame, both, g1, g2, g3}
 
 -- ---- an accepted start
 
@@ -270,8 +269,7 @@ free8 : Row [] s 8 (known c13 0 9 nested) (known c13 0 9 nested) c14 (acts.Loads
 unfolding perform writes? deliverAt bestFrom interruptOf over effectOf advanced decodeOf granted
 free8 =
     next-row [] s nested free7 refl (outcome c13 0 [])
-    (ap (λ x. outcome x 0 [])
-    (pulled-is c12 (commit nested zeros) 0 0 5 258 (word-is nested 1016 (lit< tt)) (word-is nested 1018 (lit< tt))
+    (ap (λ x. outcome x 0 []) (pulled-is c12 (commit nested zeros) 0 0 5 258 (word-is nested 1016 (lit< tt)) (word-is nested 1018 (lit< tt))
     (word-is nested 1020 (lit< tt)) (word-is nested 1022 (lit< tt))))
     refl (known c13 0 9 nested) c14 (acts.Loads false (record { 0 = 512 }) 3)
     refl

@@ -71,8 +71,7 @@ module _ (ev : List Event) (s : State) (n : ℕ) (no-svc : (k : ℕ) → k < n �
   writes-unframed : (k : ℕ) → k < n → ownWrites? (act ev s k) (frames ev s k) ≡ unframed? ev s k
   writes-unframed k h =
       list-cases (frames ev s k)
-      (λ q. rw q (unframed-writes (act ev s k) (no-svc k h)))
-      (λ f fs q.
+      (λ q. rw q (unframed-writes (act ev s k) (no-svc k h))) (λ f fs q.
       let o : f .own ≡ false = subst Devices q (frames-devices ev s n no-svc k (omega arith)) .0 in
       rw (q, o) refl)
 

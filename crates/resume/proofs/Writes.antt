@@ -16,8 +16,7 @@ SameWrites ws vs = (a x y : ℕ) → 16 ≤ a → (writes? ws a ≡ false → x 
 pub same-refl : (ws : List Write) → SameWrites ws ws
 same-refl ws a x y h q =
     bool-cases (writes? ws a)
-    (λ e. over-written ws a x y e)
-    (λ e. ap (over ws a) (q e))
+    (λ e. over-written ws a x y e) (λ e. ap (over ws a) (q e))
 
 same-append : (ws ws′ vs vs′ : List Write) → SameWrites ws ws′ → SameWrites vs vs′ → SameWrites (ws ++ vs) (ws′ ++ vs′)
 same-append ws ws′ vs vs′ f g a x y h q =

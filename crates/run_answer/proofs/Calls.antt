@@ -94,9 +94,6 @@ module _
         closed reply memory′ r′ log′ ≡ runCallOf memory r events log n
     call-ran l memory′ r′ log′ a steps added reply es ea en ek el write sum =
         (λ i. closed
-        ((sum ∙ (λ j. replyNumber 0 (reasonNumber (ea j)) (en j) (ek j))) i)
-        (es i .mem)
-        ((write memory′ ∙ ap recordOf es) i)
-        (el i))
+        ((sum ∙ (λ j. replyNumber 0 (reasonNumber (ea j)) (en j) (ek j))) i) (es i .mem) ((write memory′ ∙ ap recordOf es) i) (el i))
         ∙ ap (closing log) run-is
         ∙ sym (accepted-call memory r events log n (accepted h))

@@ -55,8 +55,7 @@ reply-parts a b c d ha hb hc hd =
 reason-small : (x : Logged) → reasonNumber (reasonLogged x) < 256
 reason-small x =
     bool-cases (x .short)
-    (λ q. rw q (omega arith))
-    (λ q. bool-cases (x .state .halted) (λ p. rw (q, p) (omega arith)) (λ p. rw (q, p) (omega arith)))
+    (λ q. rw q (omega arith)) (λ q. bool-cases (x .state .halted) (λ p. rw (q, p) (omega arith)) (λ p. rw (q, p) (omega arith)))
 
 module _ (memory r events log : List ℕ) (n : ℕ) (ok : callVerdict memory r events log n ≡ Accepted) where
   abbrev ev : List Event
@@ -135,8 +134,7 @@ module _
     (memory r events log log′ : List ℕ) (n N : ℕ) (bm : Bytes memory) (br : Bytes r) (be : Bytes events)
     (first : callVerdict memory r events log n ≡ Accepted) (within : runOn memory r events log n .steps ≤ N)
     (second : callVerdict (runCallOf memory r events log n .memory) (runCallOf memory r events log n .state) events log′
-    (N - runOn memory r events log n .steps) ≡ Accepted)
-    (start : verdictOf memory r events N ≡ Accepted) where
+    (N - runOn memory r events log n .steps) ≡ Accepted) (start : verdictOf memory r events N ≡ Accepted) where
   abbrev run : Logged
   run = runOn memory r events log n
 

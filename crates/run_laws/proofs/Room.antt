@@ -47,8 +47,7 @@ logged-one act.Plain s = omega arith
 logged-one (act.Loads byte a d) s = omega arith
 logged-one (act.Stores true a v) s =
     bool-cases (eqb (a .0 % 2) 1)
-    (λ q. rw q (shown-one (s .count) (s .mem) (wordNumber (a .0)) _))
-    (λ q. rw q (omega arith))
+    (λ q. rw q (shown-one (s .count) (s .mem) (wordNumber (a .0)) _)) (λ q. rw q (omega arith))
 logged-one (act.Stores false a v) s = shown-one (s .count) (s .mem) (wordNumber (a .0)) _
 
 pub next-one : (ev : List Event) (s : State) → length (loggedNext ev s) ≤ 1

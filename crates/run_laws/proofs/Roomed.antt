@@ -47,10 +47,8 @@ module _ {A : Type 0} (adds : State → List A) (ev : List Event) (k : ℕ) (x :
       → P (onward adds ev k x)
   onward-cases P f g h =
       bool-cases (over? x)
-      (λ q. subst P (sym (onward-over q)) (f q))
-      (λ q. bool-cases (ltb k (needed adds x))
-      (λ r. subst P (sym (onward-stuck q (lt-of r))) (g q (lt-of r)))
-      (λ r. subst P (sym (onward-taken q (ge-of r))) (h q (ge-of r))))
+      (λ q. subst P (sym (onward-over q)) (f q)) (λ q. bool-cases (ltb k (needed adds x))
+      (λ r. subst P (sym (onward-stuck q (lt-of r))) (g q (lt-of r))) (λ r. subst P (sym (onward-taken q (ge-of r))) (h q (ge-of r))))
 
 -- neither of two tests is met, or the first is
 pub neither : (a b : Bool) → a || b ≡ false → (a ≡ false) × (b ≡ false)
@@ -88,10 +86,7 @@ module _ {A : Type 0} (adds : State → List A) (ev : List Event) (s : State) (k
   room-run zero = rw room-zero (sym (run-zero ev s))
   room-run (suc n) =
       rw (room-next n)
-      (onward-cases adds ev k (at n) (λ x. ranOf x ≡ runOf ev s (x .steps))
-      (λ q. room-run n)
-      (λ q l. room-run n)
-      (λ q l.
+      (onward-cases adds ev k (at n) (λ x. ranOf x ≡ runOf ev s (x .steps)) (λ q. room-run n) (λ q l. room-run n) (λ q l.
       let e = room-run n in
       let live : runOf ev s (at n .steps) .state .halted ≡ false = ap (λ r. r .state .halted) (sym e) ∙ awake-of (at n) q in
       sym (run-next ev s (at n .steps) live ∙ ap (λ r. ran (stepOf ev (r .state)) (suc (r .steps))) (sym e))))
@@ -102,9 +97,7 @@ module _ {A : Type 0} (adds : State → List A) (ev : List Event) (s : State) (k
   room-records zero = rw room-zero refl
   room-records (suc n) =
       rw (room-next n)
-      (onward-cases adds ev k (at n) (λ x. x .records ≡ recordsOf adds ev s (x .steps))
-      (λ q. room-records n)
-      (λ q l. room-records n)
+      (onward-cases adds ev k (at n) (λ x. x .records ≡ recordsOf adds ev s (x .steps)) (λ q. room-records n) (λ q l. room-records n)
       (λ q l. ap (λ xs. xs ++ adds (at n .state)) (room-records n)
       ∙ ap (λ r. recordsOf adds ev s (at n .steps) ++ adds (r .state)) (room-run n)))
 
@@ -113,9 +106,7 @@ module _ {A : Type 0} (adds : State → List A) (ev : List Event) (s : State) (k
   records-fit zero = rw room-zero (omega arith)
   records-fit (suc n) =
       rw (room-next n)
-      (onward-cases adds ev k (at n) (λ x. length (x .records) ≤ k)
-      (λ q. records-fit n)
-      (λ q l. records-fit n)
+      (onward-cases adds ev k (at n) (λ x. length (x .records) ≤ k) (λ q. records-fit n) (λ q l. records-fit n)
       (λ q l. rw (length-append (at n .records) (adds (at n .state))) l))
 
   pub room-le : (n : ℕ) → runRoomed adds ev s k n .steps ≤ n
@@ -130,10 +121,8 @@ module _ {A : Type 0} (adds : State → List A) (ev : List Event) (s : State) (k
   room-all zero = rw room-zero (λ q. refl)
   room-all (suc n) =
       rw (room-next n)
-      (onward-cases adds ev k (at n) (λ x. over? x ≡ false → x .steps ≡ suc n)
-      (λ q r. absurd (true≢false (sym q ∙ r)))
-      (λ q l r. absurd (true≢false (neither (at n .state .halted) true r .1)))
-      (λ q l r. ap suc (room-all n q)))
+      (onward-cases adds ev k (at n) (λ x. over? x ≡ false → x .steps ≡ suc n) (λ q r. absurd (true≢false (sym q ∙ r)))
+      (λ q l r. absurd (true≢false (neither (at n .state .halted) true r .1))) (λ q l r. ap suc (room-all n q)))
 
   -- a run stops for room only where the next step, of those asked for, needs a record more than there is room for
   pub record Stops (n : ℕ) (x : Roomed A) : Type 0 where
@@ -159,9 +148,7 @@ module _ {A : Type 0} (adds : State → List A) (ev : List Event) (s : State) (k
         let h = records-le n in
         let o = one (at n .state) in
         rw (room-next n)
-        (onward-cases adds ev k (at n) (λ x. length (x .records) ≤ x .steps)
-        (λ q. h)
-        (λ q l. h)
+        (onward-cases adds ev k (at n) (λ x. length (x .records) ≤ x .steps) (λ q. h) (λ q l. h)
         (λ q l. rw (length-append (at n .records) (adds (at n .state))) (omega arith)))
 
     pub short-fills : (n : ℕ) → runRoomed adds ev s k n .short ≡ true → length (runRoomed adds ev s k n .records) ≡ k
@@ -245,9 +232,7 @@ onward-joined adds ev k x y =
     let z = joined x y in
     let n-is = needed-joined adds x y in
     onward-cases adds ev k y (λ w. onward adds ev K z ≡ joined x w)
-    (λ q. onward-over adds ev K z q)
-    (λ q l. onward-stuck adds ev K z q (omega arith))
-    (λ q l. onward-taken adds ev K z q (omega arith)
+    (λ q. onward-over adds ev K z q) (λ q l. onward-stuck adds ev K z q (omega arith)) (λ q l. onward-taken adds ev K z q (omega arith)
     ∙ (λ i. roomed (stepOf ev (y .state)) (sym (add-suc (x .steps) (y .steps)) i)
     (append-assoc (x .records) (y .records) (adds (y .state)) i) false))
 
@@ -290,10 +275,8 @@ module _ {A : Type 0} (adds : State → List A) (ev : List Event) (s : State) (k
   room-reaches K (suc n) =
       let x = runRoomed adds ev s k n in
       rw (room-next adds ev s k n)
-      (onward-cases adds ev k x (λ y. length (y .records) ≤ K → runRoomed adds ev s K (y .steps) ≡ unstopped y)
-      (λ q. room-reaches K n)
-      (λ q l. room-reaches K n)
-      (λ q l h.
+      (onward-cases adds ev k x (λ y. length (y .records) ≤ K → runRoomed adds ev s K (y .steps) ≡ unstopped y) (λ q. room-reaches K n)
+      (λ q l. room-reaches K n) (λ q l h.
       let e = length-append (x .records) (adds (x .state)) in
       let fits : needed adds x ≤ K = omega arith in
       room-next adds ev s K (x .steps)

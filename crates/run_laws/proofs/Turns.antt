@@ -58,8 +58,7 @@ uneventful-logged (act.Loads byte a d) s h = refl
 uneventful-logged (act.Stores true a v) s h =
     let far : 16 ≤ a .0 = far-of (a .0) h in
     bool-cases (eqb (a .0 % 2) 1)
-    (λ q. rw q (shown-none (s .count) (s .mem) (wordNumber (a .0)) (lowByte v) (omega arith)))
-    (λ q. rw q refl)
+    (λ q. rw q (shown-none (s .count) (s .mem) (wordNumber (a .0)) (lowByte v) (omega arith))) (λ q. rw q refl)
 uneventful-logged (act.Stores false a v) s h =
     let far : 16 ≤ a .0 = far-of (a .0) h in
     shown-none (s .count) (s .mem) (wordNumber (a .0)) (highByte v) (omega arith)

@@ -22,8 +22,7 @@ pub first-then : (xs ys : List Rule) → Each (λ (x : Rule). accepted? (x .verd
 first-then [] ys r = refl
 first-then (x ∷ xs) ys r =
     bool-cases (x .broken)
-    (λ q. rw q (sym (ap (λ b. cond b (firstBroken ys) (x .verdict)) (r .0))))
-    (λ q. rw q (first-then xs ys (r .1)))
+    (λ q. rw q (sym (ap (λ b. cond b (firstBroken ys) (x .verdict)) (r .0)))) (λ q. rw q (first-then xs ys (r .1)))
 
 module _ (memory r events log : List ℕ) (n : ℕ) where
   all-refuse : Each (λ (x : Rule). accepted? (x .verdict) ≡ false) (rulesOf memory r events n)
@@ -36,8 +35,7 @@ module _ (memory r events log : List ℕ) (n : ℕ) where
   -- the log's length is looked at once the start has passed
   pub call-verdict : callVerdict memory r events log n
       ≡ cond (accepted? (verdictOf memory r events n))
-      (cond (not (eqb (length log % 8) 0)) LogLength Accepted)
-      (verdictOf memory r events n)
+      (cond (not (eqb (length log % 8) 0)) LogLength Accepted) (verdictOf memory r events n)
   unfolding verdictOf callVerdict
   call-verdict = first-then (rulesOf memory r events n) (rule (not (eqb (length log % 8) 0)) LogLength ∷ []) all-refuse
 
@@ -62,8 +60,7 @@ module _ (memory r events log : List ℕ) (n : ℕ) where
   pub call-start : callVerdict memory r events log n ≡ Accepted → verdictOf memory r events n ≡ Accepted
   call-start e =
       bool-cases (accepted? (verdictOf memory r events n))
-      (λ q. is-accepted (verdictOf memory r events n) (eq-of q))
-      (λ q. let whole = cond (not (eqb (length log % 8) 0)) LogLength Accepted in
+      (λ q. is-accepted (verdictOf memory r events n) (eq-of q)) (λ q. let whole = cond (not (eqb (length log % 8) 0)) LogLength Accepted in
       sym (call-verdict ∙ ap (λ b. cond b whole (verdictOf memory r events n)) q) ∙ e)
 
   pub call-whole : callVerdict memory r events log n ≡ Accepted → length log % 8 ≡ 0

@@ -92,10 +92,7 @@ blocks-sixteen c f = (
             block-sixteen c (f changed),
             (
               block-sixteen c (f slept),
-              (
-                block-sixteen c (f device),
-                (block-sixteen c (f foreign), tt),
-              ),
+              (block-sixteen c (f device), (block-sixteen c (f foreign), tt)),
             ),
           ),
         ),

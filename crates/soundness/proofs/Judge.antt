@@ -150,14 +150,7 @@ module _ (ev : List Event) (s : State) where
 pub run-follows : RunFollows
 run-follows ev s n =
     let A = judged-at ev s n in
-    record {
-      within = A .within;
-      state = A .state;
-      carries = A .carries;
-      notes = A .notes;
-      room = A .room;
-      whole = A .whole;
-    }
+    record { within = A .within; state = A .state; carries = A .carries; notes = A .notes; room = A .room; whole = A .whole }
 
 -- ---- what is told at the close
 

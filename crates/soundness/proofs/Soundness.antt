@@ -21,11 +21,10 @@ use Rattle.resume.specs.Resume.{Premises}
 use Rattle.resume.proofs.RowFacts.{Restored, OwnTrap, Awake, ReadsOwn}
 use Rattle.resume.proofs.Step.{each-map}
 use Rattle.resume.proofs.Resume.{resumes}
-use Rattle.soundness.specs.Findings.{Kind, started, faulted, unopened, trapped, unclosed, changed, slept, device, foreign}
-use Rattle.soundness.specs.Findings.{Handler, Finding, nothing, finding, applicationRuns, fault?, pull?, return?, changesOf}
-use Rattle.soundness.specs.Findings.{keptIn, keptAt, changes}
-use Rattle.soundness.specs.Findings.{some?, startFaults, breaks?, readsIn, seen, startFinding, openFinding, foundOf, kindsFound}
-use Rattle.soundness.specs.Findings.{handlers, oldest, firstBreach}
+use Rattle.soundness.specs.Findings.{Kind, started, faulted, unopened, trapped, unclosed, changed, slept, device, foreign, Handler}
+use Rattle.soundness.specs.Findings.{Finding, nothing, finding, applicationRuns, fault?, pull?, return?, changesOf, keptIn, keptAt}
+use Rattle.soundness.specs.Findings.{changes, some?, startFaults, breaks?, readsIn, seen, startFinding, openFinding, foundOf}
+use Rattle.soundness.specs.Findings.{kindsFound, handlers, oldest, firstBreach}
 use Rattle.soundness.specs.Soundness.{Judges, SoundResumes, FindsFirst, FindsAll, NoFault, ReturnsFramed, Least, Premise, OpenSince}
 use Rattle.soundness.specs.Soundness.{FailsAt, JudgesKinds, Divides}
 use Rattle.soundness.proofs.First.{breach-none, none-breach, breach-first}
@@ -330,11 +329,7 @@ module _ (memory r events : List ℕ) where
 
 pub judges-kinds : JudgesKinds
 judges-kinds memory r events κ n =
-    record {
-      sound = kind-sound memory r events κ n;
-      complete = kind-complete memory r events κ n;
-      least = kind-least memory r events κ n;
-    }
+    record { sound = kind-sound memory r events κ n; complete = kind-complete memory r events κ n; least = kind-least memory r events κ n }
 
 -- ---- the premises together
 

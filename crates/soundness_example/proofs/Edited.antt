@@ -23,9 +23,8 @@ use Rattle.resume.specs.Frames.{Frame, frame, none?, framesAfter, after, frames
 use Rattle.resume.specs.Example.{zeros}
 use Rattle.resume.proofs.Trace.{word-is, fetch-plan, interrupt-is, interrupt-plan, vectored-is, pulled-is, known, event-known}
 use Rattle.resume.proofs.Trace.{Row, next-row, next-state, next-frames, act-is}
-use Rattle.soundness.specs.Findings.{Kind, unclosed, changed, device, foreign}
-use Rattle.soundness.specs.Findings.{handler, applicationRuns, Finding, finding, nothing, findAfter, startFinding, openFinding}
-use Rattle.soundness.specs.Findings.{oldest, changes, handlers, firstBreach, foundOf}
+use Rattle.soundness.specs.Findings.{Kind, unclosed, changed, device, foreign, handler, applicationRuns, Finding, finding, nothing}
+use Rattle.soundness.specs.Findings.{findAfter, startFinding, openFinding, oldest, changes, handlers, firstBreach, foundOf}
 use Rattle.soundness.specs.Soundness.{kindsIn}
 use Rattle.soundness_example.specs.Edited.{program, memory, changesR3, movesSp, stores, r, events}
 use Rattle.soundness_example.proofs.Shows.{Shows, shows, next-handlers, changes-over, kinds-are}

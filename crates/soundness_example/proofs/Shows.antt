@@ -83,16 +83,7 @@ module _ {ev : List Event} {s : State} {k : ℕ} {t d : State} {c : Core} {a : A
   -- the step, as it is told: what it leaves, what a pull finds changed, and the handlers
   abbrev pub Shows : State → (x : ℕ) → List Handler → Seen
   Shows t′ x hs =
-      record {
-        act = a;
-        begins = d;
-        leaves = t′;
-        none-open = none? fs;
-        own-open = own? fs;
-        changes = x;
-        runs = whoRuns fs hs;
-        foreign = g;
-      }
+      record { act = a; begins = d; leaves = t′; none-open = none? fs; own-open = own? fs; changes = x; runs = whoRuns fs hs; foreign = g }
 
   pub shows : (t′ : State) (x : ℕ) (hs : List Handler) → after ev s (suc k) ≡ t′ → changes fs d ≡ x → handlers ev s k ≡ hs
       → seen ev s k ≡ Shows t′ x hs

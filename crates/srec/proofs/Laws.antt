@@ -152,8 +152,7 @@ verdict-sound k (l ∷ ls) h =
     (λ p.
     bool-cases (eqb (kindOf l) 57)
     (λ q. (fault-none (none ls) l p, subst Sound (sym (none-nil ls (fault-end (none ls) l p (eqb-true _ _ q)))) tt))
-    (λ q. (fault-none (none ls) l p, verdict-sound (k + 1) ls (rest p q h))))
-    (λ p. let z : ⊥ = bad p h in absurd z)
+    (λ q. (fault-none (none ls) l p, verdict-sound (k + 1) ls (rest p q h)))) (λ p. let z : ⊥ = bad p h in absurd z)
   where
     rest : isAccepted (faultOf (none ls) l) ≡ true → eqb (kindOf l) 57 ≡ false → isAccepted (verdictFrom k (l ∷ ls) .refusal) ≡ true
         → isAccepted (verdictFrom (k + 1) ls .refusal) ≡ true

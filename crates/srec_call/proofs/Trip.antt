@@ -135,10 +135,7 @@ pub call-restores : (m : List ℕ) (a n pc : ℕ) (t : List ℕ) → ((i : ℕ) 
     → Restores m a n pc t (writeCallOf m a n pc t .reply) (writeCallOf m a n pc t .text)
 call-restores m a n pc t bytes low e =
     let ok = reply-accepted m a n pc t e in
-    record {
-      kept = kept-past m a n pc t ok;
-      back = λ m′ pc′ l. loads-back m a n pc t ok (bytes-of m bytes) low m′ pc′ l;
-    }
+    record { kept = kept-past m a n pc t ok; back = λ m′ pc′ l. loads-back m a n pc t ok (bytes-of m bytes) low m′ pc′ l }
 
 -- the same of what a function gave and left
 pub restores : (m : List ℕ) (a n pc : ℕ) (t : List ℕ) (r : ℕ) (t′ : List ℕ) → ((i : ℕ) → getD m i 0 < 256) → pc < 65536

@@ -90,8 +90,7 @@ unfolding dataLines
 lines-next m a n s h e =
     let k : (n + 15) / 16 ≡ suc ((n - s + 15) / 16) = omega arith in
     rw (k, ← e)
-    (bool-cases (ltb n 16)
-    (λ q.
+    (bool-cases (ltb n 16) (λ q.
     let lt = ltb-true n 16 q in
     let z : (n - s + 15) / 16 ≡ 0 = omega arith in
     rw z)

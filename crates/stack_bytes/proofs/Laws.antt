@@ -72,8 +72,7 @@ unfolding usesFit
 unfit-below uses d zero h e = absurd (omega arith)
 unfit-below uses d (suc n) h e =
     bool-cases (eqb d n)
-    (λ q. ap (λ t. not t && usesFit uses n) (subst (λ i. ltb 1024 (twoAt uses (2 * i)) ≡ true) (eq-of q) e))
-    (λ q.
+    (λ q. ap (λ t. not t && usesFit uses n) (subst (λ i. ltb 1024 (twoAt uses (2 * i)) ≡ true) (eq-of q) e)) (λ q.
     let u : d ≢ n = neq-of q in
     ap (λ t. not (ltb 1024 (twoAt uses (2 * n))) && t) (unfit-below uses d n (omega arith) e)
     ∙ and-false (not (ltb 1024 (twoAt uses (2 * n)))))

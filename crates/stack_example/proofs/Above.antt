@@ -54,10 +54,7 @@ close-is = next-state ev s w2 row4 refl (outcome c5 0 []) last-leaves refl
 entry-found : FrameFound (entryFrame .held) (known c4 0 5 w2)
 unfolding over
 entry-found =
-    record {
-      stack = refl;
-      bytes = frame-found w2 w2 1016 (lit< tt) (refl ▸ refl ▸ refl ▸ refl ▸ refl ▸ refl ▸ refl ▸ refl ▸ tt);
-    }
+    record { stack = refl; bytes = frame-found w2 w2 1016 (lit< tt) (refl ▸ refl ▸ refl ▸ refl ▸ refl ▸ refl ▸ refl ▸ refl ▸ tt) }
 
 v0 : SameVectors program
 unfolding over

@@ -53,18 +53,12 @@ close-is = next-state ev s w5 row11 refl (outcome c0 0 []) last-leaves refl
 inner-found : FrameFound (innerFrame .held) (known c8 0 9 w5)
 unfolding over
 inner-found =
-    record {
-      stack = refl;
-      bytes = frame-found w4 w5 1006 (lit< tt) (refl ▸ refl ▸ refl ▸ refl ▸ refl ▸ refl ▸ refl ▸ refl ▸ tt);
-    }
+    record { stack = refl; bytes = frame-found w4 w5 1006 (lit< tt) (refl ▸ refl ▸ refl ▸ refl ▸ refl ▸ refl ▸ refl ▸ refl ▸ tt) }
 
 outer-found : FrameFound (outerFrame .held) (known c11 0 12 w5)
 unfolding over
 outer-found =
-    record {
-      stack = refl;
-      bytes = frame-found w2 w5 1016 (lit< tt) (refl ▸ refl ▸ refl ▸ refl ▸ refl ▸ refl ▸ refl ▸ refl ▸ tt);
-    }
+    record { stack = refl; bytes = frame-found w2 w5 1016 (lit< tt) (refl ▸ refl ▸ refl ▸ refl ▸ refl ▸ refl ▸ refl ▸ refl ▸ tt) }
 
 -- ---- the vectors
 

@@ -227,8 +227,7 @@ pub row9 : Row ev s 9 (known c2 0 10 w5) (known c2 0 10 w5) c10 acts.Plain (oute
 unfolding perform deliverAt eventsFrom eventAt bestFrom interruptOf over
 row9 =
     next-row ev s w5 row8 refl (outcome c2 0 [])
-    (ap (λ x. outcome x 0 [])
-    (pulled-is c8 (commit w5 zeros) 0 65 65535 322 (word-is w5 1006 (lit< tt)) (word-is w5 1008 (lit< tt))
+    (ap (λ x. outcome x 0 []) (pulled-is c8 (commit w5 zeros) 0 65 65535 322 (word-is w5 1006 (lit< tt)) (word-is w5 1008 (lit< tt))
     (word-is w5 1010 (lit< tt)) (word-is w5 1012 (lit< tt))))
     refl (known c2 0 10 w5) c10 acts.Plain
     refl

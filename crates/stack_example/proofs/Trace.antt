@@ -60,8 +60,7 @@ module _ (ev : List Event) (s : State) where
         → planOf d′ ≡ planned c′ a′
         → Row (suc k) (known (o .core) (o .lines) (m + 1) (ws ++ o .writes)) d′ c′ a′
         (framesAfter a (known (o .core) (o .lines) (m + 1) (ws ++ o .writes)) fs)
-        (handlersAfter a (known (o .core) (o .lines) (m + 1) (ws ++ o .writes)) hs)
-        (cond (none? fs) (sp cd) b)
+        (handlersAfter a (known (o .core) (o .lines) (m + 1) (ws ++ o .writes)) hs) (cond (none? fs) (sp cd) b)
     next-row d′ c′ a′ then does =
         record {
           state-is = next-state;

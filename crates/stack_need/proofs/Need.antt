@@ -45,8 +45,7 @@ module _ (vectors : List ℕ) (devices : ℕ) (uses : List ℕ) where
   unfolding dearest
   top-step d l =
       bool-cases (given? devices d && eqb (level d) l)
-      (λ q. rw q (greater-ge-left (top d l) (cost d)))
-      (λ q. rw q (omega arith))
+      (λ q. rw q (greater-ge-left (top d l) (cost d))) (λ q. rw q (omega arith))
 
   top-here : (d : ℕ) → given? devices d ≡ true → cost d ≤ top (suc d) (level d)
   unfolding dearest
@@ -56,8 +55,7 @@ module _ (vectors : List ℕ) (devices : ℕ) (uses : List ℕ) where
   top-above zero d h g = absurd (omega arith)
   top-above (suc n) d h g =
       bool-cases (eqb d n)
-      (λ q. let e : d ≡ n = eq-of q in subst (λ x. cost d ≤ top (suc x) (level d)) e (top-here d g))
-      (λ q.
+      (λ q. let e : d ≡ n = eq-of q in subst (λ x. cost d ≤ top (suc x) (level d)) e (top-here d g)) (λ q.
       let u : d ≢ n = neq-of q in
       let a = top-above n d (omega arith) g in
       let b = top-step n (level d) in
@@ -72,8 +70,7 @@ module _ (vectors : List ℕ) (devices : ℕ) (uses : List ℕ) where
       let i = sum-falls n p q h in
       bool-cases (ltb q (suc n))
       (λ e. let b : q < suc n = lt-of e in let f : ltb p (suc n) ≡ true = is-lt {m = p} {n = suc n} (omega arith) in rw (e, f)
-      (omega arith))
-      (λ e. rw e (omega arith))
+      (omega arith)) (λ e. rw e (omega arith))
 
   pub sum-level : (n l q : ℕ) → q < l → l ≤ n → top 8 l + sum n l ≤ sum n q
   unfolding sumAbove
@@ -81,8 +78,7 @@ module _ (vectors : List ℕ) (devices : ℕ) (uses : List ℕ) where
   sum-level (suc n) l q h k =
       let f : ltb q (suc n) ≡ true = is-lt {m = q} {n = suc n} (omega arith) in
       bool-cases (ltb l (suc n))
-      (λ e. let b : l < suc n = lt-of e in let i = sum-level n l q h (omega arith) in rw (e, f) (omega arith))
-      (λ e.
+      (λ e. let b : l < suc n = lt-of e in let i = sum-level n l q h (omega arith) in rw (e, f) (omega arith)) (λ e.
       let b : suc n ≤ l = ge-of e in
       let w : suc n ≡ l = omega arith in
       let i = sum-falls n q l (omega arith) in
@@ -184,8 +180,7 @@ module _ (vectors : List ℕ) (devices : ℕ) (uses : List ℕ) where
   at-free l [] e = refl
   at-free l (d ∷ c) e =
       bool-cases (eqb (level d) l)
-      (λ q. absurd (false≢true (rw q at e)))
-      (λ q. let i = at-free l c (rw q at e) in rw q (omega arith))
+      (λ q. absurd (false≢true (rw q at e))) (λ q. let i = at-free l c (rw q at e) in rw q (omega arith))
 
   at-below : (p l : ℕ) (c : List ℕ) → Each (λ d. d < 8) c → allowed p c ≡ true → at l c ≤ top 8 l
   unfolding at
@@ -337,23 +332,20 @@ module _ (vectors : List ℕ) (devices : ℕ) (uses : List ℕ) where
   pick-grows p l zero c = omega arith
   pick-grows p l (suc d) c =
       bool-cases (picked? p d)
-      (λ q. let a = pick-grows p l d (d ∷ c) in rw q (omega arith))
-      (λ q. rw q (pick-grows p l d c))
+      (λ q. let a = pick-grows p l d (d ∷ c) in rw q (omega arith)) (λ q. rw q (pick-grows p l d c))
 
   -- a device that is not picked, or is of another level, is not the first of the dearest
   top-kept : (p d l : ℕ) → p < l → picked? p d ≡ false → top (suc d) l ≡ top 8 l → top d l ≡ top (suc d) l
   unfolding dearest picked?
   top-kept p d l h x e =
       bool-cases (given? devices d && eqb (level d) l)
-      (λ q. bool-cases (ltb (top d l) (cost d))
-      (λ b.
+      (λ q. bool-cases (ltb (top d l) (cost d)) (λ b.
       let g : given? devices d ≡ true = and-left (given? devices d) _ q in
       let w : level d ≡ l = eq-of (and-right (given? devices d) (eqb (level d) l) q) in
       let f : cost d ≡ top 8 l = rw (q, b) at e in
       let yes : picked? p d ≡ true = rw (g, w, is-lt {m = p} {n = l} h, b, is-eq {m = cost d} {n = top 8 l} f) refl in
       absurd (true≢false (sym yes ∙ x)))
-      (λ b. rw (q, b) refl))
-      (λ q. rw q refl)
+      (λ b. rw (q, b) refl)) (λ q. rw q refl)
 
   top-other : (d l : ℕ) → eqb (level d) l ≡ false → top d l ≡ top (suc d) l
   unfolding dearest
@@ -372,16 +364,14 @@ module _ (vectors : List ℕ) (devices : ℕ) (uses : List ℕ) where
   pick-at p l zero c h e = let z = top-none l in omega arith
   pick-at p l (suc d) c h e =
       bool-cases (picked? p d)
-      (λ q. bool-cases (eqb (level d) l)
-      (λ w.
+      (λ q. bool-cases (eqb (level d) l) (λ w.
       let v : level d ≡ l = eq-of w in
       let a = pick-grows p l d (d ∷ c) in
       let b = at-first l d c v in
       let f = picked-dearest p d q in
       let g : top 8 (level d) ≡ top 8 l = ap (top 8) v in
       rw q (omega arith))
-      (λ w. rw q (pick-at p l d (d ∷ c) h (top-other d l w ∙ e))))
-      (λ q. rw q (pick-at p l d c h (top-kept p d l h q e ∙ e)))
+      (λ w. rw q (pick-at p l d (d ∷ c) h (top-other d l w ∙ e)))) (λ q. rw q (pick-at p l d c h (top-kept p d l h q e ∙ e)))
 
   sumAt-above : (n p : ℕ) (c : List ℕ) → ((l : ℕ) → p < l → top 8 l ≤ at l c) → sum n p ≤ sumAt n p c
   unfolding sumAt sumAbove
@@ -443,8 +433,7 @@ module _ (vectors : List ℕ) (devices : ℕ) (uses : List ℕ) where
   top-reached zero l h = absurd (omega arith)
   top-reached (suc n) l h =
       bool-cases (given? devices n && eqb (level n) l)
-      (λ q. bool-cases (ltb (top n l) (cost n))
-      (λ b.
+      (λ q. bool-cases (ltb (top n l) (cost n)) (λ b.
       record {
         which = n;
         small = omega arith;
@@ -467,9 +456,7 @@ module _ (vectors : List ℕ) (devices : ℕ) (uses : List ℕ) where
   sum-next (suc n) p =
       let i = sum-next n p in
       bool-cases (ltb p (suc n))
-      (λ q. bool-cases (ltb (suc p) (suc n))
-      (λ b. rw (q, b) (omega arith))
-      (λ b.
+      (λ q. bool-cases (ltb (suc p) (suc n)) (λ b. rw (q, b) (omega arith)) (λ b.
       let x : p < suc n = lt-of q in
       let y : suc n ≤ suc p = ge-of b in
       let e : suc n ≡ suc p = omega arith in
@@ -532,8 +519,7 @@ module _ (vectors : List ℕ) (devices : ℕ) (uses : List ℕ) where
       let w : d ≡ n = eq-of q in
       bool-cases (ltb 1024 (twoAt uses (2 * n)))
       (λ b. absurd (false≢true (rw b at e)))
-      (λ b. let y : twoAt uses (2 * n) ≤ 1024 = ge-of b in subst (λ x. twoAt uses (2 * x) ≤ 1024) (sym w) y))
-      (λ q.
+      (λ b. let y : twoAt uses (2 * n) ≤ 1024 = ge-of b in subst (λ x. twoAt uses (2 * x) ≤ 1024) (sym w) y)) (λ q.
       let u : d ≢ n = neq-of q in
       use-small n d (and-right (not (ltb 1024 (twoAt uses (2 * n)))) (usesFit uses n) e) (omega arith))
 
@@ -544,8 +530,7 @@ module _ (vectors : List ℕ) (devices : ℕ) (uses : List ℕ) where
       let i = top-small f n l (omega arith) in
       let k = use-small 8 n f h in
       bool-cases (given? devices n && eqb (level n) l)
-      (λ q. rw q (greater-le (top n l) (cost n) 1032 i (omega arith)))
-      (λ q. rw q i)
+      (λ q. rw q (greater-le (top n l) (cost n) 1032 i (omega arith))) (λ q. rw q i)
 
   pub sum-small : usesFit uses 8 ≡ true → (n p : ℕ) → sum n p ≤ n * 1032
   unfolding sumAbove

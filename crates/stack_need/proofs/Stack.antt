@@ -81,11 +81,7 @@ wrapping =
 
 plainly : Measure Plainly
 plainly =
-    record {
-      self = λ a h. omega arith;
-      more = λ a b h l. omega arith;
-      add = λ a b c ha hb hc h l. omega arith;
-    }
+    record { self = λ a h. omega arith; more = λ a b h l. omega arith; add = λ a b c ha hb hc h l. omega arith }
 
 plain-eight : (b : ℕ) → b < 65536 → Plainly b (down b 8) 8
 plain-eight b h = omega arith
@@ -233,8 +229,7 @@ module _ (memory r events vectors : List ℕ) (devices : ℕ) (uses : List ℕ) 
         let m = due ev s k .mem in
         let o = outcome-is (acts.Accept d) q (λ h. h) in
         saves c m (due-tidy k .core) (due-tidy k .size) d (current (c .psw)) (false || faulted? (c .psw)) (after ev s (suc k))
-        (ap (λ t. t .core) next-is ∙ ap (λ x. x .core) o)
-        (ap (λ t. t .mem) next-is ∙ ap (λ x. commit (x .writes) m) o)
+        (ap (λ t. t .core) next-is ∙ ap (λ x. x .core) o) (ap (λ t. t .mem) next-is ∙ ap (λ x. commit (x .writes) m) o)
 
     chained-stack : (d : ℕ) → act ev s k ≡ acts.Chain d → sp (after ev s (suc k) .core) ≡ sp (due ev s k .core)
     unfolding perform vectored
@@ -390,8 +385,7 @@ module _ (memory r events vectors : List ℕ) (devices : ℕ) (uses : List ℕ) 
         let pl : Placed (opened ev s k) (h ∷ hs) = subst (Placed (opened ev s k)) o (H .placed) in
         M .measure .more _ _
         (M .measure .add (opened ev s k) (h .left) (sp (after ev s k .core)) (opened-word k) (pl .0) (after-tidy k .core .words 6) (pl .1)
-        (held-always k h hs l o))
-        (omega arith)
+        (held-always k h hs l o)) (omega arith)
 
     module _ (k : ℕ) (H : Holds k) where
       paired-at : (fs : List Frame) (hs : List Handler) (ls : List ℕ) → frames ev s k ≡ fs → handlers ev s k ≡ hs → levels ev s k ≡ ls

@@ -235,7 +235,5 @@ granted-within b x a m h =
 pub instruction-within : (c : Core) (m : List ℕ) → Within (instructionOf c m .act)
 instruction-within c m =
     instruction-cases c m (λ (p : Plan). Within (p .act))
-    (λ e. tt)
-    (λ e f. faulting-within c c 9 (omega arith))
-    (λ e f g. tt)
+    (λ e. tt) (λ e f. faulting-within c c 9 (omega arith)) (λ e f g. tt)
     (λ e f g. granted-within c _ _ m (effect-within _ _ (decode-fields _)))

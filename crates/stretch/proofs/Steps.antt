@@ -113,8 +113,7 @@ skipped l regs m psw cex v x even woken s ev ex q = (
 -- a word served
 module _ (free : Bool) (regs m regs₁ m₁ : List ℕ) (psw cex w x y psw₁ cex₁ r : ℕ) (even : getD regs 7 0 % 2 ≡ 0)
     (woken : asleep? psw ≡ false) (ew : w ≡ wordAt m (getD regs 7 0)) (ex : x ≡ wrap (getD regs 7 0 + 2))
-    (s : skips? cex ≡ false) (ey : lowered cex ≡ y)
-    (v : Served free (decodeOf w) (set regs 7 x) psw y m regs₁ psw₁ cex₁ m₁ r) where
+    (s : skips? cex ≡ false) (ey : lowered cex ≡ y) (v : Served free (decodeOf w) (set regs 7 x) psw y m regs₁ psw₁ cex₁ m₁ r) where
   abbrev before : Core
   before = coreOf regs psw cex
 
@@ -135,8 +134,7 @@ module _ (free : Bool) (regs m regs₁ m₁ : List ℕ) (psw cex w x y psw₁ ce
       let ws = perform (p .act) (p .core) l m .writes in
       let f : m₁ ≡ commit ws m = ap (λ (s : State). s .mem) (v .1 before l 0) in
       bool-cases free
-      (λ h. none-waits l (current psw₁) m₁ (none h))
-      (λ h.
+      (λ h. none-waits l (current psw₁) m₁ (none h)) (λ h.
       (λ i. above (f i) (best l (f i)) (v .3 .1 h i))
       ∙ above-kept ws m l (current psw) (granted-below before (e .core) (e .access) l m (v .6))
       ∙ q)
@@ -174,8 +172,7 @@ pub step-taken :
     Stepping free p regs psw y m regs₁ psw₁ cex₁ m₁ r
 step-taken free p w x y psw psw₁ cex₁ r regs m regs₁ m₁ a even ew ex =
     ⊎-elim
-    (λ u. inl (u .0, (u .1 .0 ∙ ap (set regs 7) ex, u .1 .1, u .1 .2, u .1 .3)))
-    (λ v.
+    (λ u. inl (u .0, (u .1 .0 ∙ ap (set regs 7) ex, u .1 .1, u .1 .2, u .1 .3))) (λ v.
     let k = p % 65536 in
     let here = set regs 7 k in
     let long = a .1 in
@@ -241,9 +238,7 @@ reaches-next l regs₀ m₀ regs m regs₁ m₁ psw₀ cex₀ psw cex psw₁ cex
           (passes-next ev (running regs₀ psw₀ cex₀ l k m₀) s (running regs₁ psw₁ cex₁ l (k + j + 1) m₁) j
           (a .1 ev k (λ i a b t. u i a (omega arith) t))
           refl
-          (u (k + j) (omega arith) (omega arith) s)
-          (b .1 (k + j))
-          (b .2 (k + j))),
+          (u (k + j) (omega arith) (omega arith) s) (b .1 (k + j)) (b .2 (k + j))),
     )
 
 module _ (l : ℕ) (regs m : List ℕ) (psw cex : ℕ) where
@@ -282,8 +277,7 @@ module _ (free : Bool) (regs₀ m₀ : List ℕ) (psw₀ x₀ : ℕ) where
             (subst (λ (k : List ℕ). OneStep l k psw₀ c m₀ (set regs₁ 7 (r % 65536)) psw₁ cex₁ m₁) (u .1 .0)
             (subst (λ (k : ℕ). OneStep l (set regs 7 (p % 65536)) k c m₀ (set regs₁ 7 (r % 65536)) psw₁ cex₁ m₁) (u .1 .1)
             (subst (λ (k : List ℕ). OneStep l (set regs 7 (p % 65536)) psw c k (set regs₁ 7 (r % 65536)) psw₁ cex₁ m₁) (u .1 .3)
-            (g .0 l c none s (e ∙ sym (u .1 .2))))))))
-            (λ v.
+            (g .0 l c none s (e ∙ sym (u .1 .2)))))))) (λ v.
             let pos = v .0 in
             let h = shut (v .0) in
             let o = shut-none cex h in
@@ -332,8 +326,7 @@ module _ (free : Bool) (regs₀ m₀ : List ℕ) (psw₀ x₀ : ℕ) (regs m reg
       × Walked free regs₀ psw₀ x₀ m₀ (set regs₁ 7 (r % 65536)) psw₁ cex₁ m₁ (j + 1)
   walked-on h =
       ⊎-elim
-      (λ u. let e = u .0 in absurd (omega arith))
-      (λ v. (
+      (λ u. let e = u .0 in absurd (omega arith)) (λ v. (
         v .1 .2,
         v .1 .1 h,
         ⊎-elim (λ z. inl (v .1 .4 z)) (λ z. inr z) b,
@@ -361,8 +354,7 @@ module _ (free : Bool) (regs₀ m₀ : List ℕ) (psw₀ x₀ : ℕ) (regs m reg
       Walked free regs₀ psw₀ x₀ m₀ regs₂ psw₁ cex₁ m₁ (j + 1) × Awake regs₂ psw₁
   walked-last regs₂ taken er =
       ⊎-elim
-      (λ t. absurd (taken (t .0)))
-      (λ t.
+      (λ t. absurd (taken (t .0))) (λ t.
       rw er (
         walked-next free regs₀ m₀ psw₀ x₀ regs m regs₁ m₁ psw cex psw₁ cex₁ p r j n f b lt (t .1),
         awake-set regs₁ psw₁ (r % 65536) (t .1 .2),
@@ -484,11 +476,8 @@ sleep-run ev s (suc k) h u =
     let e : n + (k + 1) ≡ n + k + 1 = omega arith in
     subst (λ (j : ℕ). Passes ev s (withCount s (n + j)) j) (add-one k)
     (passes-next ev s t (withCount s (n + (k + 1))) k
-    (sleep-run ev s k h (λ i a b. u i a (omega arith)))
-    (h .0)
-    (u (n + k) (omega arith) (omega arith) t)
-    (ap (withCount s) e ∙ sym (sleep-step t h))
-    (ap (λ (p : Plan). uneventful? (p .act)) (sleep-plan t h)))
+    (sleep-run ev s k h (λ i a b. u i a (omega arith))) (h .0) (u (n + k) (omega arith) (omega arith) t)
+    (ap (withCount s) e ∙ sym (sleep-step t h)) (ap (λ (p : Plan). uneventful? (p .act)) (sleep-plan t h)))
 
 -- ---- the call
 
@@ -528,5 +517,4 @@ getD-past (x ∷ l) (suc k) h = getD-past l k (omega arith)
 pub there : (l : List ℕ) (v : ℕ) → v ≡ getD l 7 0 → (v ≡ 0 → ⊥) → 7 < length l
 there l v e n =
     bool-cases (ltb 7 (length l))
-    (λ b. ltb-true 7 (length l) b)
-    (λ b. absurd (n (e ∙ getD-past l 7 (ltb-false 7 (length l) b))))
+    (λ b. ltb-true 7 (length l) b) (λ b. absurd (n (e ∙ getD-past l 7 (ltb-false 7 (length l) b))))

@@ -200,8 +200,7 @@ relative-address a n {s} {r} ha hn hr es er =
     from : (a + (n + 64) % 128 + 65472) % 65536 ≡ moved a (signedOf 64 n)
     from =
         bool-cases (ltb n 64)
-        (λ e. let g = ltb-true n 64 e in rw e (omega arith))
-        (λ e. let g = ltb-false n 64 e in rw e (omega arith))
+        (λ e. let g = ltb-true n 64 e in rw e (omega arith)) (λ e. let g = ltb-false n 64 e in rw e (omega arith))
 
 module _ (l : List ℕ) (p x wb i : ℕ) (off : ℤ) {a at : ℕ} (ha : a ≡ getD l i 0) (ht : at ≡ moved a off) where
   from-base : at ≡ moved (getD l i 0) off

@@ -127,8 +127,7 @@ module _ (l : List ℕ) (p x pc : ℕ) (h : Past pc l) where
       (ap (λ (c : Core). plainly (put c d (getD l src 0))) (put-below l p x src (getD l d 0) f)
       ∙ ap plainly (put-below (set l src (getD l d 0)) p x d (getD l src 0) f′)
       ∙ ap (λ (j : List ℕ). plainly (coreOf j p x)) (sym g))
-      (ap (λ (j : List ℕ). getD j 7 0) g ∙ pc-set (set l src (getD l d 0)) d (getD l src 0) f′ ∙ pc-set l src (getD l d 0) f)
-      (refl, refl)
+      (ap (λ (j : List ℕ). getD j 7 0) g ∙ pc-set (set l src (getD l d 0)) d (getD l src 0) f′ ∙ pc-set l src (getD l d 0) f) (refl, refl)
 
   -- R7 written by MOV of a word
   pub moves-to-pc :
@@ -276,13 +275,11 @@ module _ (l : List ℕ) (p x pc : ℕ) (h : Past pc l) where
 pub near : (half n : ℕ) → half ≤ 4096 → n < half + half → mag (signedOf half n) < 4096
 near half n hh hn =
     bool-cases (ltb n half)
-    (λ e. let g = ltb-true n half e in rw e (omega arith))
-    (λ e. let g = ltb-false n half e in rw e (omega arith))
+    (λ e. let g = ltb-true n half e in rw e (omega arith)) (λ e. let g = ltb-false n half e in rw e (omega arith))
 
 -- it goes to a callee as it is
 pub handed : (half n : ℕ) {z : ℤ} → half ≤ 4096 → n < half + half → z ≡ signedOf half n → toZ w16 (ofZ w16 z) ≡ signedOf half n
 handed half n {z} hh hn ez =
     rw ez
-    (bool-cases (ltb n half)
-    (λ e. let g = ltb-true n half e in rw e (toZ-ofZ w16 (pos n) (record { sfits = omega arith })))
+    (bool-cases (ltb n half) (λ e. let g = ltb-true n half e in rw e (toZ-ofZ w16 (pos n) (record { sfits = omega arith })))
     (λ e. let g = ltb-false n half e in rw e (toZ-ofZ w16 (negsuc (half + half - suc n)) (record { sfits = omega arith }))))

@@ -21,9 +21,8 @@ use Rattle.trace.specs.Trace.{Entry, entry, eventsTraced, stepTraced, as
 use Rattle.trace.specs.Traced.{runTraced}
 use Rattle.trace.specs.Call.{roomOf, runOn}
 use Rattle.trace.specs.Kinds.{allKinds, actKinds}
-use Rattle.trace.specs.Theorems.{actRecord, EventsThenAct, TellsBefore, BeforeTold, EffectsBefore, InOrder, OnlyAsked}
-use Rattle.trace.specs.Theorems.{ShortUntaken, EightFree, NeverShort, GoesOn, actsOf, OneAct, FewerKinds, ClosesAsRun}
-use Rattle.trace.specs.Theorems.{CallAnswers, TraceLeft}
+use Rattle.trace.specs.Theorems.{actRecord, EventsThenAct, TellsBefore, BeforeTold, EffectsBefore, InOrder, OnlyAsked, ShortUntaken}
+use Rattle.trace.specs.Theorems.{EightFree, NeverShort, GoesOn, actsOf, OneAct, FewerKinds, ClosesAsRun, CallAnswers, TraceLeft}
 use Rattle.trace.proofs.Steps.{next-acts, asked-append, traced-all, traced-act}
 use Rattle.run_laws.proofs.Roomed.{onward-cases, awake-of, room-zero, room-next, room-run, room-records, room-le, records-fit}
 use Rattle.run_laws.proofs.Roomed.{stops, roomy-run, room-slices}

@@ -204,10 +204,7 @@ module _ (ks : ℕ) (ev : List Event) (s₀ : State) (k : ℕ) (lent : List ℕ)
 
       -- and then memory and trace are as they were
       pub turn-kept : short ≡ true → (s′ .mem ≡ s .mem) × (trace′ ≡ trace)
-      turn-kept q = (
-        x .kept q,
-        x .written ∙ ap (λ c. cond c trace (sets trace (16 * added) (traceBytes (tracedOf ks ev s)))) q,
-      )
+      turn-kept q = (x .kept q, x .written ∙ ap (λ c. cond c trace (sets trace (16 * added) (traceBytes (tracedOf ks ev s)))) q)
 
 -- the same where what is held is equal part by part
 pub carried : {x : Traced} {lent regs regs′ m m′ trace trace′ : List ℕ} {t : Rest} {d a : ℕ} {b b′ : Bool}

@@ -174,8 +174,7 @@ expression-loop-less t c =
     let q = at-skip-blanks .skip-blanks .result in
     let g = part .given in
     let h = going-ahead f plus? (termOf (start .args .left) s) s (at-loop .loop .next) q (g .0 .1 .0) (g .0 .0)
-    (at-skip-blanks .skip-blanks .ensures) (reach-term (start .args .left) s (q + 1))
-    (sym (term2 .ensures) ∙ g .1) in
+    (at-skip-blanks .skip-blanks .ensures) (reach-term (start .args .left) s (q + 1)) (sym (term2 .ensures) ∙ g .1) in
     omega (arith, h .0, h .1)
 
 expression-loop-again : (t : ℕ) → expression-of t expression-lts.Need-loop-again
@@ -382,8 +381,7 @@ term-loop-less t c =
     let q = at-skip-blanks .skip-blanks .result in
     let g = part .given in
     let h = going-ahead f times? (factorOf (start .args .left) s) s (at-loop .loop .next) q (g .0 .1 .0) (g .0 .0)
-    (at-skip-blanks .skip-blanks .ensures) (reach-factor (start .args .left) s (q + 1))
-    (sym (factor2 .ensures) ∙ g .1) in
+    (at-skip-blanks .skip-blanks .ensures) (reach-factor (start .args .left) s (q + 1)) (sym (factor2 .ensures) ∙ g .1) in
     omega (arith, h .0, h .1)
 
 term-loop-again : (t : ℕ) → term-of t term-lts.Need-loop-again

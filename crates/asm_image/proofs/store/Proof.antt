@@ -25,8 +25,7 @@ returns c =
     let c11 = c9 .before .before in
     let a = c11 .args in
     store-number (a .p) (a .x) (c9 .layout-of .result) (c8 .size .result) (c7 .used .result) (c9 .layout-of .ensures)
-    (c8 .size .ensures) (c7 .used .ensures) (a .memory .now) (c2 .put .last .0) (c5 .n .given .0 .0) (c5 .n .given .1)
-    (c2 .put .ensures)
+    (c8 .size .ensures) (c7 .used .ensures) (a .memory .now) (c2 .put .last .0) (c5 .n .given .0 .0) (c5 .n .given .1) (c2 .put .ensures)
 
 returns-2 : tie.Need-returns-2
 returns-2 c =

@@ -20,10 +20,7 @@ returns-3 : tie.Need-returns-3
 returns-3 c =
     let d = c .before in
     let a = d .before .before .before .before in
-    rw (
-      sym (a .before .before .read-register .ensures) ∙ a .a .given .1,
-      sym (d .before .before .comma-register .ensures) ∙ d .d .given .1,
-    )
+    rw (sym (a .before .before .read-register .ensures) ∙ a .a .given .1, sym (d .before .before .comma-register .ensures) ∙ d .d .given .1)
 
 pub arithmetic-from-spec : {M : Type 1} → statement M
 arithmetic-from-spec =

@@ -22,10 +22,7 @@ unfolding valueAt
 returns-3 c =
     let d = c .before in
     let a = d .before .before .before .before in
-    rw (
-      sym (a .before .before .factor .ensures) ∙ a .a .given .1,
-      sym (d .before .before .comma-register .ensures) ∙ d .d .given .1,
-    )
+    rw (sym (a .before .before .factor .ensures) ∙ a .a .given .1, sym (d .before .before .comma-register .ensures) ∙ d .d .given .1)
 
 pub constant-spec : {M : Type 1} → statement M
 constant-spec =

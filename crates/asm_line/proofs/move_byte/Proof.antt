@@ -17,10 +17,7 @@ returns-2 c =
     let at-factor : tie.After-factor = search in
     let comma-register = c .before .before .comma-register in
     let a = c .before .before .before .before .a in
-    rw (
-      sym (at-factor .factor .ensures) ∙ a .given .1,
-      sym (comma-register .ensures) ∙ c .enum-told2 .given .1,
-    )
+    rw (sym (at-factor .factor .ensures) ∙ a .given .1, sym (comma-register .ensures) ∙ c .enum-told2 .given .1)
 
 returns-3 : tie.Need-returns-3
 unfolding moveByte valueAt
@@ -30,10 +27,7 @@ returns-3 c =
     let at-a : tie.After-a = search in
     let d = c .before .before .d in
     let comma-register = c .before .before .before .before .comma-register in
-    rw (
-      sym (at-factor .factor .ensures) ∙ at-a .a .given .1,
-      sym (comma-register .ensures) ∙ d .given .1,
-    )
+    rw (sym (at-factor .factor .ensures) ∙ at-a .a .given .1, sym (comma-register .ensures) ∙ d .given .1)
     (ap (λ x. Fits (MovImm (at-start .args .op) x (at-a .a .given .0 .0) (d .given .0 .0)) (d .given .0 .1 .0)) (c .is-number .ensures))
 
 pub move-byte-spec : {M : Type 1} → statement M

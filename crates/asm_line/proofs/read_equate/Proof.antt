@@ -15,20 +15,14 @@ unfolding equate valueAt
 returns-2 c =
     let at-start : tie.Start = search in
     let test = c .before .before .before in
-    rw (
-      not-false (at-start .args .named) (test .if1 .left),
-      sym (c .before .before .factor .ensures) ∙ c .enum-told .given .1,
-    )
+    rw (not-false (at-start .args .named) (test .if1 .left), sym (c .before .before .factor .ensures) ∙ c .enum-told .given .1)
 
 returns-3 : tie.Need-returns-3
 unfolding equate valueAt
 returns-3 c =
     let at-start : tie.Start = search in
     let test = c .before .before .before .before in
-    rw (
-      not-false (at-start .args .named) (test .if1 .left),
-      sym (c .before .before .before .factor .ensures) ∙ c .before .a .given .1,
-    )
+    rw (not-false (at-start .args .named) (test .if1 .left), sym (c .before .before .before .factor .ensures) ∙ c .before .a .given .1)
 
 pub read-equate-spec : {M : Type 1} → statement M
 read-equate-spec =

@@ -22,10 +22,7 @@ unfolding unary
 returns-3 c =
     let d = c .before in
     let w = d .before .before .before .before in
-    rw (
-      sym (w .before .before .read-width .ensures) ∙ w .w .given .1,
-      sym (d .before .before .read-register .ensures) ∙ d .d .given .1,
-    )
+    rw (sym (w .before .before .read-width .ensures) ∙ w .w .given .1, sym (d .before .before .read-register .ensures) ∙ d .d .given .1)
 
 pub read-unary-spec : {M : Type 1} → statement M
 read-unary-spec =

@@ -24,8 +24,7 @@ returns c =
     let a = c5 .args in
     let s = a .line .now in
     rw (is-comma s (a .at) (c3 .skip-blanks .result) (c2 .byte-at .result) (c3 .skip-blanks .ensures) (c2 .byte-at .ensures)
-    (c .before .if1 .taken))
-    (c .read-register .ensures ∙ ap (λ k. registerAt s (k + 1)) (c3 .skip-blanks .ensures))
+    (c .before .if1 .taken)) (c .read-register .ensures ∙ ap (λ k. registerAt s (k + 1)) (c3 .skip-blanks .ensures))
 
 returns-2 : tie.Need-returns-2
 unfolding commaRegister

@@ -25,8 +25,7 @@ returns c =
     let s = start .args .line .now in
     let f = lookUpAt (start .args .source .now) (start .args .places .now) (start .args .keys .now) (start .args .values .now) in
     rw (is-comma s (start .args .at) (skip-blanks .result) (byte-at .result) (skip-blanks .ensures) (byte-at .ensures)
-    (c .before .if1 .taken))
-    (c .factor .ensures ∙ ap (λ k. valueAt f s (k + 1)) (skip-blanks .ensures))
+    (c .before .if1 .taken)) (c .factor .ensures ∙ ap (λ k. valueAt f s (k + 1)) (skip-blanks .ensures))
 
 returns-2 : tie.Need-returns-2
 unfolding commaValue valueAt

@@ -40,8 +40,7 @@ returns c =
     let note-unknown = c .note-unknown in (
       ap (tableAt (a .source .now) (a .places .now) (a .values .now)) (note-unknown .ensures)
           ∙ give-known (a .source .now) (a .places .now) (a .keys .now) (a .values .now) (a .t) (at-start .pre)
-          (word (drop (a .at) (a .source .now))) (a .v) (look-up .result) (look-up .ensures)
-          (sym (is-known .ensures) ∙ if1 .taken),
+          (word (drop (a .at) (a .source .now))) (a .v) (look-up .result) (look-up .ensures) (sym (is-known .ensures) ∙ if1 .taken),
       (
         holds-as (a .source .now) (a .places .now) (a .keys .now) (a .values .now) (a .t) (note-unknown .result)
             (ap (λ (x : Tally). x .count) (note-unknown .ensures)) (at-start .pre),

@@ -32,10 +32,7 @@ returns c =
     let h : nameByte? (byteAt s i) ≡ false =
     sym (rw (c2 .byte-at .ensures) at (c .before .is-name-byte .ensures)) ∙ not-true _ (c .if1 .taken) in (
       sym (after-stop nameByte? s i h) ∙ c3 .loop .inv .3,
-      (
-        sym (spelled-stop s i (c3 .loop .n) h) ∙ c3 .loop .inv .1,
-        sym (key-stop s i (c3 .loop .key) h) ∙ c3 .loop .inv .2,
-      ),
+      (sym (spelled-stop s i (c3 .loop .n) h) ∙ c3 .loop .inv .1, sym (key-stop s i (c3 .loop .key) h) ∙ c3 .loop .inv .2),
     )
 
 add-i : tie.Need-add-i Inv-loop μ-loop

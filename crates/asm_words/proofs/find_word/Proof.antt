@@ -32,5 +32,4 @@ pub find-word-spec : {M : Type 1} → statement M
 find-word-spec =
     tie.close
     (tie.spec (λ c. search needs) (λ c. search needs) (λ c. search needs) (λ c. search needs) (λ c. search needs) mul-row-number
-    sub-row-number part-row-number-start part-row-number-end (λ c κs. search needs) (λ c κs. search needs)
-    returns)
+    sub-row-number part-row-number-start part-row-number-end (λ c κs. search needs) (λ c κs. search needs) returns)

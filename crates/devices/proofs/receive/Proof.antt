@@ -29,8 +29,7 @@ returns c =
     let e = c .event-status .ensures in
     ⊎-elim
     (λ w. receive-input m (s .args .device) (s .args .byte) (s .args .t) e k (w .0 .taken) (w .1))
-    (λ w. receive-output m (s .args .device) (s .args .byte) (s .args .t) e k (w .0 .left) (w .1))
-    (c .before .if1 .came)
+    (λ w. receive-output m (s .args .device) (s .args .byte) (s .args .t) e k (w .0 .left) (w .1)) (c .before .if1 .came)
 
 pub receive-spec : {M : Type 1} → statement M
 receive-spec =

@@ -14,15 +14,10 @@ returns c =
     let at-start : tie.Start = search in
     let a = at-start .args in
     pulled-law (now (a .regs)) (now (a .mem)) _ _ _ _ _ _ _ _ _
-    (at-word-at .word-at .ensures)
-    (at-wrapping-add-u16 .wrapping-add-u16 .ensures)
-    (at-word-at2 .word-at2 .ensures)
-    (at-wrapping-add-u162 .wrapping-add-u162 .ensures)
-    (at-word-at3 .word-at3 .ensures)
-    (c .before .before .before .before .wrapping-add-u163 .ensures)
-    (c .before .before .before .word-at4 .ensures)
-    (c .before .wrapping-add-u164 .ensures)
-    (c .set-three .ensures)
+    (at-word-at .word-at .ensures) (at-wrapping-add-u16 .wrapping-add-u16 .ensures) (at-word-at2 .word-at2 .ensures)
+    (at-wrapping-add-u162 .wrapping-add-u162 .ensures) (at-word-at3 .word-at3 .ensures)
+    (c .before .before .before .before .wrapping-add-u163 .ensures) (c .before .before .before .word-at4 .ensures)
+    (c .before .wrapping-add-u164 .ensures) (c .set-three .ensures)
 
 pub pull-spec : {M : Type 1} → statement M
 pull-spec =

@@ -33,14 +33,7 @@ abbrev μ-loop : tie.MeasureT-loop
 loop-holds : tie.Need-loop-holds Inv-loop μ-loop
 loop-holds c =
     let s : tie.Start Inv-loop μ-loop = search in
-    record {
-      some = omega arith;
-      size = refl;
-      long = refl;
-      fits = s .pre .3;
-      opened = s .pre .2;
-      goes = goes-none _ _ _ _ _ _ _ _ _ _;
-    }
+    record { some = omega arith; size = refl; long = refl; fits = s .pre .3; opened = s .pre .2; goes = goes-none _ _ _ _ _ _ _ _ _ _ }
 
 stretch-requires : tie.Need-stretch-requires Inv-loop μ-loop
 stretch-requires c κs =

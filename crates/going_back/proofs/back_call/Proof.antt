@@ -32,12 +32,7 @@ cast-go-back c =
     let r = c .before .before .before .refusal-number .ensures .0
     ∙ ap refusalNumber (c .before .before .before .before .back-verdict .ensures) in
     let p = back-passed (a .k) x (passed-of (a .k) x _ r (c .before .before .if1 .left)) in
-    omega (
-      arith,
-      p .few,
-      at-row-known .row-known .given,
-      at-row-known2 .row-known2 .given,
-    )
+    omega (arith, p .few, at-row-known .row-known .given, at-row-known2 .row-known2 .given)
 
 go-back-requires : tie.Need-go-back-requires
 go-back-requires c κs =

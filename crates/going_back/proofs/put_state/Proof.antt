@@ -22,12 +22,7 @@ abbrev μ-loop : tie.MeasureT-loop
 μ-loop state₀ journal p o i₀ state i = 32 - i
 
 loop-holds : tie.Need-loop-holds Inv-loop μ-loop
-loop-holds c = record {
-  size = c .pre .0;
-  few = omega arith;
-  begins = refl;
-  same = λ k h. absurd (omega arith);
-}
+loop-holds c = record { size = c .pre .0; few = omega arith; begins = refl; same = λ k h. absurd (omega arith) }
 
 loop-again : tie.Need-loop-again Inv-loop μ-loop
 loop-again c =

@@ -55,8 +55,7 @@ returns-6 c =
     let asked = c .before .before .before in
     let called = asked .before .before .before .before in
     next-beyond _ _ (known called) (called .before .before .before .args .word) (asked .before .before .if3 .left)
-    (sym (asked .before .is-twice .ensures) ∙ not-false (asked .before .is-twice .result) (asked .if4 .left))
-    (c .if5 .left)
+    (sym (asked .before .is-twice .ensures) ∙ not-false (asked .before .is-twice .result) (asked .if4 .left)) (c .if5 .left)
 
 pub next-of-spec : {M : Type 1} → statement M
 next-of-spec =

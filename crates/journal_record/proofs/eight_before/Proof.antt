@@ -31,20 +31,13 @@ returns-3 c b w =
     eight-wrapped b (s .args .a) _ _ _ _ _ _ _ _ _ _ _ _ _ _ _ (omega arith)
     (at-byte-before .byte-before
     .ensures b w)
-    (at-wrapping-add-u16 .wrapping-add-u16 .ensures)
-    (at-byte-before2 .byte-before2 .ensures b w)
-    (at-wrapping-add-u162 .wrapping-add-u162 .ensures)
-    (at-byte-before3 .byte-before3 .ensures b w)
-    (at-wrapping-add-u163 .wrapping-add-u163 .ensures)
-    (at-byte-before4 .byte-before4 .ensures b w)
-    (at-wrapping-add-u164 .wrapping-add-u164 .ensures)
-    (at-byte-before5 .byte-before5 .ensures b w)
-    (at-wrapping-add-u165 .wrapping-add-u165 .ensures)
-    (c .before .before .before .before .byte-before6 .ensures b w)
-    (c .before .before .before .wrapping-add-u166 .ensures)
-    (c .before .before .byte-before7 .ensures b w)
-    (c .before .wrapping-add-u167 .ensures)
-    (c .byte-before8 .ensures b w)
+    (at-wrapping-add-u16 .wrapping-add-u16 .ensures) (at-byte-before2 .byte-before2 .ensures b w)
+    (at-wrapping-add-u162 .wrapping-add-u162 .ensures) (at-byte-before3 .byte-before3 .ensures b w)
+    (at-wrapping-add-u163 .wrapping-add-u163 .ensures) (at-byte-before4 .byte-before4 .ensures b w)
+    (at-wrapping-add-u164 .wrapping-add-u164 .ensures) (at-byte-before5 .byte-before5 .ensures b w)
+    (at-wrapping-add-u165 .wrapping-add-u165 .ensures) (c .before .before .before .before .byte-before6 .ensures b w)
+    (c .before .before .before .wrapping-add-u166 .ensures) (c .before .before .byte-before7 .ensures b w)
+    (c .before .wrapping-add-u167 .ensures) (c .byte-before8 .ensures b w)
 
 pub eight-before-spec : {M : Type 1} → statement M
 eight-before-spec =

@@ -23,25 +23,13 @@ returns-4 : tie.Need-returns-4
 unfolding backVerdict
 returns-4 c =
     let e3 = sym (c .before .before .before .before .journal-fits .ensures) ∙ not-false _ (c .before .if3 .left) in
-    rw (
-      eq-eqb _ _ (c .before .before .before .if1 .left),
-      eq-eqb _ _ (c .before .before .if2 .left),
-      e3,
-      lt-ltb _ _
-          (c .if4 .taken),
-    )
+    rw (eq-eqb _ _ (c .before .before .before .if1 .left), eq-eqb _ _ (c .before .before .if2 .left), e3, lt-ltb _ _ (c .if4 .taken))
 
 returns-5 : tie.Need-returns-5
 unfolding backVerdict
 returns-5 c =
     let e3 = sym (c .before .before .before .before .journal-fits .ensures) ∙ not-false _ (c .before .if3 .left) in
-    rw (
-      eq-eqb _ _ (c .before .before .before .if1 .left),
-      eq-eqb _ _ (c .before .before .if2 .left),
-      e3,
-      le-ltb _ _
-          (c .if4 .left),
-    )
+    rw (eq-eqb _ _ (c .before .before .before .if1 .left), eq-eqb _ _ (c .before .before .if2 .left), e3, le-ltb _ _ (c .if4 .left))
 
 pub back-verdict-spec : {M : Type 1} → statement M
 back-verdict-spec = tie.close (tie.spec (λ c κs. search needs) returns returns-2 returns-3 returns-4 returns-5)

@@ -115,10 +115,7 @@ deliver-due-requires c κs =
 plan-requires : tie.Need-plan-requires Inv-loop μ-loop
 plan-requires c κs =
     let i : tie.Then1 Inv-loop μ-loop = search in
-    let l = loop-of i in (
-      omega (arith, start l .pre .0, l .loop .inv .1, c .before .before .before .memory .given),
-      on i .0,
-    )
+    let l = loop-of i in (omega (arith, start l .pre .0, l .loop .inv .1, c .before .before .before .memory .given), on i .0)
 
 slice-aggregate-put-back : tie.Need-slice-aggregate-put-back Inv-loop μ-loop
 slice-aggregate-put-back c =

@@ -21,8 +21,7 @@ returns c =
       subst
           (λ (v : Rest). Goes (a .u) (running (now (a .regs)) (t .psw) (t .cex) (t .lines) (t .count) (now (a .memory)))
           (a .depth) (a .added) (now (a .log)) (running (q .last .0) (v .psw) (v .cex) (t .lines) (t .count + j) (q .last .1 .0))
-          (q .result .depth) (q .result .added) (q .last .1 .1 .0) j)
-          (sym e) (q .ensures .0),
+          (q .result .depth) (q .result .added) (q .last .1 .1 .0) j) (sym e) (q .ensures .0),
       (
         subst
             (λ (v : Rest). v

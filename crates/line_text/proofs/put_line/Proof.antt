@@ -19,11 +19,8 @@ returns c =
     let out = entry .args .out .now in
     let line =
     line-text (entry .args .m) (entry .args .steps) (entry .args .deepest)
-    (at-put .put .ensures .0)
-    (at-put-number .put-number .ensures .0)
-    (at-put-machine .put-machine .ensures .0)
-    (at-put-number2 .put-number2 .ensures .0)
-    (at-put2 .put2 .ensures .0) in
+    (at-put .put .ensures .0) (at-put-number .put-number .ensures .0) (at-put-machine .put-machine .ensures .0)
+    (at-put-number2 .put-number2 .ensures .0) (at-put2 .put2 .ensures .0) in
     let second = at-put-number .put-number .result in
     let end = at-put-number2 .put-number2 .result in
     let two =

@@ -16,11 +16,8 @@ returns c =
     let at-put-field3 = c .before .before in
     let line =
     machine-text (take (entry .args .at) (entry .args .out .now)) (entry .args .m)
-    (at-put-words .put-words .ensures .0)
-    (at-put-words2 .put-words2 .ensures .0)
-    (at-put-field .put-field .ensures .0)
-    (at-put-field2 .put-field2 .ensures .0)
-    (at-put-field3 .put-field3 .ensures .0) in
+    (at-put-words .put-words .ensures .0) (at-put-words2 .put-words2 .ensures .0) (at-put-field .put-field .ensures .0)
+    (at-put-field2 .put-field2 .ensures .0) (at-put-field3 .put-field3 .ensures .0) in
     let r2 = at-put-words2 .put-words2 .result in
     let r4 = at-put-field2 .put-field2 .result in
     let out2 = at-put-words2 .put-words2 .last .0 in

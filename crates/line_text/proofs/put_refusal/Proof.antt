@@ -12,9 +12,7 @@ returns c =
     let entry = at-put .before .before .before in
     let line =
     refusal-text (entry .args .refused)
-    (at-put .put .ensures .0)
-    (at-put-decimal .put-decimal .ensures .0)
-    (at-put2 .put2 .ensures .0) in
+    (at-put .put .ensures .0) (at-put-decimal .put-decimal .ensures .0) (at-put2 .put2 .ensures .0) in
     let kept =
     kept-thrice (at-put .put .result) (at-put-decimal .put-decimal .result) (at-put2 .put2 .result)
     (entry .args .out .now) (at-put .put .last .0) (at-put-decimal .put-decimal .last .0) (at-put2 .put2 .last .0)

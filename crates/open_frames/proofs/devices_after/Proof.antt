@@ -116,9 +116,7 @@ returns-6 c =
 pub devices-after-spec : {M : Type 1} → statement M
 devices-after-spec =
     tie.close
-    (tie.spec (λ c. search needs) (λ c κs. search needs) (λ c. search needs) (λ c κs. search needs) (λ c. search needs)
-    hold-requires (λ c. search needs) hold-requires-2 (λ c. search needs)
-    trapped-requires returns (λ c. search needs) (λ c. search needs)
+    (tie.spec (λ c. search needs) (λ c κs. search needs) (λ c. search needs) (λ c κs. search needs) (λ c. search needs) hold-requires
+    (λ c. search needs) hold-requires-2 (λ c. search needs) trapped-requires returns (λ c. search needs) (λ c. search needs)
     (λ c. search needs) returns-2 (λ c. search needs) (λ c. search needs) (λ c. search needs) returns-3 (λ c. search needs)
-    (λ c. search needs) (λ c. search needs) returns-4 (λ c. search needs) (λ c. search needs) (λ c. search needs)
-    returns-5 returns-6)
+    (λ c. search needs) (λ c. search needs) returns-4 (λ c. search needs) (λ c. search needs) (λ c. search needs) returns-5 returns-6)

@@ -253,8 +253,7 @@ module _
         (later
         (some (λ (r : Advanced). (Tokens ⊛ ‵ (N.the-row .own r (w ∷ [])))
         ⊛ raw (ensured 𝓤 H A value.ended (value.clauses 𝓤 H A at-mem run) (κ′, (κ″, (κ‴, (κ⁗, tt))))
-        (h, (x, (y, (lent, (figure, (n, tt)))))) tt r))))
-        (id⊢ 𝓤 _) $ await ! tt $ pick ! (λ r. split ! $ move ! (1 ∷ []) $
+        (h, (x, (y, (lent, (figure, (n, tt)))))) tt r)))) (id⊢ 𝓤 _) $ await ! tt $ pick ! (λ r. split ! $ move ! (1 ∷ []) $
         use1 W
         (some (λ (zs : Unit {0} × (List ℕ × (Unit {0} × (List ℕ × (ℕ × (Unit {0} × Unit {0})))))).
         ‵ (lasts value.ended (κ′, (κ″, (κ‴, (κ⁗, tt)))) (h, (x, (y, (lent, (figure, (n, tt)))))) zs)
@@ -293,8 +292,7 @@ module _
       Walks 𝓤 H A advance.ended stayed (WpFn 𝓤 H C Λ code.function) (advance.clauses 𝓤 H A mem run)
   advance-walks C Λ fm known =
       walked 𝓤 H A advance.ended stayed (advance.clauses 𝓤 H A mem run) (WpFn 𝓤 H C Λ code.function)
-      (λ κs. (ptr-vals, (slice-vals, (slice-vals, (slice-vals, (ptr-vals, (uint-vals w64, tt)))))))
-      (λ κs. (
+      (λ κs. (ptr-vals, (slice-vals, (slice-vals, (slice-vals, (ptr-vals, (uint-vals w64, tt))))))) (λ κs. (
         mut-tells (named 0) (κs .0) T.the-row,
         (
           mut-slice-tells (named 1) (κs .1 .0) u8,

@@ -76,13 +76,8 @@ returns c =
     let entry = at-part .before .before .before .before in
     let done =
     run-of-parts (entry .args .input .now) (at-read-record .read-record .result) (at-run .run-whole .result .machine)
-    (at-copy .copy .ensures ∙ at-part .part .ensures)
-    (at-four-at .four-at .ensures)
-    (at-part2 .part2 .ensures)
-    (at-read-record .read-record .ensures)
-    (at-part3 .part3 .ensures)
-    (at-run .run-whole .ensures .0)
-    (at-run .run-whole .ensures .1)
+    (at-copy .copy .ensures ∙ at-part .part .ensures) (at-four-at .four-at .ensures) (at-part2 .part2 .ensures)
+    (at-read-record .read-record .ensures) (at-part3 .part3 .ensures) (at-run .run-whole .ensures .0) (at-run .run-whole .ensures .1)
     (at-put-line .put-line .ensures .0) in
     (done .0, (done .1, at-put-line .put-line .ensures .1))
 

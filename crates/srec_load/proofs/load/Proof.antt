@@ -25,13 +25,7 @@ abbrev μ-loop : tie.MeasureT-loop
 μ-loop memory₀ text pc at₀ last₀ memory at last = length text - at
 
 loop-holds : tie.Need-loop-holds Inv-loop μ-loop
-loop-holds c = record {
-  inside = omega arith;
-  size = refl;
-  sound = c .before .before .pre .1;
-  stored = refl;
-  counter = refl;
-}
+loop-holds c = record { inside = omega arith; size = refl; sound = c .before .before .pre .1; stored = refl; counter = refl }
 
 store-requires : tie.Need-store-requires Inv-loop μ-loop
 store-requires c κs =

@@ -29,8 +29,7 @@ returns-2 c =
     let d = k .deliver in
     let p = at-plan .plan .ensures .0 in (
       step-law (eventsOf (now (a .events))) (stateOf (a .m) (now (a .memory))) _ _ (at-if1 .if1 .left)
-          (d .ensures .0 (coreWith (a .m .regs) t) (t .halted))
-          (c .before .before .perform .ensures
+          (d .ensures .0 (coreWith (a .m .regs) t) (t .halted)) (c .before .before .perform .ensures
           ∙ ap (λ (q : Plan). closed (perform (q .act) (q .core) (d .result .lines) (d .last .0)) (t .count) (d .last .0)) p),
       d .ensures .1,
     )

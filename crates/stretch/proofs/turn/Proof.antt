@@ -53,8 +53,7 @@ returns c =
 few : (n left x y : ℕ) → ((x % 64 ≡ 0 → ⊥) → n ≤ 1) → (x % 64 ≡ 0 → y ≡ x) → (y % 64 ≡ 0) ⊎ (n ≤ 1)
 few n left x y g h =
     bool-cases (eqb (x % 64) 0)
-    (λ e. let z : x % 64 ≡ 0 = eq-of e in inl (ap (λ (k : ℕ). k % 64) (h z) ∙ z))
-    (λ e. inr (g (eqb-false (x % 64) 0 e)))
+    (λ e. let z : x % 64 ≡ 0 = eq-of e in inl (ap (λ (k : ℕ). k % 64) (h z) ∙ z)) (λ e. inr (g (eqb-false (x % 64) 0 e)))
 
 take-steps-requires : tie.Need-take-steps-requires
 take-steps-requires c κs =

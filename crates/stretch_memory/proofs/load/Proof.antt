@@ -26,16 +26,9 @@ returns c =
     let a = start .args in (
       (λ psw cex.
           load-law (now (a .regs)) _ (now (a .mem)) psw cex cex (a .byte) (a .at) (a .dst) _ _ _
-          (o .load .ensures .0)
-          (omega arith)
-          (w .before .reg .ensures)
-          (w .with-low .ensures)
-          (c .set-reg .ensures)
+          (o .load .ensures .0) (omega arith) (w .before .reg .ensures) (w .with-low .ensures) (c .set-reg .ensures)
           (sym (cex-set (a .dst) cex (start .pre .1)))),
-      (
-        o .load .ensures .1,
-        ap (λ (l : List ℕ). getD l 7 0) (c .set-reg .ensures) ∙ pc-set (now (a .regs)) (a .dst) _ (start .pre .1),
-      ),
+      (o .load .ensures .1, ap (λ (l : List ℕ). getD l 7 0) (c .set-reg .ensures) ∙ pc-set (now (a .regs)) (a .dst) _ (start .pre .1)),
     )
 
 pub load-spec : {M : Type 1} → statement M

@@ -40,10 +40,7 @@ returns-4 c =
     (inr
     (served-load free _ l _ (now (a .mem)) psw cex (a .pc) past _ _ _ _ _
     (load-effect l _ psw cex (r / 8 % 2) (r / 4 % 2) (r / 2 % 2) (r % 2) (a .w / 8 % 8) stays (f .reg .ensures) (b .adjusted-by .ensures)
-    (u .address .ensures) (d .adjust .ensures) (a .w % 8))
-    (sym (t .aligned .ensures) ∙ not-false _ (n .if3 .left))
-    (o .0)
-    (o .1 .0)
+    (u .address .ensures) (d .adjust .ensures) (a .w % 8)) (sym (t .aligned .ensures) ∙ not-false _ (n .if3 .left)) (o .0) (o .1 .0)
     (o .1 .1 ∙ pc-adjusted (moves? (r / 4 % 2) (r / 2 % 2)) l _ (a .w / 8 % 8) _ (omega arith) stays (d .adjust .ensures))))
 
 pub load-indexed-spec : {M : Type 1} → statement M

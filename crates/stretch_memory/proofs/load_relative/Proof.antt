@@ -29,10 +29,7 @@ returns-3 c =
     inr
     (served-load free _ l l (now (a .mem)) psw cex (a .pc) (s .pre .1) _ _ _ _ _
     (load-relative-effect l psw cex (a .wb) (a .w / 8 % 8) _ (r .reg .ensures) (d .relative .ensures) (a .w % 8))
-    (sym (t .aligned .ensures) ∙ not-false _ (u .if2 .left))
-    (o .0)
-    (o .1 .0)
-    (o .1 .1))
+    (sym (t .aligned .ensures) ∙ not-false _ (u .if2 .left)) (o .0) (o .1 .0) (o .1 .1))
 
 pub load-relative-spec : {M : Type 1} → statement M
 load-relative-spec =

@@ -40,9 +40,7 @@ returns-3 c =
     (inr
     (served-store free _ l _ (now (a .mem)) psw cex (a .pc) past _ _ _ _
     (store-effect l _ psw cex (r / 8 % 2) (r / 4 % 2) (r / 2 % 2) (r % 2) (a .w % 8) stays (d .reg2 .ensures) (b .adjusted-by .ensures)
-    (t .address .ensures) (c .adjust .ensures) (a .w / 8 % 8) (f .reg .ensures))
-    (o .0)
-    (o .1)
+    (t .address .ensures) (c .adjust .ensures) (a .w / 8 % 8) (f .reg .ensures)) (o .0) (o .1)
     (pc-adjusted (moves? (r / 4 % 2) (r / 2 % 2)) l _ (a .w % 8) _ (omega arith) stays (c .adjust .ensures))))
 
 pub store-indexed-spec : {M : Type 1} → statement M

@@ -26,9 +26,7 @@ returns-2 c =
     λ free psw cex.
     inr
     (served-store free _ l l (now (a .mem)) psw cex (a .pc) (s .pre .1) _ _ _ _
-    (store-relative-effect l psw cex (a .wb) (a .w % 8) _ (r .reg .ensures) (d .relative .ensures)
-    (a .w / 8 % 8) (f .reg2 .ensures))
-    (o .0)
+    (store-relative-effect l psw cex (a .wb) (a .w % 8) _ (r .reg .ensures) (d .relative .ensures) (a .w / 8 % 8) (f .reg2 .ensures)) (o .0)
     (o .1)
     refl)
 

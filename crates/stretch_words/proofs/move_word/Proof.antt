@@ -46,13 +46,12 @@ returns-4 c =
 pub move-word-spec : {M : Type 1} → statement M
 move-word-spec =
     tie.close
-    (tie.spec (λ c κs. search needs)
+    (tie.spec (λ c κs. search needs) (λ c κs. search needs) (λ c κs. search needs) (λ c κs. search needs) (λ c κs. search needs)
     (λ c κs. search needs) (λ c κs. search needs) (λ c κs. search needs) (λ c κs. search needs) (λ c κs. search needs)
     (λ c κs. search needs) (λ c κs. search needs) (λ c κs. search needs) (λ c κs. search needs) (λ c κs. search needs)
     (λ c κs. search needs) (λ c κs. search needs) (λ c κs. search needs) (λ c κs. search needs) (λ c κs. search needs)
-    (λ c κs. search needs) (λ c κs. search needs) (λ c κs. search needs) (λ c κs. search needs) (λ c κs. search needs)
-    (λ c κs. search needs) (λ c κs. search needs) (λ c κs. search needs) (λ c κs. search needs) returns returns-2 returns-3 returns-4
-    (λ c. search needs) (λ c. c .before .before .load-indexed .ensures _ _ _) (λ c. search needs)
+    (λ c κs. search needs) (λ c κs. search needs) (λ c κs. search needs) (λ c κs. search needs) (λ c κs. search needs) returns returns-2
+    returns-3 returns-4 (λ c. search needs) (λ c. c .before .before .load-indexed .ensures _ _ _) (λ c. search needs)
     (λ c. c .before .before .load-indexed2 .ensures _ _ _) (λ c. search needs) (λ c. c .before .before .load-indexed3 .ensures _ _ _)
     (λ c. search needs) (λ c. c .before .before .load-indexed4 .ensures _ _ _) (λ c. search needs)
     (λ c. c .before .before .load-indexed5 .ensures _ _ _) (λ c. search needs) (λ c. c .before .before .load-indexed6 .ensures _ _ _)

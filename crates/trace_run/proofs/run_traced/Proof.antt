@@ -259,10 +259,7 @@ returns : tie.Need-returns Inv-loop μ-loop
 returns c =
     let h = exits (c .before) .0 in (
       h .state,
-      (
-        c .reason-of .ensures ∙ (λ i. cond (h .short i) NoRoom (cond (h .state i .halted) Halted Done)),
-        (h .steps, (h .added, h .trace)),
-      ),
+      (c .reason-of .ensures ∙ (λ i. cond (h .short i) NoRoom (cond (h .state i .halted) Halted Done)), (h .steps, (h .added, h .trace))),
     )
 
 pub run-traced-spec : {M : Type 1} → statement M

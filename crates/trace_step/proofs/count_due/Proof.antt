@@ -29,11 +29,7 @@ loop-holds c =
     let s = c .before in record {
       few = omega arith;
       inside = s .pre .0 .0;
-      counted = λ t. omega (
-        arith,
-        ap length (index.index-start t (now (s .args .events)) (s .args .count) (s .args .next)
-            (s .pre .0)),
-      );
+      counted = λ t. omega (arith, ap length (index.index-start t (now (s .args .events)) (s .args .count) (s .args .next) (s .pre .0)));
     }
 
 add-due : tie.Need-add-due Inv-loop μ-loop

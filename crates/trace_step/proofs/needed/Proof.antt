@@ -14,13 +14,7 @@ use Rattle.trace_step.proofs.needed.Tie as tie
 add-result : tie.Need-add-result
 add-result c =
     let at-start : tie.Start = search in
-    omega (
-      arith,
-      c .count-due .ensures .1,
-      one-at-most
-          (c .before .before .before .asks .result),
-      at-start .good,
-    )
+    omega (arith, c .count-due .ensures .1, one-at-most (c .before .before .before .asks .result), at-start .good)
 
 returns : tie.Need-returns
 returns c =

@@ -12,10 +12,7 @@ returns c =
       e .0,
       (
         ap (λ (y : Lent). y .memory) x,
-        (
-          ap (λ (y : Lent). y .state) x,
-          (ap (λ (y : Lent). y .journal .kept) x, ap (λ (y : Lent). y .journal .place) x),
-        ),
+        (ap (λ (y : Lent). y .state) x, (ap (λ (y : Lent). y .journal .kept) x, ap (λ (y : Lent). y .journal .place) x)),
       ),
     )
 

@@ -56,10 +56,7 @@ returns-2 c =
         j .1 .0 ∙ ap (λ y. y .memory) e,
         (
           j .1 .1 .0 ∙ ap (λ y. y .state) e,
-          (
-            j .1 .1 .1 .0 ∙ ap (λ y. y .writers) e,
-            j .1 .1 .1 .1 ∙ ap (λ y. y .findings) e,
-          ),
+          (j .1 .1 .1 .0 ∙ ap (λ y. y .writers) e, j .1 .1 .1 .1 ∙ ap (λ y. y .findings) e),
         ),
       ),
     )

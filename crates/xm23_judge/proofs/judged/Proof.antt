@@ -90,11 +90,7 @@ same-length-3 : tie.Need-same-length-3
 same-length-3 c =
     let at-writers2 : tie.After-writers2 = search in
     let j : tie.After-judge-run = search in
-    omega (
-      arith,
-      at-writers2 .writers2 .given,
-      read j .before .before .before .before .before .before .before .writers .given,
-    )
+    omega (arith, at-writers2 .writers2 .given, read j .before .before .before .before .before .before .before .writers .given)
 
 same-length-4 : tie.Need-same-length-4
 same-length-4 c =

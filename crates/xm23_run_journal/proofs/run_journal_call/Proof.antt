@@ -6,9 +6,8 @@ use native.Mathlib.Omega.{arith}
 use borrow.Author.Needs.{needs}
 use denote.Ref.{now}
 use Rattle.turn.proofs.Laws.{behind-none, events-fit, events-ordered, count-fits}
-use Rattle.xm23_run_journal.proofs.Laws.{passed-all, ring-passed, refused-closing, refused-journal, figure-kept}
-use Rattle.xm23_run_journal.proofs.Laws.{steps-few, records-few}
-use Rattle.xm23_run_journal.proofs.Laws.{figure-ran, closing-ran, journal-ran, some-length}
+use Rattle.xm23_run_journal.proofs.Laws.{passed-all, ring-passed, refused-closing, refused-journal, figure-kept, steps-few}
+use Rattle.xm23_run_journal.proofs.Laws.{records-few, figure-ran, closing-ran, journal-ran, some-length}
 use Rattle.xm23_run_journal.proofs.run_journal_call.Statement.{statement}
 use Rattle.xm23_run_journal.proofs.run_journal_call.Tie as tie
 
@@ -22,10 +21,7 @@ returns c =
         ap (λ x. x .memory) e,
         (
           ap (λ x. x .state) e,
-          (
-            ap (λ x. x .log) e,
-            (figure-kept _ _ _ _ _ _ _ _ v k (c .if1 .taken) _, refused-journal _ _ _ _ _ _ _ _ v k (c .if1 .taken)),
-          ),
+          (ap (λ x. x .log) e, (figure-kept _ _ _ _ _ _ _ _ v k (c .if1 .taken) _, refused-journal _ _ _ _ _ _ _ _ v k (c .if1 .taken))),
         ),
       ),
     )
@@ -106,8 +102,7 @@ returns-2 c =
     let m = at-read-record .read-record in
     let e =
     closing-ran _ _ _ _ _ _ _ _ v k i (m .result) (m .ensures) _ _ _ _ _ _ _ _ (l .state) (l .reason) (l .steps)
-    (l .added) (l .log)
-    (c .before .before .before .write-record .ensures) (c .reply-of .ensures) in
+    (l .added) (l .log) (c .before .before .before .write-record .ensures) (c .reply-of .ensures) in
     let some = some-length _ _ _ _ _ _ _ _ v k (now (s .args .journal)) _ refl i in
     let j = journal-ran _ _ _ _ _ _ _ _ v k i (m .result) (m .ensures) (now (s .args .journal)) _ _ _ refl some
     (at-run-kept .run-kept .ensures .1) in (
@@ -116,10 +111,7 @@ returns-2 c =
         ap (λ x. x .memory) e,
         (
           ap (λ x. x .state) e,
-          (
-            ap (λ x. x .log) e,
-            (figure-ran _ _ _ _ _ _ _ _ v k i (m .result) (m .ensures) _ _ (l .depth), j),
-          ),
+          (ap (λ x. x .log) e, (figure-ran _ _ _ _ _ _ _ _ v k i (m .result) (m .ensures) _ _ (l .depth), j)),
         ),
       ),
     )

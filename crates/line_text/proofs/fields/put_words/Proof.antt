@@ -15,9 +15,7 @@ returns c =
     let entry = at-put-field .before .before .before in
     let line =
     words-text (take (entry .args .at) (entry .args .out .now)) (entry .args .a) (entry .args .b) (entry .args .c) (entry .args .d)
-    (at-put-field .put-field .ensures .0)
-    (at-put-field2 .put-field2 .ensures .0)
-    (at-put-field3 .put-field3 .ensures .0)
+    (at-put-field .put-field .ensures .0) (at-put-field2 .put-field2 .ensures .0) (at-put-field3 .put-field3 .ensures .0)
     (at-put-field4 .put-field4 .ensures .0) in
     let second = at-put-field2 .put-field2 .result in
     let third = at-put-field3 .put-field3 .result in

@@ -26,8 +26,7 @@ returns-2 c =
     let at-kind : tie.After-kind = search in
     let at-start : tie.Start = search in
     store-some (at-start .args .line .now) (at-start .args .memory .now) _ _ _ _ (at-kind .kind .ensures) (at-if1 .if1 .left)
-    (at-address .address .ensures .0)
-    (at-count .count .ensures .0) (at-store-data .store-data .ensures)
+    (at-address .address .ensures .0) (at-count .count .ensures .0) (at-store-data .store-data .ensures)
 
 pub store-spec : {M : Type 1} → statement M
 store-spec =

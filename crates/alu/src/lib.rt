@@ -2,28 +2,30 @@
 // in specs/; crate alu_work does it.
 
 // A sum kept to the width, and its carry out.
-#[derive(Drop)]
+#![tactic(auto)]
+
+#[derive(Clone, Copy)]
 pub struct Sum {
     pub value: u16,
     pub carry: bool,
 }
 
 // A decimal sum and its carry, 0 or 1.
-#[derive(Drop)]
+#[derive(Clone, Copy)]
 pub struct Decimal {
     pub value: u16,
     pub carry: u16,
 }
 
 // What an instruction leaves in its destination and in the PSW.
-#[derive(Drop)]
+#[derive(Clone, Copy)]
 pub struct Computed {
     pub value: u16,
     pub psw: u16,
 }
 
 // The arithmetic and logical instructions.
-#[derive(Drop)]
+#[derive(Clone, Copy)]
 pub enum Op {
     Add,
     Addc,

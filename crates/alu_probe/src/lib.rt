@@ -1,4 +1,6 @@
 // The arithmetic for tests and measurements: numbers in, one number out.
+#![tactic(auto)]
+
 ghost use Rattle.std.specs.Prelude.{◌≡◌};
 ghost use Rattle.alu_probe.specs.Probe.{op_of, reply_of};
 

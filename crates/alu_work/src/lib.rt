@@ -1,5 +1,7 @@
 // Arithmetic and logic of the XM-23 machine: one call, `alu`, for every instruction of both groups.
 // `byte` chooses the width: 8 bits, else 16. A byte form keeps the high byte of its destination.
+#![tactic(auto)]
+
 ghost use Rattle.std.specs.Prelude.{◌≡◌, not, cond, ◌+◌, ◌-◌, ◌/◌, ◌%◌, ◌^◌, ◌<◌, ◌≤◌, ltb};
 ghost use Rattle.std.specs.Bool.{beq};
 ghost use Rattle.word.specs.Width.{width_of, low, turned};

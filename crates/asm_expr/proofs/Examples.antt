@@ -57,6 +57,7 @@ pub names :
     -- R8 is a name
     × (reads (ascii "R8") ≡ Parsed Unknown 2)
 unfolding fitted applied joined blank? letter? name_byte? digit_of digit? span after numeral word digits_at
-    plain_at closed plus? times? chain parts_of factor_with factor_of value_of answer_of name_at word_of words keywords valued_words branches
+    plain_at closed plus? times? chain parts_of factor_with factor_of value_of answer_of name_at word_of words keywords valued_words
+    branches
     operations unaries moves other_words registers conditions emulated meaning same free?
 names = (refl, refl, refl, refl)

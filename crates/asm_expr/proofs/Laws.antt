@@ -33,7 +33,8 @@ pub after-in : (p : ℕ → Bool) (s : List ℕ) (i : ℕ) → i ≤ length s �
 unfolding after
 after-in p s i h = omega (arith, span-le p (drop i s), length-drop i s)
 
-pub after-ahead : (p : ℕ → Bool) → p 0 ≡ false → (s : List ℕ) (i : ℕ) → p (byte_at s i) ≡ true → (i < after p s i) × (after p s i ≤ length s)
+pub after-ahead : (p : ℕ → Bool) → p 0 ≡ false → (s : List ℕ) (i : ℕ) → p (byte_at s i) ≡ true
+    → (i < after p s i) × (after p s i ≤ length s)
 after-ahead p z s i h =
     let k = kind-in p z s i h in
     (omega (arith, after-le p s (i + 1), after_more p z s i h), after-in p s i (omega arith))

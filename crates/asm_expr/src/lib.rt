@@ -1,6 +1,8 @@
 // Values in a source: expression, term and factor call each other. Each call from factor to
 // expression opens a bracket, of which `left` may still be opened, and each turn of a loop takes a
 // sign and a part, so both end.
+#![tactic(auto)]
+
 ghost use Rattle.std.specs.Prelude.{◌≡◌, ◌≤◌};
 ghost use Rattle.asm_value.specs.declared.Value.TheVariants.{Unknown};
 ghost use Rattle.asm_text.specs.Text.{look_up_at};
@@ -11,7 +13,7 @@ ghost use Rattle.asm_expr.specs.Meaning.{answer_of, shut};
 use asm_value::Value;
 
 // What stands at a place: its value and the place after it, or nothing that fits the grammar (17).
-#[derive(Drop)]
+#[derive(Clone, Copy)]
 pub enum Answer {
     Parsed(Value, usize),
     Malformed,

@@ -1,4 +1,6 @@
 // Which values fit which place of an instruction or of data, and the number that then stands there.
+#![tactic(auto)]
+
 ghost use Rattle.std.specs.Prelude.{◌≡◌, ℕ, ◌<◌, ◌≤◌, ◌%◌, ◌/◌, ◌+◌};
 ghost use Rattle.std.specs.Int.Signed.{mag};
 ghost use Rattle.asm_fits.specs.Fits.{residue_of, within_of, fit_of, word_fit, byte_fit};
@@ -8,7 +10,7 @@ ghost use Rattle.asm_fits.specs.Fits.{constant_number, constant_fit, way_of, ste
 use asm_value::Value;
 
 // The number for a field, or why there is none: an unknown name (18), or no fitting value (19).
-#[derive(Drop)]
+#[derive(Clone, Copy)]
 pub enum Fit {
     Number(u16),
     Unknown,

@@ -165,7 +165,8 @@ module _ (r s : Reading) (er : r ≡ s) (p : ℕ) where
 
 -- ---- the loop
 module _ (look : List ℕ → Value) (t : List ℕ) (at stop next p : ℕ) (m k : List ℕ) (here : LineAt t at stop next)
-    (e : k ≡ image_of (statements_at p (line_of look (line_at t at stop))) m) (b : Bool) (eb : b ≡ end? (line_of look (line_at t at stop))) where
+    (e : k ≡ image_of (statements_at p (line_of look (line_at t at stop))) m) (b : Bool)
+    (eb : b ≡ end? (line_of look (line_at t at stop))) where
   pub store-end : b ≡ true → k ≡ image_of (placed_from look (lines_of (drop at t)) p) m
   store-end h = e ∙ image-end look t at stop next p m here (sym eb ∙ h)
 

@@ -1,4 +1,6 @@
 // The image of a source: the bytes of each statement at its place, in the order of the lines.
+#![tactic(auto)]
+
 ghost use Rattle.std.specs.Prelude.{◌≡◌, length};
 ghost use Rattle.std.proofs.lemmas.List.Edits.{sets};
 ghost use Rattle.asm_text.specs.Text.{look_up_at};
@@ -11,7 +13,7 @@ use asm_fits::Fit;
 use asm_line::{Reading, Statement};
 
 // The place after a line, and whether the line is END.
-#[derive(Drop)]
+#[derive(Clone, Copy)]
 pub struct Stored {
     pub place: u32,
     pub end: bool,

@@ -27,17 +27,22 @@ use Rattle.asm_labels.proofs.Labels.{names-placed}
 no_fault : (verdict_of sample).refusal ≡ 0
 unfolding fitted applied joined blank? letter? name_byte? digit_of digit? span after numeral word same look_up meaning branches operations
     unaries moves valued_words other_words keywords registers conditions emulated words word_of free? register_of digits_at name_at plain_at
-    closed named? plus? times? chain parts_of factor_with factor_of value_of answer_of over? word_below register_at width_at value_at nameless?
-    number? comma? comma_register residue_of within_of fit_of way_of steps_of with_value one_value equate move_byte statement_with statement_of
-    statement_at after_name line_from line_of number_of layout_of misplaced? used_of onward next_of place_value name_value form_from first_of named_of
+    closed named? plus? times? chain parts_of factor_with factor_of value_of answer_of over? word_below register_at width_at value_at
+    nameless?
+    number? comma? comma_register residue_of within_of fit_of way_of steps_of with_value one_value equate move_byte statement_with
+    statement_of
+    statement_at after_name line_from line_of number_of layout_of misplaced? used_of onward next_of place_value name_value form_from
+    first_of named_of
     table_from place_after uses_from least_of verdict_for verdict_of lines_of encode_of
 no_fault = refl
 
 given-are : given_of sample ≡ given (ascii "L") 256 (MovImm 3 false (Known (pos 256)) 0) ∷ []
 unfolding fitted applied joined blank? letter? name_byte? digit_of digit? span after numeral word same look_up meaning branches operations
     unaries moves valued_words other_words keywords registers conditions emulated words word_of free? register_of digits_at name_at plain_at
-    closed named? plus? times? chain parts_of factor_with factor_of value_of answer_of over? word_below register_at width_at value_at nameless?
-    number? comma? comma_register with_value one_value equate move_byte statement_with statement_of statement_at after_name line_from line_of
+    closed named? plus? times? chain parts_of factor_with factor_of value_of answer_of over? word_below register_at width_at value_at
+    nameless?
+    number? comma? comma_register with_value one_value equate move_byte statement_with statement_of statement_at after_name line_from
+    line_of
     layout_of onward next_of place_value name_value first_of named_of table_from place_after given_from lines_of
 given-are = refl
 

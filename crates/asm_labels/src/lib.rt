@@ -1,1 +1,2 @@
 // Theorem about the names of the assembler: specs/Labels.antt.
+#![tactic(auto)]

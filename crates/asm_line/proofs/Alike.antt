@@ -128,7 +128,8 @@ module _ (U : Value → Value → Type 0) (O : Statement → Statement → Type 
     unfolding conditional
     conditional-alike i = alike-having (condition_at s i) _ _
         (λ c j. alike-valued (comma_value f s j) (comma_value f' s j) _ _ (same-comma j)
-        (λ t u k g. alike-valued (comma_value f s k) (comma_value f' s k) _ _ (same-comma k) (λ v w l h. (refl, R.of-counts c t u v w g h))))
+        (λ t u k g. alike-valued (comma_value f s k) (comma_value f' s k) _ _ (same-comma k)
+        (λ v w l h. (refl, R.of-counts c t u v w g h))))
 
     move-byte : (op i : ℕ) → Alike (move_byte f s op i) (move_byte f' s op i)
     unfolding move_byte

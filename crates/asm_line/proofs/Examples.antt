@@ -9,10 +9,33 @@ use Rattle.asm_value.specs.declared.Value.TheVariants.{Known, Unknown}
 use Rattle.asm_value.specs.Value.{fitted, applied, joined}
 use Rattle.asm_text.specs.Text.{ascii, blank?, letter?, name_byte?, digit_of, digit?, span, after, numeral, word, same}
 use Rattle.asm_words.specs.Words.{meaning, branches, operations, unaries, moves, valued_words, other_words, keywords, registers, conditions}
-use Rattle.asm_words.specs.Words.{emulated, words, word_of, free?, register_of, condition_of, flags, flag_of, with_bit, flags_from, flags_of}
+use Rattle.asm_words.specs.Words.{
+  emulated,
+  words,
+  word_of,
+  free?,
+  register_of,
+  condition_of,
+  flags,
+  flag_of,
+  with_bit,
+  flags_from,
+  flags_of,
+}
 use Rattle.asm_expr.specs.Grammar.{named?, digits_at, name_at, plain_at, closed, plus?, times?, chain, parts_of, factor_with, factor_of}
 use Rattle.asm_expr.specs.Meaning.{value_of, answer_of}
-use Rattle.asm_operands.specs.Operands.{over?, word_below, register_at, condition_at, flags_at, width_at, value_at, nameless?, number?, comma?}
+use Rattle.asm_operands.specs.Operands.{
+  over?,
+  word_below,
+  register_at,
+  condition_at,
+  flags_at,
+  width_at,
+  value_at,
+  nameless?,
+  number?,
+  comma?,
+}
 use Rattle.asm_operands.specs.Operands.{comma_register, comma_value, changed_after, address_at, comma_address}
 use Rattle.asm_line.specs.declared.Statement.TheVariants.{Nothing, Equ, Fixed, Constant, Cex, MovImm}
 use Rattle.asm_line.specs.declared.Reading.{Reading}
@@ -67,9 +90,12 @@ pub lines :
     -- a comment holds any bytes
     × (reads (59 ∷ 13 ∷ 128 ∷ []) ≡ Line false 0 Nothing)
 unfolding fitted applied joined blank? letter? name_byte? digit_of digit? span after numeral word same meaning branches operations unaries
-    moves valued_words other_words keywords registers conditions emulated words word_of free? register_of condition_of flags flag_of with_bit
-    flags_from flags_of named? digits_at name_at plain_at closed plus? times? chain parts_of factor_with factor_of value_of answer_of over? word_below
-    register_at condition_at flags_at width_at value_at nameless? number? comma? comma_register comma_value changed_after address_at comma_address
+    moves valued_words other_words keywords registers conditions emulated words word_of free? register_of condition_of flags flag_of
+    with_bit
+    flags_from flags_of named? digits_at name_at plain_at closed plus? times? chain parts_of factor_with factor_of value_of answer_of
+    over? word_below
+    register_at condition_at flags_at width_at value_at nameless? number? comma? comma_register comma_value changed_after address_at
+    comma_address
     with_value one_value equate arithmetic move exchange unary one_register on_flags conditional load store move_byte load_relative
     store_relative statement_with statement_of statement_at after_name line_from line_of
 lines = (

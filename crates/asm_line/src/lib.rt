@@ -1,6 +1,8 @@
 // A line of a source: its name, its statement with the values of its names, and whether it fits the
 // language at all. The bytes of the line alone decide (a slice without the line's end); the table
 // of names is three slices.
+#![tactic(auto)]
+
 ghost use Rattle.std.specs.Prelude.{◌≡◌};
 ghost use Rattle.asm_text.specs.Text.{look_up_at};
 ghost use Rattle.asm_operands.specs.declared.Found.TheVariants.{Missing};
@@ -19,7 +21,7 @@ use asm_words::{Keyword, Valued, Word};
 use isa::Instr;
 
 // A statement with its values.
-#[derive(Drop)]
+#[derive(Clone, Copy)]
 pub enum Statement {
     // no statement
     Nothing,
@@ -79,7 +81,7 @@ pub enum Statement {
 }
 
 // A statement and the place after it, or none that fits (17).
-#[derive(Drop)]
+#[derive(Clone, Copy)]
 pub enum Stated {
     Fits(Statement, usize),
     Misfit,
@@ -87,7 +89,7 @@ pub enum Stated {
 
 // A line: whether it has a name, the place of its first byte that is no blank, where the name
 // stands if it has one, and its statement; or a line that fits no statement (17).
-#[derive(Drop)]
+#[derive(Clone, Copy)]
 pub enum Reading {
     Line {
         named: bool,

@@ -1,6 +1,8 @@
 // What may stand between a statement's word and the end of its line: registers, values, flags, a
 // condition, an address. Places are of one line's bytes, a slice without the line's end; the table
 // of names is three slices.
+#![tactic(auto)]
+
 ghost use Rattle.std.specs.Prelude.{◌≡◌};
 ghost use Rattle.asm_text.specs.Text.{look_up_at};
 ghost use Rattle.asm_operands.specs.Operands.{over?, register_at, condition_at};
@@ -12,14 +14,14 @@ use asm_expr::Answer;
 use asm_value::Value;
 
 // A number that a word or its absence stands for, and the place after it.
-#[derive(Drop)]
+#[derive(Clone, Copy)]
 pub enum Found {
     At(u8, usize),
     Missing,
 }
 
 // The address of LD and ST, with the fields of its instruction, and the place after it.
-#[derive(Drop)]
+#[derive(Clone, Copy)]
 pub enum Address {
     Of {
         prpo: u8,

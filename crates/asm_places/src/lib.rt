@@ -1,6 +1,8 @@
 // What stands where in a source: a record of eight bytes for each line up to and with END, written
 // after the whole source has been judged as the assembler judges it. The buffer lent for them is
 // `list` here: `places` are those of the names in the source, as in the crates below.
+#![tactic(auto)]
+
 ghost use Rattle.std.specs.Prelude.{◌≡◌, ◌+◌, ◌≤◌, length};
 ghost use Rattle.std.proofs.lemmas.List.Edits.{sets};
 ghost use Rattle.asm_text.specs.Text.{look_up_at};
@@ -82,7 +84,7 @@ fn put(list: &mut [u8], i: usize, n: u32, kind: u8, size: u8, named: bool)
 }
 
 // After a line: the place, where the next record goes, and whether the line is END.
-#[derive(Drop)]
+#[derive(Clone, Copy)]
 pub struct Moved {
     pub place: u32,
     pub at: usize,

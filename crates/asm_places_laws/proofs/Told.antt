@@ -39,7 +39,18 @@ use Rattle.asm_theorems.specs.Theorems.{Accepted}
 use Rattle.asm_theorems.proofs.Accepted.{Good, AllGood, accepted-memory, accepted-whole}
 use Rattle.asm_labels.specs.Labels.{Given, given_at, given_from, given_of, AllValued}
 use Rattle.asm_labels.proofs.Labels.{names-placed}
-use Rattle.asm_places.specs.Listing.{Listed, listed_at, listed_from, listed_of, bits_of, value_bits, number_at, eight_of, record_of, records_of}
+use Rattle.asm_places.specs.Listing.{
+  Listed,
+  listed_at,
+  listed_from,
+  listed_of,
+  bits_of,
+  value_bits,
+  number_at,
+  eight_of,
+  record_of,
+  records_of,
+}
 use Rattle.asm_places.proofs.Laws.{length-records, one-listed, true-false, places-refused, places-accepted}
 use Rattle.asm_places_laws.specs.Theorems.{placed_all, SameStatements, up_to_end, RecordEach, number_in, size_in, written, WritesTold}
 use Rattle.asm_places_laws.specs.Theorems.{AllSized, SizesTold, SameRefusal, RecordsThenKept, AllNumbered, NamesTold}

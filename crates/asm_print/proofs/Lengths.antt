@@ -19,7 +19,18 @@ use Rattle.asm_text.specs.Text.{ascii}
 use Rattle.asm_text.proofs.Laws.{and_parts}
 use Rattle.asm_words.specs.Words.{branches, operations, unaries, moves, conditions}
 use Rattle.asm_print.specs.Print.{name_in, condition_text, register_names, register_text, number_text}
-use Rattle.asm_print.specs.Print.{hex_text, constant_of, letter_if, flags_text, address_text, idle?, with_comma, size_mark, phrase, word_text}
+use Rattle.asm_print.specs.Print.{
+  hex_text,
+  constant_of,
+  letter_if,
+  flags_text,
+  address_text,
+  idle?,
+  with_comma,
+  size_mark,
+  phrase,
+  word_text,
+}
 use Rattle.asm_print.specs.Print.{target_of, branch_text, text_for, text_at}
 
 -- ---- pieces

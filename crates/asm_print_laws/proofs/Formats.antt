@@ -31,7 +31,17 @@ use Rattle.asm_fits.specs.Fits.{count_fit, offset_fit, byte_fit, branch_fit, con
 use Rattle.asm_line.specs.declared.Statement.TheVariants.{Fixed, Constant, SetPri, Svc, Cex, MovImm, Ldr, Str}
 use Rattle.asm_line.specs.Statement.{with_value, statement_with, statement_of}
 use Rattle.asm_write.specs.Written.{coded_both, layout_of, number_of}
-use Rattle.asm_print.specs.Print.{name_in, condition_text, register_text, number_text, hex_text, constant_of, flags_text, address_text, idle?}
+use Rattle.asm_print.specs.Print.{
+  name_in,
+  condition_text,
+  register_text,
+  number_text,
+  hex_text,
+  constant_of,
+  flags_text,
+  address_text,
+  idle?,
+}
 use Rattle.asm_print.specs.Print.{with_comma, target_of, phrase, text_for, text_at}
 use Rattle.asm_print_laws.specs.Theorems.{TextSays}
 use Rattle.asm_print_laws.proofs.Pieces.{condition-spells, flags-spells, branch-spells, operation-spells, unary-spells}
@@ -211,7 +221,8 @@ module _ (look : List ℕ → Value) (p w : ℕ) (h : w < 65536) where
         (mnemonic-line look (ascii "LD") key.Ld wb t (Fixed j) mnemonics.ld
         (λ s k b. loads s k prpo dec inc wb src dst hp hc hi hw hs hd q b))
         (phrase-plain (ascii "LD") wb t mnemonics.ld.names
-        (with-comma-plain (address_text prpo dec inc src) (register_text dst) (address_plain prpo dec inc src hs) (register-plain dst hd)))))
+        (with-comma-plain (address_text prpo dec inc src) (register_text dst) (address_plain prpo dec inc src hs)
+        (register-plain dst hd)))))
 
     st-whole : encode_of (i.St prpo dec inc wb src dst) ≡ e.Word w → Whole look p w (text_for p w (i.St prpo dec inc wb src dst))
     unfolding text_for statement_of statement_with
@@ -223,7 +234,8 @@ module _ (look : List ℕ → Value) (p w : ℕ) (h : w < 65536) where
         (mnemonic-line look (ascii "ST") key.St wb t (Fixed j) mnemonics.st
         (λ s k b. stores s k prpo dec inc wb src dst hp hc hi hw hs hd q b))
         (phrase-plain (ascii "ST") wb t mnemonics.st.names
-        (with-comma-plain (register_text src) (address_text prpo dec inc dst) (register-plain src hs) (address_plain prpo dec inc dst hd)))))
+        (with-comma-plain (register_text src) (address_text prpo dec inc dst) (register-plain src hs)
+        (address_plain prpo dec inc dst hd)))))
 
   immediate-whole : (op n dst : ℕ) → op < 4 → n < 256 → dst < 8 → encode_of (i.MovImm op n dst) ≡ e.Word w
       → Whole look p w (text_for p w (i.MovImm op n dst))

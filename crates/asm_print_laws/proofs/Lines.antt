@@ -141,7 +141,8 @@ module _ (look : List ℕ → Value) (p w : ℕ) where
       mnemonic-line look l (key.Value m) 0 (hex_text 4 t) (with_value m (Known (pos t))) h (λ s i b. one-hex look s i m t g b)
 
   pub branch-whole : (l : List ℕ) (m : Valued) (off : ℤ) → w < 65536 → Spells word_of l (Begins (key.Value m))
-      → layout_of (with_value m (Known (pos (target_of p off)))) ≡ Bytes 2 → number_of p (with_value m (Known (pos (target_of p off)))) ≡ Number w
+      → layout_of (with_value m (Known (pos (target_of p off)))) ≡ Bytes 2 → number_of p (with_value m (Known (pos (target_of p off))))
+      ≡ Number w
       → Whole look p w (branch_text l p w off)
   unfolding branch_text
   branch-whole l m off hw h a n =

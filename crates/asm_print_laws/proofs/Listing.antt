@@ -25,7 +25,19 @@ use Rattle.asm_line.specs.Statement.{with_value, statement_with, statement_of}
 use Rattle.asm_line.specs.Line.{line_of}
 use Rattle.asm_write.specs.declared.Layout.{Layout}
 use Rattle.asm_write.specs.declared.Layout.TheVariants.{Bytes}
-use Rattle.asm_write.specs.Written.{number_of, layout_of, size_of, misplaced?, placed, used_of, bytes_for, bytes_with, bytes_of, onward, next_of}
+use Rattle.asm_write.specs.Written.{
+  number_of,
+  layout_of,
+  size_of,
+  misplaced?,
+  placed,
+  used_of,
+  bytes_for,
+  bytes_with,
+  bytes_of,
+  onward,
+  next_of,
+}
 use Rattle.asm_sweeps.specs.declared.Tally.{Tally}
 use Rattle.asm_sweeps.specs.Form.{no_names, form_from}
 use Rattle.asm_sweeps.specs.Places.{Table, table_from}
@@ -63,7 +75,8 @@ origin-plain : (p : ℕ) → Plain (origin_text p)
 unfolding origin_text
 origin-plain p = (omega arith, (omega arith, (omega arith, (omega arith, hex-plain 4 p))))
 
-pub source_lines : (p : ℕ) (ws : List ℕ) → Words ws → lines_of (lines.text_of (origin_text p ∷ listing_of p ws)) ≡ origin_text p ∷ listing_of p ws
+pub source_lines : (p : ℕ) (ws : List ℕ) → Words ws → lines_of (lines.text_of (origin_text p ∷ listing_of p ws))
+    ≡ origin_text p ∷ listing_of p ws
 source_lines p ws h = lines-text (origin_text p ∷ listing_of p ws) (origin-plain p, listing-plain p ws h)
 
 -- ---- the first sweep

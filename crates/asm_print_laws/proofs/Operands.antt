@@ -21,7 +21,18 @@ use Rattle.asm_expr.specs.Meaning.{value_of, answer_of}
 use Rattle.asm_expr.proofs.Laws.{factor-plain}
 use Rattle.asm_operands.specs.declared.Found.{Found}
 use Rattle.asm_operands.specs.declared.Found.TheVariants.{At, Missing}
-use Rattle.asm_operands.specs.Operands.{over?, word_below, register_at, condition_at, flags_at, width_at, value_at, nameless?, number?, comma?}
+use Rattle.asm_operands.specs.Operands.{
+  over?,
+  word_below,
+  register_at,
+  condition_at,
+  flags_at,
+  width_at,
+  value_at,
+  nameless?,
+  number?,
+  comma?,
+}
 use Rattle.asm_operands.specs.Operands.{comma_register, comma_value, changed_before, changed_after, address_at}
 use Rattle.asm_operands.specs.declared.Address.{Address}
 use Rattle.asm_operands.specs.declared.Address.TheVariants.{Of}

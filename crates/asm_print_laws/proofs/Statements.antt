@@ -28,7 +28,17 @@ use Rattle.asm_operands.specs.Operands.{over?, register_at, comma_register, comm
 use Rattle.asm_line.specs.Statement.{with_value, one_value, arithmetic, move, exchange, unary, one_register}
 use Rattle.asm_line.specs.Statement.{on_flags, conditional, load, store, move_byte, load_relative, store_relative, statement_of}
 use Rattle.asm_line.specs.Line.{statement_at, line_from, line_of}
-use Rattle.asm_print.specs.Print.{condition_text, register_text, number_text, hex_text, flags_text, address_text, idle?, with_comma, size_mark}
+use Rattle.asm_print.specs.Print.{
+  condition_text,
+  register_text,
+  number_text,
+  hex_text,
+  flags_text,
+  address_text,
+  idle?,
+  with_comma,
+  size_mark,
+}
 use Rattle.asm_print_laws.proofs.Here.{Ends, low-name, word-all, first_of, first-all, here-past, here-after, begins, begins-blank}
 use Rattle.asm_print_laws.proofs.Pieces.{Spells}
 use Rattle.asm_print_laws.proofs.Operands.{FoundAt, ValueAt, Clear, width_read, first-register, first-condition, first-flags}

@@ -1,5 +1,7 @@
 // A word's text: its parts by the ranges of the decoder, then their bytes at the start of a lent
 // buffer.
+#![tactic(auto)]
+
 ghost use Rattle.std.specs.Prelude.{◌≡◌, cond, [], ◌∷◌, ◌++◌, ◌+◌, ◌*◌, ◌/◌, ◌%◌, ◌≤◌, ◌<◌, eqb, pos, length};
 ghost use Rattle.std.proofs.lemmas.List.Edits.{sets};
 ghost use Rattle.word.specs.Offset.{signed_of};
@@ -50,7 +52,7 @@ const WORD: u64 = 0x574F5244;
 
 // A statement in parts: the spellings of its mnemonic and operands, 0 for no operand, and whether
 // it is a byte form.
-#[derive(Drop)]
+#[derive(Clone, Copy)]
 pub struct Parts {
     pub mnemonic: u64,
     pub wb: u16,

@@ -1,5 +1,7 @@
 // The sweeps over the lines of a source that judge it: form; names and places; uses. The names go
 // into a lent table: where each starts in the source, its key and its value.
+#![tactic(auto)]
+
 ghost use Rattle.std.specs.Prelude.{◌≡◌, ◌<◌, length, drop};
 ghost use Rattle.asm_text.specs.Text.{word, look_up_at};
 ghost use Rattle.asm_line.specs.Line.{line_of};
@@ -18,7 +20,7 @@ use asm_write::{Layout, Next};
 
 // How far a sweep has come: the number of names given, the place and the line's number; and the
 // first lines at fault with 18 and with 19, 0 where none is.
-#[derive(Drop)]
+#[derive(Clone, Copy)]
 pub struct Tally {
     pub count: usize,
     pub place: u32,
@@ -28,7 +30,7 @@ pub struct Tally {
 }
 
 // A refusal, 0 for none, and the line at fault.
-#[derive(Drop)]
+#[derive(Clone, Copy)]
 pub struct Verdict {
     pub refusal: u8,
     pub line: u64,
@@ -148,7 +150,7 @@ pub fn is_stop(l: Layout) -> bool
 }
 
 // Whether a line fits no statement, and whether it is END.
-#[derive(Drop)]
+#[derive(Clone, Copy)]
 pub struct Shape {
     pub fault: bool,
     pub end: bool,
@@ -205,7 +207,7 @@ pub fn form(source: &[u8]) -> u64
 }
 
 // A tally after a line, and whether the line is END.
-#[derive(Drop)]
+#[derive(Clone, Copy)]
 pub struct Noted {
     pub tally: Tally,
     pub end: bool,

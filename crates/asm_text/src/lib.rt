@@ -1,5 +1,7 @@
 // The assembler's text: blanks, digits, words and names of a source, read at a place. A place past
 // the end reads as the byte 0, which is no blank, no digit and no letter.
+#![tactic(auto)]
+
 ghost use Rattle.std.specs.Prelude.{◌≡◌, ◌+◌, ◌*◌, ◌%◌, ◌≤◌, ◌<◌, ◌^◌, min, ◌&&◌, eqb, drop};
 ghost use Rattle.asm_text.specs.Text.{byte_at, blank?, letter?, name_byte?};
 ghost use Rattle.asm_text.specs.Text.{digit_of, after, digit?, numeral};
@@ -81,7 +83,7 @@ pub fn name_end(s: &[u8], at: usize) -> usize
 }
 
 // Digits that were read: what they say, cut at 2^32, and the place after them.
-#[derive(Drop)]
+#[derive(Clone, Copy)]
 pub struct Numeral {
     pub size: u64,
     pub next: usize,
@@ -119,7 +121,7 @@ pub fn read_digits(s: &[u8], at: usize, base: u64) -> Numeral
 }
 
 // A word that was read: its spelling as one number, its key, and the place after it.
-#[derive(Drop)]
+#[derive(Clone, Copy)]
 pub struct Token {
     pub spelled: u64,
     pub key: u32,

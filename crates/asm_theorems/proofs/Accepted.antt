@@ -119,7 +119,8 @@ module _ (m s : List ℕ) where
 
   -- the answer by its test
   taken : (b : Bool) → eqb v.refusal 0 ≡ b
-      → assemble_call_of m s ≡ cond b (assembled (assemble_reply v) (image_of (placed_of (names_of s) s) m)) (assembled (assemble_reply v) m)
+      → assemble_call_of m s ≡ cond b (assembled (assemble_reply v) (image_of (placed_of (names_of s) s) m))
+      (assembled (assemble_reply v) m)
   unfolding v assemble_call_of
   taken b q =
       ap (λ (x : Bool). cond x (assembled (assemble_reply v) (image_of (placed_of (names_of s) s) m)) (assembled (assemble_reply v) m)) q

@@ -40,9 +40,12 @@ use Rattle.asm_theorems.proofs.Decoded.{words-decode}
 no_fault : verdict_of sample ≡ verdict 0 0
 unfolding fitted applied joined blank? letter? name_byte? digit_of digit? span after numeral word same look_up meaning branches operations
     unaries moves valued_words other_words keywords registers conditions emulated words word_of free? register_of digits_at name_at plain_at
-    closed named? plus? times? chain parts_of factor_with factor_of value_of answer_of over? word_below register_at width_at value_at nameless?
-    number? comma? comma_register residue_of within_of fit_of way_of steps_of with_value one_value equate move_byte statement_with statement_of
-    statement_at after_name line_from line_of number_of layout_of misplaced? used_of onward next_of place_value name_value form_from first_of named_of
+    closed named? plus? times? chain parts_of factor_with factor_of value_of answer_of over? word_below register_at width_at value_at
+    nameless?
+    number? comma? comma_register residue_of within_of fit_of way_of steps_of with_value one_value equate move_byte statement_with
+    statement_of
+    statement_at after_name line_from line_of number_of layout_of misplaced? used_of onward next_of place_value name_value form_from
+    first_of named_of
     table_from place_after uses_from least_of verdict_for verdict_of lines_of encode_of
 no_fault = refl
 
@@ -51,8 +54,10 @@ placed-are : placed_of (names_of sample) sample
     ∷ placing 258 (Branch 7 (v.Known (pos 256))) ∷ placing 260 End ∷ []
 unfolding fitted applied joined blank? letter? name_byte? digit_of digit? span after numeral word same look_up meaning branches operations
     unaries moves valued_words other_words keywords registers conditions emulated words word_of free? register_of digits_at name_at plain_at
-    closed named? plus? times? chain parts_of factor_with factor_of value_of answer_of over? word_below register_at width_at value_at nameless?
-    number? comma? comma_register with_value one_value equate move_byte statement_with statement_of statement_at after_name line_from line_of
+    closed named? plus? times? chain parts_of factor_with factor_of value_of answer_of over? word_below register_at width_at value_at
+    nameless?
+    number? comma? comma_register with_value one_value equate move_byte statement_with statement_of statement_at after_name line_from
+    line_of
     layout_of onward next_of place_value name_value first_of named_of table_from place_after placed_from lines_of
 placed-are = refl
 

@@ -102,7 +102,8 @@ word_of x n e = let f = fit_of_lem 32768 65536 x n e in (f.0, f.1, f.3)
 
 -- the byte of MOVL to MOVH
 immediate-by : (op : ℕ) (number last : Bool) (x : Value) (n : ℕ) → eqb op 3 ≡ last
-    → cond number (byte_fit x) (cond last (map_fit (λ (k : ℕ). k / 256) (word_fit x)) (map_fit (λ (k : ℕ). k % 256) (word_fit x))) ≡ Number n
+    → cond number (byte_fit x) (cond last (map_fit (λ (k : ℕ). k / 256) (word_fit x)) (map_fit (λ (k : ℕ). k % 256) (word_fit x)))
+    ≡ Number n
     → (z : ℤ) × (x ≡ v.Known z) × (n ≡ cond (not number && last) (residue_of z / 256) (residue_of z % 256)) × (n < 256)
 immediate-by op true last x n q e =
     let f = byte_of x n e in

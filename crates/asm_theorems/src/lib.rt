@@ -1,1 +1,2 @@
 // Theorems about the definitions of the assembler: specs/Theorems.antt.
+#![tactic(auto)]

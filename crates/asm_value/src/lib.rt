@@ -1,12 +1,14 @@
 // Values of the assembler's expressions: 32 signed bits, or why there is none. A name that is not
 // known (18) comes before a value outside 32 bits (19), whatever the order in which an expression
 // meets them.
+#![tactic(auto)]
+
 ghost use Rattle.std.specs.Prelude.{◌≡◌, ◌≤◌, ◌^◌};
 ghost use Rattle.std.specs.Int.Signed.{mag};
 ghost use Rattle.asm_value.specs.Value.{fitted, with_sign, applied, joined};
 
 // A value; a name without one (18); a value outside 32 bits or a division by zero (19).
-#[derive(Drop)]
+#[derive(Clone, Copy)]
 pub enum Value {
     Known(i32),
     Unknown,

@@ -284,7 +284,8 @@ abbrev numbered : String × Word → Word
 numbered r = word_at (number_of r.1)
 
 numbers-say : map numbered words ≡ map says words
-unfolding word_at nth_of groups valued_at plain_at number_of key_number valued_number words keywords valued_words branches operations unaries
+unfolding word_at nth_of groups valued_at plain_at number_of key_number valued_number words keywords valued_words branches operations
+    unaries
     moves other_words registers conditions emulated
 numbers-say = refl
 

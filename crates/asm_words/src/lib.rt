@@ -1,6 +1,8 @@
 // Words of the language: what a word begins, the number of a register or a condition, flags. A word
 // is looked up by its spelling as one number, its bytes in base 256; a row of a table is that
 // number times 256, and then what the word stands for, by number.
+#![tactic(auto)]
+
 ghost use Rattle.std.specs.Prelude.{◌≡◌, ◌≤◌, ◌<◌, drop};
 ghost use Rattle.asm_text.specs.Text.{word};
 ghost use Rattle.asm_words.specs.Rows.{number_in, Says, valued_at, plain_at, groups, nth_of, word_at};
@@ -8,7 +10,7 @@ ghost use Rattle.asm_words.specs.Words.{word_of, free?, register_of, condition_o
 ghost use Rattle.asm_words.specs.Words.{flag_of, with_bit, flags_of};
 
 // What begins a statement of one value: a branch by its condition field, and others.
-#[derive(Drop)]
+#[derive(Clone, Copy)]
 pub enum Valued {
     Org,
     Bss,
@@ -21,7 +23,7 @@ pub enum Valued {
 }
 
 // What begins a statement.
-#[derive(Drop)]
+#[derive(Clone, Copy)]
 pub enum Keyword {
     // one value follows
     Value(Valued),
@@ -48,7 +50,7 @@ pub enum Keyword {
 }
 
 // What a word is.
-#[derive(Drop)]
+#[derive(Clone, Copy)]
 pub enum Word {
     // no word of the language: it may be a name
     Free,

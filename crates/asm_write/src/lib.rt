@@ -1,4 +1,6 @@
 // What a statement puts into memory at a place, and where the next statement stands.
+#![tactic(auto)]
+
 ghost use Rattle.std.specs.Prelude.{◌≡◌, ◌<◌};
 ghost use Rattle.isa.specs.Encode.{encode_of};
 ghost use Rattle.asm_line.specs.declared.Statement.TheVariants as s;
@@ -13,7 +15,7 @@ use isa::{Encoded, Instr};
 use word::signed;
 
 // What a statement does to the place: it has so many bytes, or a value, or it stops the source.
-#[derive(Drop)]
+#[derive(Clone, Copy)]
 pub enum Layout {
     Bytes(u8),
     // ORG
@@ -27,7 +29,7 @@ pub enum Layout {
 }
 
 // The place after a statement, or an unknown name (18), or no place (19).
-#[derive(Drop)]
+#[derive(Clone, Copy)]
 pub enum Next {
     Place(u32),
     Unknown,

@@ -78,7 +78,8 @@ rest_from b at = events_from b at (event_count b - at)
 module _ (b : List ℕ) (k : ℕ) where
   -- a record of another step is passed over, and so are n of them
   skip-one :
-      (at n : ℕ) (s : State) → (step_at b at ≡ k → ⊥) → deliver_at k (events_from b at (suc n)) s ≡ deliver_at k (events_from b (suc at) n) s
+      (at n : ℕ) (s : State) → (step_at b at ≡ k → ⊥) → deliver_at k (events_from b at (suc n)) s
+      ≡ deliver_at k (events_from b (suc at) n) s
   unfolding events_from deliver_at
   skip-one at n s h =
       ap (λ (x : Bool). deliver_at k (events_from b (suc at) n) (cond x (event_on (event_at b at) s) s)) (ne_eqb (step_at b at) k h)

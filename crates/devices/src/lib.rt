@@ -1,4 +1,6 @@
 // Events: each is applied on its step, by an index into the list that only moves forward.
+#![tactic(auto)]
+
 ghost use Rattle.std.specs.Prelude.{◌≡◌, Bool, true, ℕ, ◌+◌, ◌*◌, ◌^◌, ◌<◌, ◌≤◌, length};
 ghost use Rattle.machine.specs.State.{Core};
 ghost use Rattle.machine.specs.Memory.{commit};
@@ -11,7 +13,7 @@ ghost use Rattle.devices.specs.Cursor.{Behind, Ordered, state_from};
 use machine::Lines;
 
 // The lines after an event or a list of them, and the index of the first record not yet due.
-#[derive(Drop)]
+#[derive(Clone, Copy)]
 pub struct Delivered {
     pub lines: Lines,
     pub next: usize,

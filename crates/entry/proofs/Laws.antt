@@ -1,11 +1,46 @@
 -- Vectors, the best line, frames and returns over plain lists and numbers: each law takes what the code's calls give, in
 -- their order. Assumes nothing.
-use Rattle.std.proofs.Common.{◌≡◌, ℕ, suc, ◌+◌, ◌-◌, ◌*◌, ◌/◌, ◌%◌, ◌<◌, ◌≤◌, Bool, cond, ◌||◌, List, ◌++◌, get_or, set, sym, refl, ap, ◌∙◌, arith}
+use Rattle.std.proofs.Common.{
+  ◌≡◌,
+  ℕ,
+  suc,
+  ◌+◌,
+  ◌-◌,
+  ◌*◌,
+  ◌/◌,
+  ◌%◌,
+  ◌<◌,
+  ◌≤◌,
+  Bool,
+  cond,
+  ◌||◌,
+  List,
+  ◌++◌,
+  get_or,
+  set,
+  sym,
+  refl,
+  ap,
+  ◌∙◌,
+  arith,
+}
 use Rattle.word.specs.Psw.{current, faulted?}
 use Rattle.machine.specs.State.{Core, core_of, lr, sp, pc, wrap, down}
 use Rattle.machine.specs.Memory.{byte_at, word_at, first_byte, low_byte, high_byte, word_writes, commit}
 use Rattle.machine.specs.Devices.{waiting}
-use Rattle.machine.specs.Entry.{vector_psw, vector_pc, better, best_from, entered_psw, vectored, pushed, pushes, pulled_psw, pulled_cex, pulled}
+use Rattle.machine.specs.Entry.{
+  vector_psw,
+  vector_pc,
+  better,
+  best_from,
+  entered_psw,
+  vectored,
+  pushed,
+  pushes,
+  pulled_psw,
+  pulled_cex,
+  pulled,
+}
 use Rattle.machine.specs.Step.{entered}
 use Rattle.machine_laws.proofs.Memory.{commit-append}
 

@@ -1,5 +1,26 @@
 -- The line above a priority: each law takes what the code's calls give, in their order. Assumes nothing.
-use Rattle.std.proofs.Common.{◌≡◌, ℕ, ◌<◌, ◌≤◌, Bool, true, false, cond, ◌&&◌, ltb, List, sym, refl, ap, ◌∙◌, subst, arith, ltb-true, le-ltb, lt-ltb}
+use Rattle.std.proofs.Common.{
+  ◌≡◌,
+  ℕ,
+  ◌<◌,
+  ◌≤◌,
+  Bool,
+  true,
+  false,
+  cond,
+  ◌&&◌,
+  ltb,
+  List,
+  sym,
+  refl,
+  ap,
+  ◌∙◌,
+  subst,
+  arith,
+  ltb-true,
+  le-ltb,
+  lt-ltb,
+}
 use mathlib.Core.Bool.{and-false}
 use Rattle.machine.specs.Entry.{priority, best_from, best, above}
 use Rattle.machine_laws.proofs.Cases.{bool_cases, and_left, and_both}

@@ -1,4 +1,6 @@
 // Vectors, the best waiting line, entry and return, over the registers lent.
+#![tactic(auto)]
+
 ghost use Rattle.std.specs.Prelude.{◌≡◌, ℕ, ◌+◌, ◌*◌, ◌<◌, ◌≤◌, length, slice_set};
 ghost use Rattle.machine.specs.State.{core_of, down};
 ghost use Rattle.machine.specs.Memory.{word_at, word_writes, commit};
@@ -10,7 +12,7 @@ ghost use Rattle.entry.specs.Lines.{line_above};
 use machine::{ByteAddr, Lines};
 
 // A pulled PSW and CEX state.
-#[derive(Drop)]
+#[derive(Clone, Copy)]
 pub struct Pulled {
     pub psw: u16,
     pub cex: u16,

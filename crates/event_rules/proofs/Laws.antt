@@ -28,7 +28,8 @@ verdict? zero (x ∷ xs) = x.verdict
 verdict? (suc k) (x ∷ xs) = verdict? k xs
 
 -- rule k holds, so the first that is broken comes after it; rule k is broken, and none before it
-pub holds : (k : ℕ) (xs : List Rule) {v : Verdict} → v ≡ first_broken (drop k xs) → broken? k xs ≡ false → v ≡ first_broken (drop (suc k) xs)
+pub holds : (k : ℕ) (xs : List Rule) {v : Verdict} → v ≡ first_broken (drop k xs) → broken? k xs ≡ false → v
+    ≡ first_broken (drop (suc k) xs)
 holds k [] e h = e ∙ ap first_broken (drop-nil k)
 holds zero (x ∷ xs) e h = e ∙ ap (λ t. cond t x.verdict (first_broken xs)) h
 holds (suc k) (x ∷ xs) e h = holds k xs e h

@@ -1,5 +1,7 @@
 // The rules of an event list: its length, the fields of its records, their order, twins; and the first
 // of them that a list breaks.
+#![tactic(auto)]
+
 ghost use Rattle.std.specs.Prelude.{◌≡◌, true, false, cond, List, ℕ, suc, ◌+◌, ◌*◌, ◌<◌, ◌≤◌, ltb, length, drop};
 ghost use Rattle.word.specs.Psw.{bit_of, put_bit};
 ghost use Rattle.machine.specs.Events.{event_count};

@@ -14,7 +14,6 @@ use Rattle.alu.specs.declared.Op.{Op}
 use Rattle.alu.specs.declared.Computed.{Computed}
 use Rattle.alu.specs.Alu.{alu_of}
 use Rattle.isa.specs.declared.Instr.{Instr}
-use Rattle.isa.specs.declared.Instr.TheVariants as Instr
 use Rattle.machine.specs.declared.Access.{Access}
 use Rattle.machine.specs.declared.Access.TheVariants.{Nothing}
 use Rattle.machine.specs.State.{Core, core_of, put, moved, doubled, with_psw}

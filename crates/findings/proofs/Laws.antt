@@ -1,6 +1,42 @@
 -- What is found is nine blocks of sixteen bytes, one for each kind: a store of sixteen bytes at a block's place replaces that block alone,
 -- and byte 8 of a block says whether its kind was found, so that what was told first of a kind stays. Assumes nothing.
-use Rattle.std.proofs.Common.{◌≡◌, ℕ, zero, suc, ◌+◌, ◌*◌, ◌/◌, ◌%◌, ◌^◌, ◌<◌, Bool, true, false, cond, not, eqb, List, [], ◌∷◌, ◌++◌, length, get_or, drop, set, sym, refl, ap, ◌∙◌, append-nil, mul_assoc, mul_comm, add_comm, arith, length-set, drop_of_length-le}
+use Rattle.std.proofs.Common.{
+  ◌≡◌,
+  ℕ,
+  zero,
+  suc,
+  ◌+◌,
+  ◌*◌,
+  ◌/◌,
+  ◌%◌,
+  ◌^◌,
+  ◌<◌,
+  Bool,
+  true,
+  false,
+  cond,
+  not,
+  eqb,
+  List,
+  [],
+  ◌∷◌,
+  ◌++◌,
+  length,
+  get_or,
+  drop,
+  set,
+  sym,
+  refl,
+  ap,
+  ◌∙◌,
+  append-nil,
+  mul_assoc,
+  mul_comm,
+  add_comm,
+  arith,
+  length-set,
+  drop_of_length-le,
+}
 use native.Mathlib.Nat.{add-mul-mod_self_right}
 use lib.Seq.{sets, sets-eq, set-get_or}
 use Rattle.stores.proofs.Laws.{sets-before, sets-past}
@@ -97,7 +133,8 @@ stage-start c f l e = record { is = e ∙ joined-blocks c f; sixteen = blocks-si
 told-law : (c : ℕ) (l : List ℕ) (bs : List (List ℕ)) → Stage l bs → (i : ℕ) → i < 9 → (x y y' : Finding) (b : Bool)
     → get_or bs i [] ≡ finding_bytes c x → (b ≡ true → y ≡ y')
     → cond b (cond (eqb (get_or l (16 * i + 8) 0) 0) (sets l (16 * i) (finding_bytes c y)) l) l
-    ≡ joined (set bs i (cond b (cond (eqb (get_or (finding_bytes c x) 8 0) 0) (finding_bytes c y') (finding_bytes c x)) (finding_bytes c x)))
+    ≡ joined (set bs i (cond b (cond (eqb (get_or (finding_bytes c x) 8 0) 0) (finding_bytes c y') (finding_bytes c x))
+    (finding_bytes c x)))
 told-law c l bs g i h x y y' b at same =
     let n : i < length bs = omega (arith, h, g.nine) in
     let flag : get_or l (16 * i + 8) 0 ≡ get_or (finding_bytes c x) 8 0 =

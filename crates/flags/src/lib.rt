@@ -3,13 +3,15 @@
 // `sum`, whose bit 16 is C; `over`, whose bit 15 is V. A byte form's numbers stand there 256 times as
 // large, so that the same bits serve both widths. Bit 18 is for an N that is not of the result that
 // Z is of. The operations that leave them are in crate flags_work.
+#![tactic(auto)]
+
 ghost use Rattle.std.specs.Prelude.{◌≡◌, ℕ, ◌*◌, ◌/◌, ◌%◌, ◌<◌, not};
 ghost use Rattle.machine.specs.Cex.{condition_of, at_least?};
 ghost use Rattle.machine.specs.Effect.{set_flags, clear_flags, taken_of};
 ghost use Rattle.flags.specs.Kept.{held, nothing?, minus?};
 
 // What the flags come from.
-#[derive(Drop)]
+#[derive(Clone, Copy)]
 pub struct Kept {
     pub last: u32,
     pub sum: u32,

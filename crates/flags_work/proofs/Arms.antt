@@ -138,7 +138,8 @@ module _ (byte : Bool) (d s last sum over : ℕ) where
     pub swaps : op ≡ Swpb → Worked op x.value (λ p. held p last sum over)
     unfolding alu_of
     swaps e =
-        worked e (λ p. alu_of Swpb (width_of byte) d s (held p last sum over)) (λ p. refl) (λ p. ap (λ (y : Computed). y.value) (m ∙ is e 0))
+        worked e (λ p. alu_of Swpb (width_of byte) d s (held p last sum over)) (λ p. refl)
+        (λ p. ap (λ (y : Computed). y.value) (m ∙ is e 0))
         (λ p. refl)
 
     pub extends : op ≡ Sxt → Worked op x.value (λ p. held p last sum over)

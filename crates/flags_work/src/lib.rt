@@ -1,5 +1,7 @@
 // Operations of a fast stretch of instructions: each leaves its flags as what they come from, in
 // `last`, `sum` and `over` (crate flags). `byte` chooses the width: 8 bits, else 16.
+#![tactic(auto)]
+
 ghost use Rattle.std.specs.Prelude.{◌≡◌, ℕ, ◌-◌, ◌*◌, ◌^◌, ◌<◌, ◌≤◌};
 ghost use Rattle.word.specs.Width.{width_of};
 ghost use Rattle.alu.specs.Alu.{alu_of, logical, summed, shifted};

@@ -1,4 +1,6 @@
 // How deep a run is: the frames open, and the most that were, after one more act.
+#![tactic(auto)]
+
 ghost use Rattle.std.specs.Prelude.{◌≡◌, ◌<◌};
 ghost use Rattle.machine.specs.Depth.{deeper, shallower, depth_after};
 ghost use Rattle.frame_depth.specs.Moved.{moved_by};
@@ -37,7 +39,7 @@ pub fn pulled(p: Depth) -> Depth
 }
 
 // What an act does to the open frames.
-#[derive(Drop)]
+#[derive(Clone, Copy)]
 pub enum Move {
     Nothing,
     Pushes,

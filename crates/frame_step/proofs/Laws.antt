@@ -1,6 +1,32 @@
 -- A step where no line waits is its return or its instruction: point 3 finds no line above any priority. A return then pulls, and SVC to a
 -- vector above the priority enters it; neither shows anything, so the log stays. Assumes nothing.
-use Rattle.std.proofs.Common.{◌≡◌, ℕ, ◌+◌, ◌*◌, ◌/◌, ◌%◌, ◌<◌, ◌≤◌, Bool, true, false, cond, List, length, get_or, set, sym, refl, ap, ◌∙◌, subst, arith, le-ltb, lt-ltb, eq-eqb}
+use Rattle.std.proofs.Common.{
+  ◌≡◌,
+  ℕ,
+  ◌+◌,
+  ◌*◌,
+  ◌/◌,
+  ◌%◌,
+  ◌<◌,
+  ◌≤◌,
+  Bool,
+  true,
+  false,
+  cond,
+  List,
+  length,
+  get_or,
+  set,
+  sym,
+  refl,
+  ap,
+  ◌∙◌,
+  subst,
+  arith,
+  le-ltb,
+  lt-ltb,
+  eq-eqb,
+}
 use lib.Seq.{sets}
 use Rattle.word.specs.Psw.{asleep?, current, previous}
 use Rattle.isa.specs.declared.Instr.{Instr}
@@ -116,7 +142,8 @@ module _ (regs m regs' : List ℕ) (psw cex psw' cex' : ℕ) (depth depth' : Dep
   pub took-trap :
       (m' : List ℕ) (w v t q o : ℕ) → w ≡ word_at m (get_or regs 7 0) → w / 16 ≡ 0x4DA → get_or regs 7 0 % 2 ≡ 0 → cex % 64 ≡ 0
       → v ≡ w % 16 → q ≡ priority m v → o ≡ current psw → o < q → t ≡ wrap (get_or regs 7 0 + 2)
-      → core_of regs' psw' cex' ≡ entered (core_of (set regs 7 t) psw cex) m v false → m' ≡ commit (pushes (core_of (set regs 7 t) psw cex)) m
+      → core_of regs' psw' cex' ≡ entered (core_of (set regs 7 t) psw cex) m v false → m'
+      ≡ commit (pushes (core_of (set regs 7 t) psw cex)) m
       → depth' ≡ deeper depth
       → Took k (running regs psw cex 0 count m) depth added log (running regs' psw' cex' 0 (count + 1) m') depth' added log
   unfolding perform log_bytes

@@ -1,5 +1,7 @@
 // Steps that open or close a frame, taken at once where no line waits: a return, and SVC to a
 // vector above the priority. Each is the whole step as the general way takes it.
+#![tactic(auto)]
+
 ghost use Rattle.std.specs.Prelude.{◌≡◌, ℕ, ◌+◌, ◌/◌, ◌%◌, ◌<◌, ◌≤◌, true, false, List, length, slice_index};
 ghost use Rattle.word.specs.Psw.{asleep?};
 ghost use Rattle.machine.specs.Memory.{word_at};
@@ -9,7 +11,7 @@ ghost use Rattle.frame_step.specs.Took.{Took};
 use machine::Depth;
 
 // What a step leaves beside registers and memory, and whether it was taken.
-#[derive(Drop)]
+#[derive(Clone, Copy)]
 pub struct Framed {
     pub psw: u16,
     pub cex: u16,

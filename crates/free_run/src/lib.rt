@@ -1,5 +1,7 @@
 // A run in which no event is due: stretches, and between them, where no line waits, the steps that
 // open or close a frame or show a byte, as long as they can be taken at once.
+#![tactic(auto)]
+
 ghost use Rattle.std.specs.Prelude.{false, ◌≡◌, ◌+◌, ◌-◌, ◌/◌, ◌%◌, ◌<◌, ◌≤◌, length, get_or};
 ghost use Rattle.word.specs.Psw.{asleep?};
 ghost use Rattle.stretch_memory.specs.Served.{running};
@@ -8,7 +10,7 @@ ghost use Rattle.free_run.specs.Free.{Goes, Tried};
 use machine::{ByteAddr, Depth, Lines};
 
 // What a free run leaves beside registers, memory and log; `left` are the steps that it did not do.
-#[derive(Drop)]
+#[derive(Clone, Copy)]
 pub struct Freed {
     pub psw: u16,
     pub cex: u16,
@@ -18,7 +20,7 @@ pub struct Freed {
 }
 
 // What a step between two stretches leaves, and whether it was taken; else nothing has changed.
-#[derive(Drop)]
+#[derive(Clone, Copy)]
 struct Went {
     psw: u16,
     cex: u16,

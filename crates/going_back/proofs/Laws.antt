@@ -1,6 +1,39 @@
 -- Bytes copied one by one: what is still to be copied, over what is copied, is at each turn what the whole part writes. A part of a record
 -- is a part of the journal, 64 bytes a place; and a record copied out is one step of `back_of`. Assumes nothing.
-use Rattle.std.proofs.Common.{◌≡◌, ℕ, zero, suc, ◌+◌, ◌-◌, ◌*◌, ◌%◌, ◌<◌, ◌≤◌, eqb, ◌≢◌, List, length, get_or, take, drop, set, sym, ap, ◌∙◌, subst, add-zero, arith, length-drop, length-take-le, get_or-drop, get_or-set_other, get_or-take, get_or-set_same, take-take, ext_get_or}
+use Rattle.std.proofs.Common.{
+  ◌≡◌,
+  ℕ,
+  zero,
+  suc,
+  ◌+◌,
+  ◌-◌,
+  ◌*◌,
+  ◌%◌,
+  ◌<◌,
+  ◌≤◌,
+  eqb,
+  ◌≢◌,
+  List,
+  length,
+  get_or,
+  take,
+  drop,
+  set,
+  sym,
+  ap,
+  ◌∙◌,
+  subst,
+  add-zero,
+  arith,
+  length-drop,
+  length-take-le,
+  get_or-drop,
+  get_or-set_other,
+  get_or-take,
+  get_or-set_same,
+  take-take,
+  ext_get_or,
+}
 use lib.Seq.{slice, slice-cons, slice_empty, length-slice}
 use Rattle.machine_laws.proofs.Cases.{bool_cases, eq_of, neq-of}
 use Rattle.machine.specs.Memory.{byte_at, commit}
@@ -74,7 +107,8 @@ state-turn s j p i l h f k g =
     (omega arith))) (λ q. let e : i ≢ k = neq-of q in get_or-set_other s i k (byte_at j (64 * p + i)) 0 (omega arith) ∙ f k (omega arith))
 
 -- a buffer of 32 bytes that are those of the record
-pub state-copied : (s j : List ℕ) (p : ℕ) → length s ≡ 32 → 64 * p + 64 ≤ length j → ((i : ℕ) → i < 32 → byte_at s i ≡ byte_at j (64 * p + i))
+pub state-copied : (s j : List ℕ) (p : ℕ) → length s ≡ 32 → 64 * p + 64 ≤ length j
+    → ((i : ℕ) → i < 32 → byte_at s i ≡ byte_at j (64 * p + i))
     → s ≡ state_out (record_at j p)
 state-copied s j p l h f =
     let e = record_at j p in

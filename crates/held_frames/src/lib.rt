@@ -1,5 +1,7 @@
 // A device's frame as it is held, in a row of fourteen numbers, and what a pull finds changed of
 // it; and what the act of a step is to the frames.
+#![tactic(auto)]
+
 ghost use Rattle.std.specs.Prelude.{◌≡◌, ◌+◌, ◌*◌, ◌<◌, ◌≤◌, not, ◌&&◌, length, ◌==◌, slice_index};
 ghost use Rattle.std.proofs.lemmas.List.Edits.{sets};
 ghost use Rattle.word.specs.Width.{bit};

@@ -4,7 +4,9 @@
 
 // A decoded instruction: a case for each format. Offsets are in the format's unit, with their sign.
 // ignored is bit 6 of the word, which says nothing of what the instruction does.
-#[derive(Drop)]
+#![tactic(auto)]
+
+#[derive(Clone, Copy)]
 pub enum Instr {
     // a word of no instruction
     Illegal,
@@ -116,7 +118,7 @@ pub enum Instr {
 }
 
 // The word of an instruction, or refusal 8.
-#[derive(Drop)]
+#[derive(Clone, Copy)]
 pub enum Encoded {
     Word(u16),
     Refused,

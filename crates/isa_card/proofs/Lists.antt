@@ -43,7 +43,8 @@ length-words o w zero =
     let z : count_below w (means o) ≡ count_below (0 + w) (means o) = ap (λ (k : ℕ). count_below k (means o)) (omega arith) in
     rw (words-end o w) (omega (arith, z))
 length-words o w (suc n) =
-    let i : length (words_from o (suc w) n) + count_below (suc w) (means o) ≡ count_below (n + suc w) (means o) = length-words o (suc w) n in
+    let i : length (words_from o (suc w) n) + count_below (suc w) (means o)
+    ≡ count_below (n + suc w) (means o) = length-words o (suc w) n in
     let e : n + suc w ≡ suc n + w = omega arith in
     let j : length (words_from o (suc w) n) + count_below (suc w) (means o) ≡ count_below (suc n + w) (means o) =
     i ∙ ap (λ (k : ℕ). count_below k (means o)) e in

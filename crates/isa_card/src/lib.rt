@@ -1,18 +1,20 @@
 // How many words mean an operation, and the next legal word that does. The words of an operation
 // are one block; SRA to SXT have a second one, with bit 6 set.
+#![tactic(auto)]
+
 ghost use Rattle.std.specs.Prelude.{◌≡◌, ◌<◌, ◌≤◌, ◌+◌, ◌*◌};
 ghost use Rattle.isa_card.specs.Words.{count_of, next_of};
 ghost use Rattle.isa_card.specs.Blocks.{nth_block, misc_block, block_of, is_twice, at_least};
 
 // Words that follow each other: the first, and how many.
-#[derive(Drop)]
+#[derive(Clone, Copy)]
 struct Block {
     first: u32,
     size: u32,
 }
 
 // The first legal word at or above a given one with an operation, or none.
-#[derive(Drop)]
+#[derive(Clone, Copy)]
 pub enum Next {
     Found(u32),
     Nothing,

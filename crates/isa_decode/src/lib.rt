@@ -1,5 +1,7 @@
 // What each word means. `decode` is total: a word that is not in the table of section 14 decodes to
 // `Illegal`.
+#![tactic(auto)]
+
 ghost use Rattle.std.specs.Prelude.{◌≡◌, ◌<◌, ◌≤◌};
 ghost use Rattle.isa.specs.Decode.{unary_of, control_of, misc_of, memory_of, relative_of};
 ghost use Rattle.isa.specs.Decode.{decode_of};

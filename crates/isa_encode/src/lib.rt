@@ -1,5 +1,7 @@
 // The word of each instruction. `encode` refuses `Illegal` and an instruction with a field that its
 // format cannot hold.
+#![tactic(auto)]
+
 ghost use Rattle.std.specs.Prelude.{◌≡◌, ◌<◌, ◌≤◌, ◌+◌, ◌*◌, ltb};
 ghost use Rattle.isa.specs.Encode.{when_fits, encode_of, register_word};
 ghost use Rattle.isa.specs.Encode.{three_word, indexed_word, relative_word};

@@ -1,4 +1,6 @@
 // An instruction as one number of eight bytes, there and back (specs/Number.antt has the layout).
+#![tactic(auto)]
+
 ghost use Rattle.std.specs.Prelude.{◌≡◌};
 ghost use Rattle.word.specs.Offset.{signed_of, bits_of};
 ghost use Rattle.isa_number.specs.Number.{bytes_of, number_of, up_to3_of, up_to6_of};

@@ -1,5 +1,7 @@
 // The operation of an instruction, and where the longest unbroken range of words with one
 // operation begins and ends around a word.
+#![tactic(auto)]
+
 ghost use Rattle.std.specs.Prelude.{◌≡◌, ◌<◌, ◌≤◌, ◌+◌, ◌*◌, ◌/◌};
 ghost use Rattle.isa_ranges.specs.Operation.{branch_operation, alu_operation};
 ghost use Rattle.isa_ranges.specs.Operation.{unary_operation, mov_imm_operation};
@@ -10,7 +12,7 @@ ghost use Rattle.isa_ranges.specs.Bits.{block_of, one_ends, control_ends, misc_e
 use isa::Instr;
 
 // An operation: a row of section 14's table, or none. Word and byte form are one operation.
-#[derive(Drop)]
+#[derive(Clone, Copy)]
 pub enum Operation {
     Illegal,
     Bl,
@@ -57,7 +59,7 @@ pub enum Operation {
 }
 
 // The first and the last word of a range.
-#[derive(Drop)]
+#[derive(Clone, Copy)]
 pub struct Ends {
     pub first: u16,
     pub last: u16,

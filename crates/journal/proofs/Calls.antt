@@ -135,6 +135,9 @@ module _ (k : ℕ) (x : Lent) where
   unfolding back_call_of
   back-answer e = ap (λ v. record { reply = refusal_number v; lent = cond (accepted? v) (back_of k x) x }) e
 
-  pub back-refused : refusal_number (back_verdict k x) ≢ 0 → back_call_of k x ≡ record { reply = refusal_number (back_verdict k x); lent = x }
+  pub back-refused : refusal_number (back_verdict k x) ≢ 0 → back_call_of k x ≡ record {
+    reply = refusal_number (back_verdict k x);
+    lent = x;
+  }
   unfolding back_call_of
   back-refused h = ap (λ b. record { reply = refusal_number (back_verdict k x); lent = cond b (back_of k x) x }) (not-eq h)

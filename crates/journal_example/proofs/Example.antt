@@ -79,8 +79,10 @@ worked : told y ≡ (
   (0 ∷ 7 ∷ 0 ∷ 0 ∷ 0 ∷ 9 ∷ 0 ∷ 0 ∷ []) ∷ (0 ∷ 0 ∷ 0 ∷ 0 ∷ []) ∷ (0 ∷ 0 ∷ 1 ∷ 0 ∷ []) ∷ [],
   Accepted,
 )
-unfolding lent_after run_journal_of journal_verdict record_fits events_fit_below in_order_below twins_below events_from journal_fits run_logged
-    logged_next run_of step_of deliver_at plan_of interrupt_of best_from instruction_of perform pushes vectored entered_psw commit state_in record_of
+unfolding lent_after run_journal_of journal_verdict record_fits events_fit_below in_order_below twins_below events_from journal_fits
+    run_logged
+    logged_next run_of step_of deliver_at plan_of interrupt_of best_from instruction_of perform pushes vectored entered_psw commit
+    state_in record_of
     journal_after keep journal_record address_of fields_of bytes_from back_verdict back_call_of
     back_of one_back memory_out placed
 worked = refl
@@ -127,7 +129,9 @@ went_back = goes_back x run began 2 left.accepted
 
 -- so that going back 2 gives every byte of memory and of the record as it was
 pub back : (z.memory ≡ memory) × (z.state ≡ r)
-unfolding lent_after run_journal_of journal_verdict record_fits events_fit_below in_order_below twins_below events_from journal_fits run_logged
-    logged_next run_of step_of deliver_at plan_of interrupt_of best_from instruction_of perform pushes vectored entered_psw commit state_in record_of
+unfolding lent_after run_journal_of journal_verdict record_fits events_fit_below in_order_below twins_below events_from journal_fits
+    run_logged
+    logged_next run_of step_of deliver_at plan_of interrupt_of best_from instruction_of perform pushes vectored entered_psw commit
+    state_in record_of
     journal_after keep journal_record address_of fields_of bytes_from course_in pasts_of
 back = (went_back.found.memory, went_back.found.state)

@@ -1,1 +1,2 @@
 // A session in which the ring and an address wrap, computed. No code.
+#![tactic(auto)]

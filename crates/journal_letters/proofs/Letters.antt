@@ -18,7 +18,16 @@ use Rattle.machine.specs.Step.{interrupt_of, instruction_of, plan_of, perform, s
 use Rattle.machine.specs.Run.{run_of}
 use Rattle.machine.specs.Log.{logged_next, shown_on, log_bytes}
 use Rattle.machine.specs.Logged.{run_logged, records_of}
-use Rattle.machine.specs.Refusal.{record_fits, event_fits, events_fit_below, in_order, in_order_below, twins_below, event_below, call_verdict}
+use Rattle.machine.specs.Refusal.{
+  record_fits,
+  event_fits,
+  events_fit_below,
+  in_order,
+  in_order_below,
+  twins_below,
+  event_below,
+  call_verdict,
+}
 use Rattle.machine.specs.Call.{run_call_of}
 use Rattle.journal.specs.Record.{address_of, bytes_from, fields_of, journal_record, placed, memory_out}
 use Rattle.journal.specs.Ring.{keep, journal_after, journal_fits}
@@ -49,22 +58,28 @@ began =
 
 -- the ring of three is full after four steps; R2 holds B, which the screen has shown
 pub numbers : (y.journal.kept ≡ 3) × (y.journal.place ≡ 0) × (two_at y.state 4 ≡ 66) × (byte_at y.memory 3 ≡ 66)
-unfolding lent_after run_journal_of journal_verdict record_fits event_fits events_fit_below in_order in_order_below twins_below event_below event_at
-    events_from journal_fits run_logged logged_next shown_on log_bytes run_of step_of event_on deliver_at plan_of interrupt_of best_from instruction_of
+unfolding lent_after run_journal_of journal_verdict record_fits event_fits events_fit_below in_order in_order_below twins_below
+    event_below event_at
+    events_from journal_fits run_logged logged_next shown_on log_bytes run_of step_of event_on deliver_at plan_of interrupt_of best_from
+    instruction_of
     advanced granted decode_of effect_of perform commit state_in record_of journal_after keep journal_record address_of fields_of bytes_from
 numbers = (refl, refl, refl, refl)
 
 pub accepted : back_verdict 3 y ≡ Accepted
-unfolding lent_after run_journal_of journal_verdict record_fits event_fits events_fit_below in_order in_order_below twins_below event_below event_at
-    events_from journal_fits run_logged logged_next shown_on log_bytes run_of step_of event_on deliver_at plan_of interrupt_of best_from instruction_of
+unfolding lent_after run_journal_of journal_verdict record_fits event_fits events_fit_below in_order in_order_below twins_below
+    event_below event_at
+    events_from journal_fits run_logged logged_next shown_on log_bytes run_of step_of event_on deliver_at plan_of interrupt_of best_from
+    instruction_of
     advanced granted decode_of effect_of perform commit state_in record_of journal_after keep journal_record address_of fields_of bytes_from
     back_verdict
 accepted = refl
 
 -- three steps earlier R2 held A, which the screen had not shown yet
 pub earlier : (two_at z.state 4 ≡ 65) × (byte_at z.memory 3 ≡ 0) × (two_at z.state 22 ≡ 1)
-unfolding lent_after run_journal_of journal_verdict record_fits event_fits events_fit_below in_order in_order_below twins_below event_below event_at
-    events_from journal_fits run_logged logged_next shown_on log_bytes run_of step_of event_on deliver_at plan_of interrupt_of best_from instruction_of
+unfolding lent_after run_journal_of journal_verdict record_fits event_fits events_fit_below in_order in_order_below twins_below
+    event_below event_at
+    events_from journal_fits run_logged logged_next shown_on log_bytes run_of step_of event_on deliver_at plan_of interrupt_of best_from
+    instruction_of
     advanced granted decode_of effect_of perform commit state_in record_of journal_after keep journal_record address_of fields_of bytes_from
     back_verdict back_call_of back_of one_back memory_out placed
 earlier = (refl, refl, refl)
@@ -85,16 +100,20 @@ lawful-later = record { bytes = bytes_of later refl; whole = refl; fields = refl
 
 -- each step's due events are the same: none at step 1, B at step 2, none at step 3
 pub due-again : DueAgain (asked legs) (course_from session x).steps 3
-unfolding lent_after run_journal_of journal_verdict record_fits event_fits events_fit_below in_order in_order_below twins_below event_below event_at
-    events_from journal_fits run_logged logged_next shown_on log_bytes run_of step_of event_on deliver_at plan_of interrupt_of best_from instruction_of
+unfolding lent_after run_journal_of journal_verdict record_fits event_fits events_fit_below in_order in_order_below twins_below
+    event_below event_at
+    events_from journal_fits run_logged logged_next shown_on log_bytes run_of step_of event_on deliver_at plan_of interrupt_of best_from
+    instruction_of
     advanced granted decode_of effect_of perform commit state_in record_of journal_after keep journal_record address_of fields_of bytes_from
     course_in pasts_of due_at
 due-again = ((refl, tt), ((refl, (refl, tt)), tt))
 
 -- one record fits each log
 pub logs-enough : LogsEnough legs z
-unfolding lent_after run_journal_of journal_verdict record_fits event_fits events_fit_below in_order in_order_below twins_below event_below event_at
-    events_from journal_fits run_logged logged_next shown_on log_bytes run_of step_of event_on deliver_at plan_of interrupt_of best_from instruction_of
+unfolding lent_after run_journal_of journal_verdict record_fits event_fits events_fit_below in_order in_order_below twins_below
+    event_below event_at
+    events_from journal_fits run_logged logged_next shown_on log_bytes run_of step_of event_on deliver_at plan_of interrupt_of best_from
+    instruction_of
     advanced granted decode_of effect_of perform commit state_in record_of journal_after keep journal_record address_of fields_of bytes_from
     back_verdict back_call_of back_of one_back memory_out placed run_call_of call_verdict records_of
 logs-enough = (record { whole = refl; enough = lit≤ tt }, (record { whole = refl; enough = lit≤ tt }, tt))
@@ -104,17 +123,19 @@ pub ran_on_lem : RanOn 3 legs (course_from session x) y z
 ran_on_lem = runs-on-again x session began 3 accepted legs (lawful, (lawful-later, tt)) (lit≤ tt) due-again logs-enough
 
 pub same_memory : (ran_on legs z).memory ≡ y.memory
-same_memory = ran_on.again.memory refl
+same_memory = ran_on_lem.again.memory refl
 
 pub same-state : (ran_on legs z).state ≡ y.state
-same-state = ran_on.again.state refl
+same-state = ran_on_lem.again.state refl
 
 -- ---- running on with too little room
 
 -- the first run does no step and the second two of its three
 pub tight-did : total (did tight z) ≡ 2
-unfolding lent_after run_journal_of journal_verdict record_fits event_fits events_fit_below in_order in_order_below twins_below event_below event_at
-    events_from journal_fits run_logged logged_next shown_on log_bytes run_of step_of event_on deliver_at plan_of interrupt_of best_from instruction_of
+unfolding lent_after run_journal_of journal_verdict record_fits event_fits events_fit_below in_order in_order_below twins_below
+    event_below event_at
+    events_from journal_fits run_logged logged_next shown_on log_bytes run_of step_of event_on deliver_at plan_of interrupt_of best_from
+    instruction_of
     advanced granted decode_of effect_of perform commit state_in record_of journal_after keep journal_record address_of fields_of bytes_from
     back_verdict back_call_of back_of one_back memory_out placed run_call_of call_verdict did
 tight-did = refl
@@ -123,8 +144,10 @@ tight-few : total (did tight z) ≤ 3
 tight-few = let e = tight-did in omega arith
 
 tight-due : DueAgain (did tight z) (course_from session x).steps 3
-unfolding lent_after run_journal_of journal_verdict record_fits event_fits events_fit_below in_order in_order_below twins_below event_below event_at
-    events_from journal_fits run_logged logged_next shown_on log_bytes run_of step_of event_on deliver_at plan_of interrupt_of best_from instruction_of
+unfolding lent_after run_journal_of journal_verdict record_fits event_fits events_fit_below in_order in_order_below twins_below
+    event_below event_at
+    events_from journal_fits run_logged logged_next shown_on log_bytes run_of step_of event_on deliver_at plan_of interrupt_of best_from
+    instruction_of
     advanced granted decode_of effect_of perform commit state_in record_of journal_after keep journal_record address_of fields_of bytes_from
     back_verdict back_call_of back_of one_back memory_out placed run_call_of call_verdict did course_in pasts_of due_at
 tight-due = (tt, ((refl, (refl, tt)), tt))
@@ -136,9 +159,12 @@ tight-found =
     (runs_on x session began 3 accepted tight tight-few tight-due).found
 
 -- when R2 held B already and the screen showed A
-pub one_earlier : (two_at (earlier_by 1 (course_from session x)).state 4 ≡ 66) × (byte_at (earlier_by 1 (course_from session x)).memory 3 ≡ 65)
-unfolding lent_after run_journal_of journal_verdict record_fits event_fits events_fit_below in_order in_order_below twins_below event_below event_at
-    events_from journal_fits run_logged logged_next shown_on log_bytes run_of step_of event_on deliver_at plan_of interrupt_of best_from instruction_of
+pub one_earlier : (two_at (earlier_by 1 (course_from session x)).state 4 ≡ 66) ×
+    (byte_at (earlier_by 1 (course_from session x)).memory 3 ≡ 65)
+unfolding lent_after run_journal_of journal_verdict record_fits event_fits events_fit_below in_order in_order_below twins_below
+    event_below event_at
+    events_from journal_fits run_logged logged_next shown_on log_bytes run_of step_of event_on deliver_at plan_of interrupt_of best_from
+    instruction_of
     advanced granted decode_of effect_of perform commit state_in record_of journal_after keep journal_record address_of fields_of bytes_from
     course_in pasts_of
 one_earlier = (refl, refl)

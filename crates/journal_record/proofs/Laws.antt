@@ -1,6 +1,47 @@
 -- One record of the journal, filled part by part, and put into the ring: its parts lie side by side, so stores one behind the other are its
 -- bytes. A byte from before the events is a device byte that was kept, or else memory's own. Assumes nothing.
-use Rattle.std.proofs.Common.{◌≡◌, ℕ, zero, suc, ◌+◌, ◌-◌, ◌*◌, ◌/◌, ◌%◌, ◌^◌, ◌<◌, ◌≤◌, Bool, true, false, cond, ◌&&◌, leb, ◌≢◌, List, [], ◌∷◌, ◌++◌, length, take, drop, sym, refl, ap, ◌∙◌, subst, append_assoc, append-nil, arith, length-append, drop_of_length-le, drop-cons, get_or-take, drop-drop, take_at}
+use Rattle.std.proofs.Common.{
+  ◌≡◌,
+  ℕ,
+  zero,
+  suc,
+  ◌+◌,
+  ◌-◌,
+  ◌*◌,
+  ◌/◌,
+  ◌%◌,
+  ◌^◌,
+  ◌<◌,
+  ◌≤◌,
+  Bool,
+  true,
+  false,
+  cond,
+  ◌&&◌,
+  leb,
+  ◌≢◌,
+  List,
+  [],
+  ◌∷◌,
+  ◌++◌,
+  length,
+  take,
+  drop,
+  sym,
+  refl,
+  ap,
+  ◌∙◌,
+  subst,
+  append_assoc,
+  append-nil,
+  arith,
+  length-append,
+  drop_of_length-le,
+  drop-cons,
+  get_or-take,
+  drop-drop,
+  take_at,
+}
 use lib.Seq.{sets, sets-eq}
 use Rattle.machine.specs.State.{State, wrap}
 use Rattle.machine.specs.Memory.{byte_at, even, low_byte, high_byte}
@@ -109,7 +150,8 @@ module _ (b : List ℕ) (a : ℕ) where
 
 -- the first eight device bytes are those from address 0 on
 pub eight-first : (b d m : List ℕ) → Before b d m
-    → (byte_at d 0 ∷ byte_at d 1 ∷ byte_at d 2 ∷ byte_at d 3 ∷ byte_at d 4 ∷ byte_at d 5 ∷ byte_at d 6 ∷ byte_at d 7 ∷ []) ≡ bytes_from b 0 8
+    → (byte_at d 0 ∷ byte_at d 1 ∷ byte_at d 2 ∷ byte_at d 3 ∷ byte_at d 4 ∷ byte_at d 5 ∷ byte_at d 6 ∷ byte_at d 7 ∷ [])
+    ≡ bytes_from b 0 8
 eight-first b d m w =
     listed b 0 _ _ _ _ _ _ _ _
     (there b 0 _ 0 0 (device-byte b d m w 0 (omega arith)) (omega arith))

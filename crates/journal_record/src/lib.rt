@@ -1,6 +1,8 @@
 // One record of the journal, 64 bytes, and the ring that it is put into. It is written once the act
 // of the step is known and before the act is done: memory then is as before the step but for the
 // device bytes, which the step's events may have changed and which are lent as they were.
+#![tactic(auto)]
+
 ghost use Rattle.std.specs.Prelude.{◌≡◌, ℕ, ◌+◌, ◌*◌, ◌<◌, ◌≤◌, List, length, if◌then◌else◌};
 ghost use Rattle.std.proofs.lemmas.List.Edits.{sets};
 ghost use Rattle.machine.specs.State.{Core, sp, down, state_of};
@@ -161,7 +163,7 @@ fn put_record(journal: &mut [u8], p: usize, m: Machine, devices: &[u8; 16], mem:
 }
 
 // The number of records kept, and the place of the next.
-#[derive(Drop)]
+#[derive(Clone, Copy)]
 pub struct Ring {
     pub kept: u32,
     pub place: u32,

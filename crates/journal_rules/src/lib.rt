@@ -1,4 +1,6 @@
 // The rules of a call that is lent a journal, and the first that going back breaks.
+#![tactic(auto)]
+
 ghost use Rattle.std.specs.Prelude.{◌≡◌};
 ghost use Rattle.journal.specs.Ring.{journal_of, journal_fits};
 ghost use Rattle.journal.specs.Back.{lent_of};

@@ -1,4 +1,6 @@
 // A judged run: the steps of a run, each watched, and the whole judge call on its raw buffers.
+#![tactic(auto)]
+
 ghost use Rattle.std.specs.Prelude.{◌≡◌, true, false, cond, ◌&&◌, ◌+◌, ◌<◌, ◌≤◌, eqb, length, replicate};
 ghost use Rattle.machine.specs.State.{State, state_of, state_with};
 ghost use Rattle.machine.specs.Events.{events_of, event_count};
@@ -26,7 +28,7 @@ fn writer(mine: bool) -> u8
 }
 
 // What a step leaves beside its buffers.
-#[derive(Drop)]
+#[derive(Clone, Copy)]
 struct Taken {
     rest: Rest,
     frames: Open,
@@ -91,7 +93,7 @@ fn too_deep(act: Act, o: Open) -> bool
 
 // What a judged run leaves beside its buffers: the machine, the frames open, whether a step was
 // not taken because it would have opened one too many, and the steps done.
-#[derive(Drop)]
+#[derive(Clone, Copy)]
 pub struct Judged {
     pub machine: Machine,
     pub frames: Open,

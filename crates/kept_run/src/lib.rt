@@ -1,4 +1,6 @@
 // The loop of a run: n steps with an output log, and with a journal, where one is lent.
+#![tactic(auto)]
+
 ghost use Rattle.std.specs.Prelude.{◌≡◌, true, ◌&&◌, ◌||◌, ◌+◌, ◌/◌, ◌≤◌, leb, length};
 ghost use Rattle.machine.specs.State.{state_of};
 ghost use Rattle.machine.specs.Events.{events_of, event_count};
@@ -31,7 +33,7 @@ fn wants(lent: bool, full: bool, due: u64, count: u32) -> bool
 
 // What a free run leaves beside registers, memory and log: the rest of the machine, how deep it is,
 // the log records there, the steps done.
-#[derive(Drop)]
+#[derive(Clone, Copy)]
 struct Gone {
     rest: Rest,
     depth: Depth,

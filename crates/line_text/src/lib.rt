@@ -1,4 +1,6 @@
 // The line that is printed: of a run, or of a refusal. What stands past it is left.
+#![tactic(auto)]
+
 mod fields;
 
 ghost use Rattle.std.specs.Prelude.{◌≡◌, List, ◌++◌, ℕ, ◌+◌, ◌≤◌, length, take, drop};

@@ -1,4 +1,6 @@
 // Numbers in two and four bytes of a buffer, the low byte first.
+#![tactic(auto)]
+
 ghost use Rattle.std.specs.Prelude.{◌≡◌, ◌+◌, ◌<◌, length};
 ghost use Rattle.machine.specs.Record.{two_at, four_at};
 ghost use Rattle.little_endian.specs.Bytes.{two_put, four_put};

@@ -3,10 +3,12 @@
 // depend on it.
 
 // The lines: eight counts of waiting events, four bits each, device 0 lowest.
+#![tactic(auto)]
+
 pub type Lines = u32;
 
 // What a machine has beside its registers: PSW, CEX state, lines, halted mark and step count.
-#[derive(Drop)]
+#[derive(Clone, Copy)]
 pub struct Rest {
     pub psw: u16,
     pub cex: u16,
@@ -17,22 +19,22 @@ pub struct Rest {
 
 // One machine: eight registers (R5 is LR, R6 SP, R7 PC) and the rest. Where a machine is at work the
 // registers are lent and the rest goes by value. Memory is lent beside it.
-#[derive(Drop)]
+#[derive(Clone, Copy)]
 pub struct Machine {
     pub regs: [u16; 8],
     pub rest: Rest,
 }
 
 // A byte's place in memory, and a word's: word w is bytes 2 * w and 2 * w + 1.
-#[derive(Drop)]
+#[derive(Clone, Copy)]
 pub struct ByteAddr(pub u16);
 
-#[derive(Drop)]
+#[derive(Clone, Copy)]
 pub struct WordAddr(pub u16);
 
 // What an instruction asks of the machine beyond its own registers and PSW: nothing, a load into a
 // register, a store of a value, a fault, or a trap to a vector.
-#[derive(Drop)]
+#[derive(Clone, Copy)]
 pub enum Access {
     Nothing,
     Load {
@@ -51,7 +53,7 @@ pub enum Access {
 
 // Why a run ended: all its steps were done, the machine is halted, or the log had no room for what
 // the next step would show.
-#[derive(Drop)]
+#[derive(Clone, Copy)]
 pub enum Reason {
     Done,
     Halted,
@@ -59,7 +61,7 @@ pub enum Reason {
 }
 
 // The frames open now, of those that a run has opened, and the most that were open together.
-#[derive(Drop)]
+#[derive(Clone, Copy)]
 pub struct Depth {
     pub opened: u32,
     pub deepest: u32,
@@ -67,7 +69,7 @@ pub struct Depth {
 
 // Whether the buffers and numbers of a call are accepted, or the first rule that they break: of a
 // run, and of a run with a journal or of going back.
-#[derive(Drop)]
+#[derive(Clone, Copy)]
 pub enum Verdict {
     Accepted,
     MemoryLength,
@@ -85,7 +87,7 @@ pub enum Verdict {
 
 // What a step does. A halted machine takes none. A line or a vector is named by its number; a load
 // and a store carry their address, a store its value.
-#[derive(Drop)]
+#[derive(Clone, Copy)]
 pub enum Act {
     Stopped,
     Pull,

@@ -364,7 +364,8 @@ start-count r memory = refl
 
 -- the closing record of an accepted run holds the closing state
 pub closing-read : (memory r events : List ℕ) (n : ℕ) → Passed memory r events n → Bytes memory → Bytes r → Bytes events
-    → state_in (record_of (run_of (events_of events) (state_in r memory) n).state) (run_of (events_of events) (state_in r memory) n).state.mem
+    → state_in (record_of (run_of (events_of events) (state_in r memory) n).state)
+    (run_of (events_of events) (state_in r memory) n).state.mem
     ≡ (run_of (events_of events) (state_in r memory) n).state
 closing-read memory r events n P bm br be =
     let ev = events_of events in

@@ -17,14 +17,39 @@ use Rattle.machine.specs.declared.Access.TheVariants.{Nothing, Load, Store, Faul
 use Rattle.machine.specs.State.{Core, State, sp, pc, wrap}
 use Rattle.machine.specs.Memory.{Write, commit, byte_at, word_at, even, low_byte, high_byte, value_at}
 use Rattle.machine.specs.Events.{Event}
-use Rattle.machine.specs.Devices.{status_of, device?, status?, ie?, input?, dba?, of?, ena?, event_status, event_writes, event_on, deliver_at}
+use Rattle.machine.specs.Devices.{
+  status_of,
+  device?,
+  status?,
+  ie?,
+  input?,
+  dba?,
+  of?,
+  ena?,
+  event_status,
+  event_writes,
+  event_on,
+  deliver_at,
+}
 use Rattle.machine.specs.Devices.{deliver, load_writes, byte_writes, store_writes}
 use Rattle.machine.specs.Entry.{priority, best, above, vector_psw, vector_pc, vectored, entered_psw, pushed, pushes, pulled, pulled_psw}
 use Rattle.machine.specs.Effect.{effect_of}
 use Rattle.machine.specs.declared.Act.TheVariants as act
 use Rattle.machine.specs.Step
 use Rattle.machine.specs.declared.Act.{Act}
-use Rattle.machine.specs.Step.{Plan, Interrupt, interrupt_of, returns?, advanced, faulting, allowed, granted, instruction_of, plan_of, perform}
+use Rattle.machine.specs.Step.{
+  Plan,
+  Interrupt,
+  interrupt_of,
+  returns?,
+  advanced,
+  faulting,
+  allowed,
+  granted,
+  instruction_of,
+  plan_of,
+  perform,
+}
 use Rattle.machine.specs.Step.{entered, outcome_of, finished, step_of}
 use Rattle.machine.specs.Run.{run_of}
 use Rattle.machine_laws.specs.Bounds.{Each, Bytes, TidyCore, Tidy, AccessFits, ActFits, EventFits}

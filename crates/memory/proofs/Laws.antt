@@ -145,7 +145,8 @@ module _ (m : List ℕ) {l : List ℕ} (w v : ℕ) where
       8 ≤ w → l ≡ set (set m (2 * w) (low_byte v)) (2 * w + 1) (high_byte v) → l ≡ commit (store_writes false m (2 * w) v) m
   store-above h e =
       store_two {a = 2 * w} refl
-      (store-plain m (2 * w) (low_byte v) (omega arith)) (e ∙ store-plain (set m (2 * w) (low_byte v)) (2 * w + 1) (high_byte v) (omega arith))
+      (store-plain m (2 * w) (low_byte v) (omega arith)) (e ∙ store-plain (set m (2 * w) (low_byte v)) (2 * w + 1) (high_byte v)
+      (omega arith))
 
   pub store-even : (a : ℕ) → w ≡ a / 2 → l ≡ commit (store_writes false m (2 * w) v) m → l ≡ commit (store_writes false m a v) m
   store-even a e s =

@@ -1,6 +1,8 @@
 // Memory as the machine reaches it: bytes and words by their addresses, and the loads and stores of
 // instructions, which meet the device registers. Every function takes the whole memory, 65,536
 // bytes.
+#![tactic(auto)]
+
 ghost use Rattle.std.specs.Prelude.{◌≡◌, false, cond, [], ◌∷◌, ◌+◌, ◌*◌, ◌<◌, length, set};
 ghost use Rattle.word.specs.Psw.{put_bit};
 ghost use Rattle.machine.specs.Memory.{byte_at, word_number, first_byte, low_byte, high_byte};

@@ -1,5 +1,7 @@
 // A machine that is held open and advanced by calls, each a run of some steps over the memory and
 // the log lent to it: by value, and in place.
+#![tactic(auto)]
+
 ghost use Rattle.std.specs.Prelude.{◌≡◌};
 ghost use Rattle.machine.specs.State.{state_of};
 ghost use Rattle.open_machine.specs.Advance.{AdvanceLeaves, step_advance};
@@ -8,7 +10,7 @@ use machine::{Depth, Machine};
 
 // The machine that an advance leaves, and its reply: bits 7-0 the refusal (0: none), 15-8 the
 // reason, 39-16 the steps done, 63-40 the log records added.
-#[derive(Drop)]
+#[derive(Clone, Copy)]
 pub struct Advanced {
     pub machine: Machine,
     pub reply: u64,

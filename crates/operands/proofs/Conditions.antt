@@ -1,6 +1,30 @@
 -- An odd condition is the even one before it turned over; so the condition of half the number, turned over where the number is odd, is
 -- the condition of the number. Assumes nothing.
-use Rattle.std.proofs.Common.{◌≡◌, ℕ, zero, suc, ◌+◌, ◌*◌, ◌/◌, ◌%◌, ◌<◌, ◌≤◌, Bool, true, false, not, ◌&&◌, ◌||◌, eqb, sym, refl, ap, ◌∙◌, ⊎_elim, arith}
+use Rattle.std.proofs.Common.{
+  ◌≡◌,
+  ℕ,
+  zero,
+  suc,
+  ◌+◌,
+  ◌*◌,
+  ◌/◌,
+  ◌%◌,
+  ◌<◌,
+  ◌≤◌,
+  Bool,
+  true,
+  false,
+  not,
+  ◌&&◌,
+  ◌||◌,
+  eqb,
+  sym,
+  refl,
+  ap,
+  ◌∙◌,
+  ⊎_elim,
+  arith,
+}
 use mathlib.Core.Bool.{beq}
 use Rattle.word.specs.Psw.{carry?, zero?}
 use Rattle.word.proofs.Laws.{order}

@@ -1,6 +1,41 @@
 -- Tables read past their end, and addresses moved by a signed distance. A distance below zero is taken off as its magnitude and then one
 -- more, any other is added, and both wrap at 65,536 as `moved` has it. Assumes nothing.
-use Rattle.std.proofs.Common.{◌≡◌, ℕ, zero, suc, ◌+◌, ◌*◌, ◌%◌, ◌<◌, ◌≤◌, Bool, true, false, List, [], ◌∷◌, ◌++◌, length, get_or, ℤ, pos, negsuc, ◌*ℤ◌, neg_ℤ, refl, ap, ◌∙◌, le_of_suc-le-suc, not-suc-le-zero, arith, w16, SFits, to_z, of_z, ltb-true}
+use Rattle.std.proofs.Common.{
+  ◌≡◌,
+  ℕ,
+  zero,
+  suc,
+  ◌+◌,
+  ◌*◌,
+  ◌%◌,
+  ◌<◌,
+  ◌≤◌,
+  Bool,
+  true,
+  false,
+  List,
+  [],
+  ◌∷◌,
+  ◌++◌,
+  length,
+  get_or,
+  ℤ,
+  pos,
+  negsuc,
+  ◌*ℤ◌,
+  neg_ℤ,
+  refl,
+  ap,
+  ◌∙◌,
+  le_of_suc-le-suc,
+  not-suc-le-zero,
+  arith,
+  w16,
+  SFits,
+  to_z,
+  of_z,
+  ltb-true,
+}
 use lib.ListN.{get_or-eq_default}
 use lib.Signed.{mag, lt_z}
 use mir.ValLaws.{to_z-of_z}

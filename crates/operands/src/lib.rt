@@ -1,5 +1,7 @@
 // What instructions work with: registers, operands and addresses, the tables that instructions
 // name by number, and the fields of the PSW that they set.
+#![tactic(auto)]
+
 ghost use Rattle.std.specs.Prelude.{◌≡◌, ◌*◌, ◌<◌, ◌≤◌, if◌then◌else◌, nat_eq, slice_index, slice_set};
 ghost use Rattle.std.specs.Int.Signed.{mag};
 ghost use Rattle.machine.specs.State.{moved, doubled};

@@ -1,5 +1,7 @@
 // The output log of a run: what an act shows, a record added, and the device bytes before a step
 // that may have to be given up, kept and put back.
+#![tactic(auto)]
+
 ghost use Rattle.std.specs.Prelude.{◌≡◌, true, cond, ℕ, ◌+◌, ◌*◌, ◌≤◌, ltb, length, take};
 ghost use Rattle.std.proofs.lemmas.List.Edits.{sets};
 ghost use Rattle.machine.specs.State.{State};
@@ -9,7 +11,7 @@ ghost use Rattle.output_log.specs.Showing.{stored_of, listed};
 use machine::Act;
 
 // What a step shows: nothing, or a byte on a device.
-#[derive(Drop)]
+#[derive(Clone, Copy)]
 pub enum Showing {
     Nothing,
     Byte { device: u8, value: u8 },

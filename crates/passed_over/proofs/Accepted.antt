@@ -9,7 +9,17 @@ use lib.ListN.{length, length-drop}
 use Rattle.machine.specs.declared.Verdict.TheVariants.{Accepted}
 use Rattle.machine.specs.Memory.{byte_at}
 use Rattle.machine.specs.Events.{Event, event_at, event_count}
-use Rattle.machine.specs.Refusal.{Rule, call_rules, first_broken, events_fit, event_fits, events_fit_below, in_order, in_order_below, twins_below}
+use Rattle.machine.specs.Refusal.{
+  Rule,
+  call_rules,
+  first_broken,
+  events_fit,
+  event_fits,
+  events_fit_below,
+  in_order,
+  in_order_below,
+  twins_below,
+}
 use Rattle.machine.specs.Refusal.{call_verdict, accepted?}
 use Rattle.machine_laws.specs.Bounds.{Each}
 use Rattle.machine_laws.specs.Passed.{Passed}

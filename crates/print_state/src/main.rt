@@ -1,29 +1,54 @@
 // Prints the closing state of the run that standard input asks for, as one line. An input longer
 // than 98,348 bytes is refused whatever follows, so no more is read. What cannot be read or written
-// is told on standard error: a program has no exit status of its own.
-use libc::{STDERR_FILENO, STDIN_FILENO, STDOUT_FILENO};
+// is told on standard error: the exit status says nothing of it.
+#![tactic(auto)]
+
+ghost use Rattle.std.specs.Prelude.{◌≤◌, length};
+
+use std::io::{Read, Stdin};
+
+// Reads until `input` is full, standard input ends or a read fails, and returns how many bytes it
+// put at the start of `input`.
+fn read_full(stdin: &mut Stdin, input: &mut [u8]) -> usize
+    ensures { result ≤ length input.new }
+{
+    let mut done = 0;
+    while done < input.len() {
+        match stdin.read(&mut input[done..]) {
+            Ok(0) => break,
+            Ok(n) => done += n,
+            Err(_) => break,
+        }
+    }
+    done
+}
 
 // Whether standard input has ended. Where a read failed it has not, and no line may be printed.
-fn ended() -> bool {
+fn ended(stdin: &mut Stdin) -> bool {
     let mut next = [0u8; 1];
-    libc::read(STDIN_FILENO, &mut next) == 0
+    match stdin.read(&mut next) {
+        Ok(n) => n == 0,
+        Err(_) => false,
+    }
 }
 
-fn say(text: &[u8]) {
-    io::write_all(STDERR_FILENO, text);
+// Tells standard error; where that fails there is nobody left to tell.
+fn say(rt: &HostRuntime, text: &str) {
+    rt.eprintln(text).is_ok();
 }
 
-fn main() {
+fn main(rt: HostRuntime) {
+    let mut stdin = rt.stdin();
     let mut input = [0u8; 98348];
-    let n = io::read_full(STDIN_FILENO, &mut input);
-    if n < 98348 && !ended() {
-        say(b"print_state: standard input cannot be read\n");
+    let n = read_full(&mut stdin, &mut input);
+    if n < 98348 && !ended(&mut stdin) {
+        say(&rt, "print_state: standard input cannot be read");
         return;
     }
     let mut memory = [0u8; 65536];
     let mut out = [0u8; 80];
     let length = printed_line::sheet(&input[..n], &mut memory, &mut out);
-    if !io::write_all(STDOUT_FILENO, &out[..length]) {
-        say(b"print_state: the line cannot be written, or not whole\n");
+    if rt.write_all(&out[..length]).is_err() {
+        say(&rt, "print_state: the line cannot be written, or not whole");
     }
 }

@@ -113,7 +113,8 @@ unfolding sheet_of
 sheet-refused b {v} {k} ev ek h =
     let x = run_in b in
     ap refused_line ek
-    ∙ sym (ap (λ t. cond t (line_of x (deepest_in b)) (refused_line (refusal_number v))) (not-eq (λ (q : refusal_number v ≡ 0). h (ek ∙ q))))
+    ∙ sym (ap (λ t. cond t (line_of x (deepest_in b)) (refused_line (refusal_number v)))
+    (not-eq (λ (q : refusal_number v ≡ 0). h (ek ∙ q))))
     ∙ ap (λ (w : Verdict). answered w x (deepest_in b)) ev
 
 abbrev left : Verdict → (b memory : List ℕ) → List ℕ

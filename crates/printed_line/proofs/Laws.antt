@@ -25,7 +25,12 @@ part-take n (suc m) (suc k) (x ∷ b) h = part-take n m k b (omega arith)
 
 steps-take : (k : ℕ) (b : List ℕ) → 4 ≤ k → steps_in (take k b) ≡ steps_in b
 steps-take k b h =
-    rw (get_or-take k b 0 0 (omega arith), get_or-take k b 1 0 (omega arith), get_or-take k b 2 0 (omega arith), get_or-take k b 3 0 (omega arith))
+    rw (
+      get_or-take k b 0 0 (omega arith),
+      get_or-take k b 1 0 (omega arith),
+      get_or-take k b 2 0 (omega arith),
+      get_or-take k b 3 0 (omega arith),
+    )
 
 -- the first of five tests that is met, of those before rule 6
 abbrev first_met : (a b c d e : Bool) → Verdict
@@ -71,7 +76,8 @@ input-long b h =
 
 -- the parts that the verdict on a long input reads are the same once it is cut off
 long-take : (k : ℕ) (b : List ℕ) → 98348 ≤ k
-    → long_verdict (memory_in (take k b)) (record_in (take k b)) (steps_in (take k b)) ≡ long_verdict (memory_in b) (record_in b) (steps_in b)
+    → long_verdict (memory_in (take k b)) (record_in (take k b)) (steps_in (take k b))
+    ≡ long_verdict (memory_in b) (record_in b) (steps_in b)
 long-take k b h =
     rw (part-take 65536 36 k b (omega arith), part-take 32 4 k b (omega arith), steps-take k b (omega arith))
 

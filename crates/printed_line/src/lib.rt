@@ -1,4 +1,6 @@
 // The printed line: cutting the input into its parts, running, having the text written.
+#![tactic(auto)]
+
 mod cut;
 mod slices;
 

@@ -12,7 +12,7 @@ ghost use Rattle.printed_line.specs.Slices.{out_of_room};
 use machine::{Depth, Machine, Reason};
 
 // The machine that a run leaves, the steps done, and the most frames that were open together.
-#[derive(Drop)]
+#[derive(Clone, Copy)]
 pub struct Whole {
     pub machine: Machine,
     pub steps: u32,

@@ -1,5 +1,7 @@
 // Whether a run's buffers and step count are accepted, or the first rule that they break; `fields` has
 // the same of a machine that is held open.
+#![tactic(auto)]
+
 ghost use Rattle.std.specs.Prelude.{◌≡◌, cond, ◌≤◌, ltb, length};
 ghost use Rattle.machine.specs.Record.{four_at};
 ghost use Rattle.machine.specs.Refusal.{record_fits, verdict_of, call_verdict, refusal_number};

@@ -163,7 +163,8 @@ row3 =
     (interrupt-is c3 0x100 2 5 (commit nested zeros) refl (ap current (word-is nested 65480 (lit< tt)))))
 
 pub row4 : Row ev s 4 (known c4 0 5 deeper) (known c4 0 5 deeper) c5 acts.Plain (inner_frame ∷ outer_frame ∷ []) 1 nested_bytes
-unfolding perform deliver_at events_from event_at best_from interrupt_of over effect_of advanced decode_of granted entered_psw pushes width_of
+unfolding perform deliver_at events_from event_at best_from interrupt_of over effect_of advanced decode_of granted entered_psw pushes
+    width_of
 row4 =
     next_row ev s nested row3 refl (outcome c4 0 second_push)
     (ap (λ x. outcome x (fallen 0x100 2) (pushes c3))
@@ -183,7 +184,8 @@ row5 =
     (interrupt-is c5 0x1000 3 4 (commit waiting zeros) refl (ap current (word-is waiting 65484 (lit< tt)))))
 
 pub row6 : Row ev s 6 (known c6 0 7 waiting) (known c6 0 7 waiting) c7 acts.Plain (inner_frame ∷ outer_frame ∷ []) 1 nested_bytes
-unfolding perform writes? deliver_at events_from event_at best_from interrupt_of over effect_of advanced decode_of granted entered_psw width_of
+unfolding perform writes? deliver_at events_from event_at best_from interrupt_of over effect_of advanced decode_of granted entered_psw
+    width_of
 row6 =
     next_row ev s waiting row5 refl (outcome c6 0 [])
     (ap (λ x. outcome x (fallen 0x1000 3) [])

@@ -190,7 +190,8 @@ row0 =
     }
 
 pub row1 : Row ev s 1 (known c1 0 2 trapped) (known c1 0 2 trapped) c2 (acts.Stores false (record { 0 = 512 }) 7) (trap_frame ∷ []) 1 g1
-unfolding perform writes? deliver_at events_from event_at best_from interrupt_of over effect_of advanced decode_of granted entered_psw pushes
+unfolding perform writes? deliver_at events_from event_at best_from interrupt_of over effect_of advanced decode_of granted entered_psw
+    pushes
 row1 =
     next_row ev s program row0 refl (outcome c1 0 trap_push)
     (ap (λ x. outcome x 0 (pushes c0'))
@@ -220,7 +221,8 @@ row3 =
     (interrupt-is c3 0x10 1 3 (commit risen zeros) refl (ap current (word-is risen 65476 (lit< tt)))))
 
 pub row4 : Row ev s 4 (known c4 0 5 entered) (known c4 0 5 entered) c5 acts.Plain (entry_frame ∷ both) 3 g4
-unfolding perform deliver_at events_from event_at best_from interrupt_of over effect_of advanced decode_of granted entered_psw pushes width_of
+unfolding perform deliver_at events_from event_at best_from interrupt_of over effect_of advanced decode_of granted entered_psw pushes
+    width_of
 row4 =
     next_row ev s risen row3 refl (outcome c4 0 entry_push)
     (ap (λ x. outcome x (fallen 0x10 1) (pushes c3))
@@ -269,7 +271,8 @@ row8 =
     (interrupt-is c8 0x100 2 5 (commit waiting zeros) refl (ap current (word-is waiting 65480 (lit< tt)))))
 
 pub row9 : Row ev s 9 (known c9 0 10 waiting) (known c9 0 10 waiting) c10 acts.Plain (chained_frame ∷ trap_frame ∷ []) 6 g4
-unfolding perform writes? deliver_at events_from event_at best_from interrupt_of over effect_of advanced decode_of granted entered_psw width_of
+unfolding perform writes? deliver_at events_from event_at best_from interrupt_of over effect_of advanced decode_of granted entered_psw
+    width_of
 row9 =
     next_row ev s waiting row8 refl (outcome c9 0 [])
     (ap (λ x. outcome x (fallen 0x100 2) [])

@@ -1,2 +1,3 @@
 // The bound on depth and the resumption of the application, stated and proved of the machine's
 // definitions. No code.
+#![tactic(auto)]

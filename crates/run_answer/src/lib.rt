@@ -1,4 +1,6 @@
 // What a run answers: how it has ended, and that as a reply.
+#![tactic(auto)]
+
 ghost use Rattle.std.specs.Prelude.{◌≡◌, cond, not, ◌&&◌, ◌≤◌, ltb};
 ghost use Rattle.machine.specs.declared.Reason.TheVariants.{Done, Halted, NoRoom};
 ghost use Rattle.machine.specs.Run.{reason_number};
@@ -9,7 +11,7 @@ use machine::{Depth, Machine, Reason, Rest};
 
 // The machine that a run leaves, why it ended, the steps done, the log records added, the first
 // event record that is not behind, how deep the run is and went, and the journal's two numbers.
-#[derive(Drop)]
+#[derive(Clone, Copy)]
 pub struct Ran {
     pub machine: Machine,
     pub reason: Reason,

@@ -60,7 +60,8 @@ module _ (memory r events log : List ℕ) (n : ℕ) where
   pub call-start : call_verdict memory r events log n ≡ Accepted → verdict_of memory r events n ≡ Accepted
   call-start e =
       bool_cases (accepted? (verdict_of memory r events n))
-      (λ q. is-accepted (verdict_of memory r events n) (eq_of q)) (λ q. let whole = cond (not (eqb (length log % 8) 0)) LogLength Accepted in
+      (λ q. is-accepted (verdict_of memory r events n) (eq_of q)) (λ q. let whole = cond (not (eqb (length log % 8) 0)) LogLength Accepted
+      in
       sym (call-verdict ∙ ap (λ b. cond b whole (verdict_of memory r events n)) q) ∙ e)
 
   pub call-whole : call_verdict memory r events log n ≡ Accepted → length log % 8 ≡ 0

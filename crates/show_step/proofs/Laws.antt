@@ -1,6 +1,35 @@
 -- A word that asks for a store, as a step. With no line waiting, SLP clear, PC even and no block open, the plan is what the word asks
 -- for; a store that is no odd word's is granted, so the step is its writes, and its records are what the store shows. Assumes nothing.
-use Rattle.std.proofs.Common.{◌≡◌, ℕ, ◌+◌, ◌*◌, ◌/◌, ◌%◌, ◌<◌, ◌≤◌, Bool, false, cond, not, ◌&&◌, ◌||◌, eqb, ltb, leb, List, length, get_or, set, sym, refl, ap, ◌∙◌, arith, set-set, ltb-false}
+use Rattle.std.proofs.Common.{
+  ◌≡◌,
+  ℕ,
+  ◌+◌,
+  ◌*◌,
+  ◌/◌,
+  ◌%◌,
+  ◌<◌,
+  ◌≤◌,
+  Bool,
+  false,
+  cond,
+  not,
+  ◌&&◌,
+  ◌||◌,
+  eqb,
+  ltb,
+  leb,
+  List,
+  length,
+  get_or,
+  set,
+  sym,
+  refl,
+  ap,
+  ◌∙◌,
+  arith,
+  set-set,
+  ltb-false,
+}
 use mathlib.Mathlib.Data.Bool.Basic.{or-eq-false-eq-eq-false-and-eq-false}
 use lib.Seq.{sets, set-get_or}
 use Rattle.word.specs.Psw.{asleep?}

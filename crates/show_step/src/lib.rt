@@ -1,5 +1,7 @@
 // A store to a device's bytes, taken at once as a step where no line waits: what it shows is added
 // to the log, if there is room. Else nothing has changed, and the step is for the general way.
+#![tactic(auto)]
+
 ghost use Rattle.std.specs.Prelude.{◌≡◌, ◌/◌, ◌%◌, ◌<◌, ◌≤◌, true, false, length, if◌then◌else◌, nat_eq};
 ghost use Rattle.machine.specs.Effect.{adjusted};
 ghost use Rattle.show_step.specs.Stored.{Stored};
@@ -8,7 +10,7 @@ ghost use Rattle.show_step.specs.Steps.{Fetched, Steps, Same};
 use machine::{Act, ByteAddr};
 
 // The records that are there after it, and whether it was taken.
-#[derive(Drop)]
+#[derive(Clone, Copy)]
 pub struct Shown {
     pub added: usize,
     pub taken: bool,
@@ -108,7 +110,7 @@ pub fn show(
 }
 
 // The address of ST, and its index register after the adjustment.
-#[derive(Drop)]
+#[derive(Clone, Copy)]
 struct Index {
     at: u16,
     to: u16,

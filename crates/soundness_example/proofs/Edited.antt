@@ -232,7 +232,8 @@ handler_bytes x = cond (writes? word x) true (entry_bytes stores x)
 
 store1 : Row ev t0 1 (known (c1 stores) 0 2 (entered stores)) (known (c1 stores) 0 2 (entered stores)) d2
     (acts.Stores false (record { 0 = 512 }) 7) (frame_open stores ∷ []) 0 (entry_bytes stores)
-unfolding perform writes? deliver_at events_from event_at best_from interrupt_of over effect_of advanced decode_of granted entered_psw pushes
+unfolding perform writes? deliver_at events_from event_at best_from interrupt_of over effect_of advanced decode_of granted entered_psw
+    pushes
 store1 =
     next_row ev t0 (risen stores) (row0 stores) refl (outcome (c1 stores) 0 (push stores))
     (ap (λ z. outcome z (fallen 0x10 1) (pushes (c0 stores)))

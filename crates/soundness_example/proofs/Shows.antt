@@ -10,10 +10,22 @@ use Rattle.machine.specs.Memory.{Write, commit, even}
 use Rattle.machine.specs.Events.{Event}
 use Rattle.machine.specs.declared.Act.{Act}
 use Rattle.machine_laws.proofs.Memory.{over}
-use Rattle.resume.specs.Frames.{Frame, none?, own?, after, act, frames}
+use Rattle.resume.specs.Frames.{Frame, none?, own?, after, frames}
 use Rattle.resume.specs.Example.{zeros}
 use Rattle.resume.proofs.Trace.{byte-is, known, Row, act-is}
-use Rattle.soundness.specs.Findings.{Handler, Kept, registers_of, bytes_at, kept_at, kept_in, changes_of, changes, who_runs, Seen, handlers_after}
+use Rattle.soundness.specs.Findings.{
+  Handler,
+  Kept,
+  registers_of,
+  bytes_at,
+  kept_at,
+  kept_in,
+  changes_of,
+  changes,
+  who_runs,
+  Seen,
+  handlers_after,
+}
 use Rattle.soundness.specs.Findings.{Kind, started, faulted, unopened, trapped, unclosed, changed, slept, device, foreign, breaks?}
 use Rattle.soundness.specs.Findings.{Finding, start_finding, open_finding, oldest, handlers, seen, first_breach, found_of, kinds_found}
 
@@ -33,7 +45,8 @@ abbrev pub kept_over : Core → List Write → (p : ℕ) → Kept
 kept_over c ws p = record { registers = registers_of c; stack = sp c; bytes = bytes_over ws p }
 
 pub changes-over : (c : Core) (l m : ℕ) (ws : List Write) (c' : Core) (l' m' : ℕ) (vs : List Write)
-    → changes_of (kept_in (known c l m ws)) (kept_at (sp c) (known c' l' m' vs)) ≡ changes_of (kept_over c ws (sp c)) (kept_over c' vs (sp c))
+    → changes_of (kept_in (known c l m ws)) (kept_at (sp c) (known c' l' m' vs))
+    ≡ changes_of (kept_over c ws (sp c)) (kept_over c' vs (sp c))
 changes-over c l m ws c' l' m' vs =
     λ i. changes_of (record { registers = registers_of c; stack = sp c; bytes = bytes-over ws (sp c) i })
     (record { registers = registers_of c'; stack = sp c'; bytes = bytes-over vs (sp c) i })

@@ -15,7 +15,19 @@ use Rattle.word.proofs.Laws.{bool_cases}
 use Rattle.text_lines.specs.Lines.{text_of, none}
 use Rattle.srec.specs.Digits.{digits_of, digit_of, all_digits, pairs_of, sum_of}
 use Rattle.srec.specs.declared.Refusal.TheVariants.{Accepted, Form, Checksum, Room}
-use Rattle.srec.specs.Record.{is_accepted, bytes_of, kind_of, count_of, address_of, known, shaped_of, summed_of, passes_of, fault_of, Loadable}
+use Rattle.srec.specs.Record.{
+  is_accepted,
+  bytes_of,
+  kind_of,
+  count_of,
+  address_of,
+  known,
+  shaped_of,
+  summed_of,
+  passes_of,
+  fault_of,
+  Loadable,
+}
 use Rattle.srec.specs.Write.{sealed, line_of, data_lines, span_text, span_length}
 use Rattle.srec.specs.Load.{verdict, verdict_from, Sound}
 
@@ -95,7 +107,8 @@ pub record Shaped (last : Bool) (l : List ℕ) : Type 0 where
 pub shaped-facts : (last : Bool) (l : List ℕ) → shaped_of last l ≡ true → Shaped last l
 unfolding shaped_of
 shaped-facts last l h =
-    let s = seven (leb 4 (length l)) (eqb (get_or l 0 0) 83) (known (kind_of l)) (all_digits (drop 2 l)) (eqb (length l) (4 + 2 * count_of l))
+    let s = seven (leb 4 (length l)) (eqb (get_or l 0 0) 83) (known (kind_of l)) (all_digits (drop 2 l))
+    (eqb (length l) (4 + 2 * count_of l))
     (leb 3 (count_of l)) (cond (eqb (kind_of l) 57) (eqb (count_of l) 3 && last) true) h in
     record { long = eqb-true _ _ s.4; room = leb-true _ _ s.5; ends = s.6 }
 

@@ -1,11 +1,12 @@
 // What a text of S-records is found to be: the types that judge and load share. The definitions
 // are in specs/: Digits, Record, Load, Write.
+#![tactic(auto)]
 
 ghost use Rattle.std.specs.Prelude.{◌≡◌};
 ghost use Rattle.srec.specs.Record.{is_accepted, refusal_number};
 
 // Why a line, a text or a call is refused.
-#[derive(Drop)]
+#[derive(Clone, Copy)]
 pub enum Refusal {
     Accepted,
     MemoryLength,
@@ -15,7 +16,7 @@ pub enum Refusal {
 }
 
 // The refusal of a text, and the number of the line at fault.
-#[derive(Drop)]
+#[derive(Clone, Copy)]
 pub struct Verdict {
     pub refusal: Refusal,
     pub line: u64,

@@ -1,5 +1,7 @@
 // The two calls for S-records on raw buffers and numbers: each judges all that it was lent before
 // it changes a byte.
+#![tactic(auto)]
+
 ghost use Rattle.std.specs.Prelude.{◌≡◌, min};
 ghost use Rattle.srec_call.specs.Call.{load_reply, load_call_of, write_call_of};
 

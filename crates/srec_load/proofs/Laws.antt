@@ -2,20 +2,20 @@
 -- the lines that are left make of what is held is, turn by turn, what all lines make of what was lent. Assumes nothing.
 use Prim.Native.Nat.{ℕ, zero, suc, ◌+◌, ◌-◌, ◌*◌, ◌≤◌, ◌<◌}
 use mathlib.Core.Path.{◌≡◌, refl, sym, ap, ◌∙◌, subst}
-use mathlib.Core.Bool.{Bool, true, false, cond, ◌&&◌, false≢true}
+use mathlib.Core.Bool.{Bool, true, false, ◌&&◌}
 use mathlib.Core.List.{List, [], ◌∷◌}
 use native.Mathlib.Numerals.{add-one}
 use native.Mathlib.Omega.{arith}
 use lib.Dec.{eqb, ltb, leb}
 use lib.ListN.{length, get_or, take, drop, set, length-drop, drop_of_length-le}
-use lib.Seq.{sets, drop-cons, drop-nil, get_or-drop, get_or-take, length-take-le}
+use lib.Seq.{sets, drop-cons, get_or-drop, get_or-take, length-take-le}
 use borrow.Author.Tests.{eq-eqb, ne_eqb}
 use Rattle.text_lines.specs.Lines.{lines_of, none, LineAt}
 use Rattle.text_lines.proofs.Laws.{lines_end, lines_none}
 use Rattle.srec.specs.Digits.{is_digit, all_digits}
 use Rattle.srec.specs.declared.Refusal.{Refusal}
-use Rattle.srec.specs.declared.Refusal.TheVariants.{Accepted, Form, Checksum, Room}
-use Rattle.srec.specs.Record.{is_accepted, bytes_of, kind_of, count_of, address_of, known, shaped_of, summed_of, fault_of, Loadable}
+use Rattle.srec.specs.declared.Refusal.TheVariants.{Accepted}
+use Rattle.srec.specs.Record.{is_accepted, bytes_of, kind_of, count_of, address_of, fault_of, Loadable}
 use Rattle.srec.specs.Load.{verdict, verdict_from, stored_of, memory_after, pc_at, pc_after, Sound}
 use Rattle.stores.proofs.Laws.{sets_more}
 use Rattle.srec.proofs.Laws.{verdict-fault, verdict-end, verdict-more, bytes-length}
@@ -112,75 +112,6 @@ module _ (t : List ℕ) (at stop next : ℕ) (here : LineAt t at stop next) wher
   pub pc-here : (pc : ℕ) → pc_after (lines_of (drop next t)) (pc_at (line_from t at stop) pc) ≡ pc_after (lines_of (drop at t)) pc
   unfolding pc_after
   pc-here pc = sym (ap (λ (ls : List (List ℕ)). pc_after ls pc) here.split)
-
--- ---- a line's shape and fault, test by test
-
--- all tests of a list, and then e
-abbrev pub every : List Bool → Bool → Bool
-every [] e = e
-every (t ∷ ts) e = t && every ts e
-
-abbrev test? : ℕ → List Bool → Bool
-test? k [] = true
-test? zero (t ∷ ts) = t
-test? (suc k) (t ∷ ts) = test? k ts
-
--- test k is met, so those after it decide; test k is not, and all before it were
-pub met : (k : ℕ) (ts : List Bool) (e : Bool) {x : Bool} → x ≡ every (drop k ts) e → test? k ts ≡ true → x ≡ every (drop (suc k) ts) e
-met k [] e h q = h ∙ ap (λ u. every u e) (drop-nil k)
-met zero (t ∷ ts) e h q = h ∙ ap (λ b. b && every ts e) q
-met (suc k) (t ∷ ts) e h q = met k ts e h q
-
-pub missed : (k : ℕ) (ts : List Bool) (e : Bool) {x : Bool} → x ≡ every (drop k ts) e → test? k ts ≡ false → false ≡ x
-missed k [] e h q = absurd (false≢true (sym q))
-missed zero (t ∷ ts) e h q = sym (h ∙ ap (λ b. b && every ts e) q)
-missed (suc k) (t ∷ ts) e h q = missed k ts e h q
-
--- the tests of every line, and what is asked of an S9
-abbrev pub tests : List ℕ → List Bool
-tests l =
-    leb 4 (length l) ∷ eqb (get_or l 0 0) 83 ∷ known (kind_of l) ∷ all_digits (drop 2 l) ∷ eqb (length l) (4 + 2 * count_of l)
-    ∷ leb 3 (count_of l)
-    ∷ []
-
-abbrev pub ending : Bool → List ℕ → Bool
-ending last l = cond (eqb (kind_of l) 57) (eqb (count_of l) 3 && last) true
-
-module _ (last : Bool) (l : List ℕ) where
-  pub shape-tests : shaped_of last l ≡ every (tests l) (ending last l)
-  unfolding shaped_of
-  shape-tests = refl
-
-  pub shape-data : {x : Bool} → x ≡ ending last l → eqb (kind_of l) 57 ≡ false → true ≡ x
-  shape-data h a = rw (h, a)
-
-  pub shape-long : {x : Bool} → x ≡ ending last l → eqb (kind_of l) 57 ≡ true → eqb (count_of l) 3 ≡ false → false ≡ x
-  shape-long h a b = rw (h, a, b)
-
-  pub shape-last : {x : Bool} → x ≡ ending last l → eqb (kind_of l) 57 ≡ true → eqb (count_of l) 3 ≡ true → last ≡ x
-  shape-last h a b = rw (h, a, b)
-
-  pub fault-shape : shaped_of last l ≡ false → Form ≡ fault_of last l
-  unfolding fault_of
-  fault-shape a = rw a
-
-  pub fault-sum : shaped_of last l ≡ true → summed_of l ≡ false → Checksum ≡ fault_of last l
-  unfolding fault_of
-  fault-sum a b = rw (a, b)
-
-  pub fault-other : shaped_of last l ≡ true → summed_of l ≡ true → eqb (kind_of l) 49 ≡ false → Accepted ≡ fault_of last l
-  unfolding fault_of
-  fault-other a b d = rw (a, b, d)
-
-  pub fault_past : shaped_of last l ≡ true → summed_of l ≡ true → eqb (kind_of l) 49 ≡ true
-      → ltb 65536 (address_of l + (count_of l - 3)) ≡ true → Room ≡ fault_of last l
-  unfolding fault_of
-  fault_past a b d e = rw (a, b, d, e)
-
-  pub fault-clean : shaped_of last l ≡ true → summed_of l ≡ true → eqb (kind_of l) 49 ≡ true
-      → ltb 65536 (address_of l + (count_of l - 3)) ≡ false → Accepted ≡ fault_of last l
-  unfolding fault_of
-  fault-clean a b d e = rw (a, b, d, e)
 
 -- ---- what a line stores
 

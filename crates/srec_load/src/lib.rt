@@ -1,5 +1,7 @@
 // Reading a text of S-records: the whole text is judged first, then loaded. Each line is looked at
 // three times at most, so both are linear in the text's length.
+#![tactic(auto)]
+
 mod line;
 
 ghost use Rattle.std.specs.Prelude.{◌≡◌, length};

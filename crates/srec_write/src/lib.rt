@@ -1,5 +1,7 @@
 // Writing a span of memory as S-records: each function writes from a place of the text on, leaves
 // all other bytes, and returns the place after what it wrote.
+#![tactic(auto)]
+
 ghost use Rattle.std.specs.Prelude.{◌≡◌, [], ◌∷◌, ◌++◌, ◌+◌, ◌*◌, ◌≤◌, ◌<◌, min, length};
 ghost use Rattle.std.proofs.lemmas.List.Edits.{sets};
 ghost use Rattle.srec.specs.Digits.{digits_of, sum_of};

@@ -1,5 +1,7 @@
 // Stack bytes that a paper will need: for each priority above p the dearest handler of the devices
 // chosen, and the sum of these.
+#![tactic(auto)]
+
 ghost use Rattle.std.specs.Prelude.{◌≡◌, true, cond, ◌&&◌, ◌<◌, eqb, ltb, length};
 ghost use Rattle.machine.specs.Depth.{greater};
 ghost use Rattle.stack_need.specs.Need.{given?, level_of, cost_of, dearest};

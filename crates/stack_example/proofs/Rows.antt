@@ -152,7 +152,8 @@ row2 =
     (interrupt-is c2 0x100 2 5 (commit w3 zeros) refl (ap current (word-is w3 65480 (lit< tt)))))
 
 pub row3 : Row ev s 3 (known c3 0 4 w4) (known c3 0 4 w4) c4 acts.Plain (inner_frame ∷ outer_frame ∷ []) (h2 ∷ h1 ∷ []) 1024
-unfolding perform deliver_at events_from event_at best_from interrupt_of over effect_of advanced decode_of granted width_of entered_psw pushes
+unfolding perform deliver_at events_from event_at best_from interrupt_of over effect_of advanced decode_of granted width_of entered_psw
+    pushes
 row3 =
     next_row ev s w3 row2 refl (outcome c3 0 second_push)
     (ap (λ x. outcome x (fallen 0x100 2) (pushes c2))

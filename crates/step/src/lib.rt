@@ -1,5 +1,7 @@
 // A step's plan performed, and the whole step: events, plan and performance. Registers and memory
 // are lent.
+#![tactic(auto)]
+
 ghost use Rattle.std.specs.Prelude.{◌≡◌, true, ℕ, ◌+◌, ◌<◌, length};
 ghost use Rattle.machine.specs.State.{core_of, state_of, state_with};
 ghost use Rattle.machine.specs.Memory.{commit, value_at};
@@ -92,7 +94,7 @@ pub fn perform(regs: &mut [u16; 8], mem: &mut [u8], lines: Lines, count: u32, p:
 }
 
 // The machine and the index of the first record not yet due, after one step.
-#[derive(Drop)]
+#[derive(Clone, Copy)]
 pub struct Stepped {
     pub machine: Machine,
     pub next: usize,

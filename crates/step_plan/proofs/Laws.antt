@@ -1,6 +1,35 @@
 -- What the code of a plan leaves, over plain cores, lists and numbers: each law takes what the code's calls give, in
 -- their order. l is the lines, m the memory. Assumes nothing.
-use Rattle.std.proofs.Common.{◌≡◌, ℕ, ◌+◌, ◌*◌, ◌/◌, ◌%◌, ◌<◌, ◌≤◌, Bool, true, false, cond, not, ◌&&◌, eqb, ltb, List, get_or, set, sym, refl, ap, ◌∙◌, subst, arith, set-set, le-ltb, lt-ltb}
+use Rattle.std.proofs.Common.{
+  ◌≡◌,
+  ℕ,
+  ◌+◌,
+  ◌*◌,
+  ◌/◌,
+  ◌%◌,
+  ◌<◌,
+  ◌≤◌,
+  Bool,
+  true,
+  false,
+  cond,
+  not,
+  ◌&&◌,
+  eqb,
+  ltb,
+  List,
+  get_or,
+  set,
+  sym,
+  refl,
+  ap,
+  ◌∙◌,
+  subst,
+  arith,
+  set-set,
+  le-ltb,
+  lt-ltb,
+}
 use lib.Seq.{set-get_or}
 use Rattle.word.specs.Psw.{asleep?, faulted?, current, previous}
 use Rattle.isa.specs.declared.Instr.{Instr}

@@ -1,5 +1,7 @@
 // What a step does, as the definitions have it: its plan, which has written no memory. Registers and
 // memory are lent.
+#![tactic(auto)]
+
 ghost use Rattle.std.specs.Prelude.{◌≡◌, ℕ, false, List, length, set, slice_index, slice_set};
 ghost use Rattle.machine.specs.State.{Core, core_of, core_with};
 ghost use Rattle.machine.specs.Cex.{skips?, lowered};
@@ -15,7 +17,7 @@ use machine::{Access, Act, ByteAddr, Lines, Rest};
 
 // What a step does, and the PSW and the CEX state that it starts from. The registers that it starts
 // from are those lent to `plan`.
-#[derive(Drop)]
+#[derive(Clone, Copy)]
 pub struct Planned {
     pub psw: u16,
     pub cex: u16,

@@ -1,6 +1,40 @@
 -- Words that a block skips one after the other. Until its count is used up, each takes one from the same count and nothing from the
 -- other or from the condition's outcome, so the block skips the next word too. Assumes nothing.
-use Rattle.std.proofs.Common.{◌≡◌, ℕ, zero, suc, ◌+◌, ◌-◌, ◌*◌, ◌/◌, ◌%◌, ◌<◌, ◌≤◌, true, false, not, ◌&&◌, eqb, ltb, List, length, get_or, set, sym, refl, ap, ◌∙◌, subst, add-one, arith, get_or-set_same, set-set, lt-ltb, eq-eqb, ne_eqb}
+use Rattle.std.proofs.Common.{
+  ◌≡◌,
+  ℕ,
+  zero,
+  suc,
+  ◌+◌,
+  ◌-◌,
+  ◌*◌,
+  ◌/◌,
+  ◌%◌,
+  ◌<◌,
+  ◌≤◌,
+  true,
+  false,
+  not,
+  ◌&&◌,
+  eqb,
+  ltb,
+  List,
+  length,
+  get_or,
+  set,
+  sym,
+  refl,
+  ap,
+  ◌∙◌,
+  subst,
+  add-one,
+  arith,
+  get_or-set_same,
+  set-set,
+  lt-ltb,
+  eq-eqb,
+  ne_eqb,
+}
 use lib.Seq.{set-get_or}
 use Rattle.word.specs.Psw.{asleep?}
 use Rattle.machine.specs.State.{wrap}

@@ -1,6 +1,49 @@
 -- One step and a stretch of them. Where PC is even, SLP clear and no line above the priority, a step is its instruction's step or a
 -- skipped one; asleep with no line above the priority, nothing changes but the count. Assumes nothing.
-use Rattle.std.proofs.Common.{◌≡◌, ℕ, zero, suc, ◌+◌, ◌-◌, ◌*◌, ◌/◌, ◌%◌, ◌<◌, ◌≤◌, Bool, true, false, not, ltb, leb, ◌⊎◌, List, [], ◌∷◌, length, get_or, set, sym, refl, ap, ◌∙◌, subst, inl, inr, ⊎_elim, mod-eq_of_lt, add-one, arith, length-set, get_or-set_same, set-set, ltb-false, ltb-true, le-ltb, lt-ltb}
+use Rattle.std.proofs.Common.{
+  ◌≡◌,
+  ℕ,
+  zero,
+  suc,
+  ◌+◌,
+  ◌-◌,
+  ◌*◌,
+  ◌/◌,
+  ◌%◌,
+  ◌<◌,
+  ◌≤◌,
+  Bool,
+  true,
+  false,
+  not,
+  ltb,
+  leb,
+  ◌⊎◌,
+  List,
+  [],
+  ◌∷◌,
+  length,
+  get_or,
+  set,
+  sym,
+  refl,
+  ap,
+  ◌∙◌,
+  subst,
+  inl,
+  inr,
+  ⊎_elim,
+  mod-eq_of_lt,
+  add-one,
+  arith,
+  length-set,
+  get_or-set_same,
+  set-set,
+  ltb-false,
+  ltb-true,
+  le-ltb,
+  lt-ltb,
+}
 use mathlib.Core.Bool.{false≢true}
 use lib.Seq.{set-get_or}
 use Rattle.word.specs.Psw.{asleep?, current}
@@ -412,7 +455,8 @@ decode-cex w h =
 
 pub cex-loaded :
     (l : ℕ) (regs m : List ℕ) (psw cex w v x : ℕ) → get_or regs 7 0 % 2 ≡ 0 → asleep? psw ≡ false → skips? cex ≡ false →
-    w ≡ word_at m (get_or regs 7 0) → w / 1024 ≡ 20 → v ≡ wrap (get_or regs 7 0 + 2) → x ≡ loaded_cex (w / 64 % 16) (w / 8 % 8) (w % 8) psw →
+    w ≡ word_at m (get_or regs 7 0) → w / 1024 ≡ 20 → v ≡ wrap (get_or regs 7 0 + 2) → x
+    ≡ loaded_cex (w / 64 % 16) (w / 8 % 8) (w % 8) psw →
     OneStep l regs psw cex m (set regs 7 v) psw x m
 unfolding advanced effect_of granted perform commit
 cex-loaded l regs m psw cex w v x even woken s ew h ev ex q =

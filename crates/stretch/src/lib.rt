@@ -5,6 +5,8 @@
 // other than BL, branches and MOV. Where a CEX block is open, the steps that it covers are taken one
 // by one, those that it skips at once, and a CEX in it is left too. The flags are kept as what they
 // come from (crate flags): the PSW is `psw` with those of `last`, `sum` and `over`.
+#![tactic(auto)]
+
 ghost use Rattle.std.specs.Prelude.{◌≡◌, ℕ, ◌+◌, ◌-◌, ◌*◌, ◌/◌, ◌%◌, ◌<◌, ◌≤◌, true, false, ◌⊎◌, List, length, ◌≢◌, slice_index};
 ghost use Rattle.word.specs.Psw.{asleep?};
 ghost use Rattle.machine.specs.Cex.{skips?, lowered};
@@ -48,7 +50,7 @@ fn take_step(
 }
 
 // The PSW and the CEX state after some steps, and how many are left of those that might be taken.
-#[derive(Drop)]
+#[derive(Clone, Copy)]
 pub struct Progress {
     pub psw: u16,
     pub cex: u16,
@@ -56,7 +58,7 @@ pub struct Progress {
 }
 
 // A CEX state, and how many steps are left to be taken from there.
-#[derive(Drop)]
+#[derive(Clone, Copy)]
 struct Ahead {
     cex: u16,
     left: u32,
@@ -134,7 +136,7 @@ fn covered(x: u16, all: u32) -> Ahead
 }
 
 // What a turn of the walk comes to, and whether another may follow it.
-#[derive(Drop)]
+#[derive(Clone, Copy)]
 struct Turned {
     cex: u16,
     left: u32,

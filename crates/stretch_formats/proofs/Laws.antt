@@ -1,6 +1,6 @@
 -- Words by their format: what the function of a format does is what its words mean. l is the registers with PC past the word
 -- w, m the memory, p the PSW, x the CEX state. Assumes nothing.
-use Prim.Native.Nat.{ℕ, zero, suc, ◌+◌, ◌/◌, ◌%◌, ◌<◌, ◌≤◌}
+use Prim.Native.Nat.{ℕ, zero, suc, ◌/◌, ◌%◌, ◌<◌, ◌≤◌}
 use native.Mathlib.Omega.{arith}
 use mathlib.Core.Bool.{Bool, true, false, cond, ◌||◌}
 use mathlib.Core.List.{List}
@@ -9,7 +9,7 @@ use mathlib.Core.Path.{◌≡◌, refl, sym, ap, ◌∙◌}
 use mathlib.Mathlib.Data.Bool.Basic.{or-eq-false-eq-eq-false-and-eq-false}
 use lib.Dec.{eqb, ltb, leb}
 use lib.ListN.{get_or}
-use borrow.Author.Tests.{eqb-false, ltb-false, leb-false, lt-ltb, le-ltb}
+use borrow.Author.Tests.{ltb-false, leb-false, lt-ltb, le-ltb}
 use Rattle.word.specs.Offset.{signed_of}
 use Rattle.word.specs.Width.{width_of}
 use Rattle.alu.specs.Alu.{alu_of}
@@ -41,15 +41,6 @@ pub means :
     (free : Bool) (n : Instr) (w : ℕ) (l m k : List ℕ) (p x q y r : ℕ) → decode_of w ≡ n → Tried n l p x k q y r →
     Taken free (decode_of w) l p x m k q y m r
 means free n w l m k p x q y r e t = rw e (tried-taken free n l m k p x q y r t)
-
--- ---- the rows that a match leaves
-
--- no row of one value
-abbrev Misses : (n k : ℕ) → Type 0
-Misses n k = n ≡ k → ⊥
-
-step : (n k : ℕ) → n < k + 1 → Misses n k → n < k
-step n k h f = omega arith
 
 -- ---- operations
 
@@ -172,26 +163,8 @@ module _ (w : ℕ) where
   branches free row l m p x {y} {r} e lo hi d =
       means free (i.Branch (w / 1024 % 8) (signed_of 512 (w % 1024))) w l m l p x p y r (decode-branch (omega arith) (omega arith)) (inr d)
 
--- below 3E00 with no branch: BL
-abbrev Unbranched : ℕ → Type 0
-Unbranched n =
-    ((((((((((((((Unit {0} × Misses n 16) × Misses n 17) × Misses n 18) × Misses n 19) × Misses n 20) × Misses n 21) × Misses n
-    22) × Misses n 23) × Misses n 24) × Misses n 25) × Misses n 26) × Misses n 27) × Misses n 28) × Misses n 29) × Misses n 30
-
-pub low_half : (w : ℕ) → w < 0x3E00 → Unbranched (w / 512) → w < 0x2000
-low_half w h f =
-    let k : w / 512 < 16 =
-    step (w / 512) 16 (step (w / 512) 17 (step (w / 512) 18 (step (w / 512) 19 (step (w / 512) 20 (step (w / 512) 21 (step (w / 512)
-    22 (step (w / 512) 23 (step (w / 512) 24 (step (w / 512) 25 (step (w / 512) 26 (step (w / 512) 27 (step (w / 512) 28 (step (w
-    / 512) 29 (step (w / 512) 30 (omega arith) f.1) f.0.1) f.0.0.1) f.0.0.0.1) f.0.0.0.0.1) f.0.0.0.0.0.1) f.0.0.0.0.0.0.1) f.0.0.0.0.0.0.0.1) f.0.0.0.0.0.0.0.0.1) f.0.0.0.0.0.0.0.0.0.1) f.0.0.0.0.0.0.0.0.0.0.1) f.0.0.0.0.0.0.0.0.0.0.0.1) f.0.0.0.0.0.0.0.0.0.0.0.0.1) f.0.0.0.0.0.0.0.0.0.0.0.0.0.1) f.0.0.0.0.0.0.0.0.0.0.0.0.0.0.1 in
-    omega arith
-
 -- 4C80 to 4D7F, as the test has it
 pub within : (w : ℕ) → (ltb w 0x4C80 || leb 0x4D80 w) ≡ false → (0x4C80 ≤ w) × (w < 0x4D80)
 within w h =
     let p = (or-eq-false-eq-eq-false-and-eq-false (ltb w 0x4C80) (leb 0x4D80 w)).0 h in
     (ltb-false w 0x4C80 p.0, leb-false 0x4D80 w p.1)
-
--- bit 6 clear, as the test has it
-pub bit-clear : (w : ℕ) → eqb (w / 64 % 2) 1 ≡ false → w / 64 % 2 ≡ 0
-bit-clear w h = let n = eqb-false (w / 64 % 2) 1 h in omega arith

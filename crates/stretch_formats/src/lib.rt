@@ -2,6 +2,8 @@
 // constants that a source field can name; the flags are those that `last`, `sum` and `over` keep
 // (crate flags). A row is the word's leading bits as a number: what it says of operation, operand,
 // width and condition is known where a caller hands on a number.
+#![tactic(auto)]
+
 ghost use Rattle.std.specs.Prelude.{Bool, cond, List, ◌≡◌, ℕ, ◌/◌, ◌%◌, ◌<◌, ◌≤◌, eqb, get_or};
 ghost use Rattle.isa.specs.Decode.{decode_of};
 ghost use Rattle.machine.specs.Effect.{constant_of};

@@ -1,11 +1,43 @@
 -- What the code of one instruction leaves, put together as its definition has it. l is the registers with PC past the
 -- instruction, m the memory before it, p the PSW, x the CEX state. Assumes nothing.
-use Rattle.std.proofs.Common.{◌≡◌, ℕ, ◌+◌, ◌*◌, ◌/◌, ◌%◌, ◌<◌, ◌≤◌, Bool, true, false, cond, not, ◌&&◌, eqb, ltb, List, get_or, set, ℤ, sym, refl, ap, ◌∙◌, inl, inr, ⊎_elim, arith, ltb-false, ltb-true, le-ltb, lt-ltb}
+use Rattle.std.proofs.Common.{
+  ◌≡◌,
+  ℕ,
+  ◌+◌,
+  ◌*◌,
+  ◌/◌,
+  ◌%◌,
+  ◌<◌,
+  ◌≤◌,
+  Bool,
+  true,
+  false,
+  cond,
+  not,
+  ◌&&◌,
+  eqb,
+  ltb,
+  List,
+  get_or,
+  set,
+  ℤ,
+  sym,
+  refl,
+  ap,
+  ◌∙◌,
+  inl,
+  inr,
+  ⊎_elim,
+  arith,
+  ltb-false,
+  ltb-true,
+  le-ltb,
+  lt-ltb,
+}
 use borrow.Author.Tests.{eqb-false}
 use Rattle.word.proofs.Laws.{bool_cases}
 use Rattle.word.specs.Offset.{signed_of}
 use Rattle.isa.specs.declared.Instr.{Instr}
-use Rattle.isa.specs.declared.Instr.TheVariants as Instr
 use Rattle.isa.specs.Decode.{decode_of}
 use Rattle.machine.specs.declared.Access.{Access}
 use Rattle.machine.specs.declared.Access.TheVariants as asks
@@ -111,7 +143,8 @@ cex-stays true i x h = rw h refl
 cex-stays false i x h = refl
 
 pub pc-adjusted :
-    (moves : Bool) (l k : List ℕ) (i v : ℕ) → i < 8 → (moves && eqb i 7) ≡ false → k ≡ cond moves (set l i v) l → get_or k 7 0 ≡ get_or l 7 0
+    (moves : Bool) (l k : List ℕ) (i v : ℕ) → i < 8 → (moves && eqb i 7) ≡ false → k ≡ cond moves (set l i v) l → get_or k 7 0
+    ≡ get_or l 7 0
 pc-adjusted true l k i v b h e =
     let n = eqb-false i 7 h in
     ap (λ (x : List ℕ). get_or x 7 0) e ∙ pc-set l i v (omega arith)
@@ -120,7 +153,8 @@ pc-adjusted false l k i v b h e = ap (λ (x : List ℕ). get_or x 7 0) e
 module _ (l k : List ℕ) (p x prpo dec inc wb i : ℕ) {a b at : ℕ} (h : (moves? dec inc && eqb i 7) ≡ false) (ha : a ≡ get_or l i 0)
     (hb : b ≡ adjusted a dec inc wb) (ht : at ≡ cond (eqb prpo 1) b a) (w : k ≡ cond (moves? dec inc) (set l i b) l) where
   pub load-effect :
-      (dst : ℕ) → effect (core_of k p x) (asks.Load (eqb wb 1) (byte_addr at) dst) ≡ effect_of (core_of l p x) (Instr.Ld prpo dec inc wb i dst)
+      (dst : ℕ) → effect (core_of k p x) (asks.Load (eqb wb 1) (byte_addr at) dst)
+      ≡ effect_of (core_of l p x) (Instr.Ld prpo dec inc wb i dst)
   load-effect dst = loading l k p x x prpo dec inc wb i ha hb ht (w, sym (cex-stays (moves? dec inc) i x h)) dst
 
   pub store-effect :

@@ -1,6 +1,8 @@
 // Loads and stores of a stretch. Each function takes the word w, PC being past it (`pc`), and
 // answers pc, or LEFT_ALONE and has left all alone. Left alone are an odd word access, a store to
 // the device bytes or to the vectors, a load into R7, and an adjustment of R7.
+#![tactic(auto)]
+
 ghost use Rattle.std.specs.Prelude.{◌≡◌, ℕ, ◌/◌, ◌%◌, ◌<◌, ◌≤◌, Bool, true, false, length, if◌then◌else◌, slice_index, slice_set};
 ghost use Rattle.word.specs.Offset.{signed_of};
 ghost use Rattle.isa.specs.declared.Instr.TheVariants as Instr;

@@ -127,7 +127,8 @@ module _ (l : List ℕ) (p x pc : ℕ) (h : Past pc l) where
       (ap (λ (c : Core). plainly (put c d (get_or l src 0))) (put-below l p x src (get_or l d 0) f)
       ∙ ap plainly (put-below (set l src (get_or l d 0)) p x d (get_or l src 0) f')
       ∙ ap (λ (j : List ℕ). plainly (core_of j p x)) (sym g))
-      (ap (λ (j : List ℕ). get_or j 7 0) g ∙ pc-set (set l src (get_or l d 0)) d (get_or l src 0) f' ∙ pc-set l src (get_or l d 0) f) (refl, refl)
+      (ap (λ (j : List ℕ). get_or j 7 0) g ∙ pc-set (set l src (get_or l d 0)) d (get_or l src 0) f' ∙ pc-set l src (get_or l d 0) f)
+      (refl, refl)
 
   -- R7 written by MOV of a word
   pub moves-to-pc :

@@ -9,7 +9,6 @@ use Rattle.alu.specs.declared.Op.{Op}
 use Rattle.alu.specs.declared.Computed.{Computed}
 use Rattle.alu.specs.Alu.{alu_of}
 use Rattle.isa.specs.declared.Instr.{Instr}
-use Rattle.isa.specs.declared.Instr.TheVariants as i
 use Rattle.machine.specs.State.{core_of}
 use Rattle.machine.specs.Effect.{effect_of, plainly, put_current}
 

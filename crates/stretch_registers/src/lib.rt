@@ -5,6 +5,8 @@
 // flags): the PSW is `psw` with those of `last`, `sum` and `over`. R7 is written by BL, branches
 // and MOV alone; SLP stays, and so does the priority but for SETPRI, which is done where `free`
 // says that no line waits.
+#![tactic(auto)]
+
 ghost use Rattle.std.specs.Prelude.{true, false, List, ◌≡◌, ℕ, ◌+◌, ◌*◌, ◌/◌, ◌%◌, ◌<◌, ◌≤◌, eqb, get_or, set};
 ghost use Rattle.std.specs.Int.Signed.{mag};
 ghost use Rattle.isa.specs.declared.Instr.TheVariants as Instr;

@@ -5,6 +5,8 @@
 // word's leading bits as a number, and hands that number on: what it says of operation, operand and
 // width is then known where the row is compiled, and all rows together become one table, of which
 // the test in either_operand becomes a part.
+#![tactic(auto)]
+
 ghost use Rattle.std.specs.Prelude.{Bool, List, ◌⊎◌, ◌≡◌, ℕ, ◌+◌, ◌/◌, ◌%◌, ◌<◌, ◌≤◌};
 ghost use Rattle.isa.specs.Decode.{decode_of};
 ghost use Rattle.flags.specs.Kept.{held};

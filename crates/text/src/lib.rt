@@ -1,5 +1,7 @@
 // Text put into a buffer: each function writes from `at` on, returns the place after the last byte
 // written, and leaves what stands before `at` and from that place on.
+#![tactic(auto)]
+
 ghost use Rattle.std.specs.Prelude.{◌≡◌, [], ◌∷◌, ◌++◌, ◌+◌, ◌≤◌, ◌<◌, length, take, drop};
 ghost use Rattle.text.specs.Text.{glyph, hex_of, decimal_of};
 

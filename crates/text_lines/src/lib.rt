@@ -1,10 +1,12 @@
 // The lines of a text, one after the other: where the line ends that begins at a place, and where
 // the next one begins. Each byte is looked at once or twice, so a walk of all lines is linear.
+#![tactic(auto)]
+
 ghost use Rattle.std.specs.Prelude.{◌≡◌, ◌<◌, length, drop};
 ghost use Rattle.text_lines.specs.Lines.{LineAt, starts_cr_lf};
 
 // A line's end, and the start of the line after it.
-#[derive(Drop)]
+#[derive(Clone, Copy)]
 pub struct Line {
     pub stop: usize,
     pub next: usize,

@@ -1,4 +1,6 @@
 // A record of a trace: its bytes, and what an act's record has.
+#![tactic(auto)]
+
 ghost use Rattle.std.specs.Prelude.{◌≡◌, ℕ, ◌+◌, ◌*◌, ◌<◌, ◌≤◌, List, length};
 ghost use Rattle.std.proofs.lemmas.List.Edits.{sets};
 ghost use Rattle.word.specs.Psw.{bit_of};
@@ -11,7 +13,7 @@ ghost use Rattle.trace_record.specs.Written.{head_bytes, tail_bytes, act_written
 use machine::{Act, ByteAddr, Machine};
 
 // What stood before a step: the step count, PC, SP and PSW.
-#[derive(Drop)]
+#[derive(Clone, Copy)]
 pub struct Before {
     pub step: u32,
     pub pc: u16,
@@ -20,7 +22,7 @@ pub struct Before {
 }
 
 // What an act's record has of its own.
-#[derive(Drop)]
+#[derive(Clone, Copy)]
 pub struct Told {
     pub number: u8,
     pub address: u16,

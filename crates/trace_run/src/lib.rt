@@ -1,4 +1,6 @@
 // A run of n steps that is traced: one step with its records, a stretch, and the loop of both.
+#![tactic(auto)]
+
 ghost use Rattle.std.specs.Prelude.{◌≡◌, true, false, List, ℕ, ◌+◌, ◌*◌, ◌<◌, ◌≤◌, ltb, length};
 ghost use Rattle.machine.specs.State.{state_of, state_with};
 ghost use Rattle.machine.specs.Events.{events_of, event_count};
@@ -45,7 +47,7 @@ fn lacks(room: usize, added: usize, more: usize) -> bool
 
 // What a step leaves besides the registers: the rest of the machine, the event record then awaited,
 // the records there, and whether the step was not taken for want of room.
-#[derive(Drop)]
+#[derive(Clone, Copy)]
 pub struct Turned {
     pub rest: Rest,
     pub at: Awaited,
@@ -118,7 +120,7 @@ fn step_traced(
 }
 
 // The machine that a traced run leaves, why it ended, the steps done and the records added.
-#[derive(Drop)]
+#[derive(Clone, Copy)]
 pub struct Ran {
     pub machine: Machine,
     pub reason: Reason,

@@ -20,7 +20,8 @@ use Rattle.trace.specs.Trace.{event_entry, entry_bytes, trace_bytes}
 use Rattle.trace.specs.Before.{events_before}
 
 module _ (s : State) (b : List ℕ) (k : ℕ) where
-  skip-one : (at n : ℕ) → (step_at b at ≡ k → ⊥) → events_before s k (events_from b at (suc n)) ≡ events_before s k (events_from b (suc at) n)
+  skip-one : (at n : ℕ) → (step_at b at ≡ k → ⊥) → events_before s k (events_from b at (suc n))
+      ≡ events_before s k (events_from b (suc at) n)
   unfolding events_from events_before
   skip-one at n h =
       let later = events_before s k (events_from b (suc at) n) in
@@ -80,7 +81,8 @@ module _ (s : State) (b : List ℕ) (k : ℕ) where
   pub index-end : (at : ℕ) → event_count b ≤ at → events_before s k (rest_from b at) ≡ []
   index-end at h = none at (λ j g u q. omega arith)
 
-  pub index-none : (next : ℕ) → Ordered b → Behind b next k → (next < event_count b → k < step_at b next) → events_before s k (events_of b) ≡ []
+  pub index-none : (next : ℕ) → Ordered b → Behind b next k → (next < event_count b → k < step_at b next)
+      → events_before s k (events_of b) ≡ []
   index-none next o p l =
       sym (index-start next p)
       ∙ ⊎_elim
@@ -99,6 +101,12 @@ module _ (s : State) (b : List ℕ) (k : ℕ) where
   pub count-early : (at due all : ℕ) → at < event_count b → (step_at b at ≡ k → ⊥) → due + left at ≡ all → due + left (at + 1) ≡ all
   count-early at due all h e q = let l = ap length (index-early at h e) in omega (arith, l, q)
 
+  -- a record that is due has room where all have
+  pub room-due : (at due first size : ℕ) → at < event_count b → step_at b at ≡ k
+      → due + left at ≡ first + length (events_before s k (events_of b)) → 16 * (first + length (events_before s k (events_of b))) ≤ size
+      → 16 * due + 16 ≤ size
+  room-due at due first size h e q r = let l = ap length (index-due at h e) in omega (arith, l, q, r)
+
   -- ---- the records
 
   -- what writing the rest from here gives
@@ -106,7 +114,8 @@ module _ (s : State) (b : List ℕ) (k : ℕ) where
   rest m added at = sets m (16 * added) (trace_bytes (events_before s k (rest_from b at)))
 
   pub write-due : (m m' all : List ℕ) (added at : ℕ) → at < event_count b → step_at b at ≡ k
-      → m' ≡ sets m (16 * added) (entry_bytes (event_entry s s (event_at b at))) → rest m added at ≡ all → rest m' (added + 1) (at + 1) ≡ all
+      → m' ≡ sets m (16 * added) (entry_bytes (event_entry s s (event_at b at))) → rest m added at ≡ all → rest m' (added + 1) (at + 1)
+      ≡ all
   unfolding trace_bytes
   write-due m m' all added at h e w q =
       let x = event_entry s s (event_at b at) in

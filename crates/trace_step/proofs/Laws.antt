@@ -29,7 +29,8 @@ pub bits-on : (t w a b c : ℕ) → t / 16 % 2 ≡ 1 → a ≡ 2 * bool_byte (eq
 bits-on t w a b c h ea eb ec =
     let e : t % 2 ≡ t / 1 % 2 = omega arith in
     (λ i. 1 + ea i + (eb ∙ ap (λ x. 4 * bool_byte (eqb x 1)) e) i + ec i)
-    ∙ sym (ap (λ (b : Bool). cond b (1 + 2 * bool_byte (eqb (t / 4 % 2) 1) + 4 * bool_byte (eqb (t / 1 % 2) 1) + 8 * bool_byte (eqb w 15)) 0)
+    ∙ sym (ap (λ (b : Bool). cond b (1 + 2 * bool_byte (eqb (t / 4 % 2) 1) + 4 * bool_byte (eqb (t / 1 % 2) 1) + 8 * bool_byte (eqb w 15))
+    0)
     (is_eq h))
 
 -- ---- an event

@@ -1,5 +1,7 @@
 // The records of a step: how many it needs, and those of its events and of its act, written behind
 // those that are there.
+#![tactic(auto)]
+
 ghost use Rattle.std.specs.Prelude.{◌≡◌, true, ℕ, ◌+◌, ◌*◌, ◌<◌, ◌≤◌, List, length};
 ghost use mir.Val.{bool_byte};
 ghost use Rattle.std.proofs.lemmas.List.Edits.{sets};

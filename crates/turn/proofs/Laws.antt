@@ -50,7 +50,8 @@ module _ (b : List ℕ) (next due k : ℕ) (a : Awaits b next due k) where
   -- before the step of the next record no event is due
   pub undisturbed : Ordered b → Undisturbed (events_of b) k due
   undisturbed o j h l s =
-      index-none-due b j next s o (awaits-later j h).0 (λ q. let e : due ≡ (event_at b next).step = a.1 ∙ due_in_lem b next q in omega arith)
+      index-none-due b j next s o (awaits-later j h).0 (λ q. let e : due ≡ (event_at b next).step = a.1
+      ∙ due_in_lem b next q in omega arith)
 
 -- the devices of a list that rule 6 accepts
 from-devices : (b : List ℕ) (n k : ℕ) → ((j : ℕ) → j < k + n → OfDevice (event_at b j)) → Each OfDevice (events_from b k n)

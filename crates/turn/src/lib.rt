@@ -1,5 +1,7 @@
 // What one turn of a run's loop is made of: the event that it awaits and the events due at a step, how
 // many steps a stretch may do at once and the machine after it, and why a run ended.
+#![tactic(auto)]
+
 ghost use Rattle.std.specs.Prelude.{◌≡◌, Bool, true, cond, ◌+◌, ◌-◌, ◌≤◌, length};
 ghost use Rattle.machine.specs.declared.Reason.TheVariants.{Done, Halted, NoRoom};
 ghost use Rattle.machine.specs.State.{Core};
@@ -24,14 +26,14 @@ pub fn due_at(events: &[u8], k: usize) -> u64
 }
 
 // The first event record not behind, and its step.
-#[derive(Drop)]
+#[derive(Clone, Copy)]
 pub struct Awaited {
     pub next: usize,
     pub due: u64,
 }
 
 // The lines after the events of a step, and the record then awaited.
-#[derive(Drop)]
+#[derive(Clone, Copy)]
 pub struct Delivery {
     pub lines: Lines,
     pub at: Awaited,

@@ -1,5 +1,7 @@
 // Words of 8 and 16 bits, the bits of the PSW, and offsets with a sign: the leaves of the machine.
 // `byte` chooses the width: 8 bits, else 16.
+#![tactic(auto)]
+
 ghost use Rattle.std.specs.Prelude.{◌≡◌, ◌+◌, ◌-◌, ◌^◌, ◌<◌, ◌≤◌};
 ghost use Rattle.std.specs.Int.Signed.{mag};
 ghost use Rattle.word.specs.Width.{width_of, bit, low, with_low, turned};

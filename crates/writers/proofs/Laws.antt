@@ -1,6 +1,44 @@
 -- Marks after the writes of each act, and the first byte read amiss, as equations over plain lists and numbers. Marks go down a list of
 -- writes as memory does; the first of two lists is the first of the one, or else of the other. Assumes nothing.
-use Rattle.std.proofs.Common.{◌≡◌, ℕ, zero, suc, ◌+◌, ◌-◌, ◌*◌, ◌/◌, ◌%◌, ◌^◌, ◌<◌, ◌≤◌, Bool, true, false, cond, ◌&&◌, eqb, ltb, ◌≢◌, List, [], ◌∷◌, ◌++◌, length, set, sym, refl, ap, ◌∙◌, subst, arith, lit<, le-ltb, lt-ltb, eq-eqb, ne_eqb}
+use Rattle.std.proofs.Common.{
+  ◌≡◌,
+  ℕ,
+  zero,
+  suc,
+  ◌+◌,
+  ◌-◌,
+  ◌*◌,
+  ◌/◌,
+  ◌%◌,
+  ◌^◌,
+  ◌<◌,
+  ◌≤◌,
+  Bool,
+  true,
+  false,
+  cond,
+  ◌&&◌,
+  eqb,
+  ltb,
+  ◌≢◌,
+  List,
+  [],
+  ◌∷◌,
+  ◌++◌,
+  length,
+  set,
+  sym,
+  refl,
+  ap,
+  ◌∙◌,
+  subst,
+  arith,
+  lit<,
+  le-ltb,
+  lt-ltb,
+  eq-eqb,
+  ne_eqb,
+}
 use mathlib.Core.Bool.{and-false}
 use Rattle.word.specs.Width.{bit}
 use Rattle.word.specs.Psw.{put_bit, bit_of}
@@ -150,7 +188,8 @@ store-law who l m a v size h p q =
     two
     ∙ ap (marked who (byte_writes n (b + 1) (high_byte v))) one
     ∙ sym (marked_append who (byte_writes m b (low_byte v)) (byte_writes n (b + 1) (high_byte v)) l)
-    ∙ ap (λ (x : ℕ). marked who (byte_writes m x (low_byte v) ++ byte_writes (commit (byte_writes m x (low_byte v)) m) (x + 1) (high_byte v)) l) e
+    ∙ ap (λ (x : ℕ). marked who (byte_writes m x (low_byte v) ++ byte_writes (commit (byte_writes m x (low_byte v)) m) (x + 1)
+    (high_byte v)) l) e
 
 -- ---- the first byte
 

@@ -1,6 +1,8 @@
 // The calls of a C host: numbers and byte buffers in, one number out. Nothing is kept between
 // calls.
 // The definitions that the replies equal are gathered in specs/Api.antt.
+#![tactic(auto)]
+
 ghost use Rattle.std.specs.Prelude.{◌≡◌};
 ghost use Rattle.xm23.specs.Api.{version_number, decode_of, number_of, encode_number};
 ghost use Rattle.xm23.specs.Api.{range_reply, count_reply, next_reply};

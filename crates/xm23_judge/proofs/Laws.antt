@@ -151,5 +151,6 @@ module _ (memory r events writers findings : List ℕ) (n k : ℕ) (e : k ≡ ju
       ∙ ap (λ j. left (reply_number j 0 0 0) memory r writers findings) e
       ∙ sym (judge-refused memory r events writers findings n (λ q. h (e ∙ q)))
 
-  pub call-judged : k ≡ 0 → judge_accepted (state_in r memory) (judged_on memory r events n) ≡ judge_call_of memory r events writers findings n
+  pub call-judged : k ≡ 0 → judge_accepted (state_in r memory) (judged_on memory r events n)
+      ≡ judge_call_of memory r events writers findings n
   call-judged h = sym (judge-accepted memory r events writers findings n (sym e ∙ h))

@@ -1,6 +1,8 @@
 // The exported call of a judged run on its raw buffers: its refusals, the start told, the judged run,
 // frames left open told, and its reply. An object of its own in the archive: with no other loop in
 // it the compiler lays the general step into this one.
+#![tactic(auto)]
+
 ghost use Rattle.std.specs.Prelude.{◌≡◌, cond, List, ℕ, ◌+◌, ◌*◌, ◌≤◌, eqb, length, replicate};
 ghost use Rattle.word.specs.Width.{bit};
 ghost use Rattle.machine.specs.State.{State, state_of};

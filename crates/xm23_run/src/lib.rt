@@ -1,6 +1,7 @@
-// A run of n steps with an output log, and the exported call of it on its raw buffers. An object of
-// its own in the archive: what stands below it has one caller there, so that the compiler lays a
-// short call into one function.
+// A run of n steps with an output log, and the call of it on its raw buffers, which xm23_run_c
+// exports.
+#![tactic(auto)]
+
 ghost use Rattle.std.specs.Prelude.{◌≡◌, true, ◌+◌, ◌≤◌, length};
 ghost use Rattle.machine.specs.State.{state_of};
 ghost use Rattle.machine.specs.Events.{event_count};
@@ -59,8 +60,7 @@ pub fn run(
 // what its output devices show: refusal in bits 7-0, reason in bits 15-8, steps done in bits 39-16,
 // log records added in bits 63-40; `deepest` becomes the most frames that were open together.
 // Refused, memory, record, log and `deepest` stay as they were.
-#[unsafe(no_mangle)]
-pub extern "C" fn xm23_run(
+pub fn xm23_run(
     memory: &mut [u8],
     state: &mut [u8],
     events: &[u8],

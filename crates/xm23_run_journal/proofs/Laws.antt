@@ -119,7 +119,8 @@ module _
     figure-ran d number q =
         ap (λ (x : Depth). x.deepest) q
         ∙ (λ i. deepest_from (events_of events) (read memory i) (run_is i).steps)
-        ∙ sym (ap (λ v. cond (accepted? v) (deepest_from (events_of events) (state_in r memory) (run_on memory r events log n).steps) number)
+        ∙ sym (ap (λ v. cond (accepted? v) (deepest_from (events_of events) (state_in r memory) (run_on memory r events log n).steps)
+        number)
         (accepted h))
 
     pub closing-ran :

@@ -1,5 +1,7 @@
 // The exported call of a run whose steps are kept in a journal, on its raw buffers and numbers. An
 // object of its own in the archive: what stands below it has one caller there.
+#![tactic(auto)]
+
 ghost use Rattle.std.specs.Prelude.{◌≡◌};
 ghost use Rattle.journal.specs.Ring.{journal_of};
 ghost use Rattle.journal.specs.Call.{journal_verdict, run_journal_of};

@@ -1,5 +1,7 @@
 // The exported call of the printed line: the line of an input at the start of a lent buffer. An
 // object of its own in the archive, as each call that has a loop over steps.
+#![tactic(auto)]
+
 ghost use Rattle.std.specs.Prelude.{◌≡◌, ◌≤◌, length};
 ghost use Rattle.std.proofs.lemmas.List.Edits.{sets};
 ghost use Rattle.xm23_sheet.specs.Call.{sheet_call_of};

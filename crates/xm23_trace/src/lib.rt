@@ -1,6 +1,8 @@
 // The exported call of a traced run on its raw buffers: refused, or the traced run of what they hold.
 // An object of its own in the archive: with no other loop in it the compiler lays the general step
 // into this one.
+#![tactic(auto)]
+
 ghost use Rattle.std.specs.Prelude.{◌≡◌, ◌≤◌};
 ghost use Rattle.machine.specs.Run.{reason_number};
 ghost use Rattle.machine.specs.Call.{reply_number};

@@ -1,0 +1,11 @@
+use borrow.Author.Tests.{eq-eqb, ne_eqb}
+use Rattle.asm_spellings.specs.Spellings.{letters_of}
+use Rattle.asm_printer.proofs.swap.Goals as goal
+
+pub returns-then-w-eq0 : goal.returns-then-w-eq0
+unfolding letters_of
+returns-then-w-eq0 c =
+    rw (eq-eqb _ 0 c.if-w-eq0.true) c.of_registers.ensures
+
+pub returns : goal.returns
+returns c = rw (ne_eqb _ 0 c.if-w-eq0.false) c.word.ensures

@@ -1,0 +1,8 @@
+use Rattle.asm_write.specs.Written.{misplaced?}
+use mathlib.Core.Path.{refl}
+use borrow.Author.Rules.{rules}
+use Rattle.asm_write.proofs.misplaced.Goals as goal
+
+pub returns : goal.returns
+unfolding misplaced?
+returns c = refl

@@ -1,0 +1,10 @@
+-- `execute::set_flags` meets its contract. Assumes nothing.
+use Rattle.machine.specs.Effect.{effect_of}
+use Rattle.execute.proofs.set_flags.Goals as goal
+
+pub returns : goal.returns
+unfolding effect_of
+returns c regs =
+    let n = c.asks_nothing.ensures in
+    let f = c in
+    simp (n.0, n.1, n.2, f.flags_set.ensures, f.allowed_flags-f.ensures.0)

@@ -1,0 +1,11 @@
+use Rattle.std.proofs.Common.{◌≡◌, ◌-◌, ◌≤◌, length, sym, refl, ◌∙◌, arith, length-set, rules}
+use Rattle.stores.proofs.Laws.{copied, copied-start, copied-turn, copied-end}
+use Rattle.findings.proofs.put.Given as goal
+
+abbrev pub invariant-loop-j : goal.invariant-loop-j
+invariant-loop-j l =
+    (length l.findings ≡ length l.initial.findings) × (l.j ≤ length l.v) ×
+    (copied l.findings l.i l.v l.j ≡ copied l.initial.findings l.i l.v 0)
+
+abbrev pub decreases-loop-j : goal.decreases-loop-j
+decreases-loop-j l = length l.v - l.j

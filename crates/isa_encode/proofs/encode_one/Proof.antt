@@ -1,7 +1,0 @@
-use borrow.Author.Tests.{lt-ltb, le-ltb}
-use borrow.Author.Rules.{rules}
-use Rattle.isa_encode.proofs.encode_one.Statement.{statement}
-use Rattle.isa_encode.proofs.encode_one.Tie as tie
-
-pub encode-one-spec : {M : Type 1} → statement M
-encode-one-spec = tie.close (tie.spec (λ c. search (rules, lt-ltb, le-ltb)) (λ c. search rules) (λ c. search (rules, lt-ltb, le-ltb)))

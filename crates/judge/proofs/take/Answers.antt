@@ -1,0 +1,34 @@
+-- One step from what its calls say: it is looked at before it ends, its writes are marked, it is done, its breaches are told, and its
+-- frames are kept. Assumes nothing.
+use Rattle.judge.proofs.Laws.{begins-law, leaves-law, watched-law}
+use Rattle.judge.specs.Taken.{watch_with}
+use Rattle.soundness.specs.Watch.{seen_by}
+use Rattle.machine.specs.Step.{plan_of}
+use Rattle.machine.specs.State.{core_of, state_with}
+use Rattle.std.proofs.Common.{refl, sym}
+use Rattle.judge.proofs.take.Goals as goal
+
+pub returns-clause-step : goal.returns-clause-step
+returns-clause-step c b er em el ec ep =
+    let a = c.args in
+    let q = c.perform-t in
+    let t = state_with q.new.regs q.result q.new.mem in
+    let m = a.memory.now in
+    let l = a.kept.now in
+    let o = a.opened.now in
+    let v = a.vectors.now in
+    let w = a.writers.now in
+    let y = c.watch_after-f in
+    let x = y.ensures in
+    let z = seen_by (plan_of b).act b t (watch_with a.o l o v w) in
+    let g = begins-law b a.done a.o a.before.now a.regs.now m l o v w a.p a.lines a.count er em el ec ep t in
+    let k = c.looked-l.ensures o v a.o.owns z g in
+    record {
+      leaves = leaves-law b a.done a.o a.before.now a.regs.now m l o v w a.p a.lines a.count er em el ec ep t q.ensures;
+      watched = watched-law b a.done a.o a.before.now a.regs.now m l o v w a.p a.lines a.count er em el ec ep t
+          y.result y.new.kept y.new.opened y.new.vectors c.mark_writes.new.writers
+          c.looked-l.result.mine c.writer.result x.owns.0 (x.devices.1 t refl refl) x.oldest k.is_mine c.writer.ensures
+          (c.mark_writes.ensures (core_of a.regs.now a.p.psw a.p.cex) a.lines refl);
+      told = λ f e. c.tell_step.ensures f z e
+          (c.shown-x.ensures a.before.now m l o v w z g refl refl c.requires.2 k) (sym (c.runs-h.ensures l));
+    }

@@ -1,0 +1,9 @@
+-- `operands::adjust_index` meets its contract. Assumes nothing.
+use Rattle.std.proofs.Common.{refl, eq-eqb, ne_eqb}
+use Rattle.operands.proofs.adjust_index.Goals as goal
+
+pub returns-then-dec-inc : goal.returns-then-dec-inc
+returns-then-dec-inc c = rw (eq-eqb _ _ c.if-dec-inc.true) (refl, refl)
+
+pub returns : goal.returns
+returns c = rw (ne_eqb _ _ c.if-dec-inc.false) c.put.ensures

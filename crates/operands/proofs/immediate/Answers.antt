@@ -1,0 +1,21 @@
+-- `operands::immediate` meets its contract. Assumes nothing.
+use lib.ListN.{get_or-eq_default}
+use Rattle.machine.specs.Effect.{immediate_of}
+use Rattle.word.proofs.Laws.{past}
+use Rattle.operands.proofs.immediate.Goals as goal
+
+pub returns-in_default : goal.returns-in_default
+unfolding immediate_of
+returns-in_default c = let h = past c.args.op 3 c.in_default.in_default-own.rest in rw get_or-eq_default
+
+pub returns-in-0 : goal.returns-in-0
+unfolding immediate_of
+returns-in-0 c = rw c.in-0.is
+
+pub returns-in-1 : goal.returns-in-1
+unfolding immediate_of
+returns-in-1 c = rw c.in-1.is
+
+pub returns-in-2 : goal.returns-in-2
+unfolding immediate_of
+returns-in-2 c = rw c.in-2.is

@@ -1,0 +1,33 @@
+-- By digits, the highest first: a number below ten, or no place left, is one digit; else the digits of a tenth of it, with one place less,
+-- and then its last digit (Laws, decimal-more). The places fall at each call.
+use Rattle.std.proofs.Common.{◌≡◌, ◌%◌, [], ◌∷◌, append_assoc, arith}
+use Rattle.text.specs.Text.{glyph, decimal_of}
+use Rattle.text.proofs.Laws.{decimal-last, decimal-low, decimal-more, kept-twice}
+use Rattle.text.proofs.+put_decimal.Goals as goal
+use Rattle.text.proofs.+put_decimal.Goals.{then-k-eq0-via-then-k-eq0, then-k-eq0-via-else-k-eq0+then-n-lt10}
+
+pub returns-then-k-eq0 : goal.returns-then-k-eq0
+returns-then-k-eq0 t c =
+    let one : decimal_of c.args.k c.args.n ≡ glyph (c.args.n % 10) ∷ [] =
+    elim c.then-k-eq0.branch [
+      | then-k-eq0-via-then-k-eq0 w ↦ decimal-last _ _ (omega arith)
+      | then-k-eq0-via-else-k-eq0+then-n-lt10 w ↦ decimal-low _ _ (omega arith)
+    ] in
+    (rw (c.put.ensures.0, c.digit.ensures, one), omega arith, omega arith, c.put.ensures.2)
+
+pub returns : goal.returns
+returns t c =
+    let kept =
+    kept-twice c.put_decimal-next.result c.put-2.result c.args.out.now c.put_decimal-next.new.out c.put-2.new.out
+    (omega arith) c.put_decimal-next.ensures.3 c.put-2.ensures.2 in (
+      rw (
+        c.put-2.ensures.0,
+        c.put_decimal-next.ensures.0,
+        append_assoc,
+        decimal-more c.args.k c.args.n (omega arith) (omega arith),
+        c.digit-2.ensures,
+      ),
+      omega arith,
+      omega arith,
+      kept,
+    )

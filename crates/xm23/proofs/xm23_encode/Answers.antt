@@ -1,0 +1,27 @@
+use mathlib.Core.Path.{◌∙◌, ap, sym}
+use Rattle.isa.specs.declared.Encoded.TheVariants.{Word, Refused}
+use Rattle.isa.specs.Encode.{encode_of}
+use Rattle.isa_number.specs.Number.{number_of}
+use Rattle.isa_number.proofs.Laws.{reply-other, reply-encoded}
+use borrow.Author.Rules.{rules}
+use Rattle.xm23.proofs.xm23_encode.Goals as goal
+
+pub returns-then-number-instruction : goal.returns-then-number-instruction
+returns-then-number-instruction c = record {
+  reply = sym (reply-other c.args.instruction c.number.result
+      (c.number.ensures ∙ ap number_of c.from_number-i.ensures) c.if-number-instruction.true);
+}
+
+pub returns-in-Word : goal.returns-in-Word
+returns-in-Word c = record {
+  reply = sym (reply-encoded c.args.instruction c.number.result
+      (c.number.ensures ∙ ap number_of c.from_number-i.ensures) (Word c.in-Word.w) c.if-number-instruction.false
+      (ap encode_of (sym c.from_number-i.ensures) ∙ sym c.encode.ensures ∙ c.in-Word.is));
+}
+
+pub returns-in-Refused : goal.returns-in-Refused
+returns-in-Refused c = record {
+  reply = sym (reply-encoded c.args.instruction c.number.result
+      (c.number.ensures ∙ ap number_of c.from_number-i.ensures) Refused c.if-number-instruction.false
+      (ap encode_of (sym c.from_number-i.ensures) ∙ sym c.encode.ensures ∙ c.in-Refused.is));
+}

@@ -1,0 +1,98 @@
+-- Refused, nothing is changed; else what the callees need is what the verdict has settled (`Passed`), and the run's answer is the
+-- definition's, whose steps and records are few enough for their bits of the reply (Calls). The figure that it carries is the greatest
+-- number of open frames; demand 3 of the call follows from the equations of memory and record. Assumes nothing.
+use Prim.Native.Nat.{◌≤◌}
+use mathlib.Core.Path.{ap, sym, subst, ◌∙◌}
+use native.Mathlib.Omega.{arith}
+use borrow.Author.Rules.{rules}
+use Rattle.machine.specs.Call.{Closing}
+use Rattle.turn.proofs.Laws.{behind-none, events-fit, events-ordered, count_fits}
+use Rattle.resume.proofs.Deepest.{call-carried}
+use Rattle.resume.proofs.Resumption.{call-resumes}
+use Rattle.run_answer.proofs.Calls.{call-passed, call-refused, call-ran, few_steps, few-records, figure-kept, figure-ran}
+use Rattle.xm23_run.proofs.xm23_run.Goals as goal
+
+pub returns-then-refused-ne0 : goal.returns-then-refused-ne0
+returns-then-refused-ne0 c =
+    let a = c.args in
+    let v = c.call_verdict.ensures in
+    let k = c.refusal_number-refused.ensures.0 in
+    let e = call-refused _ _ _ _ _ _ _ v k c.if-refused-ne0.true in
+    let f = figure-kept _ _ _ _ _ _ _ v k c.if-refused-ne0.true a.deepest.now in
+    let memory = ap (λ (x : Closing). x.memory) e in
+    let state = ap (λ (x : Closing). x.state) e in
+    let carried = call-carried a.memory.now a.state.now a.events.now a.log.now a.n a.deepest.now in
+    let resumes = call-resumes a.memory.now a.state.now a.events.now a.log.now a.n _ _ memory state in
+    record {
+      reply = ap (λ (x : Closing). x.reply) e;
+      memory = memory;
+      state = state;
+      log = ap (λ (x : Closing). x.log) e;
+      deepest = f ∙ carried;
+      resumption = resumes;
+    }
+
+pub read_record-m-requires : goal.read_record-m-requires
+read_record-m-requires c =
+    let p = call-passed _ _ _ _ _ _ _ c.call_verdict.ensures c.refusal_number-refused.ensures.0 c.if-refused-ne0.false in
+    p.record_size
+
+pub overflow_cast-n : goal.overflow_cast-n
+overflow_cast-n c =
+    let p = call-passed _ _ _ _ _ _ _ c.call_verdict.ensures c.refusal_number-refused.ensures.0 c.if-refused-ne0.false in
+    let few = p.few_steps in
+    omega arith
+
+pub run-r-requires : goal.run-r-requires
+run-r-requires c =
+    let p = call-passed _ _ _ _ _ _ _ c.call_verdict.ensures c.refusal_number-refused.ensures.0 c.if-refused-ne0.false in
+    let few = p.few_steps in (
+      p.memory_size,
+      count_fits _ _ _ _ p _ c.read_record-m.ensures,
+      events-ordered _ _ _ _ p,
+      events-fit _ _ _ _ p,
+      behind-none _ _,
+      omega arith,
+    )
+
+pub write_record-requires : goal.write_record-requires
+write_record-requires c =
+    let p = call-passed _ _ _ _ _ _ _ c.call_verdict.ensures c.refusal_number-refused.ensures.0 c.if-refused-ne0.false in
+    p.record_size
+
+pub reply_of-requires : goal.reply_of-requires
+reply_of-requires c =
+    let l = c.run-r.ensures in
+    let m = c.read_record-m in
+    let i = c.if-refused-ne0.false in
+    let k = c.refusal_number-refused.ensures.0 in
+    let v = c.call_verdict.ensures in (
+      subst (λ j. j ≤ 1000000) (sym l.steps) (few_steps _ _ _ _ _ _ _ v k i m.result m.ensures),
+      subst (λ j. j ≤ 1000000) (sym l.added) (few-records _ _ _ _ _ _ _ v k i m.result m.ensures),
+    )
+
+pub returns : goal.returns
+returns c =
+    let b = c.args in
+    let l = c.run-r.ensures in
+    let m = c.read_record-m in
+    let i = c.if-refused-ne0.false in
+    let k = c.refusal_number-refused.ensures.0 in
+    let v = c.call_verdict.ensures in
+    let e =
+    call-ran _ _ _ _ _ _ _ v k i m.result m.ensures
+    _ _ _ _ _ _ _ _ l.state l.reason l.steps l.added l.log c.write_record.ensures
+    c.reply_of.ensures in
+    let f = figure-ran _ _ _ _ _ _ _ v k i m.result m.ensures _ b.deepest.now l.depth in
+    let memory = ap (λ (x : Closing). x.memory) e in
+    let state = ap (λ (x : Closing). x.state) e in
+    let carried = call-carried b.memory.now b.state.now b.events.now b.log.now b.n b.deepest.now in
+    let resumes = call-resumes b.memory.now b.state.now b.events.now b.log.now b.n _ _ memory state in
+    record {
+      reply = ap (λ (x : Closing). x.reply) e;
+      memory = memory;
+      state = state;
+      log = ap (λ (x : Closing). x.log) e;
+      deepest = f ∙ carried;
+      resumption = resumes;
+    }

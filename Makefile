@@ -102,7 +102,7 @@ bench: $(ARCHIVE) target/staticlib/libalu_probe.a build/libxm23_fast.a build/lay
 	@cargo bench $(ORACLE) --bench assemble
 
 clean:
-	rm -rf target build oracle/target
+	rm -rf target build oracle/target crates/*/out
 
 # The example's input, after a change of its source.
 $(EXAMPLE).in: $(EXAMPLE).txt | $(ARCHIVE)
@@ -132,9 +132,9 @@ build/layouts/libxm23_layouts.a: $(ARCHIVE) build/libxm23_fast.a scripts/layouts
 # is newer, has come or has gone, rt is asked, and proves what has changed.
 folders = $(shell tac crates.txt | awk -F '[: ]+' -v crate=$1 'BEGIN { on[crate] } \
     $$1 in on { for (i = 2; i <= NF; i++) on[$$i]; print "crates/" $$1 }')
-sources = crates.txt $(shell find $(folders) ! -path '*/must-fail*')
+sources = crates.txt $(shell find $(folders) ! -path '*/must-fail*' ! -path '*/out' ! -path '*/out/*')
 
-target/staticlib/libxm23.a: $(call sources,xm23) $(call sources,xm23_judge) $(call sources,xm23_run) \
+target/staticlib/libxm23.a: $(call sources,xm23) $(call sources,xm23_judge) $(call sources,xm23_run_c) \
         $(call sources,xm23_run_journal) $(call sources,xm23_sheet) $(call sources,xm23_trace)
 target/staticlib/libalu_probe.a: $(call sources,alu_probe)
 target/bin/print_state: $(call sources,print_state)

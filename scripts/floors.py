@@ -16,7 +16,6 @@ ROOT = os.path.dirname(os.path.dirname(os.path.abspath(__file__)))
 DRAWING = os.path.join(ROOT, "docs/floors.svg")
 TEXT = os.path.join(ROOT, "docs/ARCHITECTURE.md")
 WIDTH, LEFT, BOX, LETTER, GAP = 1060, 285, 26, 7.4, 8
-KIT = {"io", "libc"}
 
 
 def floors():
@@ -27,8 +26,9 @@ def floors():
             if line.startswith("#"):
                 found.append((re.split("[:;]", line[1:])[0].strip(), {}))
             elif ":" in line:
+                # A static library has that word behind its name.
                 crate, below = line.split(":")
-                found[-1][1][crate] = below.split()
+                found[-1][1][crate.split()[0]] = below.split()
     return found
 
 
@@ -65,7 +65,7 @@ def folded(words, most):
 def stands_on(number, all_floors):
     """The numbers of other floors that a floor's crates name."""
     home = {crate: i for i, (_, crates) in enumerate(all_floors) for crate in crates}
-    named = {home[below] for belows in all_floors[number][1].values() for below in belows if below not in KIT}
+    named = {home[below] for belows in all_floors[number][1].values() for below in belows}
     return sorted(named - {number})
 
 

@@ -33,7 +33,7 @@ def parts(folder, crate):
     """The seconds of each module, by its name without what every module of the crate begins with."""
     times = written(folder)
     for (before, _), (time, name) in zip(times, times[1:]):
-        words = name.removesuffix(".oantt").removeprefix(f"Rattle·{crate}").lstrip("·").split(".")
+        words = name.removesuffix(".oantt").removeprefix(f"Rattle-{crate}").lstrip("-").split(".")
         yield time - before, ".".join(word for word in words if word not in ("proofs", "specs")) or crate
 
 
@@ -57,12 +57,13 @@ def main():
         case _:
             print(f"profile.py: {__doc__.split(': ', 1)[1].splitlines()[0]}, a crate of crates.txt", file=sys.stderr)
             return 2
-    folder = f"target/inc/{crate}"
+    folder = f"crates/{crate}/out/incremental"
     shutil.rmtree(folder, ignore_errors=True)
-    done = subprocess.run(["rt", "dev", crate], capture_output=True, text=True)  # first what is below, where it has changed
+    # First what is below, where it has changed.
+    done = subprocess.run(["rt", "check"], cwd=f"crates/{crate}", capture_output=True, text=True)
     report(list(parts(folder, crate)), rows)
     if done.returncode:
-        print(f"profile.py: {crate} is not proved: 'rt dev {crate}'", file=sys.stderr)
+        print(f"profile.py: {crate} is not proved: 'rt check' in crates/{crate}", file=sys.stderr)
     return done.returncode
 
 

@@ -1,9 +1,10 @@
 #!/usr/bin/env python3
 """Runs rt and tells how far it is: progress.py rt WORD..
 
-A line for each crate proved, each must-fail edit refused and each program run, what is at work where that takes long,
-all that rt says of what is wrong, and its own last line. Everything that rt prints is in build/log/rt_WORD.out. The
-status is rt's. Stopped, it stops all that it has started.
+A line for each crate proved, each must-fail edit refused and each program run, that it is at work where that takes
+long, all that rt says of what is wrong, and its own last line. Everything that rt prints is in build/log/rt_WORD.out.
+The status is rt's; of rt ci it is 1 where an edit is bad, which rt itself lets pass: its last line counts it as failed
+then. Stopped, it stops all that it has started.
 """
 import glob
 import os
@@ -18,8 +19,6 @@ import time
 ROOT = os.path.dirname(os.path.dirname(os.path.abspath(__file__)))
 # Seconds without a line after which what is at work is told.
 SILENCE = 20
-# Kilobytes that a check may take.
-ROOM = 3 << 20
 
 
 def crates():
@@ -27,22 +26,20 @@ def crates():
     with open("crates.txt", encoding="utf-8") as file:
         lines = [line.split("#")[0].strip() for line in file]
     pairs = (line.split(":") for line in lines if line)
-    return {name.strip(): deps.split() for name, deps in pairs}
+    return {words.split()[0]: deps.split() for words, deps in pairs}
+
+
+def archives():
+    """The crates that are static libraries."""
+    with open("crates.txt", encoding="utf-8") as file:
+        heads = [line.split("#")[0].split(":")[0].split() for line in file]
+    return {words[0] for words in heads if "staticlib" in words[1:]}
 
 
 def edits():
     """Every must-fail edit, CRATE/EDIT, in the order in which rt tries those of a crate."""
     paths = sorted(glob.glob("crates/*/must-fail/*.edit"))
     return [f"{path.split('/')[1]}/{os.path.basename(path)[: -len('.edit')]}" for path in paths]
-
-
-def jobs():
-    """How many checks at a time: one more than there are cores, since rt waits for all that it has begun together, and
-    a core would idle; no more than rt's own number where there is no room."""
-    cores = os.cpu_count() or 1
-    with open("/proc/meminfo", encoding="ascii") as lines:
-        room = {line.split(":")[0]: int(line.split()[1]) for line in lines}.get("MemAvailable", 0)
-    return cores + 1 if room >= (cores + 1) * ROOM else min(cores, 4)
 
 
 def clock(seconds):
@@ -55,7 +52,7 @@ class Progress:
     def __init__(self, log, total):
         self.began = self.spoke = time.time()
         self.log, self.total, self.edits = log, total, len(edits())
-        self.crates, self.tried, self.own, self.proved = set(), set(), set(), 0
+        self.crates, self.tried, self.bad, self.proved = set(), set(), 0, 0
         self.block, self.telling, self.lock = [], False, threading.Lock()
 
     def say(self, text):
@@ -66,16 +63,15 @@ class Progress:
     def elapsed(self):
         return f"; {clock(time.time() - self.began)} so far"
 
-    def crate(self, name, seconds):
-        """A crate is proved, in so many seconds; unchanged since it was last proved: None."""
+    def crate(self, name, is_new=True):
+        """A crate is proved now, or was by an earlier run."""
         self.crates.add(name)
-        if seconds is not None:
-            self.proved += 1
-            self.say(f"proved {name} ({len(self.crates)} of {self.total}, {seconds} s){self.elapsed()}")
+        self.proved += is_new
+        self.say(f"proved {name} ({len(self.crates)} of {self.total}{'' if is_new else ', kept'}){self.elapsed()}")
 
-    def edit(self, name, seconds):
+    def edit(self, name):
         self.tried.add(name)
-        self.say(f"refused {name} (edit {len(self.tried)} of {self.edits}, {seconds} s){self.elapsed()}")
+        self.say(f"refused {name} (edit {len(self.tried)} of {self.edits}){self.elapsed()}")
 
     def line(self, text):
         print(text, file=self.log, flush=True)
@@ -84,39 +80,34 @@ class Progress:
             return
         self.block.append(text)
         self.telling = False
-        if found := re.match(r"rt: (\w+) proved \((?:(\d+) s|unchanged.*)\)$", text):
-            self.crate(*found.groups())
-        elif found := re.match(r"rt: must-fail (\w+/\w+): refused, .*?(\d+) s\)$", text):
-            self.edit(*found.groups())
-        elif found := re.match(r"rt: (\w+) ran as nobody, and wrote what its file 'stdout' has \((\d+) s\)$", text):
-            self.say(f"ran {found[1]} on crates/{found[1]}/stdin: it printed crates/{found[1]}/stdout ({found[2]} s)")
-        elif re.match(r"rt: \w+ ran\b|\d+ passed, \d+ failed$", text):
-            self.say(text)
+        if found := re.match(r"rt: (\w+) (proved$|is kept: )", text):
+            self.crate(found[1], found[2] == "proved")
+        elif found := re.match(r"rt: must-fail (\w+/\w+)\.edit: refused, ", text):
+            self.edit(found[1])
+        elif found := re.match(r"rt: (\w+) ran(.*), and wrote what its file stdout has$", text):
+            self.say(f"ran {found[1]}{found[2]} on crates/{found[1]}/stdin: it printed crates/{found[1]}/stdout")
+        elif found := re.match(r"(\d+) passed, (\d+) failed", text):
+            self.say(f"{found[1]} passed, {int(found[2]) + self.bad} failed")
         elif not text.startswith("rt: "):
             return
-        elif not re.match(r"rt: (\w+ was not run$|ok, |target/staticlib/)", text):
+        elif found := re.match(r"rt: ok; .*?, (\d+) bad", text):
+            self.bad = int(found[1])
+            self.say(text)
+        elif not re.match(r"rt: (ok; |chose |note: |\w+: (trying|begins|\d+ of its|another) )", text):
             # Something is wrong: all that rt said of it, of a bad edit what comes after too.
             self.say("\n".join(self.block))
             self.telling = "BAD EDIT" in text
         self.block = []
 
-    def at_work(self):
-        """The crates and edits that rt has begun and has not told of."""
-        new = lambda pattern: (p[: -len(".out")] for p in glob.glob(pattern) if os.path.getmtime(p) >= self.began)
-        begun = {os.path.basename(path) for path in new("target/log/*.out")} | self.own
-        tried = {"/".join(path.split("/")[-2:]) for path in new("target/must-fail/*/*.out")}
-        return sorted(begun - self.crates) + sorted(tried - self.tried)
-
     def watch(self, ended):
         while not ended.wait(1):
             if time.time() - self.spoke >= SILENCE:
-                self.say(f"at work on {', '.join(self.at_work()) or 'the rest'}{self.elapsed()}")
+                self.say(f"at work: {len(self.crates)} of {self.total} crates are proved{self.elapsed()}")
 
-    def rt(self, *words):
-        """Runs rt and all that it starts as one group. Gives its status."""
+    def rt(self, *words, where=".", given=subprocess.DEVNULL):
+        """Runs rt in a folder, and all that it starts as one group. Gives its status."""
         self.block = []
-        environment = {"RT_JOBS": str(jobs()), **os.environ}
-        with subprocess.Popen(["rt", *words], stdout=subprocess.PIPE, stderr=subprocess.STDOUT, env=environment,
+        with subprocess.Popen(["rt", *words], stdin=given, stdout=subprocess.PIPE, stderr=subprocess.STDOUT, cwd=where,
                               encoding="utf-8", errors="replace", start_new_session=True) as rt:
             try:
                 for text in rt.stdout:
@@ -126,7 +117,7 @@ class Progress:
                 raise
         if rt.returncode and self.block:
             self.say("\n".join(self.block))
-        return rt.returncode
+        return rt.returncode or int(self.bad > 0)
 
 
 def watched(path, total, work):

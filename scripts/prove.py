@@ -5,11 +5,10 @@
     prove.py archive NAME    target/staticlib/libNAME.a
     prove.py crates NAME ..  these and those that they stand on; no NAME: every crate
     prove.py above NAME ..   proves nothing: which crates stand on these, and about how long these and all of them take
-    prove.py seconds [LOG]   proves nothing: writes docs/seconds.txt, by which that is known, of what rt ci printed
 
 Of a program or an archive nothing is printed where nothing was to be done; of crates one line says so. An archive is
 made anew where the contents of what it is made of are others, or its own, whatever the time of a file is. What rt
-printed is in build/log. The status is rt's. The gate is rt ci, which starts from nothing.
+printed is in build/log. The status is rt's. The gate is rt ci.
 """
 import glob
 import hashlib
@@ -23,10 +22,10 @@ import textwrap
 import time
 
 sys.dont_write_bytecode = True
-from progress import ROOT, clock, crates, watched
+from progress import ROOT, archives, clock, crates, watched
 
 
-# Seconds of each crate's check, kept for people who ask how long a change will take.
+# Seconds of each crate's check, as an older kit printed them, kept for people who ask how long a change will take.
 SECONDS = "docs/seconds.txt"
 
 
@@ -55,23 +54,6 @@ def seconds():
     with open(SECONDS, encoding="utf-8") as file:
         pairs = (line.split() for line in file if not line.startswith("#"))
         return {name: int(took) for name, took in pairs}
-
-
-def keep_seconds(log):
-    """Writes docs/seconds.txt of a log of rt ci, in the order of crates.txt."""
-    if not os.path.exists(log):
-        print(f"prove.py: {log}: no such file; rt ci leaves one ('make test')", file=sys.stderr)
-        return 2
-    with open(log, encoding="utf-8", errors="replace") as file:
-        took = dict(re.findall(r"^rt: (\w+) proved \((\d+) s\)$", file.read(), re.M))
-    missing = [name for name in crates() if name not in took]
-    if missing:
-        print(f"prove.py: {log} has no seconds of {', '.join(missing)}", file=sys.stderr)
-        return 1
-    with open(SECONDS, "w", encoding="utf-8") as file:
-        file.write("# Seconds of each crate's check, as rt ci printed them on two cores: scripts/prove.py seconds\n")
-        file.writelines(f"{name} {took[name]}\n" for name in crates())
-    return 0
 
 
 def longest(names, took):
@@ -103,12 +85,15 @@ def tell_above(names):
 def changed_since(time_then, crate):
     """Whether a file of a crate was changed since then."""
     paths = glob.glob(f"crates/{crate}/**", recursive=True)
-    return any(os.path.getmtime(path) >= time_then for path in paths if "/must-fail" not in path)
+    others = f"crates/{crate}/must-fail", f"crates/{crate}/out"
+    return any(os.path.getmtime(path) >= time_then for path in paths if not path.startswith(others))
 
 
+# So many crates that were never proved here are proved side by side.
+MANY = 20
 # Crates whose archives go into that of another, each an object of its own: with one loop over steps in an object the
 # compiler lays the general step into it.
-JOINED = {"xm23": ["xm23_judge", "xm23_run", "xm23_run_journal", "xm23_sheet", "xm23_trace"]}
+JOINED = {"xm23": ["xm23_judge", "xm23_run_c", "xm23_run_journal", "xm23_sheet", "xm23_trace"]}
 
 
 def parts_of(name):
@@ -126,7 +111,9 @@ def made_of(name):
     kit = subprocess.run(["rt", "--version"], capture_output=True, text=True, check=True).stdout.strip()
     paths = ["crates.txt"]
     for crate in sorted(below(parts_of(name))):
-        paths += sorted(os.path.join(folder, file) for folder, _, files in os.walk(f"crates/{crate}") for file in files)
+        for folder, inner, files in os.walk(f"crates/{crate}"):
+            inner[:] = [it for it in inner if it != "out"]
+            paths += sorted(os.path.join(folder, file) for file in files)
     return "".join([f"{kit}\n", *(f"{digest_of(path)}  {path}\n" for path in paths)])
 
 
@@ -165,22 +152,65 @@ def join(name):
             subprocess.run(["ar", "rs", f"{place}/lib{name}.a", *objects], check=True, stderr=subprocess.DEVNULL)
 
 
-def archive(progress, name):
-    """The crates below an archive's side by side, then its own, by the one command that proves and writes each."""
-    parts, before = parts_of(name), made_of(name)
-    others = below(parts) - set(parts)
-    status = progress.rt("check", *sorted(others)) if others else 0
-    for part in parts:
+def in_order(names):
+    """These crates, each behind those that it stands on."""
+    found, deps = [], crates()
+
+    def add(name):
+        for dep in deps[name]:
+            if dep in deps and dep not in found:
+                add(dep)
+        if name not in found:
+            found.append(name)
+
+    for name in names:
+        add(name)
+    return [name for name in found if name in names]
+
+
+def all_proved(progress):
+    """Every crate, as many side by side as there are cores."""
+    return progress.rt("all", "check", "--jobs", str(os.cpu_count() or 1))
+
+
+def proved(progress, names):
+    """Each of these crates, with those below it; all of them by one command."""
+    if not names:
+        return all_proved(progress)
+    for name in in_order(names):
+        status = progress.rt("check", where=f"crates/{name}")
         if status:
             return status
-        began, progress.own = time.time(), {part}
-        status = progress.rt("staticlib", part)
-        if status == 0:
-            progress.crate(part, int(time.time() - began))
-    if status == 0:
-        join(name)
-        keep_made(name, before)
-    return status
+        progress.crate(name)
+    return 0
+
+
+def archive(progress, name):
+    """Each part by the one command that proves it and what is below it, and writes its archive."""
+    before = made_of(name)
+    os.makedirs("target/staticlib", exist_ok=True)
+    for part in parts_of(name):
+        status = progress.rt("lib", where=f"crates/{part}")
+        if status:
+            return status
+        shutil.copy(f"crates/{part}/out/lib{part}.a", "target/staticlib")
+        progress.crate(part)
+    join(name)
+    keep_made(name, before)
+    return 0
+
+
+def program(progress, name):
+    """A program is made by the command that proves and runs it; it is run on nothing."""
+    os.makedirs("target/bin", exist_ok=True)
+    made = f"crates/{name}/out/{name}"
+    before = os.path.getmtime(made) if os.path.exists(made) else 0
+    status = progress.rt("run", where=f"crates/{name}")
+    if not os.path.exists(made) or status and os.path.getmtime(made) == before:
+        return status or 1
+    shutil.copy(made, "target/bin")
+    progress.crate(name)
+    return 0
 
 
 def usage():
@@ -192,15 +222,13 @@ def main():
     os.chdir(ROOT)
     match sys.argv[1:]:
         case ["program", name] if name in crates():
-            place, names, work = f"target/bin/{name}", [name], lambda progress: progress.rt("check", name)
-        case ["archive", name] if name in crates():
+            place, names, work = f"target/bin/{name}", [name], lambda progress: program(progress, name)
+        case ["archive", name] if name in archives():
             place, names, work = f"target/staticlib/lib{name}.a", parts_of(name), lambda progress: archive(progress, name)
         case ["crates", *names] if all(name in crates() for name in names):
-            place, work = None, lambda progress: progress.rt("check", *names)
+            place, work = None, lambda progress: proved(progress, names)
         case ["above", *names] if names and all(name in crates() for name in names):
             return tell_above(names)
-        case ["seconds", *log] if len(log) < 2:
-            return keep_seconds((log or ["build/log/rt_ci.out"])[0])
         case ["crates" | "above", *names] if names:
             print(f"prove.py: no crate {', '.join(sorted(set(names) - set(crates())))}", file=sys.stderr)
             return 2
@@ -219,11 +247,13 @@ def prove(place, names, work):
     if place and place.endswith(".a") and is_made(names[-1]):
         os.utime(place, (asked, asked))
         return 0
-    new = sum(not os.path.exists(f"target/stamp/{crate}") for crate in wanted)
+    new = sum(not os.path.isdir(f"crates/{crate}/out") for crate in wanted)
     if new > 2:
         first = ", which takes some minutes the first time" if new == len(wanted) else ""
         print(f"proving {new} crates{first}; what rt prints: {path}", flush=True)
-    status, progress = watched(path, len(wanted), work)
+    # One crate after the other would be slow where most of them are new.
+    whole = place and new > MANY
+    status, progress = watched(path, len(wanted), lambda it: (all_proved(it) if whole else 0) or work(it))
     if place and status == 0:
         # Newer than every file that it was made from, so that make asks no more; unless one was changed meanwhile.
         stale = any(changed_since(progress.began, crate) for crate in wanted)
@@ -231,10 +261,7 @@ def prove(place, names, work):
     if status:
         print(f"prove.py: not all is proved; what rt printed: {path}", file=sys.stderr)
     elif new > 2:
-        print(f"{progress.proved} crates proved in {clock(time.time() - progress.began)}")
-    elif not place and not progress.proved:
-        again = f" ('rt dev {names[0]}' proves its functions again)" if len(names) == 1 else ""
-        print(f"{', '.join(names) or 'every crate'}: proved already, nothing changed{again}")
+        print(f"{', '.join(names) or 'every crate'} and those below: proved in {clock(time.time() - progress.began)}")
     return status
 
 

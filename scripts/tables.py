@@ -24,7 +24,8 @@ MOST = 128
 
 def below(names, lines):
     """The crates of crates.txt that these stand on, themselves included."""
-    deps = dict(line.split(":") for line in lines.splitlines() if ":" in line and not line.startswith("#"))
+    pairs = (line.split(":") for line in lines.splitlines() if ":" in line and not line.startswith("#"))
+    deps = {words.split()[0]: crates for words, crates in pairs}
     found, todo = set(), list(names)
     while todo:
         name = todo.pop()

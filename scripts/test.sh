@@ -159,20 +159,18 @@ part 'the kit that is named' count_status kit_named
 part 'decisions and their index' count_line python3 -B scripts/decisions.py --check
 part 'sentences of the refusals' count_line python3 -B scripts/refusals.py
 part 'floors of the crates' count_line python3 -B scripts/floors.py --check
-part 'layout of proofs and code' count_status rt fmt --check
 part 'texts of the must-fail edits' count_line scripts/edits.py --texts
 part 'the gate itself' count_line tests/shell/gate.sh
 part 'what is proved again' count_line tests/shell/prove.sh
-# What an older run that was interrupted may have left: no file of Rattle lies outside the crates.
-rm -rf build/edits/.worker*
-# Every crate from nothing, every must-fail edit, every program: the verdict is rt's, and so is the count.
+# Every crate, its layout too, every must-fail edit, every program: the verdict is rt's, and so is the count.
 part 'proofs, must-fail edits and programs' count_line scripts/progress.py rt ci
 # The library is made anew, whatever an older run has kept of it.
 rm -f target/staticlib/*.made
+part 'program print_state' count_status scripts/prove.py program print_state
 part 'static library xm23' count_status scripts/prove.py archive xm23
 part 'what the tables show' count_line python3 -B scripts/tables_test.py
 part 'tables of the decoder' count_line python3 -B scripts/tables.py
-part 'static library alu_probe' count_status rt staticlib alu_probe
+part 'static library alu_probe' count_status scripts/prove.py archive alu_probe
 part 'oracle' count_cargo \
     cargo test --offline --locked --release --manifest-path oracle/Cargo.toml --target-dir oracle/target
 part 'host in C' count_line host_c

@@ -8,31 +8,46 @@ cd "$(dirname "$0")/../.."
 # One crate of the kit, with an edit that is refused and one that is not.
 tiny=$room/tiny
 mkdir -p "$tiny/crates" "$tiny/scripts" "$room/tmp"
-cp -R "$(dirname "$(rt doc)")/../examples/first" "$tiny/crates"
+git init -q "$tiny"
+mkdir -p "$tiny/crates/first/src" "$tiny/crates/first/must-fail"
+cat > "$tiny/crates/first/src/lib.rt" << 'END'
+// One function.
+#![tactic(auto)]
+
+ghost use Rattle.std.specs.Prelude.{◌≡◌};
+
+// Seven.
+pub fn seven() -> u8
+    ensures { result ≡ 7 }
+{
+    7
+}
+END
 cp scripts/progress.py scripts/edits.py "$tiny/scripts"
 echo 'first:' > "$tiny/crates.txt"
-mkdir -p "$tiny/crates/first/must-fail"
 printf 'file: src/lib.rt\nold:     7\nnew:     8\n' > "$tiny/crates/first/must-fail/eight.edit"
 printf 'file: src/lib.rt\nold:     7\nnew:     7 + 0\n' > "$tiny/crates/first/must-fail/same.edit"
 nl=$'\n'
-told='proved first \(1 of 1, .*refused first/eight \(edit 1 of 2, .*first/same: NOT REFUSED.*'
+told='.*refused first/eight \(edit 1 of 2\).*first/same.edit: NOT REFUSED.*'
 expect 'an edit that is not refused' 1 "$told${nl}2 passed, 1 failed" '' "$tiny/scripts/progress.py" rt ci
 printf 'file: src/lib.rt\nold: no such text\nnew:     8\n' > "$tiny/crates/first/must-fail/same.edit"
+expect 'an edit that is bad, which rt lets pass' 1 ".*rt: ok; .*, 1 bad;.*${nl}2 passed, 1 failed" '' \
+    "$tiny/scripts/progress.py" rt ci
 gone="first/same: BAD EDIT: an 'old:' text stands 0 times in src/lib.rt"
 expect 'an edit whose text has gone' 1 "$gone${nl}1 passed, 1 failed" '' "$tiny/scripts/edits.py" --texts
 rm "$tiny/crates/first/must-fail/same.edit"
-expect 'the cost of one edit' 0 'crate .*first +[0-9]+ +1 .*rt ci on 2 cores, 3 at a time: .* of 1 edits, .*' '' \
-    "$tiny/scripts/edits.py" --cost
+expect 'one edit alone' 0 ".*refused first/eight \(edit 1 of 1\).*${nl}1 passed, 0 failed" '' "$tiny/scripts/edits.py" first/eight
 
 # The checks of crate first that are at work.
 at_work() {
     for line in /proc/[0-9]*/cmdline; do
-        { tr '\0' ' ' < "$line" | grep -q "crate-name first $room" && echo "$line"; } 2> /dev/null
+        { tr '\0' ' ' < "$line" | grep -q "crate-name first" && echo "$line"; } 2> /dev/null
     done | wc -l
 }
 
 # stopped SCRIPT WORD..: stopped while a check is at work; that has ended then, and no file of Rattle is left.
 stopped() {
+    echo "// $1" >> "$tiny/crates/first/src/lib.rt"
     TMPDIR=$room/tmp "$tiny/scripts/$@" > "$room/out" 2>&1 &
     local begun=$!
     for _ in {1..200}; do
@@ -41,11 +56,10 @@ stopped() {
     done
     kill "$begun"
     wait "$begun" 2> /dev/null
-    same "$1 stopped" "$?" "$([ "$1" = edits.py ] && echo 1 || echo 130)"
+    same "$1 stopped" "$?" 130
     sleep 0.2
     same "$1 stopped: what it started" "$(at_work)" 0
-    same "$1 stopped: copies outside" "$(find "$room/tmp" -name '*.rt')" ''
-    same "$1 stopped: copies inside" "$(find "$tiny" -name '*.rt' ! -path '*/target/*')" "$tiny/crates/first/src/lib.rt"
+    same "$1 stopped: copies inside" "$(find "$tiny/crates" -name '*.rt' ! -path '*/out/*')" "$tiny/crates/first/src/lib.rt"
 }
 stopped edits.py
 stopped progress.py rt ci

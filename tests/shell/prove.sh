@@ -7,7 +7,7 @@ cd "$(dirname "$0")/../.."
 tiny=$room/tiny
 mkdir -p "$tiny/scripts" "$tiny/docs" "$tiny"/crates/{low,high,aside}/src "$room/bin"
 cp scripts/progress.py scripts/prove.py "$tiny/scripts"
-printf 'low:\naside:\nhigh: low\n' > "$tiny/crates.txt"
+printf 'low:\naside:\nhigh staticlib: low\n' > "$tiny/crates.txt"
 printf 'low 1\nhigh 2\n' > "$tiny/docs/seconds.txt"
 for crate in low high aside; do echo "$crate" > "$tiny/crates/$crate/src/lib.rt"; done
 cat > "$room/bin/rt" << 'END'
@@ -15,14 +15,13 @@ cat > "$room/bin/rt" << 'END'
 case $1 in
     --version) cat "$KIT"; exit ;;
 esac
-echo "$*" >> "$ASKED"
+name=$(basename "$PWD")
+echo "$1 $name" >> "$ASKED"
+mkdir -p out
 [ ! -e "$BROKEN" ] || { echo 'rt: low: not proved'; exit 1; }
 case $1 in
-    check) shift; mkdir -p target/stamp; for crate; do
-        if [ -e "target/stamp/$crate" ]; then echo "rt: $crate proved (unchanged since it was last proved)"
-        else echo "rt: $crate proved (1 s)"; : > "target/stamp/$crate"; fi; done ;;
-    staticlib) mkdir -p target/staticlib; [ ! -e "$MEANWHILE" ] || echo other > crates/low/src/lib.rt
-        cat crates/*/src/lib.rt > "target/staticlib/lib$2.a" ;;
+    lib) [ ! -e "$MEANWHILE" ] || echo other > ../low/src/lib.rt
+        cat ../*/src/lib.rt > "out/lib$name.a" ;;
 esac
 END
 chmod +x "$room/bin/rt"
@@ -35,7 +34,7 @@ asked() {
     "$tiny/scripts/prove.py" archive high > "$room/out" 2>&1
     same "$1" "$(tr '\n' ';' < "$ASKED")" "$2"
 }
-again='check low;staticlib high;'
+again='lib high;'
 archive=$tiny/target/staticlib/libhigh.a
 
 asked 'the first time' "$again"
@@ -61,7 +60,7 @@ mv "$tiny/crates/low/src/lib.rt" "$tiny/crates/low/src/other.rt"
 asked 'a file with another name' "$again"
 mv "$tiny/crates/low/src/other.rt" "$tiny/crates/low/src/lib.rt"
 asked 'its old name' "$again"
-printf 'low:\naside:\nhigh: low\n# more\n' > "$tiny/crates.txt"
+printf 'low:\naside:\nhigh staticlib: low\n# more\n' > "$tiny/crates.txt"
 asked 'crates.txt' "$again"
 echo 'kit 2' > "$KIT"
 asked 'another kit' "$again"
@@ -72,8 +71,8 @@ asked 'no archive' "$again"
 asked 'then nothing' ''
 echo 'low, wrong' > "$tiny/crates/low/src/lib.rt"
 : > "$BROKEN"
-asked 'what is not proved' 'check low;'
-asked 'is asked for each time' 'check low;'
+asked 'what is not proved' "$again"
+asked 'is asked for each time' "$again"
 rm "$BROKEN"
 asked 'until it is' "$again"
 asked 'and no more' ''
@@ -85,9 +84,7 @@ asked 'is proved then' "$again"
 
 # ---- what is said
 rm -r "$tiny/target"
-expect 'a crate that is new' 0 'proved low .*' '' "$tiny/scripts/prove.py" crates low
-expect 'a crate that is proved' 0 "low: proved already, nothing changed \('rt dev low' proves its functions again\)" '' \
-    "$tiny/scripts/prove.py" crates low
+expect 'a crate' 0 'proved low .*' '' "$tiny/scripts/prove.py" crates low
 expect 'one that follows' 0 'low: about 1 s .*1 crate follows, about 3 s in all .* high' '' "$tiny/scripts/prove.py" above low
 expect 'one without a time' 0 'aside: about 0 s .*no crate stands on it.without aside, of which docs/seconds.txt has no time yet' '' \
     "$tiny/scripts/prove.py" above aside

@@ -55,5 +55,4 @@ expect 'no such crate' 2 '' 'prove.py: .*' scripts/prove.py program nothing
 expect 'what follows a crate' 0 'alu: about [0-9]+ s .*[0-9]+ crates follow, about .*machine .*xm23.*' '' scripts/prove.py above alu
 expect 'what nothing follows' 0 'xm23: about .*no crate stands on it' '' scripts/prove.py above xm23
 expect 'what follows no crate' 2 '' 'prove.py: no crate nothing' scripts/prove.py above nothing
-expect 'seconds of no log' 2 '' 'prove.py: no/such: no such file; .*' scripts/prove.py seconds no/such
 count

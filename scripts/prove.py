@@ -247,7 +247,7 @@ def prove(place, names, work):
     if place and place.endswith(".a") and is_made(names[-1]):
         os.utime(place, (asked, asked))
         return 0
-    new = sum(not os.path.isdir(f"crates/{crate}/out") for crate in wanted)
+    new = sum(not os.path.isdir(f"crates/{crate}/out/incremental") for crate in wanted)
     if new > 2:
         first = ", which takes some minutes the first time" if new == len(wanted) else ""
         print(f"proving {new} crates{first}; what rt prints: {path}", flush=True)

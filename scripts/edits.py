@@ -81,6 +81,9 @@ def tried(progress, edits):
             parts = path.split("/")
             if os.path.basename(path)[: -len(".edit")] not in edits.get(parts[-3], []):
                 os.remove(path)
+        # What rt copies in turn lies there too, so that nothing of it is left where this is stopped.
+        os.environ["TMPDIR"] = f"{room}/tmp"
+        os.mkdir(f"{room}/tmp")
         return progress.rt("must-fail", *edits, where=room)
 
 

@@ -59,6 +59,7 @@ stopped() {
     same "$1 stopped" "$?" 130
     sleep 0.2
     same "$1 stopped: what it started" "$(at_work)" 0
+    same "$1 stopped: copies outside" "$(find "$room/tmp" -name '*.rt')" ''
     same "$1 stopped: copies inside" "$(find "$tiny/crates" -name '*.rt' ! -path '*/out/*')" "$tiny/crates/first/src/lib.rt"
 }
 stopped edits.py

@@ -4,11 +4,10 @@ use mathlib.Core.Path.{◌≡◌, sym, ap, ◌∙◌}
 use mathlib.Core.Bool.{Bool, true, false}
 use mathlib.Core.Logic.{⊎_elim}
 use Prim.Native.Nat.{ℕ, ◌+◌, ◌-◌, ◌*◌, ◌/◌, ◌%◌, ◌^◌, ◌≤◌, ◌<◌}
-use native.Mathlib.Nat.{mod-lt, mod-eq_of_lt, one-mul, add_comm, add-mul, mul_assoc, lt_of_lt_of_le}
+use native.Mathlib.Nat.{mod-lt, mod-eq_of_lt, add_comm, add-mul, mul_assoc, lt_of_lt_of_le}
 use native.Mathlib.Omega.{arith}
-use lib.Dec.{lit<}
 use lib.Bits.{bit_and, bit_or, or_zero_r, and_block, and_mask}
-use lib.Pow.{pow_pos, pow-lt, pow_mono, pow-add, shl_exact, shr-shr, shr_mod, split, field, mod-mod-pow, ones_lt, ones_split}
+use lib.Pow.{pow_pos, pow-lt, pow_mono, pow-add, shr-shr, shr_mod, split, field, mod-mod-pow, ones_lt, ones_split}
 use borrow.Author.Tests.{le-ltb, lt-ltb}
 use Rattle.word.specs.Width.{bit, low, with_low, turned}
 use Rattle.word.specs.Psw.{put_bit}
@@ -32,18 +31,6 @@ pub mask_lt : (w s : ℕ) → mask_of w s < 2 ^ w
 mask_lt w s =
     ⊎_elim (λ (h : w ≤ low w s). rw (mask-none w s h) (pow_pos w)) (λ (h : low w s < w). rw (mask-named w s h) (pow-lt h))
     (order w (low w s))
-
--- as code computes it: n the operand's low bits, k the width
-pub mask-shifted : (s : ℕ) {w n k : ℕ} → n ≡ low w s → k ≡ w → k ≤ 16 → n < k
-    → ((1 * 2 ^ n) % 65536 ≡ mask_of w s) × ((1 * 2 ^ n) % 65536 < 2 ^ w)
-mask-shifted s {w} {n} {k} e f l h =
-    let t : low w s < w = omega arith in
-    let v : (1 * 2 ^ n) % 65536 ≡ mask_of w s =
-    shl_exact 1 n 16 (lit< tt) (omega arith) ∙ one-mul (2 ^ n) ∙ ap (λ x. 2 ^ x) e ∙ sym (mask-named w s t) in
-    (v, (rw v (mask_lt w s)))
-
-pub mask-zero : (s : ℕ) {w n k : ℕ} → n ≡ low w s → k ≡ w → k ≤ n → (0 ≡ mask_of w s) × (0 < 2 ^ w)
-mask-zero s {w} e f h = (sym (mask-none w s (omega arith)), pow_pos w)
 
 -- ---- a mask of one bit puts that bit
 

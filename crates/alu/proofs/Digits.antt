@@ -1,26 +1,11 @@
--- Decimal sums: four digits are two and the next two; what one digit leaves.
--- Assumes nothing.
-use mathlib.Core.Path.{◌≡◌, ap}
+-- Decimal sums: what one digit leaves. Assumes nothing.
+use mathlib.Core.Path.{◌≡◌}
 use mathlib.Core.Logic.{⊎_elim}
 use Prim.Native.Nat.{ℕ, ◌+◌, ◌*◌, ◌/◌, ◌%◌, ◌≤◌, ◌<◌}
 use native.Mathlib.Omega.{arith}
 use borrow.Author.Tests.{lt-ltb, le-ltb}
 use Rattle.word.proofs.Laws.{order}
-use Rattle.alu.specs.declared.Decimal.{Decimal}
-use Rattle.alu.specs.Decimal.{decimal_sum, digit_of, digit_carry}
-
-abbrev made : ℕ → ℕ → Decimal
-made v k = record { value = v; carry = k }
-
--- hi above the two digits of lo
-abbrev pub joined : Decimal → Decimal → Decimal
-joined lo hi = record { value = lo.value + 256 * hi.value; carry = hi.carry }
-
--- four digits are two, and above them the next two with the carry of the first
-pub four : (a b c : ℕ)
-    → joined (decimal_sum 2 a b c) (decimal_sum 2 (a / 16 / 16) (b / 16 / 16) (decimal_sum 2 a b c).carry) ≡ decimal_sum 4 a b c
-unfolding decimal_sum
-four a b c = ap (λ (v : ℕ). made v (decimal_sum 4 a b c).carry) (omega arith)
+use Rattle.alu.specs.Decimal.{digit_of, digit_carry}
 
 -- one digit: below 16 with a carry of at most 1, and from two decimal digits a decimal digit that loses nothing
 pub digit-bounds : (s : ℕ) → (digit_of s < 16) × (digit_carry s ≤ 1)

@@ -1,5 +1,4 @@
 pub mod Digits
 pub mod Signed
-pub mod Overflow
 pub mod Bits
 pub mod Laws

@@ -11,6 +11,7 @@ pub struct Sum {
 }
 
 // A decimal sum and its carry, 0 or 1.
+// Kept: the carry is a number, as the law decimal-exact adds it up; Sum's is a flag.
 #[derive(Clone, Copy)]
 pub struct Decimal {
     pub value: u16,

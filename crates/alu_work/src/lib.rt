@@ -1,10 +1,10 @@
 // Arithmetic and logic of the XM-23 machine: one call, `alu`, for every instruction of both groups.
 // `byte` chooses the width: 8 bits, else 16. A byte form keeps the high byte of its destination.
-#![tactic(auto)]
+#![tactic(auto, unfolding(alu::specs::Alu::alu_of, alu::specs::Sums::overflow_of, alu::specs::Sums::add_with_carry, alu::specs::Decimal::digit_of, alu::specs::Decimal::digit_carry, alu::specs::Decimal::decimal_sum, alu::specs::Alu::mask_of, word::specs::Width::width_of))]
 
 ghost use Rattle.std.specs.Prelude.{◌≡◌, not, cond, ◌+◌, ◌-◌, ◌/◌, ◌%◌, ◌^◌, ◌<◌, ◌≤◌, ltb};
 ghost use Rattle.std.specs.Bool.{beq};
-ghost use Rattle.word.specs.Width.{width_of, low, turned};
+ghost use Rattle.word.specs.Width.{width_of, bit, low, turned};
 ghost use Rattle.alu.specs.Sums.{add_with_carry, negative};
 ghost use Rattle.alu.specs.Decimal.{decimal_sum, digit_of, digit_carry};
 ghost use Rattle.alu.specs.Alu.{alu_of, logical, all_flags, summed, decimal, shifted, tested};
@@ -13,9 +13,8 @@ ghost use Rattle.alu.specs.Alu.{mask_of, cleared, raised, extended};
 use alu::{Computed, Decimal, Op, Sum};
 
 // The sum of two addends and a carry.
-fn add_with_carry(byte: bool, a: u16, b: u16, carry: u16) -> Sum
-    requires { carry ≤ 1 }
-    ensures { (result ≡ add_with_carry (width_of byte) a b carry) × (result.value < 2 ^ width_of byte) }
+fn add_with_carry(byte: bool, a: u16, b: u16, carry: bool) -> Sum
+    ensures { (result ≡ add_with_carry (width_of byte) a b (bit carry)) × (result.value < 2 ^ width_of byte) }
 {
     let mask = word::ones(byte) as u32;
     let sum = a as u32 + b as u32 + carry as u32;
@@ -83,9 +82,8 @@ fn sum_into(byte: bool, dst: u16, sum: Sum, overflow: bool, psw: u16) -> Compute
 }
 
 // dst + src + carry written to the destination, with all four flags.
-pub fn add_into(byte: bool, dst: u16, src: u16, carry: u16, psw: u16) -> Computed
-    requires { carry ≤ 1 }
-    ensures { result ≡ summed (width_of byte) dst (low (width_of byte) src) carry psw }
+pub fn add_into(byte: bool, dst: u16, src: u16, carry: bool, psw: u16) -> Computed
+    ensures { result ≡ summed (width_of byte) dst (low (width_of byte) src) (bit carry) psw }
 {
     let a = word::low_bits(byte, dst);
     let b = word::low_bits(byte, src);
@@ -95,9 +93,8 @@ pub fn add_into(byte: bool, dst: u16, src: u16, carry: u16, psw: u16) -> Compute
 }
 
 // dst + not src + carry written to the destination, with all four flags.
-pub fn subtract_into(byte: bool, dst: u16, src: u16, carry: u16, psw: u16) -> Computed
-    requires { carry ≤ 1 }
-    ensures { result ≡ summed (width_of byte) dst (turned (width_of byte) src) carry psw }
+pub fn subtract_into(byte: bool, dst: u16, src: u16, carry: bool, psw: u16) -> Computed
+    ensures { result ≡ summed (width_of byte) dst (turned (width_of byte) src) (bit carry) psw }
 {
     let a = word::low_bits(byte, dst);
     let t = word::turned_bits(byte, src);
@@ -118,11 +115,10 @@ fn difference_into(byte: bool, dst: u16, src: u16, psw: u16) -> Computed
 }
 
 // The low bits moved down by one below the given top bit, with C, Z and N.
-fn shift_into(byte: bool, dst: u16, high: u16, psw: u16) -> Computed
-    requires { high ≤ 1 }
-    ensures { result ≡ shifted (width_of byte) dst high psw }
+fn shift_into(byte: bool, dst: u16, high: bool, psw: u16) -> Computed
+    ensures { result ≡ shifted (width_of byte) dst (bit high) psw }
 {
-    let v = word::low_bits(byte, dst) / 2 + high * word::top(byte);
+    let v = word::low_bits(byte, dst) / 2 + high as u16 * word::top(byte);
     logic_into(byte, dst, v, word::put_carry(psw, dst % 2 == 1))
 }
 
@@ -255,10 +251,10 @@ pub fn alu(op: Op, byte: bool, dst: u16, src: u16, psw: u16) -> Computed
     let d = word::low_bits(byte, dst);
     let s = word::low_bits(byte, src);
     match op {
-        Op::Add => add_into(byte, dst, src, 0, psw),
-        Op::Addc => add_into(byte, dst, src, psw % 2, psw),
+        Op::Add => add_into(byte, dst, src, false, psw),
+        Op::Addc => add_into(byte, dst, src, psw % 2 == 1, psw),
         Op::Sub => difference_into(byte, dst, src, psw),
-        Op::Subc => subtract_into(byte, dst, src, psw % 2, psw),
+        Op::Subc => subtract_into(byte, dst, src, psw % 2 == 1, psw),
         Op::Cmp => tested_only(dst, difference_into(byte, dst, src, psw)),
         Op::Dadd => decimal_into(byte, dst, src, psw),
         Op::And => logic_into(byte, dst, d & s, psw),
@@ -267,8 +263,8 @@ pub fn alu(op: Op, byte: bool, dst: u16, src: u16, psw: u16) -> Computed
         Op::Bit => tested_only(dst, logic_into(byte, dst, d & s, psw)),
         Op::Bic => clear_into(byte, dst, mask_of(byte, src), psw),
         Op::Bis => raise_into(byte, dst, mask_of(byte, src), psw),
-        Op::Sra => shift_into(byte, dst, word::flag(word::top(byte) <= d), psw),
-        Op::Rrc => shift_into(byte, dst, psw % 2, psw),
+        Op::Sra => shift_into(byte, dst, word::top(byte) <= d, psw),
+        Op::Rrc => shift_into(byte, dst, psw % 2 == 1, psw),
         Op::Comp => logic_into(byte, dst, word::turned_bits(byte, dst), psw),
         Op::Swpb => {
             let high = dst % 256 * 256;

@@ -1,25 +1,25 @@
 -- Laws of the grammar: what is parsed lies ahead, and a loop over parts is a chain. Assumes nothing.
 use mathlib.Core.Path.{◌≡◌, refl, sym, ap, ◌∙◌, subst}
 use mathlib.Core.Bool.{Bool, true, false, cond}
+use Rattle.std.specs.Prelude.{ℤ, Option, None, Result, Err}
+use Rattle.asm_text.specs.declared.Read.{Read}
 use mathlib.Core.List.{List, [], ◌∷◌}
 use Prim.Native.Nat.{ℕ, zero, suc, ◌+◌, ◌-◌, ◌<◌, ◌≤◌, min}
 use native.Mathlib.Numerals.{sub-one}
 use native.Mathlib.Omega.{arith}
 use lib.Dec.{ltb, eqb}
 use lib.ListN.{length, drop, length-drop}
-use borrow.Author.Tests.{lt-ltb, le-ltb, ltb-true, ltb-false, eq-eqb, ne_eqb, eqb-true}
+use borrow.Author.Tests.{le-ltb, ltb-true, ltb-false, eq-eqb, ne_eqb, eqb-true}
 use Rattle.word.proofs.Laws.{bool_cases}
-use Rattle.asm_value.specs.declared.Value.{Value}
-use Rattle.asm_value.specs.declared.Value.TheVariants.{Outside}
+use Rattle.asm_value.specs.declared.Lack.{Lack}
+use Rattle.asm_value.specs.declared.Lack.TheVariants.{Outside}
 use Rattle.asm_value.specs.Value.{fitted, with_sign, joined}
-use Rattle.asm_text.proofs.Laws.{byte-in, kind-in, after_more, after-le, name-zero, no_digit}
-use Rattle.asm_text.specs.Text.{byte_at, blank?, letter?, name_byte?, digit?, digit_of, span, after, numeral, word}
+use Rattle.asm_text.proofs.Laws.{found-same, byte-in, kind-in, after_more, after_stop, after-le, name-zero, no_digit}
+use Rattle.asm_text.specs.Text.{byte_at, blank?, letter?, name_byte?, digit?, span, after, numeral, word, found}
 use Rattle.asm_words.specs.Words.{word_of, free?}
 use Rattle.asm_expr.specs.Grammar.{Expr, binary, Parse, parsed, malformed, follow, digits_at, name_at, plain_at}
 use Rattle.asm_expr.specs.Grammar.{closed, plus?, times?, chain, parts_of, factor_with, factor_of, term_of, expression_of}
 use Rattle.asm_expr.specs.Meaning.{value_of, answer_of, shut}
-use Rattle.asm_expr.specs.declared.Answer.{Answer}
-use Rattle.asm_expr.specs.declared.Answer.TheVariants.{Parsed, Malformed}
 
 -- ---- places
 
@@ -134,26 +134,26 @@ unfolding times?
 times_zero = refl
 
 -- an answer taken apart
-pub record Answered (look : List ℕ → Value) (x : Parse) (v : Value) (j : ℕ) : Type 0 where
+pub record Answered (look : List ℕ → Result ℤ Lack) (x : Parse) (v : Result ℤ Lack) (j : ℕ) : Type 0 where
   pub tree : Expr
   pub is : x ≡ parsed tree j
   pub means : value_of look tree ≡ v
 
-pub answered : (look : List ℕ → Value) (x : Parse) (v : Value) (j : ℕ) → answer_of look x ≡ Parsed v j → Answered look x v j
+pub answered : (look : List ℕ → Result ℤ Lack) (x : Parse) (v : Result ℤ Lack) (j : ℕ) → answer_of look x ≡ found v j → Answered look x v j
 unfolding answer_of
 answered look malformed v j h = let z : ◌≡◌ {A = ℕ} 0 1 = cc in absurd (omega arith)
 answered look (parsed e i) v j h =
-    let p : value_of look e ≡ v = cc in
-    let q : i ≡ j = cc in
-    record { tree = e; is = ap (parsed e) q; means = p }
+    let p = found-same (value_of look e) v i j h in
+    record { tree = e; is = ap (parsed e) p.1; means = p.0 }
 
-pub unanswered : (look : List ℕ → Value) (x : Parse) → answer_of look x ≡ Malformed → x ≡ malformed
+pub unanswered : (look : List ℕ → Result ℤ Lack) (x : Parse) → answer_of look x ≡ None → x ≡ malformed
 unfolding answer_of
 unanswered look malformed h = refl
 unanswered look (parsed e i) h = let z : ◌≡◌ {A = ℕ} 0 1 = cc in absurd (omega arith)
 
 -- parts up to i came to v, and what is left of the chain gives the answer `goal`
-pub record Going (look : List ℕ → Value) (sign : ℕ → Bool) (part : ℕ → Parse) (s : List ℕ) (v : Value) (i : ℕ) (goal : Answer) : Type 0
+pub record Going (look : List ℕ → Result ℤ Lack) (sign : ℕ → Bool) (part : ℕ → Parse) (s : List ℕ) (v : Result ℤ Lack) (i : ℕ)
+    (goal : Option (Read (Result ℤ Lack))) : Type 0
   where
     pub turns : ℕ
     pub tree : Expr
@@ -162,12 +162,12 @@ pub record Going (look : List ℕ → Value) (sign : ℕ → Bool) (part : ℕ �
     pub means : value_of look tree ≡ v
     pub same : answer_of look (chain sign part s turns tree i) ≡ goal
 
-module _ (look : List ℕ → Value) (sign : ℕ → Bool) (part : ℕ → Parse) (s : List ℕ) where
-  pub going-none : (i : ℕ) → answer_of look (part i) ≡ Malformed → Malformed ≡ answer_of look (parts_of sign part s i)
+module _ (look : List ℕ → Result ℤ Lack) (sign : ℕ → Bool) (part : ℕ → Parse) (s : List ℕ) where
+  pub going-none : (i : ℕ) → answer_of look (part i) ≡ None → None ≡ answer_of look (parts_of sign part s i)
   unfolding parts_of answer_of
   going-none i h = rw (unanswered look (part i) h)
 
-  pub going_start : (i j : ℕ) (v : Value) → Reach s i (part i) → answer_of look (part i) ≡ Parsed v j
+  pub going_start : (i j : ℕ) (v : Result ℤ Lack) → Reach s i (part i) → answer_of look (part i) ≡ found v j
       → Going look sign part s v j (answer_of look (parts_of sign part s i))
   unfolding parts_of
   going_start i j v r h =
@@ -183,12 +183,12 @@ module _ (look : List ℕ → Value) (sign : ℕ → Bool) (part : ℕ → Parse
             (ap (λ x. answer_of look (follow x (λ e k. chain sign part s (length s) e k))) a.is);
       }
 
-  pub going-stop : (i : ℕ) (v : Value) (goal : Answer) → Going look sign part s v i goal
-      → sign (byte_at s (after blank? s i)) ≡ false → Parsed v i ≡ goal
+  pub going-stop : (i : ℕ) (v : Result ℤ Lack) (goal : Option (Read (Result ℤ Lack))) → Going look sign part s v i goal
+      → sign (byte_at s (after blank? s i)) ≡ false → found v i ≡ goal
   unfolding chain answer_of
-  going-stop i v goal g h = ap (λ w. Parsed w i) (sym g.means) ∙ go g.turns ∙ g.same
+  going-stop i v goal g h = ap (λ w. found w i) (sym g.means) ∙ go g.turns ∙ g.same
     where
-      go : (n : ℕ) → Parsed (value_of look g.tree) i ≡ answer_of look (chain sign part s n g.tree i)
+      go : (n : ℕ) → found (value_of look g.tree) i ≡ answer_of look (chain sign part s n g.tree i)
       go zero = refl
       go (suc n) = rw h
 
@@ -196,20 +196,20 @@ module _ (look : List ℕ → Value) (sign : ℕ → Bool) (part : ℕ → Parse
   pub going-sign : sign 0 ≡ false → (q : ℕ) → sign (byte_at s q) ≡ true → q < length s
   going-sign z q h = kind-in sign z s q h
 
-  pub going-fail : sign 0 ≡ false → (i : ℕ) (v : Value) (goal : Answer) → Going look sign part s v i goal
-      → sign (byte_at s (after blank? s i)) ≡ true → answer_of look (part (after blank? s i + 1)) ≡ Malformed → Malformed ≡ goal
+  pub going-fail : sign 0 ≡ false → (i : ℕ) (v : Result ℤ Lack) (goal : Option (Read (Result ℤ Lack))) → Going look sign part s v i goal
+      → sign (byte_at s (after blank? s i)) ≡ true → answer_of look (part (after blank? s i + 1)) ≡ None → None ≡ goal
   unfolding chain answer_of
   going-fail z i v goal g h m =
       let k = kind-in sign z s (after blank? s i) h in
       go g.turns (omega (arith, g.enough, after-le blank? s i)) ∙ g.same
     where
-      go : (n : ℕ) → 1 ≤ n → Malformed ≡ answer_of look (chain sign part s n g.tree i)
+      go : (n : ℕ) → 1 ≤ n → None ≡ answer_of look (chain sign part s n g.tree i)
       go zero p = absurd (omega arith)
       go (suc n) p = rw (h, unanswered look (part (after blank? s i + 1)) m)
 
-  pub going_more : sign 0 ≡ false → (i j : ℕ) (v w : Value) (goal : Answer) → Going look sign part s v i goal
+  pub going_more : sign 0 ≡ false → (i j : ℕ) (v w : Result ℤ Lack) (goal : Option (Read (Result ℤ Lack))) → Going look sign part s v i goal
       → sign (byte_at s (after blank? s i)) ≡ true → Reach s (after blank? s i + 1) (part (after blank? s i + 1))
-      → answer_of look (part (after blank? s i + 1)) ≡ Parsed w j
+      → answer_of look (part (after blank? s i + 1)) ≡ found w j
       → Going look sign part s (joined (byte_at s (after blank? s i)) v w) j goal
   unfolding chain value_of
   going_more z i j v w goal g h r m =
@@ -235,28 +235,32 @@ module _ (look : List ℕ → Value) (sign : ℕ → Bool) (part : ℕ → Parse
       }
 
   -- how far a turn goes
-  pub going-ahead : (i q j : ℕ) (w : Value) → q ≡ after blank? s i → Reach s (q + 1) (part (q + 1)) → answer_of look (part (q + 1)) ≡
-      Parsed w j → (i < j) × (j ≤ length s)
+  pub going-ahead : (i q j : ℕ) (w : Result ℤ Lack) → q ≡ after blank? s i → Reach s (q + 1) (part (q + 1)) → answer_of look
+      (part (q + 1)) ≡
+      found w j → (i < j) × (j ≤ length s)
   going-ahead i q j w e r m =
       let a = answered look (part (q + 1)) w j m in
       let b = subst (λ (x : Parse). Reach s (q + 1) x) a.is r in
       (omega (arith, b.0, after-le blank? s i), b.1)
 
   -- the same, of a place q and a byte b that the code found
-  pub turn-stop : (i q b : ℕ) (v : Value) (goal : Answer) → q ≡ after blank? s i → b ≡ byte_at s q → Going look sign part s v i goal
-      → sign b ≡ false → Parsed v i ≡ goal
+  pub turn-stop : (i q b : ℕ) (v : Result ℤ Lack) (goal : Option (Read (Result ℤ Lack))) → q ≡ after blank? s i → b ≡ byte_at s q
+      → Going look sign part s v i goal
+      → sign b ≡ false → found v i ≡ goal
   turn-stop i q b v goal e f g h = going-stop i v goal g (ap (λ k. sign (byte_at s k)) (sym e) ∙ ap sign (sym f) ∙ h)
 
-  pub turn-fail : sign 0 ≡ false → (i q b : ℕ) (v : Value) (goal : Answer) → q ≡ after blank? s i → b ≡ byte_at s q
+  pub turn-fail : sign 0 ≡ false → (i q b : ℕ) (v : Result ℤ Lack) (goal : Option (Read (Result ℤ Lack))) → q ≡ after blank? s i
+      → b ≡ byte_at s q
       → Going look sign part s v i goal
-      → sign b ≡ true → answer_of look (part (q + 1)) ≡ Malformed → Malformed ≡ goal
+      → sign b ≡ true → answer_of look (part (q + 1)) ≡ None → None ≡ goal
   turn-fail z i q b v goal e f g h m =
       going-fail z i v goal g (ap (λ k. sign (byte_at s k)) (sym e) ∙ ap sign (sym f) ∙ h) (ap (λ k. answer_of look (part (k + 1))) (sym e)
       ∙ m)
 
-  pub turn_more : sign 0 ≡ false → (i q b j : ℕ) (v w : Value) (goal : Answer) → q ≡ after blank? s i → b ≡ byte_at s q
+  pub turn_more : sign 0 ≡ false → (i q b j : ℕ) (v w : Result ℤ Lack) (goal : Option (Read (Result ℤ Lack))) → q ≡ after blank? s i
+      → b ≡ byte_at s q
       → Going look sign part s v i goal
-      → sign b ≡ true → Reach s (q + 1) (part (q + 1)) → answer_of look (part (q + 1)) ≡ Parsed w j
+      → sign b ≡ true → Reach s (q + 1) (part (q + 1)) → answer_of look (part (q + 1)) ≡ found w j
       → Going look sign part s (joined b v w) j goal
   turn_more z i q b j v w goal e f g h r m =
       let f' : b ≡ byte_at s (after blank? s i) = f ∙ ap (byte_at s) e in
@@ -265,7 +269,8 @@ module _ (look : List ℕ → Value) (sign : ℕ → Bool) (part : ℕ → Parse
       (ap (λ k. answer_of look (part (k + 1))) (sym e) ∙ m))
 
 -- ---- brackets
-pub shut-follow : (look : List ℕ → Value) (s : List ℕ) (x : Parse) → shut s (answer_of look x) ≡ answer_of look (follow x (closed s))
+pub shut-follow : (look : List ℕ → Result ℤ Lack) (s : List ℕ) (x : Parse)
+    → shut s (answer_of look x) ≡ answer_of look (follow x (closed s))
 unfolding shut answer_of closed
 shut-follow look s malformed = refl
 shut-follow look s (parsed e i) = bool_cases (eqb (byte_at s (after blank? s i)) 41) (λ q. rw q) (λ q. rw q)
@@ -297,69 +302,39 @@ fitted-cut m n = bool_cases (ltb n 4294967296)
     let e : min n 4294967296 ≡ 4294967296 = omega arith in
     ap (λ k. fitted (with_sign m k)) e ∙ out m 4294967296 (omega arith) ∙ sym (out m n h))
   where
-    out : (m : Bool) (n : ℕ) → 4294967296 ≤ n → fitted (with_sign m n) ≡ Outside
+    out : (m : Bool) (n : ℕ) → 4294967296 ≤ n → fitted (with_sign m n) ≡ Err Outside
     out false n h = rw (le-ltb n 2147483648 (omega arith))
     out true zero h = absurd (omega arith)
     out true (suc n) h = rw (le-ltb n 2147483648 (omega arith))
 
 -- a number needs no names
-pub digits-any : (look other : List ℕ → Value) (m : Bool) (base : ℕ) (s : List ℕ) (i : ℕ)
+pub digits-any : (look other : List ℕ → Result ℤ Lack) (m : Bool) (base : ℕ) (s : List ℕ) (i : ℕ)
     → answer_of other (digits_at m base s i) ≡ answer_of look (digits_at m base s i)
 unfolding answer_of digits_at value_of
 digits-any look other m base s i = bool_cases (digit? base (byte_at s i)) (λ q. rw q) (λ q. rw q)
 
 -- ---- what the small functions find, from what their callees ensure
-pub shut-yes : (s : List ℕ) (v : Value) (i q b : ℕ) → q ≡ after blank? s i → b ≡ byte_at s q → b ≡ 41 → Parsed v (q + 1) ≡ shut
-    s (Parsed v i)
-unfolding shut
-shut-yes s v i q b e f g =
-    let h : byte_at s (after blank? s i) ≡ 41 = ap (byte_at s) (sym e) ∙ sym f ∙ g in
-    ap (λ k. Parsed v (k + 1)) e ∙ rw (eq-eqb (byte_at s (after blank? s i)) 41 h)
+-- digits end where they begin, if there is none
+digits-cases : {X : Type 0} (base : ℕ) → base ≤ 16 → (s : List ℕ) (i : ℕ)
+    → (digit? base (byte_at s i) ≡ false → after (digit? base) s i ≡ i → X)
+    → (digit? base (byte_at s i) ≡ true → i < after (digit? base) s i → X) → X
+digits-cases base h s i f g = bool_cases (digit? base (byte_at s i))
+    (λ q. g q (after-ahead (digit? base) (no_digit base h) s i q).0) (λ q. f q (after_stop (digit? base) s i q))
 
-pub shut-no : (s : List ℕ) (v : Value) (i q b : ℕ) → q ≡ after blank? s i → b ≡ byte_at s q → (b ≡ 41 → ⊥) → Malformed ≡ shut s (Parsed v i)
-unfolding shut
-shut-no s v i q b e f g =
-    rw (ne_eqb (byte_at s (after blank? s i)) 41 (λ h. g (f ∙ ap (byte_at s) e ∙ h)))
+pub digits-none : (look : List ℕ → Result ℤ Lack) (m : Bool) (base : ℕ) → base ≤ 16 → (s : List ℕ) (i j : ℕ)
+    → j ≡ after (digit? base) s i → j ≡ i → None ≡ answer_of look (digits_at m base s i)
+unfolding digits_at answer_of
+digits-none look m base h s i j e z = digits-cases base h s i (λ q r. rw q) (λ q r. absurd (omega (arith, r, e, z)))
 
-pub digits-none : (look : List ℕ → Value) (m : Bool) (base : ℕ) (s : List ℕ) (i b d : ℕ) → b ≡ byte_at s i → d ≡ digit_of b → base ≤ d
-    → Malformed ≡ answer_of look (digits_at m base s i)
-unfolding digits_at answer_of digit?
-digits-none look m base s i b d e f h =
-    let k : base ≤ digit_of (byte_at s i) = rw e at (rw f at h) in
-    rw (le-ltb (digit_of (byte_at s i)) base k)
-
-digit-yes : (base b : ℕ) → digit_of b < base → digit? base b ≡ true
-unfolding digit?
-digit-yes base b h = lt-ltb (digit_of b) base h
-
-pub digits-some : (look : List ℕ → Value) (m : Bool) (base : ℕ) (s : List ℕ) (i b d n j : ℕ) (v : Value) → b ≡ byte_at s i → d ≡ digit_of b
-    → d < base
-    → j ≡ after (digit? base) s i → n ≡ min (numeral base 0 (drop i s)) 4294967296 → v ≡ fitted (with_sign m n)
-    → Parsed v j ≡ answer_of look (digits_at m base s i)
+pub digits-some : (look : List ℕ → Result ℤ Lack) (m : Bool) (base : ℕ) → base ≤ 16 → (s : List ℕ) (i n j : ℕ) (v : Result ℤ Lack)
+    → j ≡ after (digit? base) s i → (j ≡ i → ⊥) → n ≡ min (numeral base 0 (drop i s)) 4294967296 → v ≡ fitted (with_sign m n)
+    → found v j ≡ answer_of look (digits_at m base s i)
 unfolding digits_at answer_of value_of
-digits-some look m base s i b d n j v e f h ej en ev = rw (t) (go ∙ ap (Parsed (fitted (with_sign m (numeral base 0 (drop i s))))) ej)
+digits-some look m base h s i n j v ej z en ev = digits-cases base h s i (λ q r. absurd (z (ej ∙ r)))
+    (λ q r. rw q (go ∙ ap (found (fitted (with_sign m (numeral base 0 (drop i s))))) ej))
   where
-    k : digit_of (byte_at s i) < base
-    k = rw e at (rw f at h)
-
-    t : digit? base (byte_at s i) ≡ true
-    t = digit-yes base (byte_at s i) k
-
-    go : Parsed v j ≡ Parsed (fitted (with_sign m (numeral base 0 (drop i s)))) j
-    go = ap (λ w. Parsed w j) (ev ∙ ap (λ k. fitted (with_sign m k)) en ∙ fitted-cut m (numeral base 0 (drop i s)))
-
--- a name's word is none of the language
-module _ (look : List ℕ → Value) (s : List ℕ) (i : ℕ) (m : Bool) (e : m ≡ free? (word_of (word (drop i s)))) where
-  pub name-word : m ≡ false → Malformed ≡ answer_of look (name_at s i)
-  unfolding name_at answer_of
-  name-word h = rw (sym e ∙ h)
-
-  pub name-read : (v : Value) (j : ℕ) → m ≡ true → v ≡ look (word (drop i s)) → j ≡ after name_byte? s i
-      → Parsed v j ≡ answer_of look (name_at s i)
-  unfolding name_at answer_of value_of
-  name-read v j h ev ej =
-      rw (sym e ∙ h)
-      (ap (λ w. Parsed w j) ev ∙ ap (Parsed (look (word (drop i s)))) ej)
+    go : found v j ≡ found (fitted (with_sign m (numeral base 0 (drop i s)))) j
+    go = ap (λ w. found w j) (ev ∙ ap (λ k. fitted (with_sign m k)) en ∙ fitted-cut m (numeral base 0 (drop i s)))
 
 module _ (s : List ℕ) (i b : ℕ) (e : b ≡ byte_at s i) where
   pub plain-name : letter? b ≡ true → plain_at s i ≡ name_at s i

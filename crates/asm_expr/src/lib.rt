@@ -3,21 +3,15 @@
 // sign and a part, so both end.
 #![tactic(auto)]
 
-ghost use Rattle.std.specs.Prelude.{◌≡◌, ◌≤◌};
-ghost use Rattle.asm_value.specs.declared.Value.TheVariants.{Unknown};
-ghost use Rattle.asm_text.specs.Text.{look_up_at};
+ghost use Rattle.std.specs.Prelude.{◌≡◌, ◌≤◌, Some, Err};
+ghost use Rattle.asm_value.specs.declared.Lack.TheVariants.{Unknown};
+ghost use Rattle.asm_text.specs.Text.{values_in};
 ghost use Rattle.asm_expr.specs.Grammar.{digits_at, name_at, plain_at, factor_of};
 ghost use Rattle.asm_expr.specs.Grammar.{term_of, expression_of, plus?, times?};
 ghost use Rattle.asm_expr.specs.Meaning.{answer_of, shut};
 
+use asm_text::{Names, Read};
 use asm_value::Value;
-
-// What stands at a place: its value and the place after it, or nothing that fits the grammar (17).
-#[derive(Clone, Copy)]
-pub enum Answer {
-    Parsed(Value, usize),
-    Malformed,
-}
 
 // The sign of a sum.
 fn is_plus(b: u8) -> bool
@@ -34,57 +28,40 @@ fn is_times(b: u8) -> bool
 }
 
 // At least one digit of the base.
-fn literal(s: &[u8], at: usize, base: u64, negative: bool) -> Answer
+fn literal(s: &[u8], at: usize, base: u64, negative: bool) -> Option<Read<Value>>
     requires { (1 ≤ base) × (base ≤ 16) }
-    ensures { result ≡ answer_of (λ _. Unknown) (digits_at negative base s.now at) }
+    ensures { result ≡ answer_of (λ _. Err Unknown) (digits_at negative base s.now at) }
 {
-    if base <= asm_text::digit(asm_text::byte_at(s, at)) {
-        return Answer::Malformed;
+    let digits = asm_text::read_digits(s, at, base);
+    if digits.next == at {
+        return None;
     }
-    let d = asm_text::read_digits(s, at, base);
-    let v = asm_value::number(negative, d.size);
-    Answer::Parsed(v, d.next)
+    let value = asm_value::number(negative, digits.value);
+    let next = digits.next;
+    Some(Read { value, next })
 }
 
 // A name, if its word is none of the language.
-fn named(
-    source: &[u8],
-    places: &[usize],
-    keys: &[u32],
-    values: &[i32],
-    s: &[u8],
-    at: usize,
-) -> Answer
-    ensures { result ≡ answer_of
-        (look_up_at source.now places.now
-        keys.now values.now)
-        (name_at s.now at) }
+#[tactic(auto, unfolding(crate::specs::Grammar::name_at, crate::specs::Meaning::answer_of, crate::specs::Meaning::value_of))]
+fn named(names: &Names<'_>, s: &[u8], at: usize) -> Option<Read<Value>>
+    ensures { result ≡ answer_of (values_in names.now) (name_at s.now at) }
 {
     let t = asm_text::read_word(s, at);
-    if !asm_words::is_free(asm_words::find_word(t.spelled)) {
-        return Answer::Malformed;
+    if !asm_words::is_free(asm_words::find_word(t.value.spelled)) {
+        return None;
     }
-    let v = asm_text::look_up(source, places, keys, values, s, at, t.key);
-    Answer::Parsed(v, t.next)
+    let value = asm_text::look_up(names, s, at, t.value.key);
+    let next = t.next;
+    Some(Read { value, next })
 }
 
 // A number or a name.
-fn plain(
-    source: &[u8],
-    places: &[usize],
-    keys: &[u32],
-    values: &[i32],
-    s: &[u8],
-    at: usize,
-) -> Answer
-    ensures { result ≡ answer_of
-        (look_up_at source.now places.now
-        keys.now values.now)
-        (plain_at s.now at) }
+fn plain(names: &Names<'_>, s: &[u8], at: usize) -> Option<Read<Value>>
+    ensures { result ≡ answer_of (values_in names.now) (plain_at s.now at) }
 {
     let b = asm_text::byte_at(s, at);
     if asm_text::is_letter(b) {
-        return named(source, places, keys, values, s, at);
+        return named(names, s, at);
     }
     if b == b'#' {
         if asm_text::byte_at(s, at + 1) == b'-' {
@@ -95,122 +72,72 @@ fn plain(
     if b == b'$' {
         return literal(s, at + 1, 16, false);
     }
-    Answer::Malformed
+    None
 }
 
-// An answer with `)` after it.
-fn close(s: &[u8], a: Answer) -> Answer
-    ensures { result ≡ shut s.now a }
+// What was read, with `)` after it.
+#[tactic(auto, unfolding(crate::specs::Meaning::shut))]
+fn close(s: &[u8], inner: Read<Value>) -> Option<Read<Value>>
+    ensures { result ≡ shut s.now (Some inner) }
 {
-    match a {
-        Answer::Malformed => Answer::Malformed,
-        Answer::Parsed(v, next) => {
-            let q = asm_text::skip_blanks(s, next);
-            if asm_text::byte_at(s, q) == b')' {
-                return Answer::Parsed(v, q + 1);
-            }
-            Answer::Malformed
-        }
+    let q = asm_text::skip_blanks(s, inner.next);
+    if asm_text::byte_at(s, q) != b')' {
+        return None;
     }
+    let value = inner.value;
+    let next = q + 1;
+    Some(Read { value, next })
 }
 
 // A number, a name or a bracket, of which `left` may be opened one in another.
 #[cycle(expression_factor_term)]
-pub fn factor(
-    source: &[u8],
-    places: &[usize],
-    keys: &[u32],
-    values: &[i32],
-    s: &[u8],
-    at: usize,
-    left: usize,
-) -> Answer
-    ensures { result ≡ answer_of
-        (look_up_at source.now places.now
-        keys.now values.now)
-        (factor_of left s.now at) }
+pub fn factor(names: &Names<'_>, s: &[u8], at: usize, left: usize) -> Option<Read<Value>>
+    ensures { result ≡ answer_of (values_in names.now) (factor_of left s.now at) }
 {
     let q = asm_text::skip_blanks(s, at);
     if asm_text::byte_at(s, q) == b'(' {
         if left == 0 {
-            return Answer::Malformed;
+            return None;
         }
-        let inner = expression(source, places, keys, values, s, q + 1, left - 1);
+        let inner = expression(names, s, q + 1, left - 1)?;
         return close(s, inner);
     }
-    plain(source, places, keys, values, s, q)
+    plain(names, s, q)
 }
 
 // Factors with `*` and `/` between them.
+// Kept: a twin of `expression`, since 01 names the form: expression, term and factor call each other.
 #[cycle(expression_factor_term)]
-pub fn term(
-    source: &[u8],
-    places: &[usize],
-    keys: &[u32],
-    values: &[i32],
-    s: &[u8],
-    at: usize,
-    left: usize,
-) -> Answer
-    ensures { result ≡ answer_of
-        (look_up_at source.now places.now
-        keys.now values.now)
-        (term_of left s.now at) }
+pub fn term(names: &Names<'_>, s: &[u8], at: usize, left: usize) -> Option<Read<Value>>
+    ensures { result ≡ answer_of (values_in names.now) (term_of left s.now at) }
 {
-    let first = factor(source, places, keys, values, s, at, left);
-    let Answer::Parsed(v0, n0) = first else {
-        return Answer::Malformed;
-    };
-    let mut value = v0;
-    let mut next = n0;
+    let mut so_far = factor(names, s, at, left)?;
     loop {
-        let q = asm_text::skip_blanks(s, next);
+        let q = asm_text::skip_blanks(s, so_far.next);
         let sign = asm_text::byte_at(s, q);
         if !is_times(sign) {
-            return Answer::Parsed(value, next);
+            return Some(so_far);
         }
-        let part = factor(source, places, keys, values, s, q + 1, left);
-        let Answer::Parsed(v, n) = part else {
-            return Answer::Malformed;
-        };
-        value = asm_value::combine(sign, value, v);
-        next = n;
+        let part = factor(names, s, q + 1, left)?;
+        so_far.value = asm_value::combine(sign, so_far.value, part.value);
+        so_far.next = part.next;
     }
 }
 
 // Terms with `+` and `-` between them.
 #[cycle(expression_factor_term)]
-pub fn expression(
-    source: &[u8],
-    places: &[usize],
-    keys: &[u32],
-    values: &[i32],
-    s: &[u8],
-    at: usize,
-    left: usize,
-) -> Answer
-    ensures { result ≡ answer_of
-        (look_up_at source.now places.now
-        keys.now values.now)
-        (expression_of left s.now at) }
+pub fn expression(names: &Names<'_>, s: &[u8], at: usize, left: usize) -> Option<Read<Value>>
+    ensures { result ≡ answer_of (values_in names.now) (expression_of left s.now at) }
 {
-    let first = term(source, places, keys, values, s, at, left);
-    let Answer::Parsed(v0, n0) = first else {
-        return Answer::Malformed;
-    };
-    let mut value = v0;
-    let mut next = n0;
+    let mut so_far = term(names, s, at, left)?;
     loop {
-        let q = asm_text::skip_blanks(s, next);
+        let q = asm_text::skip_blanks(s, so_far.next);
         let sign = asm_text::byte_at(s, q);
         if !is_plus(sign) {
-            return Answer::Parsed(value, next);
+            return Some(so_far);
         }
-        let part = term(source, places, keys, values, s, q + 1, left);
-        let Answer::Parsed(w, n) = part else {
-            return Answer::Malformed;
-        };
-        value = asm_value::combine(sign, value, w);
-        next = n;
+        let part = term(names, s, q + 1, left)?;
+        so_far.value = asm_value::combine(sign, so_far.value, part.value);
+        so_far.next = part.next;
     }
 }

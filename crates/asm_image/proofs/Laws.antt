@@ -11,20 +11,18 @@ use lib.Seq.{sets}
 use borrow.Author.Tests.{eq-eqb, ne_eqb, lt-ltb, ltb-false}
 use Rattle.text_lines.specs.Lines.{lines_of, LineAt}
 use Rattle.text_lines.proofs.Laws.{lines_end}
-use Rattle.asm_value.specs.declared.Value.{Value}
-use Rattle.asm_fits.specs.declared.Fit.{Fit}
-use Rattle.asm_fits.specs.declared.Fit.TheVariants.{Number, Unknown, Outside}
+use Rattle.std.specs.Prelude.{ℤ, Result, Ok, Err}
+use Rattle.asm_value.specs.declared.Lack.{Lack}
+use Rattle.asm_value.specs.declared.Lack.TheVariants.{Outside}
+use Rattle.asm_fits.specs.Fits.{Fit}
 use Rattle.word.proofs.Laws.{bool_cases}
 use Rattle.asm_line.specs.declared.Statement.{Statement}
-use Rattle.asm_line.specs.declared.Reading.{Reading}
-use Rattle.asm_line.specs.declared.Reading.TheVariants.{Line, Fault}
 use Rattle.asm_line.specs.Line.{line_of}
 use Rattle.asm_write.specs.declared.Layout.{Layout}
-use Rattle.asm_write.specs.declared.Next.{Next}
-use Rattle.asm_write.specs.Written.{layout_of, next_of, size_of, number_of, misplaced?, placed, used_of, bytes_for, bytes_with, bytes_of}
+use Rattle.asm_write.specs.Written.{layout_of, size_of, number_of, misplaced?, placed, used_of}
+use Rattle.asm_write.specs.Written.{bytes_for, bytes_of}
 use Rattle.asm_sweeps.specs.Form.{end?}
 use Rattle.asm_sweeps.specs.Held.{line_at}
-use Rattle.asm_sweeps.specs.Uses.{place_after}
 use Rattle.asm_image.specs.Image.{Placed, statements_at, place_on, placed_from, image_of}
 
 -- ---- the image of a list
@@ -38,7 +36,7 @@ unfolding image_of
 image-none m = refl
 
 -- ---- one line at a time
-module _ (look : List ℕ → Value) (t : List ℕ) (at stop next p : ℕ) (m : List ℕ) (here : LineAt t at stop next) where
+module _ (look : List ℕ → Result ℤ Lack) (t : List ℕ) (at stop next p : ℕ) (m : List ℕ) (here : LineAt t at stop next) where
   pub image-end : end? (line_of look (line_at t at stop)) ≡ true
       → image_of (statements_at p (line_of look (line_at t at stop))) m ≡ image_of (placed_from look (lines_of (drop at t)) p) m
   unfolding placed_from
@@ -61,21 +59,12 @@ module _ (look : List ℕ → Value) (t : List ℕ) (at stop next p : ℕ) (m : 
       ∙ image-append (statements_at p (line_of look (line_at t at stop)))
       (placed_from look (lines_of (drop next t)) (place_on p (line_of look (line_at t at stop)))) m)
 
-pub image-last : (look : List ℕ → Value) (t : List ℕ) (at p : ℕ) (m : List ℕ) → length t ≤ at
+pub image-last : (look : List ℕ → Result ℤ Lack) (t : List ℕ) (at p : ℕ) (m : List ℕ) → length t ≤ at
     → m ≡ image_of (placed_from look (lines_of (drop at t)) p) m
 unfolding placed_from image_of
 image-last look t at p m h = sym (ap (λ (ls : List (List ℕ)). image_of (placed_from look ls p) m) (lines_end t at h))
 
 -- ---- one statement
-pub image-one : (p : ℕ) (r : Reading) (named : Bool) (q : ℕ) (x : Statement) (m n : List ℕ) → r ≡ Line named q x
-    → n ≡ sets m p (bytes_of p x) → n ≡ image_of (statements_at p r) m
-unfolding image_of
-image-one p r named q x m n e h = h ∙ sym (ap (λ (y : Reading). image_of (statements_at p y) m) e)
-
-pub image-fault : (p : ℕ) (r : Reading) (m : List ℕ) → r ≡ Fault → m ≡ image_of (statements_at p r) m
-unfolding image_of
-image-fault p r m e = sym (ap (λ (y : Reading). image_of (statements_at p y) m) e)
-
 either : (b : Bool) → b || true ≡ false → ⊥
 either true e = let z : ◌≡◌ {A = ℕ} 1 0 = ap (λ (x : Bool). cond x 1 0) e in omega arith
 either false e = let z : ◌≡◌ {A = ℕ} 1 0 = ap (λ (x : Bool). cond x 1 0) e in omega arith
@@ -88,9 +77,8 @@ room_of_lem size p h k = bool_cases (ltb 65536 (p + size))
 
 -- 1 for a number
 abbrev numbers : Fit → ℕ
-numbers (Number n) = 1
-numbers Unknown = 0
-numbers Outside = 0
+numbers (Ok n) = 1
+numbers (Err e) = 0
 
 -- s is the size, f the number as the code has them
 module _ (p : ℕ) (x : Statement) (l : Layout) (s : ℕ) (f : Fit)
@@ -98,39 +86,23 @@ module _ (p : ℕ) (x : Statement) (l : Layout) (s : ℕ) (f : Fit)
   size_is : s ≡ size_of (layout_of x)
   size_is = hs ∙ ap size_of hl
 
-  bytes-is : (g : Fit) → f ≡ g → bytes_of p x ≡ bytes_with s g
-  bytes-is g e =
-      ap (λ (y : Fit). bytes_with (size_of (layout_of x)) y) (sym hf ∙ e)
-      ∙ ap (λ (n : ℕ). bytes_with n g) (sym size_is)
-
   used-is : (y : Fit) → number_of p x ≡ y → f ≡ placed s p y
   unfolding used_of
   used-is y e =
       hf ∙ ap (λ (n : ℕ). placed n p (number_of p x)) (sym size_is) ∙ ap (λ (z : Fit). placed s p z) e
 
-  pub used-room : (n : ℕ) → f ≡ Number n → (s ≡ 0 → ⊥) → p + s ≤ 65536
+  pub used-room : (n : ℕ) → f ≡ Ok n → (s ≡ 0 → ⊥) → p + s ≤ 65536
   used-room n e k = go (number_of p x) refl
     where
       one : numbers f ≡ 1
       one = ap numbers e
 
       go : (y : Fit) → number_of p x ≡ y → p + s ≤ 65536
-      go (Number m) h = bool_cases (misplaced? s p)
-          (λ q. let z : numbers f ≡ 0 = ap numbers (used-is (Number m) h ∙ ap (λ (b : Bool). cond b Outside (Number m)) q) in
+      go (Ok m) h = bool_cases (misplaced? s p)
+          (λ q. let z : numbers f ≡ 0 = ap numbers (used-is (Ok m) h ∙ ap (λ (b : Bool). cond b (Err Outside) (Ok m)) q) in
           absurd (omega (arith, one, z)))
           (λ q. room_of_lem s p q (omega (arith, k)))
-      go Unknown h = let z : numbers f ≡ 0 = ap numbers (used-is Unknown h) in absurd (omega (arith, one, z))
-      go Outside h = let z : numbers f ≡ 0 = ap numbers (used-is Outside h) in absurd (omega (arith, one, z))
-
-  -- a statement at fault, or without bytes, changes nothing
-  pub store-unknown : (m : List ℕ) → f ≡ Unknown → m ≡ sets m p (bytes_of p x)
-  store-unknown m e = sym (ap (sets m p) (bytes-is Unknown e))
-
-  pub store-outside : (m : List ℕ) → f ≡ Outside → m ≡ sets m p (bytes_of p x)
-  store-outside m e = sym (ap (sets m p) (bytes-is Outside e))
-
-  pub store-number : (m k : List ℕ) (n : ℕ) → f ≡ Number n → k ≡ sets m p (bytes_for s n) → k ≡ sets m p (bytes_of p x)
-  store-number m k n e h = h ∙ sym (ap (sets m p) (bytes-is (Number n) e))
+      go (Err d) h = let z : numbers f ≡ 0 = ap numbers (used-is (Err d) h) in absurd (omega (arith, one, z))
 
 -- ---- a number's bytes
 module _ (m : List ℕ) (p s n : ℕ) where
@@ -153,18 +125,8 @@ module _ (m : List ℕ) (p s n : ℕ) where
         ap (λ (i : ℕ). set (set m p (n % 256)) i (n / 256)) (add-one p)
         ∙ sym (bytes-at false false (ne_eqb s 0 h) (ne_eqb s 1 k))
 
--- ---- the place after a line
-module _ (r s : Reading) (er : r ≡ s) (p : ℕ) where
-  pub place-fault : r ≡ Fault → p ≡ place_on p s
-  place-fault e = sym (ap (place_on p) (sym er ∙ e))
-
-  pub place-line : (named : Bool) (q : ℕ) (x : Statement) → r ≡ Line named q x → (lay : Layout) → lay ≡ layout_of x
-      → (nx : Next) → nx ≡ next_of p lay → (k : ℕ) → k ≡ place_after p nx → k ≡ place_on p s
-  place-line named q x e lay el nx en k ek =
-      ek ∙ ap (place_after p) (en ∙ ap (next_of p) el) ∙ sym (ap (place_on p) (sym er ∙ e))
-
 -- ---- the loop
-module _ (look : List ℕ → Value) (t : List ℕ) (at stop next p : ℕ) (m k : List ℕ) (here : LineAt t at stop next)
+module _ (look : List ℕ → Result ℤ Lack) (t : List ℕ) (at stop next p : ℕ) (m k : List ℕ) (here : LineAt t at stop next)
     (e : k ≡ image_of (statements_at p (line_of look (line_at t at stop))) m) (b : Bool)
     (eb : b ≡ end? (line_of look (line_at t at stop))) where
   pub store-end : b ≡ true → k ≡ image_of (placed_from look (lines_of (drop at t)) p) m

@@ -3,14 +3,14 @@
 
 ghost use Rattle.std.specs.Prelude.{◌≡◌, length};
 ghost use Rattle.std.proofs.lemmas.List.Edits.{sets};
-ghost use Rattle.asm_text.specs.Text.{look_up_at};
+ghost use Rattle.asm_text.specs.Text.{values_in};
 ghost use Rattle.asm_write.specs.Written.{bytes_of, bytes_for};
 ghost use Rattle.asm_line.specs.Line.{line_of};
 ghost use Rattle.asm_sweeps.specs.Form.{end?};
 ghost use Rattle.asm_image.specs.Image.{Room, place_on, statements_at, placed_of, image_of};
 
-use asm_fits::Fit;
-use asm_line::{Reading, Statement};
+use asm_line::Statement;
+use asm_text::Names;
 
 // The place after a line, and whether the line is END.
 #[derive(Clone, Copy)]
@@ -27,10 +27,11 @@ fn put(memory: &mut [u8], p: u32, size: u8, n: u16)
     if size == 0 {
         return;
     }
+    let [low, high] = n.to_le_bytes();
     let a = p as usize;
-    memory[a] = (n % 256) as u8;
+    memory[a] = low;
     if size != 1 {
-        memory[a + 1] = (n / 256) as u8;
+        memory[a + 1] = high;
     }
 }
 
@@ -40,59 +41,41 @@ fn store(memory: &mut [u8], p: u32, x: Statement)
     ensures { memory.new ≡ sets memory.old p (bytes_of p x) }
 {
     let size = asm_write::size(asm_write::layout_of(x));
-    match asm_write::used(p, x) {
-        Fit::Number(n) => put(memory, p, size, n),
-        Fit::Unknown => {}
-        Fit::Outside => {}
+    if let Ok(n) = asm_write::used(p, x) {
+        put(memory, p, size, n);
     }
 }
 
 // A line in the fourth sweep.
-fn store_line(
-    memory: &mut [u8],
-    source: &[u8],
-    places: &[usize],
-    keys: &[u32],
-    values: &[i32],
-    part: &[u8],
-    p: u32,
-) -> Stored
+#[tactic(auto, unfolding(crate::specs::Image::image_of))]
+fn store_line(memory: &mut [u8], names: &Names<'_>, part: &[u8], p: u32) -> Stored
     requires { length memory.old ≡ 65536 }
     ensures memory_after { memory.new
-        ≡ image_of (statements_at p (line_of (look_up_at source.now
-        places.now keys.now values.now) part.now))
-        memory.old }
-    ensures place_value { result.place ≡ place_on p (line_of (look_up_at source.now
-        places.now keys.now values.now) part.now) }
-    ensures end_value { result.end ≡ end? (line_of (look_up_at source.now
-        places.now keys.now values.now) part.now) }
+        ≡ image_of (statements_at p (line_of (values_in names.now) part.now)) memory.old }
+    ensures place_value { result.place ≡ place_on p (line_of (values_in names.now) part.now) }
+    ensures end_value { result.end ≡ end? (line_of (values_in names.now) part.now) }
 {
-    let r = asm_line::read_line(source, places, keys, values, part);
-    let Reading::Line {
-        named: _,
-        name: _,
-        statement,
-    } = r
-    else {
+    let r = asm_line::read_line(names, part);
+    let Some(line) = r else {
         return Stored {
             place: p,
             end: false,
         };
     };
-    store(memory, p, statement);
-    let l = asm_write::layout_of(statement);
+    store(memory, p, line.statement);
+    let l = asm_write::layout_of(line.statement);
     let end = asm_sweeps::is_stop(l);
     let place = asm_sweeps::place_after(p, asm_write::after(p, l));
     Stored { place, end }
 }
 
 // The image of a source whose names are in the table.
-pub fn image(memory: &mut [u8], source: &[u8], places: &[usize], keys: &[u32], values: &[i32])
+pub fn image(memory: &mut [u8], names: &Names<'_>)
     requires { length memory.old ≡ 65536 }
-    ensures { memory.new ≡ image_of (placed_of (look_up_at source.now
-        places.now keys.now values.now) source.now)
+    ensures { memory.new ≡ image_of (placed_of (values_in names.now) names.now.source.now)
         memory.old }
 {
+    let source = names.source;
     let mut at = 0;
     let mut p: u32 = 0;
     while at < source.len() {
@@ -100,7 +83,7 @@ pub fn image(memory: &mut [u8], source: &[u8], places: &[usize], keys: &[u32], v
         let stop = l.stop;
         let next = l.next;
         let part = &source[at..stop];
-        let r = store_line(memory, source, places, keys, values, part, p);
+        let r = store_line(memory, names, part, p);
         if r.end {
             return;
         }

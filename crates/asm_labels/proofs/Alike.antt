@@ -4,13 +4,14 @@ use mathlib.Core.List.{List}
 use Prim.Native.Nat.{ℕ}
 use native.Mathlib.Omega.{arith}
 use lib.IntN.{ℤ}
-use Rattle.asm_value.specs.declared.Value.{Value}
-use Rattle.asm_value.specs.declared.Value.TheVariants.{Known, Unknown, Outside}
+use Rattle.std.specs.Prelude.{Option, Result, Ok, Err}
+use Rattle.asm_value.specs.declared.Lack.{Lack}
+use Rattle.asm_value.specs.declared.Lack.TheVariants.{Unknown, Outside}
 use Rattle.asm_value.specs.Value.{joined}
 use Rattle.asm_expr.specs.Grammar.{Expr, number, name, binary}
 use Rattle.asm_expr.specs.Meaning.{value_of}
 use Rattle.asm_line.specs.declared.Statement.{Statement}
-use Rattle.asm_line.specs.declared.Reading.{Reading}
+use Rattle.asm_line.specs.declared.Line.{Line}
 use Rattle.asm_words.specs.declared.Valued.{Valued}
 use Rattle.asm_words.specs.declared.Valued.TheVariants as val
 use Rattle.asm_line.specs.Statement.{with_value}
@@ -23,32 +24,26 @@ use Rattle.asm_write.specs.Written.{layout_of}
 -- ---- values
 
 -- where v is known, w is the same
-abbrev pub Up : Value → Value → Type 0
-Up v w = (z : ℤ) → v ≡ Known z → w ≡ Known z
+abbrev pub Up : Result ℤ Lack → Result ℤ Lack → Type 0
+Up v w = (z : ℤ) → v ≡ Ok z → w ≡ Ok z
 
 -- 1 for a value that is known
-abbrev pub sure : Value → ℕ
-sure (Known z) = 1
-sure Unknown = 0
-sure Outside = 0
+abbrev pub sure : Result ℤ Lack → ℕ
+sure (Ok z) = 1
+sure (Err d) = 0
 
 -- what is not known
-unknown-up : (w : Value) → Up Unknown w
-unknown-up w z e = let k : ◌≡◌ {A = ℕ} 0 1 = ap sure e in absurd (omega arith)
+lack-up : (d : Lack) (w : Result ℤ Lack) → Up (Err d) w
+lack-up d w z e = let k : ◌≡◌ {A = ℕ} 0 1 = ap sure e in absurd (omega arith)
 
-outside-up : (w : Value) → Up Outside w
-outside-up w z e = let k : ◌≡◌ {A = ℕ} 0 1 = ap sure e in absurd (omega arith)
-
-up-joined : (op : ℕ) (x y x' y' : Value) → Up x x' → Up y y' → Up (joined op x y) (joined op x' y')
+up-joined : (op : ℕ) (x y x' y' : Result ℤ Lack) → Up x x' → Up y y' → Up (joined op x y) (joined op x' y')
 unfolding joined
-up-joined op Unknown y x' y' f g = unknown-up (joined op x' y')
-up-joined op Outside Unknown x' y' f g = unknown-up (joined op x' y')
-up-joined op Outside Outside x' y' f g = outside-up (joined op x' y')
-up-joined op Outside (Known b) x' y' f g = outside-up (joined op x' y')
-up-joined op (Known a) Unknown x' y' f g = unknown-up (joined op x' y')
-up-joined op (Known a) Outside x' y' f g = outside-up (joined op x' y')
-up-joined op (Known a) (Known b) x' y' f g = λ z e.
-    ap (λ (u : Value). joined op u y') (f a refl) ∙ ap (joined op (Known a)) (g b refl) ∙ e
+up-joined op (Err Unknown) y x' y' f g = lack-up Unknown (joined op x' y')
+up-joined op (Err Outside) (Err d) x' y' f g = lack-up d (joined op x' y')
+up-joined op (Err Outside) (Ok b) x' y' f g = lack-up Outside (joined op x' y')
+up-joined op (Ok a) (Err d) x' y' f g = lack-up d (joined op x' y')
+up-joined op (Ok a) (Ok b) x' y' f g = λ z e.
+    ap (λ (u : Result ℤ Lack). joined op u y') (f a refl) ∙ ap (joined op (Ok a)) (g b refl) ∙ e
 
 -- ---- what a statement does to the place
 abbrev pub Onto : Layout → Layout → Type 0
@@ -90,11 +85,11 @@ onto-self Stop = tt
 abbrev Laid : Statement → Statement → Type 0
 Laid x y = Onto (layout_of x) (layout_of y)
 
-abbrev pub AlikeLines : Reading → Reading → Type 0
+abbrev pub AlikeLines : Option Line → Option Line → Type 0
 AlikeLines r s = line.AlikeLines Up Laid r s
 
 -- a statement with a value
-value-onto : (m : Valued) (v w : Value) → Up v w → Onto (layout_of (with_value m v)) (layout_of (with_value m w))
+value-onto : (m : Valued) (v w : Result ℤ Lack) → Up v w → Onto (layout_of (with_value m v)) (layout_of (with_value m w))
 unfolding with_value layout_of
 value-onto val.Org v w u = u
 value-onto val.Bss v w u = u
@@ -120,7 +115,7 @@ laid =
     }
 
 -- f and f' give values to names; f' knows what f does
-module _ (f f' : List ℕ → Value) (up : (n : List ℕ) → Up (f n) (f' n)) (s : List ℕ) where
+module _ (f f' : List ℕ → Result ℤ Lack) (up : (n : List ℕ) → Up (f n) (f' n)) (s : List ℕ) where
   up-value : (e : Expr) → Up (value_of f e) (value_of f' e)
   unfolding value_of
   up-value (number z) = λ y e. e

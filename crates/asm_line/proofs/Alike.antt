@@ -5,88 +5,85 @@ use mathlib.Core.Bool.{Bool, true, false, cond, not}
 use mathlib.Core.List.{List}
 use Prim.Native.Nat.{ℕ, ◌+◌}
 use lib.ListN.{drop}
-use Rattle.asm_value.specs.declared.Value.{Value}
-use Rattle.asm_text.specs.Text.{byte_at, blank?, letter?, name_byte?, after, word}
+use Rattle.std.specs.Prelude.{ℤ, Option, Some, None, Result}
+use Rattle.asm_value.specs.declared.Lack.{Lack}
+use Rattle.asm_text.specs.declared.Read.{Read}
+use Rattle.asm_text.specs.Text.{byte_at, blank?, letter?, name_byte?, after, word, found}
 use Rattle.asm_words.specs.declared.Word.{Word}
 use Rattle.asm_words.specs.declared.Word.TheVariants.{Free, Reserved, Begins}
 use Rattle.asm_words.specs.declared.Keyword.{Keyword}
 use Rattle.asm_words.specs.declared.Keyword.TheVariants as key
 use Rattle.asm_words.specs.declared.Valued.{Valued}
 use Rattle.asm_words.specs.Words.{word_of, free?}
-use Rattle.asm_expr.specs.declared.Answer.{Answer}
-use Rattle.asm_expr.specs.declared.Answer.TheVariants.{Parsed, Malformed}
 use Rattle.asm_expr.specs.Grammar.{Expr, Parse, parsed, malformed, factor_of}
 use Rattle.asm_expr.specs.Meaning.{value_of, answer_of}
-use Rattle.asm_operands.specs.declared.Found.{Found}
-use Rattle.asm_operands.specs.declared.Found.TheVariants.{At, Missing}
 use Rattle.asm_operands.specs.Operands.{over?, register_at, condition_at, width_at, value_at, number?, comma?, comma_register, comma_value}
 use Rattle.asm_line.specs.declared.Statement.{Statement}
 use Rattle.asm_line.specs.declared.Statement.TheVariants as st
-use Rattle.asm_line.specs.declared.Stated.{Stated}
-use Rattle.asm_line.specs.declared.Stated.TheVariants.{Fits, Misfit}
-use Rattle.asm_line.specs.declared.Reading.{Reading}
-use Rattle.asm_line.specs.declared.Reading.TheVariants.{Line, Fault}
-use Rattle.asm_line.specs.Statement.{having, valued, with_value, one_value, equate, arithmetic_from, arithmetic, move, exchange}
+use Rattle.asm_line.specs.declared.Line.{Line}
+use Rattle.asm_line.specs.Statement.{having, with_value, one_value, equate, arithmetic_from, arithmetic, move, exchange}
 use Rattle.asm_line.specs.Statement.{unary, one_register, on_flags, conditional, load, store, move_byte, load_relative}
 use Rattle.asm_line.specs.Statement.{store_relative, statement_with, statement_of}
-use Rattle.asm_line.specs.Line.{ended, statement_at, after_name, line_from, line_of}
+use Rattle.asm_line.specs.Line.{line_with, ended, statement_at, after_name, line_from, line_of}
 
 -- U relates values, O statements
-module _ (U : Value → Value → Type 0) (O : Statement → Statement → Type 0) where
+module _ (U : Result ℤ Lack → Result ℤ Lack → Type 0) (O : Statement → Statement → Type 0) where
   -- statements made alike of related values are related
   pub record Related : Type 0 where
     pub itself : (x : Statement) → O x x
-    pub of_one : (m : Valued) (v w : Value) → U v w → O (with_value m v) (with_value m w)
-    pub of-equate : (v w : Value) → U v w → O (st.Equ v) (st.Equ w)
-    pub of-constant : (op b d : ℕ) (v w : Value) → U v w → O (st.Constant op b v d) (st.Constant op b w d)
-    pub of-counts : (c : ℕ) (t u v w : Value) → U t u → U v w → O (st.Cex c t v) (st.Cex c u w)
-    pub of-byte : (op : ℕ) (plain : Bool) (d : ℕ) (v w : Value) → U v w → O (st.MovImm op plain v d) (st.MovImm op plain w d)
-    pub of-load : (b r d : ℕ) (v w : Value) → U v w → O (st.Ldr v b r d) (st.Ldr w b r d)
-    pub of-store : (b r d : ℕ) (v w : Value) → U v w → O (st.Str v b r d) (st.Str w b r d)
+    pub of_one : (m : Valued) (v w : Result ℤ Lack) → U v w → O (with_value m v) (with_value m w)
+    pub of-equate : (v w : Result ℤ Lack) → U v w → O (st.Equ v) (st.Equ w)
+    pub of-constant : (op b d : ℕ) (v w : Result ℤ Lack) → U v w → O (st.Constant op b v d) (st.Constant op b w d)
+    pub of-counts : (c : ℕ) (t u v w : Result ℤ Lack) → U t u → U v w → O (st.Cex c t v) (st.Cex c u w)
+    pub of-byte : (op : ℕ) (plain : Bool) (d : ℕ) (v w : Result ℤ Lack) → U v w → O (st.MovImm op plain v d) (st.MovImm op plain w d)
+    pub of-load : (b r d : ℕ) (v w : Result ℤ Lack) → U v w → O (st.Ldr v b r d) (st.Ldr w b r d)
+    pub of-store : (b r d : ℕ) (v w : Result ℤ Lack) → U v w → O (st.Str v b r d) (st.Str w b r d)
 
-  -- both fit, and end at the same place, or neither does
-  abbrev SameAnswer : Answer → Answer → Type 0
-  SameAnswer Malformed Malformed = Unit
-  SameAnswer Malformed (Parsed w j) = ⊥
-  SameAnswer (Parsed v i) Malformed = ⊥
-  SameAnswer (Parsed v i) (Parsed w j) = (i ≡ j) × U v w
+  -- both fit, of related values, and end at the same place, or neither does
+  abbrev Both : {A : Type 0} → (A → A → Type 0) → Option (Read A) → Option (Read A) → Type 0
+  Both R None None = Unit
+  Both R None (Some y) = ⊥
+  Both R (Some x) None = ⊥
+  Both R (Some x) (Some y) = (x.next ≡ y.next) × R x.value y.value
 
-  abbrev Alike : Stated → Stated → Type 0
-  Alike Misfit Misfit = Unit
-  Alike Misfit (Fits y j) = ⊥
-  Alike (Fits x i) Misfit = ⊥
-  Alike (Fits x i) (Fits y j) = (i ≡ j) × O x y
+  abbrev SameAnswer : Option (Read (Result ℤ Lack)) → Option (Read (Result ℤ Lack)) → Type 0
+  SameAnswer = Both U
 
-  abbrev pub AlikeLines : Reading → Reading → Type 0
-  AlikeLines Fault Fault = Unit
-  AlikeLines Fault (Line m k y) = ⊥
-  AlikeLines (Line n i x) Fault = ⊥
-  AlikeLines (Line n i x) (Line m k y) = (n ≡ m) × (i ≡ k) × O x y
+  abbrev Alike : Option (Read Statement) → Option (Read Statement) → Type 0
+  Alike = Both O
 
-  alike-cond : (b : Bool) (x y x' y' : Stated) → Alike x x' → Alike y y' → Alike (cond b x y) (cond b x' y')
+  abbrev pub AlikeLines : Option Line → Option Line → Type 0
+  AlikeLines None None = Unit
+  AlikeLines None (Some y) = ⊥
+  AlikeLines (Some x) None = ⊥
+  AlikeLines (Some x) (Some y) = (x.name ≡ y.name) × O x.statement y.statement
+
+  alike-cond : (b : Bool) (x y x' y' : Option (Read Statement)) → Alike x x' → Alike y y' → Alike (cond b x y) (cond b x' y')
   alike-cond true x y x' y' f g = f
   alike-cond false x y x' y' f g = g
 
-  alike-having : (f : Found) (g g' : ℕ → ℕ → Stated) → ((n i : ℕ) → Alike (g n i) (g' n i)) → Alike (having f g) (having f g')
-  alike-having Missing g g' h = tt
-  alike-having (At n i) g g' h = h n i
+  alike-having : {A : Type 0} (f : Option (Read A)) (g g' : A → ℕ → Option (Read Statement))
+      → ((n : A) (i : ℕ) → Alike (g n i) (g' n i)) → Alike (having f g) (having f g')
+  alike-having None g g' h = tt
+  alike-having (Some r) g g' h = h r.value r.next
 
-  alike-valued : (a a' : Answer) (g g' : Value → ℕ → Stated) → SameAnswer a a'
-      → ((v w : Value) (i : ℕ) → U v w → Alike (g v i) (g' w i)) → Alike (valued a g) (valued a' g')
-  alike-valued Malformed Malformed g g' e h = tt
-  alike-valued Malformed (Parsed w j) g g' e h = absurd e
-  alike-valued (Parsed v i) Malformed g g' e h = absurd e
-  alike-valued (Parsed v i) (Parsed w j) g g' e h = subst (λ (k : ℕ). Alike (g v i) (g' w k)) e.0 (h v w i e.1)
+  alike-valued : (a a' : Option (Read (Result ℤ Lack))) (g g' : Result ℤ Lack → ℕ → Option (Read Statement)) → SameAnswer a a'
+      → ((v w : Result ℤ Lack) (i : ℕ) → U v w → Alike (g v i) (g' w i)) → Alike (having a g) (having a' g')
+  alike-valued None None g g' e h = tt
+  alike-valued None (Some w) g g' e h = absurd e
+  alike-valued (Some v) None g g' e h = absurd e
+  alike-valued (Some v) (Some w) g g' e h =
+      subst (λ (k : ℕ). Alike (g v.value v.next) (g' w.value k)) e.0 (h v.value w.value v.next e.1)
 
-  alike-lines-cond : (b : Bool) (x y x' y' : Reading) → AlikeLines x x' → AlikeLines y y' → AlikeLines (cond b x y) (cond b x' y')
+  alike-lines-cond : (b : Bool) (x y x' y' : Option Line) → AlikeLines x x' → AlikeLines y y' → AlikeLines (cond b x y) (cond b x' y')
   alike-lines-cond true x y x' y' f g = f
   alike-lines-cond false x y x' y' f g = g
 
   -- f and f' give values to names, and related ones to every expression
-  module _ (R : Related) (f f' : List ℕ → Value) (values : (e : Expr) → U (value_of f e) (value_of f' e)) (s : List ℕ) where
-    alike_self : (x : Stated) → Alike x x
-    alike_self Misfit = tt
-    alike_self (Fits x i) = (refl, R.itself x)
+  module _ (R : Related) (f f' : List ℕ → Result ℤ Lack) (values : (e : Expr) → U (value_of f e) (value_of f' e)) (s : List ℕ) where
+    alike_self : (x : Option (Read Statement)) → Alike x x
+    alike_self None = tt
+    alike_self (Some x) = (refl, R.itself x.value)
 
     same-parse : (p : Parse) → SameAnswer (answer_of f p) (answer_of f' p)
     unfolding answer_of
@@ -97,7 +94,7 @@ module _ (U : Value → Value → Type 0) (O : Statement → Statement → Type 
     unfolding value_at
     same-value i = same-parse (factor_of 16 s i)
 
-    same_cond : (b : Bool) (x x' : Answer) → SameAnswer x x' → SameAnswer (cond b x Malformed) (cond b x' Malformed)
+    same_cond : (b : Bool) (x x' : Option (Read (Result ℤ Lack))) → SameAnswer x x' → SameAnswer (cond b x None) (cond b x' None)
     same_cond true x x' e = e
     same_cond false x x' e = tt
 
@@ -115,10 +112,10 @@ module _ (U : Value → Value → Type 0) (O : Statement → Statement → Type 
         alike-cond named _ _ _ _
         (alike-valued (value_at f s i) (value_at f' s i) _ _ (same-value i) (λ v w j h. (refl, R.of-equate v w h))) tt
 
-    from-register : (op b i : ℕ) (x : Found) → Alike (arithmetic_from f s op b i x) (arithmetic_from f' s op b i x)
-    from-register op b i Missing = alike-valued (value_at f s i) (value_at f' s i) _ _ (same-value i)
+    from-register : (op b i : ℕ) (x : Option (Read ℕ)) → Alike (arithmetic_from f s op b i x) (arithmetic_from f' s op b i x)
+    from-register op b i None = alike-valued (value_at f s i) (value_at f' s i) _ _ (same-value i)
         (λ v w j h. alike-having (comma_register s j) _ _ (λ d k. (refl, R.of-constant op b d v w h)))
-    from-register op b i (At r j) = alike-having (comma_register s j) _ _ (λ d k. (refl, R.itself _))
+    from-register op b i (Some r) = alike-having (comma_register s r.next) _ _ (λ d k. (refl, R.itself _))
 
     arithmetic-alike : (op i : ℕ) → Alike (arithmetic f s op i) (arithmetic f' s op i)
     unfolding arithmetic
@@ -152,7 +149,7 @@ module _ (U : Value → Value → Type 0) (O : Statement → Statement → Type 
     unfolding statement_with
     with-alike named (key.Value m) i = one_value_lem m i
     with-alike named key.Equ i = equate-alike named i
-    with-alike named key.End i = alike_self (Fits st.End i)
+    with-alike named key.End i = alike_self (found st.End i)
     with-alike named (key.Arithmetic op) i = arithmetic-alike op i
     with-alike named key.Mov i = alike_self (move s i)
     with-alike named key.Swap i = alike_self (exchange s i)
@@ -174,33 +171,33 @@ module _ (U : Value → Value → Type 0) (O : Statement → Statement → Type 
     statement-alike named Reserved i = tt
     statement-alike named (Begins k) i = with-alike named k i
 
-    alike-ended : (named : Bool) (q : ℕ) (x y : Stated) → Alike x y → AlikeLines (ended s named q x) (ended s named q y)
-    alike-ended named q Misfit Misfit e = tt
-    alike-ended named q Misfit (Fits y j) e = absurd e
-    alike-ended named q (Fits x i) Misfit e = absurd e
-    alike-ended named q (Fits x i) (Fits y j) e =
-        subst (λ (k : ℕ). AlikeLines (ended s named q (Fits x i)) (ended s named q (Fits y k))) e.0
-        (alike-lines-cond (over? s (after blank? s i)) (Line named q x) Fault (Line named q y) Fault (refl, refl, e.1) tt)
+    alike-ended : (name : Option ℕ) (x y : Option (Read Statement)) → Alike x y → AlikeLines (ended s name x) (ended s name y)
+    alike-ended name None None e = tt
+    alike-ended name None (Some y) e = absurd e
+    alike-ended name (Some x) None e = absurd e
+    alike-ended name (Some x) (Some y) e =
+        subst (λ (k : ℕ). AlikeLines (ended s name (Some x)) (ended s name (found y.value k))) e.0
+        (alike-lines-cond (over? s (after blank? s x.next)) (line_with name x.value) None (line_with name y.value) None (refl, e.1) tt)
 
-    alike-statement : (named : Bool) (q i : ℕ)
-        → AlikeLines (ended s named q (statement_at f s named i)) (ended s named q (statement_at f' s named i))
+    alike-statement : (name : Option ℕ) (named : Bool) (i : ℕ)
+        → AlikeLines (ended s name (statement_at f s named i)) (ended s name (statement_at f' s named i))
     unfolding statement_at
-    alike-statement named q i =
+    alike-statement name named i =
         let m = word_of (word (drop i s)) in
         let k = after name_byte? s i in
-        alike-ended named q (statement_of f s named m k) (statement_of f' s named m k) (statement-alike named m k)
+        alike-ended name (statement_of f s named m k) (statement_of f' s named m k) (statement-alike named m k)
 
-    nothing-alike : (named : Bool) (q : ℕ) → AlikeLines (Line named q st.Nothing) (Line named q st.Nothing)
-    nothing-alike named q = (refl, refl, R.itself st.Nothing)
+    nothing-alike : (name : Option ℕ) → AlikeLines (line_with name st.Nothing) (line_with name st.Nothing)
+    nothing-alike name = (refl, R.itself st.Nothing)
 
     alike-after : (q i : ℕ) → AlikeLines (after_name f s q i) (after_name f' s q i)
     unfolding after_name
-    alike-after q i = alike-lines-cond (over? s i) _ _ _ _ (nothing-alike true q) (alike-statement true q i)
+    alike-after q i = alike-lines-cond (over? s i) _ _ _ _ (nothing-alike (Some q)) (alike-statement (Some q) true i)
 
     alike_from : (q : ℕ) → AlikeLines (line_from f s q) (line_from f' s q)
     unfolding line_from
-    alike_from q = alike-lines-cond (over? s q) _ _ _ _ (nothing-alike false q)
-        (alike-lines-cond (not (free? (word_of (word (drop q s))))) _ _ _ _ (alike-statement false q q)
+    alike_from q = alike-lines-cond (over? s q) _ _ _ _ (nothing-alike None)
+        (alike-lines-cond (not (free? (word_of (word (drop q s))))) _ _ _ _ (alike-statement None false q)
         (alike-lines-cond (letter? (byte_at s q)) _ _ _ _ (alike-after q (after blank? s (after name_byte? s q))) tt))
 
     pub line-related : AlikeLines (line_of f s) (line_of f' s)

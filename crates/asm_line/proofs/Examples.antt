@@ -5,7 +5,9 @@ use mathlib.Core.List.{List, [], ◌∷◌}
 use Prim.Native.Nat.{ℕ}
 use lib.IntN.{pos, negsuc}
 use Rattle.isa.specs.declared.Instr.TheVariants as instr
-use Rattle.asm_value.specs.declared.Value.TheVariants.{Known, Unknown}
+use Rattle.std.specs.Prelude.{Option, Some, None, Ok, Err}
+use Rattle.asm_value.specs.declared.Lack.TheVariants.{Unknown}
+use Rattle.asm_line.specs.declared.Line.{Line}
 use Rattle.asm_value.specs.Value.{fitted, applied, joined}
 use Rattle.asm_text.specs.Text.{ascii, blank?, letter?, name_byte?, digit_of, digit?, span, after, numeral, word, same}
 use Rattle.asm_words.specs.Words.{meaning, branches, operations, unaries, moves, valued_words, other_words, keywords, registers, conditions}
@@ -21,12 +23,13 @@ use Rattle.asm_words.specs.Words.{
   with_bit,
   flags_from,
   flags_of,
+  some_flag,
 }
 use Rattle.asm_expr.specs.Grammar.{named?, digits_at, name_at, plain_at, closed, plus?, times?, chain, parts_of, factor_with, factor_of}
 use Rattle.asm_expr.specs.Meaning.{value_of, answer_of}
 use Rattle.asm_operands.specs.Operands.{
   over?,
-  word_below,
+  word_said,
   register_at,
   condition_at,
   flags_at,
@@ -38,66 +41,61 @@ use Rattle.asm_operands.specs.Operands.{
 }
 use Rattle.asm_operands.specs.Operands.{comma_register, comma_value, changed_after, address_at, comma_address}
 use Rattle.asm_line.specs.declared.Statement.TheVariants.{Nothing, Equ, Fixed, Constant, Cex, MovImm}
-use Rattle.asm_line.specs.declared.Reading.{Reading}
-use Rattle.asm_line.specs.declared.Reading.TheVariants.{Line, Fault}
 use Rattle.asm_line.specs.Statement.{with_value, one_value, equate, arithmetic, move, exchange, unary, one_register, on_flags}
 use Rattle.asm_line.specs.Statement.{conditional, load, store, move_byte, load_relative, store_relative, statement_with, statement_of}
-use Rattle.asm_line.specs.Line.{statement_at, after_name, line_from, line_of}
+use Rattle.asm_line.specs.Line.{line_with, statement_at, after_name, line_from, line_of}
 
 -- a line where no name is known
-abbrev reads : List ℕ → Reading
-reads s = line_of (λ n. Unknown) s
+abbrev reads : List ℕ → Option Line
+reads s = line_of (λ n. Err Unknown) s
 
 -- lines with a name, a statement, both or neither, and lines that are 17. [02 §12]
 pub lines :
     -- a name, a statement and a comment
-    (reads (ascii "LOOP ADD.B R1,R2 ;X") ≡ Line true 0 (Fixed (instr.Alu 0 0 1 1 2)))
+    (reads (ascii "LOOP ADD.B R1,R2 ;X") ≡ line_with (Some 0) (Fixed (instr.Alu 0 0 1 1 2)))
     -- blanks may be absent: ADD#-1,PC; -1 is a constant, PC is R7
-    × (reads (ascii "\tADD#-1,PC") ≡ Line false 1 (Constant 0 0 (Known (negsuc 0)) 7))
+    × (reads (ascii "\tADD#-1,PC") ≡ line_with None (Constant 0 0 (Ok (negsuc 0)) 7))
     -- a name alone
-    × (reads (ascii "A") ≡ Line true 0 Nothing)
+    × (reads (ascii "A") ≡ line_with (Some 0) Nothing)
     -- A EQU $A; without its name it is 17
-    × (reads (ascii "A EQU $A") ≡ Line true 0 (Equ (Known (pos 10))))
-    × (reads (ascii "EQU $A") ≡ Fault)
+    × (reads (ascii "A EQU $A") ≡ line_with (Some 0) (Equ (Ok (pos 10))))
+    × (reads (ascii "EQU $A") ≡ None)
     -- MOVH #32,R1; the same in brackets, which is the same; and MOVH (#32+X),R1, where a name stands
-    × (reads (ascii "MOVH #32,R1") ≡ Line false 0 (MovImm 3 true (Known (pos 32)) 1))
-    × (reads (ascii "MOVH (#32),R1") ≡ Line false 0 (MovImm 3 true (Known (pos 32)) 1))
+    × (reads (ascii "MOVH #32,R1") ≡ line_with None (MovImm 3 true (Ok (pos 32)) 1))
+    × (reads (ascii "MOVH (#32),R1") ≡ line_with None (MovImm 3 true (Ok (pos 32)) 1))
     × (reads (ascii "MOVH (#32+X),R1")
-    ≡ Line false 0 (MovImm 3 false Unknown 1))
+    ≡ line_with None (MovImm 3 false (Err Unknown) 1))
     -- LD.B + R1,SP: the register changes first
-    × (reads (ascii "LD.B + R1,SP") ≡ Line false 0 (Fixed (instr.Ld 1 0 1 1 1 6)))
+    × (reads (ascii "LD.B + R1,SP") ≡ line_with None (Fixed (instr.Ld 1 0 1 1 1 6)))
     -- ST R1,R2-
-    × (reads (ascii "ST R1,R2-") ≡ Line false 0 (Fixed (instr.St 0 1 0 0 1 2)))
+    × (reads (ascii "ST R1,R2-") ≡ line_with None (Fixed (instr.St 0 1 0 0 1 2)))
     -- SETCC SVC sets S, V and C; a letter stands once
-    × (reads (ascii "SETCC SVC") ≡ Line false 0 (Fixed (instr.SetCc 25)))
-    × (reads (ascii "SETCC CC") ≡ Fault)
+    × (reads (ascii "SETCC SVC") ≡ line_with None (Fixed (instr.SetCc 25)))
+    × (reads (ascii "SETCC CC") ≡ None)
     -- CEX HS,#1,X, where X is not known
-    × (reads (ascii "CEX HS,#1,X") ≡ Line false 0 (Cex 2 (Known (pos 1)) Unknown))
+    × (reads (ascii "CEX HS,#1,X") ≡ line_with None (Cex 2 (Ok (pos 1)) (Err Unknown)))
     -- BRAX is a name
-    × (reads (ascii "BRAX") ≡ Line true 0 Nothing)
+    × (reads (ascii "BRAX") ≡ line_with (Some 0) Nothing)
     -- RET is reserved: 17
-    × (reads (ascii "RET") ≡ Fault)
+    × (reads (ascii "RET") ≡ None)
     -- MOV #1,R0: MOV takes no constant
-    × (reads (ascii "MOV #1,R0") ≡ Fault)
+    × (reads (ascii "MOV #1,R0") ≡ None)
     -- WORD #1+#2: an expression stands in brackets
-    × (reads (ascii "WORD #1+#2") ≡ Fault)
+    × (reads (ascii "WORD #1+#2") ≡ None)
     -- END X: END takes no value
-    × (reads (ascii "END X") ≡ Fault)
+    × (reads (ascii "END X") ≡ None)
     -- ADD.BR0,R1: a letter behind .B
-    × (reads (ascii "ADD.BR0,R1") ≡ Fault)
+    × (reads (ascii "ADD.BR0,R1") ≡ None)
     -- a CR that ends no line is no blank
-    × (reads (ascii "ADD R0,R1\r") ≡ Fault)
+    × (reads (ascii "ADD R0,R1\r") ≡ None)
     -- a comment holds any bytes
-    × (reads (59 ∷ 13 ∷ 128 ∷ []) ≡ Line false 0 Nothing)
+    × (reads (59 ∷ 13 ∷ 128 ∷ []) ≡ line_with None Nothing)
 unfolding fitted applied joined blank? letter? name_byte? digit_of digit? span after numeral word same meaning branches operations unaries
     moves valued_words other_words keywords registers conditions emulated words word_of free? register_of condition_of flags flag_of
-    with_bit
-    flags_from flags_of named? digits_at name_at plain_at closed plus? times? chain parts_of factor_with factor_of value_of answer_of
-    over? word_below
-    register_at condition_at flags_at width_at value_at nameless? number? comma? comma_register comma_value changed_after address_at
-    comma_address
-    with_value one_value equate arithmetic move exchange unary one_register on_flags conditional load store move_byte load_relative
-    store_relative statement_with statement_of statement_at after_name line_from line_of
+    with_bit flags_from flags_of some_flag named? digits_at name_at plain_at closed plus? times? chain parts_of factor_with factor_of
+    value_of answer_of over? word_said register_at condition_at flags_at width_at value_at nameless? number? comma? comma_register
+    comma_value changed_after address_at comma_address with_value one_value equate arithmetic move exchange unary one_register on_flags
+    conditional load store move_byte load_relative store_relative statement_with statement_of statement_at after_name line_from line_of
 lines = (
   refl,
   refl,

@@ -2,13 +2,14 @@
 -- the values of names: 17 is decided before any name is known. Assumes nothing.
 use mathlib.Core.List.{List}
 use Prim.Native.Nat.{ℕ}
-use Rattle.asm_value.specs.declared.Value.{Value}
+use Rattle.std.specs.Prelude.{ℤ, Result}
+use Rattle.asm_value.specs.declared.Lack.{Lack}
 use Rattle.asm_line.specs.declared.Statement.{Statement}
 use Rattle.asm_line.specs.Line.{line_of}
 use Rattle.asm_line.proofs.Alike.{Related, AlikeLines, line-related}
 
 -- any two values, and any two statements
-abbrev AnyValues : Value → Value → Type 0
+abbrev AnyValues : Result ℤ Lack → Result ℤ Lack → Type 0
 AnyValues v w = Unit
 
 abbrev pub AnyStatements : Statement → Statement → Type 0
@@ -28,5 +29,5 @@ any-related =
     }
 
 -- 17 and names, with any two tables: "17 is tried over the whole source, then 18, then 19". [02 §12]
-pub line-alike : (f f' : List ℕ → Value) (s : List ℕ) → AlikeLines AnyValues AnyStatements (line_of f s) (line_of f' s)
+pub line-alike : (f f' : List ℕ → Result ℤ Lack) (s : List ℕ) → AlikeLines AnyValues AnyStatements (line_of f s) (line_of f' s)
 line-alike f f' s = line-related AnyValues AnyStatements any-related f f' (λ e. tt) s

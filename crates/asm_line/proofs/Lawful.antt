@@ -10,10 +10,10 @@ use lib.ListN.{drop}
 use borrow.Author.Tests.{ltb-true, lt-ltb}
 use Rattle.isa.specs.declared.Instr.{Instr}
 use Rattle.isa.specs.declared.Instr.TheVariants as instr
-use Rattle.isa.specs.declared.Encoded.{Encoded}
-use Rattle.isa.specs.declared.Encoded.TheVariants as encoded
 use Rattle.isa.specs.Encode.{encode_of, when_fits}
-use Rattle.asm_value.specs.declared.Value.{Value}
+use Rattle.std.specs.Prelude.{ℤ, Option, Some, None, Result}
+use Rattle.asm_value.specs.declared.Lack.{Lack}
+use Rattle.asm_text.specs.declared.Read.{Read}
 use Rattle.asm_text.specs.Text.{byte_at, blank?, letter?, name_byte?, after, word}
 use Rattle.asm_words.specs.declared.Word.{Word}
 use Rattle.asm_words.specs.declared.Word.TheVariants.{Free, Reserved, Begins}
@@ -23,29 +23,23 @@ use Rattle.asm_words.specs.declared.Valued.{Valued}
 use Rattle.asm_words.specs.declared.Valued.TheVariants as val
 use Rattle.asm_words.specs.Words.{word_of, free?, register_of, condition_of, flags_of}
 use Rattle.asm_words.proofs.Laws.{valued-within?, key-within?, within?, word-within}
-use Rattle.asm_expr.specs.declared.Answer.{Answer}
-use Rattle.asm_expr.specs.declared.Answer.TheVariants.{Parsed, Malformed}
-use Rattle.asm_operands.specs.declared.Found.{Found}
-use Rattle.asm_operands.specs.declared.Found.TheVariants.{At, Missing}
+use Rattle.asm_words.proofs.Laws.{Less, register-less, condition-less, flags-less}
 use Rattle.asm_operands.specs.declared.Address.{Address}
-use Rattle.asm_operands.specs.declared.Address.TheVariants.{Of, NoAddress}
-use Rattle.asm_operands.specs.Operands.{over?, word_below, register_at, condition_at, flags_at, width_at, value_at, comma?}
+use Rattle.asm_operands.specs.declared.Address.{Address}
+use Rattle.asm_operands.specs.Operands.{over?, up_to, word_said, register_at, condition_at, flags_at, width_at, value_at, comma?}
 use Rattle.asm_operands.specs.Operands.{comma_register, comma_value, changed_before, changed_after, address_at, comma_address}
 use Rattle.asm_line.specs.declared.Statement.{Statement}
 use Rattle.asm_line.specs.declared.Statement.TheVariants as st
-use Rattle.asm_line.specs.declared.Stated.{Stated}
-use Rattle.asm_line.specs.declared.Stated.TheVariants.{Fits, Misfit}
-use Rattle.asm_line.specs.declared.Reading.{Reading}
-use Rattle.asm_line.specs.declared.Reading.TheVariants.{Line, Fault}
-use Rattle.asm_line.specs.Statement.{having, valued, addressed, with_value, one_value, equate, arithmetic_from, arithmetic, move}
+use Rattle.asm_line.specs.declared.Line.{Line}
+use Rattle.asm_line.specs.Statement.{having, with_value, one_value, equate, arithmetic_from, arithmetic, move}
 use Rattle.asm_line.specs.Statement.{exchange, unary, one_register, on_flags, conditional, load, store, move_byte}
 use Rattle.asm_line.specs.Statement.{load_relative, store_relative, statement_with, statement_of}
 use Rattle.asm_line.specs.Line.{ended, statement_at, after_name, line_from, line_of}
 
 -- a word, not a refusal
-abbrev pub Worded : Encoded → Type 0
-Worded encoded.Refused = ⊥
-Worded (encoded.Word w) = Unit
+abbrev pub Worded : Option ℕ → Type 0
+Worded None = ⊥
+Worded (Some w) = Unit
 
 -- its fields are within its format
 abbrev pub Lawful : Statement → Type 0
@@ -67,47 +61,48 @@ Lawful (st.MovImm op plain v dst) = (op < 4) × (dst < 8)
 Lawful (st.Ldr off wb src dst) = (wb < 2) × (src < 8) × (dst < 8)
 Lawful (st.Str off wb src dst) = (wb < 2) × (src < 8) × (dst < 8)
 
-abbrev Holds : Stated → Type 0
-Holds Misfit = Unit
-Holds (Fits x i) = Lawful x
+abbrev Holds : Option (Read Statement) → Type 0
+Holds None = Unit
+Holds (Some x) = Lawful x.value
 
-abbrev pub LawfulLine : Reading → Type 0
-LawfulLine Fault = Unit
-LawfulLine (Line named name x) = Lawful x
+abbrev pub LawfulLine : Option Line → Type 0
+LawfulLine None = Unit
+LawfulLine (Some x) = Lawful x.statement
 
 -- ---- operands
-abbrev Below : ℕ → Found → Type 0
-Below limit Missing = Unit
-Below limit (At n i) = n < limit
+abbrev Below : ℕ → Option (Read ℕ) → Type 0
+Below limit None = Unit
+Below limit (Some r) = r.value < limit
 
-abbrev Placed : Address → Type 0
-Placed NoAddress = Unit
-Placed (Of prpo dec inc r i) = (prpo < 2) × (dec < 2) × (inc < 2) × (r < 8)
+abbrev Placed : Option (Read Address) → Type 0
+Placed None = Unit
+Placed (Some a) = (a.value.prpo < 2) × (a.value.dec < 2) × (a.value.inc < 2) × (a.value.register < 8)
 
-below-cond : (limit : ℕ) (b : Bool) (x y : Found) → (b ≡ true → Below limit x) → (b ≡ false → Below limit y) → Below limit (cond b x y)
+below-cond : (limit : ℕ) (b : Bool) (x y : Option (Read ℕ)) → (b ≡ true → Below limit x) → (b ≡ false → Below limit y)
+    → Below limit (cond b x y)
 below-cond limit true x y f g = f refl
 below-cond limit false x y f g = g refl
 
-placed-cond : (b : Bool) (x y : Address) → (b ≡ true → Placed x) → (b ≡ false → Placed y) → Placed (cond b x y)
+placed-cond : (b : Bool) (x y : Option (Read Address)) → (b ≡ true → Placed x) → (b ≡ false → Placed y) → Placed (cond b x y)
 placed-cond true x y f g = f refl
 placed-cond false x y f g = g refl
 
-word_below_lem : (limit : ℕ) (number : List ℕ → ℕ) (s : List ℕ) (i : ℕ) → Below limit (word_below limit number s i)
-unfolding word_below
-word_below_lem limit number s i = below-cond limit (ltb (number (word (drop (after blank? s i) s))) limit) _ _
-    (λ q. ltb-true (number (word (drop (after blank? s i) s))) limit q) (λ q. tt)
+up-to-below : (limit i : ℕ) (o : Option ℕ) → Less limit o → Below limit (up_to i o)
+up-to-below limit i None h = tt
+up-to-below limit i (Some n) h = h
 
 register-below : (s : List ℕ) (i : ℕ) → Below 8 (register_at s i)
-unfolding register_at
-register-below s i = word_below_lem 8 register_of s i
+unfolding register_at word_said
+register-below s i = up-to-below 8 _ (register_of (word (drop (after blank? s i) s))) (register-less (word (drop (after blank? s i) s)))
 
 condition-below : (s : List ℕ) (i : ℕ) → Below 16 (condition_at s i)
-unfolding condition_at
-condition-below s i = word_below_lem 16 condition_of s i
+unfolding condition_at word_said
+condition-below s i =
+    up-to-below 16 _ (condition_of (word (drop (after blank? s i) s))) (condition-less (word (drop (after blank? s i) s)))
 
 flags-below : (s : List ℕ) (i : ℕ) → Below 32 (flags_at s i)
-unfolding flags_at
-flags-below s i = word_below_lem 32 flags_of s i
+unfolding flags_at word_said
+flags-below s i = up-to-below 32 _ (flags_of (word (drop (after blank? s i) s))) (flags-less (word (drop (after blank? s i) s)))
 
 width-below : (s : List ℕ) (i : ℕ) → Below 2 (width_at s i)
 unfolding width_at
@@ -119,15 +114,16 @@ comma-register-below : (s : List ℕ) (i : ℕ) → Below 8 (comma_register s i)
 unfolding comma_register
 comma-register-below s i = below-cond 8 (comma? s i) _ _ (λ q. register-below s (after blank? s i + 1)) (λ q. tt)
 
-placed-before : (dec inc : ℕ) (f : Found) → dec < 2 → inc < 2 → Below 8 f → Placed (changed_before dec inc f)
-placed-before dec inc Missing a b h = tt
-placed-before dec inc (At r i) a b h = (omega arith, a, b, h)
+placed-before : (dec inc : ℕ) (f : Option (Read ℕ)) → dec < 2 → inc < 2 → Below 8 f → Placed (changed_before dec inc f)
+placed-before dec inc None a b h = tt
+placed-before dec inc (Some r) a b h = (omega arith, a, b, h)
 
-placed-after : (s : List ℕ) (f : Found) → Below 8 f → Placed (changed_after s f)
+placed-after : (s : List ℕ) (f : Option (Read ℕ)) → Below 8 f → Placed (changed_after s f)
 unfolding changed_after
-placed-after s Missing h = tt
-placed-after s (At r i) h = placed-cond (eqb (byte_at s (after blank? s i)) 43) _ _ (λ q. (omega arith, omega arith, omega arith, h))
-    (λ q. placed-cond (eqb (byte_at s (after blank? s i)) 45) _ _ (λ q. (omega arith, omega arith, omega arith, h))
+placed-after s None h = tt
+placed-after s (Some r) h =
+    placed-cond (eqb (byte_at s (after blank? s r.next)) 43) _ _ (λ q. (omega arith, omega arith, omega arith, h))
+    (λ q. placed-cond (eqb (byte_at s (after blank? s r.next)) 45) _ _ (λ q. (omega arith, omega arith, omega arith, h))
     (λ q. (omega arith, omega arith, omega arith, h)))
 
 address-placed : (s : List ℕ) (i : ℕ) → Placed (address_at s i)
@@ -143,31 +139,32 @@ unfolding comma_address
 comma-address-placed s i = placed-cond (comma? s i) _ _ (λ q. address-placed s (after blank? s i + 1)) (λ q. tt)
 
 -- ---- one after the other
-holds-cond : (b : Bool) (x y : Stated) → (b ≡ true → Holds x) → (b ≡ false → Holds y) → Holds (cond b x y)
+holds-cond : (b : Bool) (x y : Option (Read Statement)) → (b ≡ true → Holds x) → (b ≡ false → Holds y) → Holds (cond b x y)
 holds-cond true x y f g = f refl
 holds-cond false x y f g = g refl
 
-holds-having : (limit : ℕ) (f : Found) (g : ℕ → ℕ → Stated) → Below limit f → ((n i : ℕ) → n < limit → Holds (g n i))
-    → Holds (having f g)
-holds-having limit Missing g b h = tt
-holds-having limit (At n i) g b h = h n i b
+holds-having : (limit : ℕ) (f : Option (Read ℕ)) (g : ℕ → ℕ → Option (Read Statement)) → Below limit f
+    → ((n i : ℕ) → n < limit → Holds (g n i)) → Holds (having f g)
+holds-having limit None g b h = tt
+holds-having limit (Some r) g b h = h r.value r.next b
 
-holds-valued : (a : Answer) (g : Value → ℕ → Stated) → ((v : Value) (i : ℕ) → Holds (g v i)) → Holds (valued a g)
-holds-valued Malformed g h = tt
-holds-valued (Parsed v i) g h = h v i
+holds-valued : (a : Option (Read (Result ℤ Lack))) (g : Result ℤ Lack → ℕ → Option (Read Statement))
+    → ((v : Result ℤ Lack) (i : ℕ) → Holds (g v i)) → Holds (having a g)
+holds-valued None g h = tt
+holds-valued (Some v) g h = h v.value v.next
 
-holds-addressed : (a : Address) (g : (prpo dec inc r i : ℕ) → Stated) → Placed a
-    → ((prpo dec inc r i : ℕ) → prpo < 2 → dec < 2 → inc < 2 → r < 8 → Holds (g prpo dec inc r i)) → Holds (addressed a g)
-holds-addressed NoAddress g p h = tt
-holds-addressed (Of prpo dec inc r i) g p h = h prpo dec inc r i p.0 p.1 p.2 p.3
+holds-addressed : (a : Option (Read Address)) (g : Address → ℕ → Option (Read Statement)) → Placed a
+    → ((a : Address) (i : ℕ) → a.prpo < 2 → a.dec < 2 → a.inc < 2 → a.register < 8 → Holds (g a i)) → Holds (having a g)
+holds-addressed None g p h = tt
+holds-addressed (Some a) g p h = h a.value a.next p.0 p.1 p.2 p.3
 
 worded : (b : Bool) (w : ℕ) → b ≡ true → Worded (when_fits b w)
 worded true w h = tt
 worded false w h = absurd (false≢true h)
 
 -- ---- the statements, in the order of their definitions
-module _ (look : List ℕ → Value) (s : List ℕ) where
-  with_value_lem : (m : Valued) (v : Value) → valued-within? m ≡ true → Lawful (with_value m v)
+module _ (look : List ℕ → Result ℤ Lack) (s : List ℕ) where
+  with_value_lem : (m : Valued) (v : Result ℤ Lack) → valued-within? m ≡ true → Lawful (with_value m v)
   unfolding with_value
   with_value_lem val.Org v h = tt
   with_value_lem val.Bss v h = tt
@@ -186,13 +183,13 @@ module _ (look : List ℕ → Value) (s : List ℕ) where
   unfolding equate
   equate-holds named i = holds-cond named _ _ (λ q. holds-valued (value_at look s i) _ (λ v j. tt)) (λ q. tt)
 
-  from-register : (op w i : ℕ) (f : Found) → op < 12 → w < 2 → Below 8 f → Holds (arithmetic_from look s op w i f)
+  from-register : (op w i : ℕ) (f : Option (Read ℕ)) → op < 12 → w < 2 → Below 8 f → Holds (arithmetic_from look s op w i f)
   unfolding encode_of
-  from-register op w i Missing a b h = holds-valued (value_at look s i) _
+  from-register op w i None a b h = holds-valued (value_at look s i) _
       (λ v j. holds-having 8 (comma_register s j) _ (comma-register-below s j) (λ d k e. (a, b, e)))
-  from-register op w i (At r j) a b h = holds-having 8 (comma_register s j) _ (comma-register-below s j)
-      (λ d k e. worded (ltb op 12 && ltb 0 2 && ltb w 2 && ltb r 8 && ltb d 8) _
-      (rw (lt-ltb op 12 a, lt-ltb w 2 b, lt-ltb r 8 h, lt-ltb d 8 e)))
+  from-register op w i (Some r) a b h = holds-having 8 (comma_register s r.next) _ (comma-register-below s r.next)
+      (λ d k e. worded (ltb op 12 && ltb 0 2 && ltb w 2 && ltb r.value 8 && ltb d 8) _
+      (rw (lt-ltb op 12 a, lt-ltb w 2 b, lt-ltb r.value 8 h, lt-ltb d 8 e)))
 
   arithmetic-holds : (op i : ℕ) → op < 12 → Holds (arithmetic look s op i)
   unfolding arithmetic
@@ -242,17 +239,17 @@ module _ (look : List ℕ → Value) (s : List ℕ) where
   unfolding load encode_of
   load-holds i = holds-having 2 (width_at s i) _ (width-below s i)
       (λ w j b. holds-addressed (address_at s j) _ (address-placed s j)
-      (λ prpo dec inc r k p q n h. holds-having 8 (comma_register s k) _ (comma-register-below s k)
-      (λ d l e. worded (ltb prpo 2 && ltb dec 2 && ltb inc 2 && ltb w 2 && ltb r 8 && ltb d 8) _
-      (rw (lt-ltb prpo 2 p, lt-ltb dec 2 q, lt-ltb inc 2 n, lt-ltb w 2 b, lt-ltb r 8 h, lt-ltb d 8 e)))))
+      (λ a k p q n h. holds-having 8 (comma_register s k) _ (comma-register-below s k)
+      (λ d l e. worded (ltb a.prpo 2 && ltb a.dec 2 && ltb a.inc 2 && ltb w 2 && ltb a.register 8 && ltb d 8) _
+      (rw (lt-ltb a.prpo 2 p, lt-ltb a.dec 2 q, lt-ltb a.inc 2 n, lt-ltb w 2 b, lt-ltb a.register 8 h, lt-ltb d 8 e)))))
 
   store-holds : (i : ℕ) → Holds (store s i)
   unfolding store encode_of
   store-holds i = holds-having 2 (width_at s i) _ (width-below s i)
       (λ w j b. holds-having 8 (register_at s j) _ (register-below s j)
       (λ r k h. holds-addressed (comma_address s k) _ (comma-address-placed s k)
-      (λ prpo dec inc d l p q n e. worded (ltb prpo 2 && ltb dec 2 && ltb inc 2 && ltb w 2 && ltb r 8 && ltb d 8) _
-      (rw (lt-ltb prpo 2 p, lt-ltb dec 2 q, lt-ltb inc 2 n, lt-ltb w 2 b, lt-ltb r 8 h, lt-ltb d 8 e)))))
+      (λ a l p q n e. worded (ltb a.prpo 2 && ltb a.dec 2 && ltb a.inc 2 && ltb w 2 && ltb r 8 && ltb a.register 8) _
+      (rw (lt-ltb a.prpo 2 p, lt-ltb a.dec 2 q, lt-ltb a.inc 2 n, lt-ltb w 2 b, lt-ltb r 8 h, lt-ltb a.register 8 e)))))
 
   move-byte : (op i : ℕ) → op < 4 → Holds (move_byte look s op i)
   unfolding move_byte
@@ -299,29 +296,29 @@ module _ (look : List ℕ → Value) (s : List ℕ) where
   statement-holds named (Begins k) i h = with-holds named k i h
 
   -- ---- a line
-  line-cond : (b : Bool) (x y : Reading) → (b ≡ true → LawfulLine x) → (b ≡ false → LawfulLine y) → LawfulLine (cond b x y)
+  line-cond : (b : Bool) (x y : Option Line) → (b ≡ true → LawfulLine x) → (b ≡ false → LawfulLine y) → LawfulLine (cond b x y)
   line-cond true x y f g = f refl
   line-cond false x y f g = g refl
 
-  ended-lawful : (named : Bool) (name : ℕ) (x : Stated) → Holds x → LawfulLine (ended s named name x)
-  ended-lawful named name Misfit h = tt
-  ended-lawful named name (Fits x i) h = line-cond (over? s (after blank? s i)) _ _ (λ q. h) (λ q. tt)
+  ended-lawful : (name : Option ℕ) (x : Option (Read Statement)) → Holds x → LawfulLine (ended s name x)
+  ended-lawful name None h = tt
+  ended-lawful name (Some x) h = line-cond (over? s (after blank? s x.next)) _ _ (λ q. h) (λ q. tt)
 
-  statement-lawful : (named : Bool) (name i : ℕ) → LawfulLine (ended s named name (statement_at look s named i))
+  statement-lawful : (name : Option ℕ) (named : Bool) (i : ℕ) → LawfulLine (ended s name (statement_at look s named i))
   unfolding statement_at
-  statement-lawful named name i =
+  statement-lawful name named i =
       let m = word_of (word (drop i s)) in
       let k = after name_byte? s i in
-      ended-lawful named name (statement_of look s named m k) (statement-holds named m k (word-within (word (drop i s))))
+      ended-lawful name (statement_of look s named m k) (statement-holds named m k (word-within (word (drop i s))))
 
   after-lawful : (name i : ℕ) → LawfulLine (after_name look s name i)
   unfolding after_name
-  after-lawful name i = line-cond (over? s i) _ _ (λ q. tt) (λ q. statement-lawful true name i)
+  after-lawful name i = line-cond (over? s i) _ _ (λ q. tt) (λ q. statement-lawful (Some name) true i)
 
   from-lawful : (q : ℕ) → LawfulLine (line_from look s q)
   unfolding line_from
   from-lawful q = line-cond (over? s q) _ _ (λ z. tt)
-      (λ z. line-cond (not (free? (word_of (word (drop q s))))) _ _ (λ z. statement-lawful false q q)
+      (λ z. line-cond (not (free? (word_of (word (drop q s))))) _ _ (λ z. statement-lawful None false q)
       (λ z. line-cond (letter? (byte_at s q)) _ _ (λ z. after-lawful q (after blank? s (after name_byte? s q))) (λ z. tt)))
 
   pub line-lawful : LawfulLine (line_of look s)

@@ -4,29 +4,28 @@ use mathlib.Core.Bool.{Bool, true, false}
 use mathlib.Core.List.{List}
 use Prim.Native.Nat.{ℕ}
 use lib.ListN.{drop}
-use Rattle.asm_value.specs.declared.Value.{Value}
+use Rattle.std.specs.Prelude.{ℤ, Option, Some, None, Result}
+use Rattle.asm_value.specs.declared.Lack.{Lack}
+use Rattle.asm_text.specs.declared.Read.{Read}
 use Rattle.asm_text.specs.Text.{byte_at, blank?, letter?, name_byte?, after, word}
 use Rattle.asm_words.specs.Words.{word_of, free?}
 use Rattle.asm_words.specs.declared.Word.{Word}
 use Rattle.asm_operands.specs.Operands.{over?}
 use Rattle.asm_line.specs.declared.Statement.{Statement}
 use Rattle.asm_line.specs.declared.Statement.TheVariants.{Nothing}
-use Rattle.asm_line.specs.declared.Stated.{Stated}
-use Rattle.asm_line.specs.declared.Stated.TheVariants.{Fits}
-use Rattle.asm_line.specs.declared.Reading.TheVariants.{Line, Fault}
 use Rattle.asm_line.specs.Statement.{statement_of}
-use Rattle.asm_line.specs.Line.{ended, statement_at, after_name, line_from}
+use Rattle.asm_line.specs.Line.{line_with, ended, statement_at, after_name, line_from}
 
 -- ---- the end of a line
-module _ (s : List ℕ) (named : Bool) (name : ℕ) (x : Statement) (i : ℕ) where
-  pub end-yes : over? s (after blank? s i) ≡ true → ended s named name (Fits x i) ≡ Line named name x
+module _ (s : List ℕ) (name : Option ℕ) (x : Read Statement) where
+  pub end-yes : over? s (after blank? s x.next) ≡ true → line_with name x.value ≡ ended s name (Some x)
   end-yes h = rw h
 
-  pub end-no : over? s (after blank? s i) ≡ false → ended s named name (Fits x i) ≡ Fault
+  pub end-no : over? s (after blank? s x.next) ≡ false → None ≡ ended s name (Some x)
   end-no h = rw h
 
 -- ---- a statement whose word stands at i
-pub statement-there : (look : List ℕ → Value) (s : List ℕ) (named : Bool) (i : ℕ) (m : Word) (j : ℕ) (x : Stated)
+pub statement-there : (look : List ℕ → Result ℤ Lack) (s : List ℕ) (named : Bool) (i : ℕ) (m : Word) (j : ℕ) (x : Option (Read Statement))
     → m ≡ word_of (word (drop i s))
     → j ≡ after name_byte? s i → x ≡ statement_of look s named m j → x ≡ statement_at look s named i
 unfolding statement_at
@@ -34,21 +33,21 @@ statement-there look s named i m j x em ej ex =
     ex ∙ ap (λ k. statement_of look s named k j) em ∙ ap (statement_of look s named (word_of (word (drop i s)))) ej
 
 -- ---- a line from its first byte on that is no blank
-module _ (look : List ℕ → Value) (s : List ℕ) (q : ℕ) where
-  pub name-alone : (i : ℕ) → over? s i ≡ true → Line true q Nothing ≡ after_name look s q i
+module _ (look : List ℕ → Result ℤ Lack) (s : List ℕ) (q : ℕ) where
+  pub name-alone : (i : ℕ) → over? s i ≡ true → line_with (Some q) Nothing ≡ after_name look s q i
   unfolding after_name
   name-alone i h = rw h
 
-  pub name-statement : (i : ℕ) → over? s i ≡ false → ended s true q (statement_at look s true i) ≡ after_name look s q i
+  pub name-statement : (i : ℕ) → over? s i ≡ false → ended s (Some q) (statement_at look s true i) ≡ after_name look s q i
   unfolding after_name
   name-statement i h = rw h
 
-  pub line-empty : over? s q ≡ true → Line false q Nothing ≡ line_from look s q
+  pub line-empty : over? s q ≡ true → line_with None Nothing ≡ line_from look s q
   unfolding line_from
   line-empty h = rw h
 
   module _ (h : over? s q ≡ false) (m : Bool) (e : m ≡ free? (word_of (word (drop q s)))) where
-    pub line_word : m ≡ false → ended s false q (statement_at look s false q) ≡ line_from look s q
+    pub line_word : m ≡ false → ended s None (statement_at look s false q) ≡ line_from look s q
     unfolding line_from
     line_word k = rw (h, sym e ∙ k)
 
@@ -57,6 +56,6 @@ module _ (look : List ℕ → Value) (s : List ℕ) (q : ℕ) where
     unfolding line_from
     line-name k l = rw (h, sym e ∙ k, l)
 
-    pub line-none : m ≡ true → letter? (byte_at s q) ≡ false → Fault ≡ line_from look s q
+    pub line-none : m ≡ true → letter? (byte_at s q) ≡ false → None ≡ line_from look s q
     unfolding line_from
     line-none k l = rw (h, sym e ∙ k, l)

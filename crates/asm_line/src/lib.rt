@@ -1,11 +1,9 @@
 // A line of a source: its name, its statement with the values of its names, and whether it fits the
-// language at all. The bytes of the line alone decide (a slice without the line's end); the table
-// of names is three slices.
+// language at all. The bytes of the line alone decide (a slice without the line's end).
 #![tactic(auto)]
 
-ghost use Rattle.std.specs.Prelude.{◌≡◌};
-ghost use Rattle.asm_text.specs.Text.{look_up_at};
-ghost use Rattle.asm_operands.specs.declared.Found.TheVariants.{Missing};
+ghost use Rattle.std.specs.Prelude.{◌≡◌, Some, None};
+ghost use Rattle.asm_text.specs.Text.{values_in};
 ghost use Rattle.asm_operands.specs.Operands.{register_at};
 ghost use Rattle.asm_line.specs.Statement.{with_value, one_value, equate};
 ghost use Rattle.asm_line.specs.Statement.{arithmetic_from, arithmetic, move, exchange};
@@ -14,8 +12,7 @@ ghost use Rattle.asm_line.specs.Statement.{load, store, move_byte, load_relative
 ghost use Rattle.asm_line.specs.Statement.{store_relative, statement_with, statement_of};
 ghost use Rattle.asm_line.specs.Line.{ended, after_name, line_of};
 
-use asm_expr::Answer;
-use asm_operands::{Address, Found};
+use asm_text::{Names, Read};
 use asm_value::Value;
 use asm_words::{Keyword, Valued, Word};
 use isa::Instr;
@@ -80,26 +77,15 @@ pub enum Statement {
     },
 }
 
-// A statement and the place after it, or none that fits (17).
+// A line: the place of its name, if it has one, and its statement.
 #[derive(Clone, Copy)]
-pub enum Stated {
-    Fits(Statement, usize),
-    Misfit,
-}
-
-// A line: whether it has a name, the place of its first byte that is no blank, where the name
-// stands if it has one, and its statement; or a line that fits no statement (17).
-#[derive(Clone, Copy)]
-pub enum Reading {
-    Line {
-        named: bool,
-        name: usize,
-        statement: Statement,
-    },
-    Fault,
+pub struct Line {
+    pub name: Option<usize>,
+    pub statement: Statement,
 }
 
 // The statement that a word of one value makes of it.
+#[tactic(auto, unfolding(crate::specs::Statement::with_value))]
 fn with_value(m: Valued, v: Value) -> Statement
     ensures { result ≡ with_value m v }
 {
@@ -116,440 +102,295 @@ fn with_value(m: Valued, v: Value) -> Statement
 }
 
 // A statement of one value.
-fn one_value(
-    source: &[u8],
-    places: &[usize],
-    keys: &[u32],
-    values: &[i32],
-    line: &[u8],
-    m: Valued,
-    at: usize,
-) -> Stated
-    ensures { result ≡ one_value
-        (look_up_at source.now places.now
-        keys.now values.now)
-        line.now m at }
+#[tactic(auto, unfolding(crate::specs::Statement::one_value, asm_operands::specs::Operands::value_at))]
+fn one_value(names: &Names<'_>, line: &[u8], m: Valued, at: usize) -> Option<Read<Statement>>
+    ensures { result ≡ one_value (values_in names.now) line.now m at }
 {
-    let a = asm_expr::factor(source, places, keys, values, line, at, 16);
-    let Answer::Parsed(v, next) = a else {
-        return Stated::Misfit;
-    };
-    Stated::Fits(with_value(m, v), next)
+    let v = asm_expr::factor(names, line, at, 16)?;
+    let value = with_value(m, v.value);
+    let next = v.next;
+    Some(Read { value, next })
 }
 
 // EQU: it needs a name.
-fn read_equate(
-    source: &[u8],
-    places: &[usize],
-    keys: &[u32],
-    values: &[i32],
-    line: &[u8],
-    named: bool,
-    at: usize,
-) -> Stated
-    ensures { result ≡ equate
-        (look_up_at source.now places.now
-        keys.now values.now)
-        line.now named at }
+#[tactic(auto, unfolding(crate::specs::Statement::equate, asm_operands::specs::Operands::value_at))]
+fn read_equate(names: &Names<'_>, line: &[u8], named: bool, at: usize) -> Option<Read<Statement>>
+    ensures { result ≡ equate (values_in names.now) line.now named at }
 {
     if !named {
-        return Stated::Misfit;
+        return None;
     }
-    let a = asm_expr::factor(source, places, keys, values, line, at, 16);
-    let Answer::Parsed(v, next) = a else {
-        return Stated::Misfit;
-    };
-    Stated::Fits(Statement::Equ(v), next)
+    let v = asm_expr::factor(names, line, at, 16)?;
+    let value = Statement::Equ(v.value);
+    let next = v.next;
+    Some(Read { value, next })
 }
 
 // ADD to BIS of a value.
-fn constant(
-    source: &[u8],
-    places: &[usize],
-    keys: &[u32],
-    values: &[i32],
-    line: &[u8],
-    op: u8,
-    wb: u8,
-    at: usize,
-) -> Stated
-    ensures { result ≡ arithmetic_from
-        (look_up_at source.now places.now
-        keys.now values.now)
-        line.now op wb at Missing }
+#[tactic(auto, unfolding(asm_operands::specs::Operands::value_at))]
+fn constant(names: &Names<'_>, line: &[u8], op: u8, wb: u8, at: usize) -> Option<Read<Statement>>
+    ensures { result ≡ arithmetic_from (values_in names.now) line.now op wb at None }
 {
-    let a = asm_expr::factor(source, places, keys, values, line, at, 16);
-    let Answer::Parsed(value, j) = a else {
-        return Stated::Misfit;
+    let v = asm_expr::factor(names, line, at, 16)?;
+    let d = asm_operands::comma_register(line, v.next)?;
+    let value = Statement::Constant {
+        op,
+        wb,
+        value: v.value,
+        dst: d.value,
     };
-    let d = asm_operands::comma_register(line, j);
-    let Found::At(dst, next) = d else {
-        return Stated::Misfit;
-    };
-    Stated::Fits(Statement::Constant { op, wb, value, dst }, next)
+    let next = d.next;
+    Some(Read { value, next })
 }
 
 // ADD to BIS after the width.
 fn arithmetic_from(
-    source: &[u8],
-    places: &[usize],
-    keys: &[u32],
-    values: &[i32],
+    names: &Names<'_>,
     line: &[u8],
     op: u8,
     wb: u8,
     at: usize,
-) -> Stated
-    ensures { result ≡ arithmetic_from
-        (look_up_at source.now places.now
-        keys.now values.now)
-        line.now op wb at (register_at line.now at) }
+) -> Option<Read<Statement>>
+    ensures { result ≡ arithmetic_from (values_in names.now) line.now op wb at
+        (register_at line.now at) }
 {
-    let a = asm_operands::read_register(line, at);
-    let Found::At(src, j) = a else {
-        return constant(source, places, keys, values, line, op, wb, at);
+    let Some(s) = asm_operands::read_register(line, at) else {
+        return constant(names, line, op, wb, at);
     };
-    let d = asm_operands::comma_register(line, j);
-    let Found::At(dst, next) = d else {
-        return Stated::Misfit;
-    };
-    let i = Instr::Alu {
+    let d = asm_operands::comma_register(line, s.next)?;
+    let value = Statement::Fixed(Instr::Alu {
         op,
         rc: 0,
         wb,
-        src,
-        dst,
-    };
-    Stated::Fits(Statement::Fixed(i), next)
+        src: s.value,
+        dst: d.value,
+    });
+    let next = d.next;
+    Some(Read { value, next })
 }
 
 // ADD to BIS.
-fn read_arithmetic(
-    source: &[u8],
-    places: &[usize],
-    keys: &[u32],
-    values: &[i32],
-    line: &[u8],
-    op: u8,
-    at: usize,
-) -> Stated
-    ensures { result ≡ arithmetic
-        (look_up_at source.now places.now
-        keys.now values.now)
-        line.now op at }
+#[tactic(auto, unfolding(crate::specs::Statement::arithmetic))]
+fn read_arithmetic(names: &Names<'_>, line: &[u8], op: u8, at: usize) -> Option<Read<Statement>>
+    ensures { result ≡ arithmetic (values_in names.now) line.now op at }
 {
-    let w = asm_operands::read_width(line, at);
-    let Found::At(wb, j) = w else {
-        return Stated::Misfit;
-    };
-    arithmetic_from(source, places, keys, values, line, op, wb, j)
+    let w = asm_operands::read_width(line, at)?;
+    arithmetic_from(names, line, op, w.value, w.next)
 }
 
 // MOV.
-fn read_move(line: &[u8], at: usize) -> Stated
+fn read_move(line: &[u8], at: usize) -> Option<Read<Statement>>
     ensures { result ≡ move line.now at }
 {
-    let w = asm_operands::read_width(line, at);
-    let Found::At(wb, j) = w else {
-        return Stated::Misfit;
-    };
-    let a = asm_operands::read_register(line, j);
-    let Found::At(src, k) = a else {
-        return Stated::Misfit;
-    };
-    let d = asm_operands::comma_register(line, k);
-    let Found::At(dst, next) = d else {
-        return Stated::Misfit;
-    };
-    let i = Instr::Mov { wb, src, dst };
-    Stated::Fits(Statement::Fixed(i), next)
+    let w = asm_operands::read_width(line, at)?;
+    let s = asm_operands::read_register(line, w.next)?;
+    let d = asm_operands::comma_register(line, s.next)?;
+    let value = Statement::Fixed(Instr::Mov {
+        wb: w.value,
+        src: s.value,
+        dst: d.value,
+    });
+    let next = d.next;
+    Some(Read { value, next })
 }
 
 // SWAP.
-fn read_exchange(line: &[u8], at: usize) -> Stated
+#[tactic(auto, unfolding(crate::specs::Statement::exchange))]
+fn read_exchange(line: &[u8], at: usize) -> Option<Read<Statement>>
     ensures { result ≡ exchange line.now at }
 {
-    let a = asm_operands::read_register(line, at);
-    let Found::At(src, j) = a else {
-        return Stated::Misfit;
-    };
-    let d = asm_operands::comma_register(line, j);
-    let Found::At(dst, next) = d else {
-        return Stated::Misfit;
-    };
-    let i = Instr::Swap {
-        src,
-        dst,
+    let s = asm_operands::read_register(line, at)?;
+    let d = asm_operands::comma_register(line, s.next)?;
+    let value = Statement::Fixed(Instr::Swap {
+        src: s.value,
+        dst: d.value,
         ignored: 0,
-    };
-    Stated::Fits(Statement::Fixed(i), next)
+    });
+    let next = d.next;
+    Some(Read { value, next })
 }
 
 // SRA, RRC, COMP.
-fn read_unary(line: &[u8], op: u8, at: usize) -> Stated
+#[tactic(auto, unfolding(crate::specs::Statement::unary))]
+fn read_unary(line: &[u8], op: u8, at: usize) -> Option<Read<Statement>>
     ensures { result ≡ unary line.now op at }
 {
-    let w = asm_operands::read_width(line, at);
-    let Found::At(wb, j) = w else {
-        return Stated::Misfit;
-    };
-    let d = asm_operands::read_register(line, j);
-    let Found::At(dst, next) = d else {
-        return Stated::Misfit;
-    };
-    let i = Instr::Unary { op, wb, dst };
-    Stated::Fits(Statement::Fixed(i), next)
+    let w = asm_operands::read_width(line, at)?;
+    let d = asm_operands::read_register(line, w.next)?;
+    let value = Statement::Fixed(Instr::Unary {
+        op,
+        wb: w.value,
+        dst: d.value,
+    });
+    let next = d.next;
+    Some(Read { value, next })
 }
 
 // SWPB and SXT.
-fn one_register(line: &[u8], swapped: bool, at: usize) -> Stated
+// Kept: a flag, as the definition has it; the contract of a constructor passed in says more than that.
+#[tactic(auto, unfolding(crate::specs::Statement::one_register))]
+fn one_register(line: &[u8], swapped: bool, at: usize) -> Option<Read<Statement>>
     ensures { result ≡ one_register line.now swapped at }
 {
-    let d = asm_operands::read_register(line, at);
-    let Found::At(dst, next) = d else {
-        return Stated::Misfit;
-    };
+    let d = asm_operands::read_register(line, at)?;
+    let dst = d.value;
+    let next = d.next;
     if swapped {
-        return Stated::Fits(Statement::Fixed(Instr::Swpb { dst, ignored: 0 }), next);
+        let value = Statement::Fixed(Instr::Swpb { dst, ignored: 0 });
+        return Some(Read { value, next });
     }
-    Stated::Fits(Statement::Fixed(Instr::Sxt { dst, ignored: 0 }), next)
+    let value = Statement::Fixed(Instr::Sxt { dst, ignored: 0 });
+    Some(Read { value, next })
 }
 
 // SETCC and CLRCC.
-fn on_flags(line: &[u8], set: bool, at: usize) -> Stated
+// Kept: a flag, likewise.
+#[tactic(auto, unfolding(crate::specs::Statement::on_flags))]
+fn on_flags(line: &[u8], set: bool, at: usize) -> Option<Read<Statement>>
     ensures { result ≡ on_flags line.now set at }
 {
-    let f = asm_operands::read_flags(line, at);
-    let Found::At(flags, next) = f else {
-        return Stated::Misfit;
-    };
+    let f = asm_operands::read_flags(line, at)?;
+    let flags = f.value;
+    let next = f.next;
     if set {
-        return Stated::Fits(Statement::Fixed(Instr::SetCc { flags }), next);
+        let value = Statement::Fixed(Instr::SetCc { flags });
+        return Some(Read { value, next });
     }
-    Stated::Fits(Statement::Fixed(Instr::ClrCc { flags }), next)
+    let value = Statement::Fixed(Instr::ClrCc { flags });
+    Some(Read { value, next })
 }
 
 // CEX.
-fn read_conditional(
-    source: &[u8],
-    places: &[usize],
-    keys: &[u32],
-    values: &[i32],
-    line: &[u8],
-    at: usize,
-) -> Stated
-    ensures { result ≡ conditional
-        (look_up_at source.now places.now
-        keys.now values.now)
-        line.now at }
+#[tactic(auto, unfolding(crate::specs::Statement::conditional))]
+fn read_conditional(names: &Names<'_>, line: &[u8], at: usize) -> Option<Read<Statement>>
+    ensures { result ≡ conditional (values_in names.now) line.now at }
 {
-    let w = asm_operands::read_condition(line, at);
-    let Found::At(cond, j) = w else {
-        return Stated::Misfit;
+    let c = asm_operands::read_condition(line, at)?;
+    let t = asm_operands::comma_value(names, line, c.next)?;
+    let f = asm_operands::comma_value(names, line, t.next)?;
+    let value = Statement::Cex {
+        cond: c.value,
+        true_count: t.value,
+        false_count: f.value,
     };
-    let t = asm_operands::comma_value(source, places, keys, values, line, j);
-    let Answer::Parsed(true_count, k) = t else {
-        return Stated::Misfit;
-    };
-    let f = asm_operands::comma_value(source, places, keys, values, line, k);
-    let Answer::Parsed(false_count, next) = f else {
-        return Stated::Misfit;
-    };
-    let x = Statement::Cex {
-        cond,
-        true_count,
-        false_count,
-    };
-    Stated::Fits(x, next)
+    let next = f.next;
+    Some(Read { value, next })
 }
 
 // LD.
-fn read_load(line: &[u8], at: usize) -> Stated
+#[tactic(auto, unfolding(crate::specs::Statement::load))]
+fn read_load(line: &[u8], at: usize) -> Option<Read<Statement>>
     ensures { result ≡ load line.now at }
 {
-    let w = asm_operands::read_width(line, at);
-    let Found::At(wb, j) = w else {
-        return Stated::Misfit;
-    };
-    let a = asm_operands::read_address(line, j);
-    let Address::Of {
-        prpo,
-        dec,
-        inc,
-        register,
-        next,
-    } = a
-    else {
-        return Stated::Misfit;
-    };
-    let d = asm_operands::comma_register(line, next);
-    let Found::At(dst, end) = d else {
-        return Stated::Misfit;
-    };
-    let i = Instr::Ld {
-        prpo,
-        dec,
-        inc,
-        wb,
-        src: register,
-        dst,
-    };
-    Stated::Fits(Statement::Fixed(i), end)
+    let w = asm_operands::read_width(line, at)?;
+    let a = asm_operands::read_address(line, w.next)?;
+    let d = asm_operands::comma_register(line, a.next)?;
+    let value = Statement::Fixed(Instr::Ld {
+        prpo: a.value.prpo,
+        dec: a.value.dec,
+        inc: a.value.inc,
+        wb: w.value,
+        src: a.value.register,
+        dst: d.value,
+    });
+    let next = d.next;
+    Some(Read { value, next })
 }
 
 // ST.
-fn read_store(line: &[u8], at: usize) -> Stated
+#[tactic(auto, unfolding(crate::specs::Statement::store))]
+fn read_store(line: &[u8], at: usize) -> Option<Read<Statement>>
     ensures { result ≡ store line.now at }
 {
-    let w = asm_operands::read_width(line, at);
-    let Found::At(wb, j) = w else {
-        return Stated::Misfit;
-    };
-    let a = asm_operands::read_register(line, j);
-    let Found::At(src, k) = a else {
-        return Stated::Misfit;
-    };
-    let d = asm_operands::comma_address(line, k);
-    let Address::Of {
-        prpo,
-        dec,
-        inc,
-        register,
-        next,
-    } = d
-    else {
-        return Stated::Misfit;
-    };
-    let i = Instr::St {
-        prpo,
-        dec,
-        inc,
-        wb,
-        src,
-        dst: register,
-    };
-    Stated::Fits(Statement::Fixed(i), next)
+    let w = asm_operands::read_width(line, at)?;
+    let s = asm_operands::read_register(line, w.next)?;
+    let a = asm_operands::comma_address(line, s.next)?;
+    let value = Statement::Fixed(Instr::St {
+        prpo: a.value.prpo,
+        dec: a.value.dec,
+        inc: a.value.inc,
+        wb: w.value,
+        src: s.value,
+        dst: a.value.register,
+    });
+    let next = a.next;
+    Some(Read { value, next })
 }
 
 // MOVL, MOVLZ, MOVLS, MOVH.
-fn move_byte(
-    source: &[u8],
-    places: &[usize],
-    keys: &[u32],
-    values: &[i32],
-    line: &[u8],
-    op: u8,
-    at: usize,
-) -> Stated
-    ensures { result ≡ move_byte
-        (look_up_at source.now places.now
-        keys.now values.now)
-        line.now op at }
+#[tactic(auto, unfolding(crate::specs::Statement::move_byte, asm_operands::specs::Operands::value_at))]
+fn move_byte(names: &Names<'_>, line: &[u8], op: u8, at: usize) -> Option<Read<Statement>>
+    ensures { result ≡ move_byte (values_in names.now) line.now op at }
 {
-    let a = asm_expr::factor(source, places, keys, values, line, at, 16);
-    let Answer::Parsed(value, j) = a else {
-        return Stated::Misfit;
-    };
-    let d = asm_operands::comma_register(line, j);
-    let Found::At(dst, next) = d else {
-        return Stated::Misfit;
-    };
-    let x = Statement::MovImm {
+    let v = asm_expr::factor(names, line, at, 16)?;
+    let d = asm_operands::comma_register(line, v.next)?;
+    let value = Statement::MovImm {
         op,
         plain: asm_operands::is_number(line, at),
-        value,
-        dst,
+        value: v.value,
+        dst: d.value,
     };
-    Stated::Fits(x, next)
+    let next = d.next;
+    Some(Read { value, next })
 }
 
 // LDR.
-fn load_relative(
-    source: &[u8],
-    places: &[usize],
-    keys: &[u32],
-    values: &[i32],
-    line: &[u8],
-    at: usize,
-) -> Stated
-    ensures { result ≡ load_relative
-        (look_up_at source.now places.now
-        keys.now values.now)
-        line.now at }
+#[tactic(auto, unfolding(crate::specs::Statement::load_relative))]
+fn load_relative(names: &Names<'_>, line: &[u8], at: usize) -> Option<Read<Statement>>
+    ensures { result ≡ load_relative (values_in names.now) line.now at }
 {
-    let w = asm_operands::read_width(line, at);
-    let Found::At(wb, j) = w else {
-        return Stated::Misfit;
+    let w = asm_operands::read_width(line, at)?;
+    let s = asm_operands::read_register(line, w.next)?;
+    let v = asm_operands::comma_value(names, line, s.next)?;
+    let d = asm_operands::comma_register(line, v.next)?;
+    let value = Statement::Ldr {
+        off: v.value,
+        wb: w.value,
+        src: s.value,
+        dst: d.value,
     };
-    let a = asm_operands::read_register(line, j);
-    let Found::At(src, k) = a else {
-        return Stated::Misfit;
-    };
-    let o = asm_operands::comma_value(source, places, keys, values, line, k);
-    let Answer::Parsed(off, l) = o else {
-        return Stated::Misfit;
-    };
-    let d = asm_operands::comma_register(line, l);
-    let Found::At(dst, next) = d else {
-        return Stated::Misfit;
-    };
-    Stated::Fits(Statement::Ldr { off, wb, src, dst }, next)
+    let next = d.next;
+    Some(Read { value, next })
 }
 
 // STR.
-fn store_relative(
-    source: &[u8],
-    places: &[usize],
-    keys: &[u32],
-    values: &[i32],
-    line: &[u8],
-    at: usize,
-) -> Stated
-    ensures { result ≡ store_relative
-        (look_up_at source.now places.now
-        keys.now values.now)
-        line.now at }
+#[tactic(auto, unfolding(crate::specs::Statement::store_relative))]
+fn store_relative(names: &Names<'_>, line: &[u8], at: usize) -> Option<Read<Statement>>
+    ensures { result ≡ store_relative (values_in names.now) line.now at }
 {
-    let w = asm_operands::read_width(line, at);
-    let Found::At(wb, j) = w else {
-        return Stated::Misfit;
+    let w = asm_operands::read_width(line, at)?;
+    let s = asm_operands::read_register(line, w.next)?;
+    let d = asm_operands::comma_register(line, s.next)?;
+    let v = asm_operands::comma_value(names, line, d.next)?;
+    let value = Statement::Str {
+        off: v.value,
+        wb: w.value,
+        src: s.value,
+        dst: d.value,
     };
-    let a = asm_operands::read_register(line, j);
-    let Found::At(src, k) = a else {
-        return Stated::Misfit;
-    };
-    let d = asm_operands::comma_register(line, k);
-    let Found::At(dst, l) = d else {
-        return Stated::Misfit;
-    };
-    let o = asm_operands::comma_value(source, places, keys, values, line, l);
-    let Answer::Parsed(off, next) = o else {
-        return Stated::Misfit;
-    };
-    Stated::Fits(Statement::Str { off, wb, src, dst }, next)
+    let next = v.next;
+    Some(Read { value, next })
 }
 
 // The statement that a keyword begins.
+#[tactic(auto, unfolding(crate::specs::Statement::statement_with))]
 fn keyword_statement(
-    source: &[u8],
-    places: &[usize],
-    keys: &[u32],
-    values: &[i32],
+    names: &Names<'_>,
     line: &[u8],
     named: bool,
     k: Keyword,
     at: usize,
-) -> Stated
-    ensures { result ≡ statement_with
-        (look_up_at source.now places.now
-        keys.now values.now)
-        line.now named k at }
+) -> Option<Read<Statement>>
+    ensures { result ≡ statement_with (values_in names.now) line.now named k at }
 {
     match k {
-        Keyword::Value(m) => one_value(source, places, keys, values, line, m, at),
-        Keyword::Equ => read_equate(source, places, keys, values, line, named, at),
-        Keyword::End => Stated::Fits(Statement::End, at),
-        Keyword::Arithmetic(op) => read_arithmetic(source, places, keys, values, line, op, at),
+        Keyword::Value(m) => one_value(names, line, m, at),
+        Keyword::Equ => read_equate(names, line, named, at),
+        Keyword::End => {
+            let value = Statement::End;
+            Some(Read { value, next: at })
+        }
+        Keyword::Arithmetic(op) => read_arithmetic(names, line, op, at),
         Keyword::Mov => read_move(line, at),
         Keyword::Swap => read_exchange(line, at),
         Keyword::Unary(op) => read_unary(line, op, at),
@@ -557,122 +398,77 @@ fn keyword_statement(
         Keyword::Sxt => one_register(line, false, at),
         Keyword::SetCc => on_flags(line, true, at),
         Keyword::ClrCc => on_flags(line, false, at),
-        Keyword::Cex => read_conditional(source, places, keys, values, line, at),
+        Keyword::Cex => read_conditional(names, line, at),
         Keyword::Ld => read_load(line, at),
         Keyword::St => read_store(line, at),
-        Keyword::MovImm(op) => move_byte(source, places, keys, values, line, op, at),
-        Keyword::Ldr => load_relative(source, places, keys, values, line, at),
-        Keyword::Str => store_relative(source, places, keys, values, line, at),
+        Keyword::MovImm(op) => move_byte(names, line, op, at),
+        Keyword::Ldr => load_relative(names, line, at),
+        Keyword::Str => store_relative(names, line, at),
     }
 }
 
 // The statement of a word.
+#[tactic(auto, unfolding(crate::specs::Statement::statement_of))]
 fn read_statement(
-    source: &[u8],
-    places: &[usize],
-    keys: &[u32],
-    values: &[i32],
+    names: &Names<'_>,
     line: &[u8],
     named: bool,
     w: Word,
     at: usize,
-) -> Stated
-    ensures { result ≡ statement_of
-        (look_up_at source.now places.now
-        keys.now values.now)
-        line.now named w at }
+) -> Option<Read<Statement>>
+    ensures { result ≡ statement_of (values_in names.now) line.now named w at }
 {
     match w {
-        Word::Free => Stated::Misfit,
-        Word::Reserved => Stated::Misfit,
-        Word::Begins(k) => { keyword_statement(source, places, keys, values, line, named, k, at) }
+        Word::Free => None,
+        Word::Reserved => None,
+        Word::Begins(k) => keyword_statement(names, line, named, k, at),
     }
 }
 
 // A line with its statement, if it is over after it.
-fn end_line(line: &[u8], named: bool, name: usize, x: Stated) -> Reading
-    ensures { result ≡ ended line.now named name x }
+fn end_line(line: &[u8], name: Option<usize>, x: Read<Statement>) -> Option<Line>
+    ensures { result ≡ ended line.now name (Some x) }
 {
-    let Stated::Fits(statement, next) = x else {
-        return Reading::Fault;
-    };
-    if asm_operands::is_over(line, asm_text::skip_blanks(line, next)) {
-        return Reading::Line {
-            named,
-            name,
-            statement,
-        };
+    if !asm_operands::is_over(line, asm_text::skip_blanks(line, x.next)) {
+        return None;
     }
-    Reading::Fault
+    let statement = x.value;
+    Some(Line { name, statement })
 }
 
 // What follows the name at `name`, from `at` on.
-fn after_name(
-    source: &[u8],
-    places: &[usize],
-    keys: &[u32],
-    values: &[i32],
-    line: &[u8],
-    name: usize,
-    at: usize,
-) -> Reading
-    ensures { result ≡ after_name
-        (look_up_at source.now places.now
-        keys.now values.now)
-        line.now name at }
+fn after_name(names: &Names<'_>, line: &[u8], name: usize, at: usize) -> Option<Line>
+    ensures { result ≡ after_name (values_in names.now) line.now name at }
 {
+    let name = Some(name);
     if asm_operands::is_over(line, at) {
-        return Reading::Line {
-            named: true,
-            name,
-            statement: Statement::Nothing,
-        };
+        let statement = Statement::Nothing;
+        return Some(Line { name, statement });
     }
     let t = asm_text::read_word(line, at);
-    let w = asm_words::find_word(t.spelled);
-    let x = read_statement(source, places, keys, values, line, true, w, t.next);
-    end_line(line, true, name, x)
+    let w = asm_words::find_word(t.value.spelled);
+    let x = read_statement(names, line, true, w, t.next)?;
+    end_line(line, name, x)
 }
 
-// The line, with the values of the names in a table: places[k] is where in the source the k-th name
-// given starts, keys[k] its key, values[k] its value.
-pub fn read_line(
-    source: &[u8],
-    places: &[usize],
-    keys: &[u32],
-    values: &[i32],
-    line: &[u8],
-) -> Reading
-    ensures { result ≡ line_of
-        (look_up_at source.now places.now
-        keys.now values.now)
-        line.now }
+// The line, with the values of the names; none where it fits no statement (17).
+pub fn read_line(names: &Names<'_>, line: &[u8]) -> Option<Line>
+    ensures { result ≡ line_of (values_in names.now) line.now }
 {
     let q = asm_text::skip_blanks(line, 0);
     if asm_operands::is_over(line, q) {
-        return Reading::Line {
-            named: false,
-            name: q,
-            statement: Statement::Nothing,
-        };
+        let statement = Statement::Nothing;
+        let name = None;
+        return Some(Line { name, statement });
     }
     let t = asm_text::read_word(line, q);
-    let w = asm_words::find_word(t.spelled);
-    let next = t.next;
+    let w = asm_words::find_word(t.value.spelled);
     if !asm_words::is_free(w) {
-        let x = read_statement(source, places, keys, values, line, false, w, next);
-        return end_line(line, false, q, x);
+        let x = read_statement(names, line, false, w, t.next)?;
+        return end_line(line, None, x);
     }
     if asm_text::is_letter(asm_text::byte_at(line, q)) {
-        return after_name(
-            source,
-            places,
-            keys,
-            values,
-            line,
-            q,
-            asm_text::skip_blanks(line, next),
-        );
+        return after_name(names, line, q, asm_text::skip_blanks(line, t.next));
     }
-    Reading::Fault
+    None
 }

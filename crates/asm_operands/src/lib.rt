@@ -1,36 +1,24 @@
 // What may stand between a statement's word and the end of its line: registers, values, flags, a
-// condition, an address. Places are of one line's bytes, a slice without the line's end; the table
-// of names is three slices.
+// condition, an address. Places are of one line's bytes, a slice without the line's end.
 #![tactic(auto)]
 
-ghost use Rattle.std.specs.Prelude.{◌≡◌};
-ghost use Rattle.asm_text.specs.Text.{look_up_at};
+ghost use Rattle.std.specs.Prelude.{◌≡◌, ◌+◌, cond, Some, None};
+ghost use Rattle.asm_text.specs.Text.{blank?, after, values_in};
 ghost use Rattle.asm_operands.specs.Operands.{over?, register_at, condition_at};
-ghost use Rattle.asm_operands.specs.Operands.{flags_at, width_at, number?};
+ghost use Rattle.asm_operands.specs.Operands.{flags_at, width_at, number?, comma?};
 ghost use Rattle.asm_operands.specs.Operands.{comma_register, comma_value, changed_before};
 ghost use Rattle.asm_operands.specs.Operands.{changed_after, address_at, comma_address};
 
-use asm_expr::Answer;
-use asm_value::Value;
+use asm_text::{Names, Read};
+use asm_value::{Lack, Value};
 
-// A number that a word or its absence stands for, and the place after it.
+// The address of LD and ST, with the fields of its instruction.
 #[derive(Clone, Copy)]
-pub enum Found {
-    At(u8, usize),
-    Missing,
-}
-
-// The address of LD and ST, with the fields of its instruction, and the place after it.
-#[derive(Clone, Copy)]
-pub enum Address {
-    Of {
-        prpo: u8,
-        dec: u8,
-        inc: u8,
-        register: u8,
-        next: usize,
-    },
-    NoAddress,
+pub struct Address {
+    pub prpo: u8,
+    pub dec: u8,
+    pub inc: u8,
+    pub register: u8,
 }
 
 // The line is over at i, or a comment begins.
@@ -44,183 +32,172 @@ pub fn is_over(line: &[u8], i: usize) -> bool
 }
 
 // A register.
-pub fn read_register(line: &[u8], at: usize) -> Found
+#[tactic(auto, unfolding(crate::specs::Operands::register_at, crate::specs::Operands::word_said))]
+pub fn read_register(line: &[u8], at: usize) -> Option<Read<u8>>
     ensures { result ≡ register_at line.now at }
 {
     let t = asm_text::read_word(line, asm_text::skip_blanks(line, at));
-    let n = asm_words::register_number(t.spelled);
-    if n < 8 {
-        return Found::At(n, t.next);
-    }
-    Found::Missing
+    let value = asm_words::register_number(t.value.spelled)?;
+    let next = t.next;
+    Some(Read { value, next })
 }
 
 // A condition of CEX.
-pub fn read_condition(line: &[u8], at: usize) -> Found
+#[tactic(auto, unfolding(crate::specs::Operands::condition_at, crate::specs::Operands::word_said))]
+pub fn read_condition(line: &[u8], at: usize) -> Option<Read<u8>>
     ensures { result ≡ condition_at line.now at }
 {
     let t = asm_text::read_word(line, asm_text::skip_blanks(line, at));
-    let n = asm_words::condition_number(t.spelled);
-    if n < 16 {
-        return Found::At(n, t.next);
-    }
-    Found::Missing
+    let value = asm_words::condition_number(t.value.spelled)?;
+    let next = t.next;
+    Some(Read { value, next })
 }
 
 // Flags of SETCC and CLRCC.
-pub fn read_flags(line: &[u8], at: usize) -> Found
+#[tactic(auto, unfolding(crate::specs::Operands::flags_at, crate::specs::Operands::word_said))]
+pub fn read_flags(line: &[u8], at: usize) -> Option<Read<u8>>
     ensures { result ≡ flags_at line.now at }
 {
     let q = asm_text::skip_blanks(line, at);
-    let n = asm_words::flags_number(line, q);
-    if n < 32 {
-        return Found::At(n, asm_text::name_end(line, q));
-    }
-    Found::Missing
+    let value = asm_words::flags_number(line, q)?;
+    let next = asm_text::name_end(line, q);
+    Some(Read { value, next })
 }
 
 // .B, .W or nothing.
-pub fn read_width(line: &[u8], at: usize) -> Found
+#[tactic(auto, unfolding(crate::specs::Operands::width_at))]
+pub fn read_width(line: &[u8], at: usize) -> Option<Read<u8>>
     ensures { result ≡ width_at line.now at }
 {
     if asm_text::byte_at(line, at) != b'.' {
-        return Found::At(0, at);
+        return Some(Read { value: 0, next: at });
     }
     if asm_text::is_name_byte(asm_text::byte_at(line, at + 2)) {
-        return Found::Missing;
+        return None;
     }
+    let next = at + 2;
     let b = asm_text::byte_at(line, at + 1);
     if b == b'B' {
-        return Found::At(1, at + 2);
+        return Some(Read { value: 1, next });
     }
     if b == b'W' {
-        return Found::At(0, at + 2);
+        return Some(Read { value: 0, next });
     }
-    Found::Missing
+    None
 }
 
-// The value there is a number, plain or in brackets: read with an empty table, a value is unknown
-// exactly if a name stands in it.
+// The value there is a number, plain or in brackets: read with no names, a value is unknown exactly
+// if a name stands in it.
 pub fn is_number(line: &[u8], at: usize) -> bool
     ensures { result ≡ number? line.now at }
 {
-    let read = asm_expr::factor(line, &[], &[], &[], line, at, 16);
-    let Answer::Parsed(value, _) = read else {
+    let none = Names {
+        source: line,
+        list: &[],
+    };
+    let Some(read) = asm_expr::factor(&none, line, at, 16) else {
         return false;
     };
-    match value {
-        Value::Unknown => false,
-        Value::Known(_) => true,
-        Value::Outside => true,
+    match read.value {
+        Err(Lack::Unknown) => false,
+        Err(Lack::Outside) => true,
+        Ok(_) => true,
     }
+}
+
+// The place after a comma.
+fn after_comma(line: &[u8], at: usize) -> Option<usize>
+    ensures { result ≡ cond (comma? line.now at) (Some (after blank? line.now at + 1)) None }
+{
+    let q = asm_text::skip_blanks(line, at);
+    if asm_text::byte_at(line, q) == b',' {
+        return Some(q + 1);
+    }
+    None
 }
 
 // A comma and a register.
-pub fn comma_register(line: &[u8], at: usize) -> Found
+#[tactic(auto, unfolding(crate::specs::Operands::comma_register))]
+pub fn comma_register(line: &[u8], at: usize) -> Option<Read<u8>>
     ensures { result ≡ comma_register line.now at }
 {
-    let q = asm_text::skip_blanks(line, at);
-    if asm_text::byte_at(line, q) == b',' {
-        return read_register(line, q + 1);
-    }
-    Found::Missing
+    let next = after_comma(line, at)?;
+    read_register(line, next)
 }
 
 // A comma and a value.
-pub fn comma_value(
-    source: &[u8],
-    places: &[usize],
-    keys: &[u32],
-    values: &[i32],
-    line: &[u8],
-    at: usize,
-) -> Answer
-    ensures { result ≡ comma_value
-        (look_up_at source.now places.now
-        keys.now values.now)
-        line.now at }
+#[tactic(auto, unfolding(crate::specs::Operands::comma_value, crate::specs::Operands::value_at))]
+pub fn comma_value(names: &Names<'_>, line: &[u8], at: usize) -> Option<Read<Value>>
+    ensures { result ≡ comma_value (values_in names.now) line.now at }
 {
-    let q = asm_text::skip_blanks(line, at);
-    if asm_text::byte_at(line, q) == b',' {
-        return asm_expr::factor(source, places, keys, values, line, q + 1, 16);
-    }
-    Answer::Malformed
+    let next = after_comma(line, at)?;
+    asm_expr::factor(names, line, next, 16)
 }
 
 // The address that begins with a register.
-fn changed_after(line: &[u8], found: Found) -> Address
-    ensures { result ≡ changed_after line.now found }
+#[tactic(auto, unfolding(crate::specs::Operands::changed_after))]
+fn changed_after(line: &[u8], found: Read<u8>) -> Read<Address>
+    ensures { Some result ≡ changed_after line.now (Some found) }
 {
-    let Found::At(register, next) = found else {
-        return Address::NoAddress;
-    };
-    let q = asm_text::skip_blanks(line, next);
+    let register = found.value;
+    let q = asm_text::skip_blanks(line, found.next);
     let b = asm_text::byte_at(line, q);
-    if b == b'+' {
-        return Address::Of {
-            prpo: 0,
-            dec: 0,
-            inc: 1,
-            register,
-            next: q + 1,
-        };
-    }
-    if b == b'-' {
-        return Address::Of {
-            prpo: 0,
-            dec: 1,
-            inc: 0,
-            register,
-            next: q + 1,
-        };
-    }
-    Address::Of {
+    let mut value = Address {
         prpo: 0,
         dec: 0,
         inc: 0,
         register,
-        next,
+    };
+    if b == b'+' {
+        value.inc = 1;
+        return Read { value, next: q + 1 };
     }
+    if b == b'-' {
+        value.dec = 1;
+        return Read { value, next: q + 1 };
+    }
+    let next = found.next;
+    Read { value, next }
 }
 
 // The address that begins with a sign, with the fields DEC and INC.
-fn changed_before(dec: u8, inc: u8, found: Found) -> Address
-    ensures { result ≡ changed_before dec inc found }
+fn changed_before(dec: u8, inc: u8, found: Read<u8>) -> Read<Address>
+    ensures { Some result ≡ changed_before dec inc (Some found) }
 {
-    match found {
-        Found::Missing => Address::NoAddress,
-        Found::At(register, next) => Address::Of {
-            prpo: 1,
-            dec,
-            inc,
-            register,
-            next,
-        },
-    }
+    let value = Address {
+        prpo: 1,
+        dec,
+        inc,
+        register: found.value,
+    };
+    let next = found.next;
+    Read { value, next }
 }
 
 // An address.
-pub fn read_address(line: &[u8], at: usize) -> Address
+#[tactic(auto, unfolding(crate::specs::Operands::address_at, crate::specs::Operands::changed_after))]
+pub fn read_address(line: &[u8], at: usize) -> Option<Read<Address>>
     ensures { result ≡ address_at line.now at }
 {
     let q = asm_text::skip_blanks(line, at);
     let b = asm_text::byte_at(line, q);
     if b == b'+' {
-        return changed_before(0, 1, read_register(line, q + 1));
+        let found = read_register(line, q + 1)?;
+        return Some(changed_before(0, 1, found));
     }
     if b == b'-' {
-        return changed_before(1, 0, read_register(line, q + 1));
+        let found = read_register(line, q + 1)?;
+        return Some(changed_before(1, 0, found));
     }
-    changed_after(line, read_register(line, at))
+    let found = read_register(line, at)?;
+    Some(changed_after(line, found))
 }
 
 // A comma and an address.
-pub fn comma_address(line: &[u8], at: usize) -> Address
+#[tactic(auto, unfolding(crate::specs::Operands::comma_address))]
+pub fn comma_address(line: &[u8], at: usize) -> Option<Read<Address>>
     ensures { result ≡ comma_address line.now at }
 {
-    let q = asm_text::skip_blanks(line, at);
-    if asm_text::byte_at(line, q) == b',' {
-        return read_address(line, q + 1);
-    }
-    Address::NoAddress
+    let next = after_comma(line, at)?;
+    read_address(line, next)
 }

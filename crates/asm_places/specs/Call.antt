@@ -1,11 +1,13 @@
 -- The whole answer of the call that tells what stands where in a source: its reply and the buffer that it leaves, for
 -- every length and content.
 -- Assumes nothing.
-use Rattle.std.specs.Prelude.{ℕ, cond, List, eqb, ltb, length}
+use Rattle.std.specs.Prelude.{ℕ, cond, List, ltb, length, Result, Ok, Err, is_ok}
+use Rattle.std.specs.Result.{result_and}
 use Rattle.std.proofs.lemmas.List.Edits.{sets}
-use Rattle.asm_sweeps.specs.declared.Verdict.{Verdict}
-use Rattle.asm_sweeps.specs.Uses.{verdict, verdict_of}
-use Rattle.asm_call.specs.Call.{assemble_reply}
+use Rattle.asm_sweeps.specs.declared.Fault.TheVariants.{Room}
+use Rattle.asm_sweeps.specs.declared.Refusal.{Refusal}
+use Rattle.asm_sweeps.specs.Uses.{refusal, verdict_of}
+use Rattle.asm_call.specs.Call.{upper_bits, refusal_reply}
 use Rattle.asm_places.specs.Listing.{listed_of, records_of}
 
 -- what the call answers: its reply, and what the lent buffer then holds
@@ -17,18 +19,19 @@ abbrev pub recorded : ℕ → List ℕ → Recorded
 recorded r b = record { reply = r; places = b }
 
 -- 17, 18, 19 with the line at fault as the assembler has them; then 22 where the buffer is shorter than the records,
--- with no line; accepted, the number of records stands where the line at fault would. [call places; 02 §12]
-unfoldable pub places_verdict : (source places : List ℕ) → Verdict
+-- with no line; accepted, the number of records. [call places; 02 §12]
+unfoldable pub places_verdict : (source places : List ℕ) → Result ℕ Refusal
 places_verdict s b =
-    cond (eqb (verdict_of s).refusal 0)
-    (cond (ltb (length b) (length (records_of (listed_of s)))) (verdict 22 0) (verdict 0 (length (listed_of s))))
-    (verdict_of s)
+    result_and (verdict_of s)
+    (cond (ltb (length b) (length (records_of (listed_of s)))) (Err (refusal Room 0)) (Ok (length (listed_of s))))
 
--- accepted, the records at the buffer's start, the bytes past them kept; refused, the buffer as it was. The reply is
--- formed as the assembler's: bits 7-0 the refusal, 63-32 the line or the number of records. [call places]
+-- The reply is formed as the assembler's: bits 7-0 the refusal, 63-32 the line or the number of records. [call places]
+unfoldable pub places_reply : Result ℕ Refusal → ℕ
+places_reply (Ok n) = upper_bits n
+places_reply (Err r) = refusal_reply r
+
+-- accepted, the records at the buffer's start, the bytes past them kept; refused, the buffer as it was. [call places]
 unfoldable pub places_call_of : (source places : List ℕ) → Recorded
 places_call_of s b =
     let v = places_verdict s b in
-    cond (eqb v.refusal 0)
-    (recorded (assemble_reply v) (sets b 0 (records_of (listed_of s))))
-    (recorded (assemble_reply v) b)
+    recorded (places_reply v) (cond (is_ok v) (sets b 0 (records_of (listed_of s))) b)

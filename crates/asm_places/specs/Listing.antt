@@ -2,16 +2,15 @@
 -- line by line as placed_from has the statements of the image (document 02, §12); and the eight bytes that tell it
 -- (docs/CALLS.md, xm23_places).
 -- Assumes nothing.
-use Rattle.std.specs.Prelude.{ℕ, ◌+◌, ◌-◌, ◌/◌, ◌%◌, Bool, cond, List, [], ◌∷◌, ◌++◌, ℤ, pos, negsuc}
+use Rattle.std.specs.Prelude.{ℕ, ◌-◌, ◌/◌, ◌%◌, Bool, cond, List, [], ◌∷◌, ◌++◌, ℤ, pos, negsuc}
+use Rattle.std.specs.Prelude.{Option, Some, None, is_some, Result, Ok, Err}
 use mir.Val.{bool_byte}
 use Rattle.text_lines.specs.Lines.{lines_of}
-use Rattle.asm_value.specs.declared.Value.{Value}
-use Rattle.asm_value.specs.declared.Value.TheVariants.{Known, Unknown, Outside}
+use Rattle.asm_value.specs.declared.Lack.{Lack}
 use Rattle.asm_line.specs.declared.Statement.{Statement}
 use Rattle.asm_line.specs.declared.Statement.TheVariants.{Nothing, Org, Equ, Bss, Byte, Word, End, Fixed, Bl, Branch}
 use Rattle.asm_line.specs.declared.Statement.TheVariants.{Constant, SetPri, Svc, Cex, MovImm, Ldr, Str}
-use Rattle.asm_line.specs.declared.Reading.{Reading}
-use Rattle.asm_line.specs.declared.Reading.TheVariants.{Line, Fault}
+use Rattle.asm_line.specs.declared.Line.{Line}
 use Rattle.asm_line.specs.Line.{line_of}
 use Rattle.asm_write.specs.declared.Layout.{Layout}
 use Rattle.asm_write.specs.declared.Layout.TheVariants.{Bytes, Origin, Equal, Space, Stop}
@@ -32,19 +31,19 @@ abbrev pub listing : Bool → ℕ → Statement → Listed
 listing named p x = record { named = named; place = p; statement = x }
 
 -- the line that stands at p; a line that fits no statement is not listed (its source is refused). [call places]
-abbrev pub listed_at : ℕ → Reading → List Listed
-listed_at p Fault = []
-listed_at p (Line named q x) = listing named p x ∷ []
+abbrev pub listed_at : ℕ → Option Line → List Listed
+listed_at p None = []
+listed_at p (Some y) = listing (is_some y.name) p y.statement ∷ []
 
 -- the lines up to and with END, the first at p. [call places; 02 §12]
-unfoldable pub listed_from : (look : List ℕ → Value) → List (List ℕ) → ℕ → List Listed
+unfoldable pub listed_from : (look : List ℕ → Result ℤ Lack) → List (List ℕ) → ℕ → List Listed
 listed_from look [] p = []
 listed_from look (l ∷ ls) p =
     let rest = listed_from look ls (place_on p (line_of look l)) in
     listed_at p (line_of look l) ++ cond (end? (line_of look l)) [] rest
 
 -- "at first 0". [02 §12]
-abbrev pub listed_with : (look : List ℕ → Value) → (source : List ℕ) → List Listed
+abbrev pub listed_with : (look : List ℕ → Result ℤ Lack) → (source : List ℕ) → List Listed
 listed_with look s = listed_from look (lines_of s) 0
 
 -- the lines of a source, with all the names that it gives. [call places]
@@ -59,10 +58,9 @@ bits_of (pos n) = n
 bits_of (negsuc n) = 4294967295 - n
 
 -- the bits of a value; a value at fault, which no accepted source has, stands as 0
-abbrev pub value_bits : Value → ℕ
-value_bits (Known z) = bits_of z
-value_bits Unknown = 0
-value_bits Outside = 0
+abbrev pub value_bits : Result ℤ Lack → ℕ
+value_bits (Ok z) = bits_of z
+value_bits (Err e) = 0
 
 -- the place before a statement, of an EQU its value: what a name of the line stands for. [call places; 02 §12]
 abbrev pub number_at : ℕ → Layout → ℕ

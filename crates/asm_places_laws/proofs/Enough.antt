@@ -1,33 +1,31 @@
 -- Room that is always enough: a line that is not the last ends in a line feed, and each line has at most one record of eight bytes.
 -- And what a line puts into memory is in memory, since no statement of an accepted source is at fault. Assumes nothing.
 use mathlib.Core.Path.{◌≡◌, refl, sym, ap, ◌∙◌}
-use mathlib.Core.Bool.{Bool, false, cond}
+use mathlib.Core.Bool.{cond}
 use mathlib.Core.List.{List, [], ◌∷◌}
 use Prim.Native.Nat.{ℕ, ◌+◌, ◌*◌, ◌≤◌}
 use native.Mathlib.Omega.{arith}
-use lib.Dec.{eqb, ltb}
+use lib.Dec.{eqb}
 use lib.ListN.{length, length-append}
-use lib.Seq.{sets}
-use borrow.Author.Tests.{eqb-true, le-ltb}
 use Rattle.word.proofs.Laws.{bool_cases}
 use Rattle.text_lines.specs.Lines.{starts_cr_lf, onto, lines_of}
-use Rattle.asm_value.specs.declared.Value.{Value}
-use Rattle.asm_line.specs.declared.Reading.{Reading}
-use Rattle.asm_line.specs.declared.Reading.TheVariants.{Line, Fault}
+use Rattle.std.specs.Prelude.{ℤ, Option, Some, None, Result, Ok, Err}
+use Rattle.std.specs.Result.{result_err}
+use Rattle.asm_value.specs.declared.Lack.{Lack}
+use Rattle.asm_line.specs.declared.Line.{Line}
 use Rattle.asm_line.specs.Line.{line_of}
 use Rattle.asm_write.specs.Written.{layout_of, size_of, used_of}
-use Rattle.asm_sweeps.specs.declared.Verdict.{Verdict}
+use Rattle.asm_sweeps.specs.declared.Refusal.{Refusal}
 use Rattle.asm_sweeps.specs.Form.{end?}
-use Rattle.asm_sweeps.specs.Uses.{names_of, verdict, verdict_of}
+use Rattle.asm_sweeps.specs.Uses.{names_of, verdict_of}
 use Rattle.asm_image.specs.Image.{place_on}
 use Rattle.asm_image.proofs.Laws.{used-room}
-use Rattle.asm_call.specs.Call.{assemble_reply}
 use Rattle.asm_theorems.proofs.Accepted.{AllGood}
 use Rattle.asm_places.specs.Listing.{Listed, listed_at, listed_from, listed_of, records_of}
 use Rattle.asm_places.specs.Call.{places_verdict}
-use Rattle.asm_places.proofs.Laws.{length-records, places-accepted}
+use Rattle.asm_places.proofs.Laws.{length-records, places-refused, places-accepted}
 use Rattle.asm_places_laws.specs.Theorems.{placed_all, feeds, EnoughRoom, AllInside, BytesInside}
-use Rattle.asm_places_laws.proofs.Told.{size-told, good-listed}
+use Rattle.asm_places_laws.proofs.Told.{call-is, size-told, good-listed}
 
 -- ---- lines and records
 
@@ -48,12 +46,12 @@ lines-few (b ∷ t) =
     (λ r. rw r (omega arith))
     (λ r. let o = onto-few b (lines_of t) (feeds t) h in rw r (omega arith))))
 
-one-few : (p : ℕ) (r : Reading) → length (listed_at p r) ≤ 1
-one-few p Fault = omega arith
-one-few p (Line named q x) = omega arith
+one-few : (p : ℕ) (r : Option Line) → length (listed_at p r) ≤ 1
+one-few p None = omega arith
+one-few p (Some y) = omega arith
 
 -- each line is listed once at most
-listed-few : (look : List ℕ → Value) (ls : List (List ℕ)) (p : ℕ) → length (listed_from look ls p) ≤ length ls
+listed-few : (look : List ℕ → Result ℤ Lack) (ls : List (List ℕ)) (p : ℕ) → length (listed_from look ls p) ≤ length ls
 unfolding listed_from
 listed-few look [] p = omega arith
 listed-few look (l ∷ ls) p =
@@ -75,29 +73,23 @@ records-few s b h =
 -- ---- the call
 
 -- where the records fit, the refusal is the assembler's
-refusal-same : (s b : List ℕ) → length (records_of (listed_of s)) ≤ length b → (places_verdict s b).refusal ≡ (verdict_of s).refusal
-unfolding places_verdict
-refusal-same s b h =
-    let n = length (listed_of s) in
-    let room : ltb (length b) (length (records_of (listed_of s))) ≡ false = le-ltb (length b) (length (records_of (listed_of s))) h in
-    let inner : Bool → Verdict = λ c. cond c (verdict 22 0) (verdict 0 n) in
-    bool_cases (eqb (verdict_of s).refusal 0)
-    (λ q.
-    ap (λ (c : Bool). (cond c (inner (ltb (length b) (length (records_of (listed_of s))))) (verdict_of s)).refusal) q
-    ∙ ap (λ (c : Bool). (inner c).refusal) room
-    ∙ sym (eqb-true (verdict_of s).refusal 0 q))
-    (λ q. ap (λ (c : Bool). (cond c (inner (ltb (length b) (length (records_of (listed_of s))))) (verdict_of s)).refusal) q)
+refusal-same : (s b : List ℕ) → length (records_of (listed_of s)) ≤ length b
+    → result_err (places_verdict s b) ≡ result_err (verdict_of s)
+refusal-same s b h = go (verdict_of s) refl
+  where
+    go : (v : Result Unit Refusal) → verdict_of s ≡ v → result_err (places_verdict s b) ≡ result_err (verdict_of s)
+    go (Ok tt) e = sym (ap (λ (x : Result ℕ Refusal). result_err x) (places-accepted s b (sym e) h))
+        ∙ sym (ap (λ (x : Result Unit Refusal). result_err x) e)
+    go (Err r) e = sym (ap (λ (x : Result ℕ Refusal). result_err x) (places-refused s b r (sym e)))
+        ∙ sym (ap (λ (x : Result Unit Refusal). result_err x) e)
 
 pub enough-room : EnoughRoom
 enough-room s b h =
     let fits = records-few s b h in
-    let n = length (listed_of s) in
     record {
       fits = fits;
       refusal = refusal-same s b fits;
-      accepted = λ e.
-          sym (places-accepted s b (verdict_of s) refl e fits n (assemble_reply (verdict 0 n))
-          (sets b 0 (records_of (listed_of s))) refl refl refl);
+      accepted = λ e. call-is s b (Ok (length (listed_of s))) (places-accepted s b (sym e) fits);
     }
 
 -- ---- bytes in memory

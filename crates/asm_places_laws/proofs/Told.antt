@@ -12,32 +12,33 @@ use lib.Seq.{sets, sets-eq}
 use borrow.Author.Tests.{eqb-true, eqb-false}
 use Rattle.word.proofs.Laws.{bool_cases}
 use Rattle.text_lines.specs.Lines.{lines_of}
-use Rattle.asm_value.specs.declared.Value.{Value}
-use Rattle.asm_value.specs.declared.Value.TheVariants as v
+use Rattle.std.specs.Prelude.{Option, Some, None, Result, Ok, Err, is_ok}
+use Rattle.asm_value.specs.declared.Lack.{Lack}
+use Rattle.asm_value.specs.declared.Lack.TheVariants.{Unknown, Outside}
 use Rattle.asm_text.specs.Text.{same, look_up}
-use Rattle.asm_fits.specs.declared.Fit.{Fit}
-use Rattle.asm_fits.specs.declared.Fit.TheVariants.{Number, Unknown, Outside}
+use Rattle.asm_fits.specs.Fits.{Fit}
 use Rattle.asm_line.specs.declared.Statement.{Statement}
 use Rattle.asm_line.specs.declared.Statement.TheVariants.{Nothing, Org, Equ, Bss, Byte, Word, End, Fixed, Bl, Branch}
 use Rattle.asm_line.specs.declared.Statement.TheVariants.{Constant, SetPri, Svc, Cex, MovImm, Ldr, Str}
-use Rattle.asm_line.specs.declared.Reading.{Reading}
-use Rattle.asm_line.specs.declared.Reading.TheVariants.{Line, Fault}
+use Rattle.asm_line.specs.declared.Line.{Line}
 use Rattle.asm_line.specs.Line.{line_of}
 use Rattle.asm_write.specs.declared.Layout.{Layout}
 use Rattle.asm_write.specs.declared.Layout.TheVariants.{Bytes, Origin, Equal, Space, Stop}
 use Rattle.asm_write.specs.Written.{layout_of, size_of, used_of, bytes_for, bytes_with, bytes_of, place_value, name_value}
 use Rattle.asm_sweeps.specs.Form.{no_names, faulty?, end?, form_from, form_of}
 use Rattle.asm_sweeps.specs.Places.{table_of}
-use Rattle.asm_sweeps.specs.Uses.{names_of, uses_of, verdict, verdict_of}
+use Rattle.asm_sweeps.specs.Uses.{names_of, uses_of, verdict_of}
+use Rattle.asm_sweeps.specs.declared.Refusal.{Refusal}
 use Rattle.asm_sweeps.proofs.NoFault.{verdict-clean}
 use Rattle.asm_sweeps.proofs.Alike.{form-alike}
 use Rattle.asm_image.specs.Image.{Placed, placing, statements_at, place_on, placed_from, image_of}
 use Rattle.asm_image.proofs.Laws.{used-room}
-use Rattle.asm_call.specs.Call.{assemble_reply}
-use Rattle.asm_call.proofs.Laws.{call-refused}
+use Rattle.asm_call.specs.Call.{assemble_reply, assemble_call_of}
+use Rattle.asm_call.proofs.Laws.{verdict-whole}
+use Rattle.asm_places.specs.Call.{Recorded, recorded, places_verdict, places_reply, places_call_of}
 use Rattle.asm_theorems.specs.Theorems.{Accepted}
 use Rattle.asm_theorems.proofs.Accepted.{Good, AllGood, accepted-memory, accepted-whole}
-use Rattle.asm_labels.specs.Labels.{Given, given_at, given_from, given_of, AllValued}
+use Rattle.asm_labels.specs.Labels.{Given, named_at, given_at, given_from, given_of, AllValued}
 use Rattle.asm_labels.proofs.Labels.{names-placed}
 use Rattle.asm_places.specs.Listing.{
   Listed,
@@ -62,15 +63,15 @@ placed-append : (xs ys : List Listed) → placed_all (xs ++ ys) ≡ placed_all x
 placed-append [] ys = refl
 placed-append (x ∷ xs) ys = ap (λ (l : List Placed). placing x.place x.statement ∷ l) (placed-append xs ys)
 
-placed_one : (p : ℕ) (r : Reading) → placed_all (listed_at p r) ≡ statements_at p r
-placed_one p Fault = refl
-placed_one p (Line named q x) = refl
+placed_one : (p : ℕ) (r : Option Line) → placed_all (listed_at p r) ≡ statements_at p r
+placed_one p None = refl
+placed_one p (Some y) = refl
 
 placed-cond : (b : Bool) (xs : List Listed) → placed_all (cond b [] xs) ≡ cond b [] (placed_all xs)
 placed-cond true xs = refl
 placed-cond false xs = refl
 
-same_from : (look : List ℕ → Value) (ls : List (List ℕ)) (p : ℕ) → placed_all (listed_from look ls p) ≡ placed_from look ls p
+same_from : (look : List ℕ → Result ℤ Lack) (ls : List (List ℕ)) (p : ℕ) → placed_all (listed_from look ls p) ≡ placed_from look ls p
 unfolding listed_from placed_from
 same_from look [] p = refl
 same_from look (l ∷ ls) p =
@@ -86,15 +87,20 @@ same-statements look s = same_from look (lines_of s) 0
 
 -- ---- the number of records
 
-form-right : (s : List ℕ) → (verdict_of s).refusal ≡ 0 → form_of s ≡ 0
+form-right : (s : List ℕ) → verdict_of s ≡ Ok tt → form_of s ≡ None
 unfolding verdict_of
 form-right s e = (verdict-clean (form_of s) (table_of s).tally (uses_of (names_of s) s) e).0
 
-each_from : (look : List ℕ → Value) (ls : List (List ℕ)) (k p : ℕ) → 0 < k → form_from k ls ≡ 0
+-- 1 for a line at fault
+abbrev faults : Option ℕ → ℕ
+faults None = 0
+faults (Some n) = 1
+
+each_from : (look : List ℕ → Result ℤ Lack) (ls : List (List ℕ)) (k p : ℕ) → form_from k ls ≡ None
     → length (listed_from look ls p) ≡ length (up_to_end ls)
 unfolding form_from listed_from up_to_end
-each_from look [] k p h e = refl
-each_from look (l ∷ ls) k p h e =
+each_from look [] k p e = refl
+each_from look (l ∷ ls) k p e =
     let n = line_of no_names l in
     let r = line_of look l in
     let f = form-alike no_names look l in
@@ -102,11 +108,11 @@ each_from look (l ∷ ls) k p h e =
     let on = up_to_end ls in
     bool_cases (faulty? n)
     (λ q.
-    let z : k ≡ 0 = ap (λ (b : Bool). cond b k (cond (end? n) 0 (form_from (k + 1) ls))) (sym q) ∙ e in
-    absurd (omega (arith, h, z)))
+    let z : 1 ≡ 0 = ap faults (ap (λ (b : Bool). cond b (Some k) (cond (end? n) None (form_from (k + 1) ls))) (sym q) ∙ e) in
+    absurd (omega (arith, z)))
     (λ q.
-    let w : cond (end? n) 0 (form_from (k + 1) ls) ≡ 0 =
-    ap (λ (b : Bool). cond b k (cond (end? n) 0 (form_from (k + 1) ls))) (sym q) ∙ e in
+    let w : cond (end? n) None (form_from (k + 1) ls) ≡ None =
+    ap (λ (b : Bool). cond b (Some k) (cond (end? n) None (form_from (k + 1) ls))) (sym q) ∙ e in
     let fits : faulty? r ≡ false = sym f.0 ∙ q in
     bool_cases (end? n)
     (λ s.
@@ -118,14 +124,12 @@ each_from look (l ∷ ls) k p h e =
     let d = ap (λ (b : Bool). length (listed_at p r ++ cond b [] more)) (sym f.1 ∙ s) in
     let a = ap (λ (b : Bool). length (l ∷ cond b [] on)) s in
     let g = one-listed r p more fits in
-    let u : 0 < k + 1 = omega arith in
-    let i = each_from look ls (k + 1) (place_on p r) u (ap (λ (b : Bool). cond b 0 (form_from (k + 1) ls)) (sym s) ∙ w) in
+    let i = each_from look ls (k + 1) (place_on p r) (ap (λ (b : Bool). cond b None (form_from (k + 1) ls)) (sym s) ∙ w) in
     omega (arith, a, d, g, i)))
 
 pub record-each : RecordEach
 record-each s e =
-    let k : 0 < 1 = omega arith in
-    let n = each_from (names_of s) (lines_of s) 1 0 k (form-right s e) in
+    let n = each_from (names_of s) (lines_of s) 1 0 (form-right s e) in
     (n, length-records (listed_of s) ∙ ap (λ (x : ℕ). 8 * x) n)
 
 -- ---- records with bytes
@@ -166,9 +170,8 @@ unfolding bytes_for
 none-for n = refl
 
 none-with : (f : Fit) → bytes_with 0 f ≡ []
-none-with (Number n) = none-for n
-none-with Unknown = refl
-none-with Outside = refl
+none-with (Ok n) = none-for n
+none-with (Err d) = refl
 
 image-written : (xs : List Listed) → AllGood (placed_all xs) → (m : List ℕ) → image_of (placed_all xs) m ≡ image_of (written xs) m
 unfolding image_of
@@ -236,42 +239,62 @@ sizes-told m s h = all-sized (listed_of s) (good-listed m s h)
 
 -- ---- the call
 
+-- the call's answer, by its verdict
+pub call-is : (s b : List ℕ) (v : Result ℕ Refusal) → v ≡ places_verdict s b
+    → places_call_of s b ≡ recorded (places_reply v) (cond (is_ok v) (sets b 0 (records_of (listed_of s))) b)
+unfolding places_call_of
+call-is s b v e =
+    sym (ap (λ (x : Result ℕ Refusal). recorded (places_reply x) (cond (is_ok x) (sets b 0 (records_of (listed_of s))) b)) e)
+
+assembled-reply : (m s : List ℕ) (v : Result Unit Refusal) → length m ≡ 65536 → verdict_of s ≡ v
+    → (assemble_call_of m s).reply ≡ assemble_reply v
+unfolding assemble_call_of
+assembled-reply m s v hm e = ap assemble_reply (sym (verdict-whole m s hm) ∙ e)
+
+one-reply : (r : Refusal) → places_reply (Err r) ≡ assemble_reply (Err r)
+unfolding places_reply assemble_reply
+one-reply r = refl
+
 pub same-refusal : SameRefusal
-same-refusal m s b hm h =
-    let v = verdict_of s in
-    let r = assemble_reply v in
-    let e = places-refused s b v refl r h refl in
-    let f = call-refused m s hm v r refl h refl in
-    (sym (ap (λ x. x.reply) e) ∙ ap (λ x. x.reply) f, sym (ap (λ x. x.places) e))
+same-refusal m s b hm h = go (verdict_of s) refl
+  where
+    go : (v : Result Unit Refusal) → verdict_of s ≡ v
+        → ((places_call_of s b).reply ≡ (assemble_call_of m s).reply) × ((places_call_of s b).places ≡ b)
+    go (Ok tt) e = absurd (h e)
+    go (Err r) e =
+        let c = call-is s b (Err r) (places-refused s b r (sym e)) in (
+          ap (λ (x : Recorded). x.reply) c ∙ one-reply r ∙ sym (assembled-reply m s (Err r) hm e),
+          ap (λ (x : Recorded). x.places) c,
+        )
 
 pub records-then-kept : RecordsThenKept
 records-then-kept s b h k =
     let n = length (listed_of s) in
     let rs = records_of (listed_of s) in
-    let e = places-accepted s b (verdict_of s) refl h k n (assemble_reply (verdict 0 n)) (sets b 0 rs) refl refl refl in
+    let e = call-is s b (Ok n) (places-accepted s b (sym h) k) in
     let z : 0 + length rs ≡ length rs = omega arith in
-    sym (ap (λ x. x.places) e) ∙ sets-eq rs b 0 (omega (arith, k)) ∙ ap (λ (i : ℕ). rs ++ drop i b) z
+    ap (λ (x : Recorded). x.places) e ∙ sets-eq rs b 0 (omega (arith, k)) ∙ ap (λ (i : ℕ). rs ++ drop i b) z
 
 -- ---- names
 
-abbrev outside? : Value → Bool
-outside? (v.Known z) = false
-outside? v.Unknown = false
-outside? v.Outside = true
+abbrev outside? : Result ℤ Lack → Bool
+outside? (Ok z) = false
+outside? (Err Unknown) = false
+outside? (Err Outside) = true
 
 look-inside : (ns : List (List ℕ)) (vs : List ℤ) (n : List ℕ) → outside? (look_up ns vs n) ≡ false
 unfolding look_up
 look-inside [] vs n = refl
 look-inside (k ∷ ns) [] n = refl
 look-inside (k ∷ ns) (w ∷ vs) n = bool_cases (same k n)
-    (λ q. ap (λ (b : Bool). outside? (cond b (v.Known w) (look_up ns vs n))) q)
-    (λ q. ap (λ (b : Bool). outside? (cond b (v.Known w) (look_up ns vs n))) q ∙ look-inside ns vs n)
+    (λ q. ap (λ (b : Bool). outside? (cond b (Ok w) (look_up ns vs n))) q)
+    (λ q. ap (λ (b : Bool). outside? (cond b (Ok w) (look_up ns vs n))) q ∙ look-inside ns vs n)
 
 place-bits : (p : ℕ) → outside? (place_value p) ≡ false → p ≡ value_bits (place_value p)
 unfolding place_value bits_of
 place-bits p h = bool_cases (ltb p 2147483648)
-    (λ q. sym (ap (λ (b : Bool). value_bits (cond b (v.Known (pos p)) v.Outside)) q))
-    (λ q. true-false (sym (ap (λ (b : Bool). outside? (cond b (v.Known (pos p)) v.Outside)) q) ∙ h))
+    (λ q. sym (ap (λ (b : Bool). value_bits (cond b (Ok (pos p)) (Err Outside))) q))
+    (λ q. true-false (sym (ap (λ (b : Bool). outside? (cond b (Ok (pos p)) (Err Outside))) q) ∙ h))
 
 number-bits : (p : ℕ) (l : Layout) → outside? (name_value p l) ≡ false → number_at p l ≡ value_bits (name_value p l)
 unfolding name_value
@@ -308,11 +331,15 @@ given-append : (xs ys : List Given) → given_all (xs ++ ys) ≡ given_all xs ++
 given-append [] ys = refl
 given-append (y ∷ xs) ys = ap (λ (l : List Placed). placing y.place y.statement ∷ l) (given-append xs ys)
 
-named-one : (p : ℕ) (l : List ℕ) (r : Reading) → named_all (listed_at p r) ≡ given_all (given_at p l r)
+named-one : (p : ℕ) (l : List ℕ) (r : Option Line) → named_all (listed_at p r) ≡ given_all (given_at p l r)
 unfolding eight_of
-named-one p l Fault = refl
-named-one p l (Line true q x) = refl
-named-one p l (Line false q x) = refl
+named-one p l None = refl
+named-one p l (Some y) = go y.name
+  where
+    go : (q : Option ℕ)
+        → named_all (listed_at p (Some record { name = q; statement = y.statement })) ≡ given_all (named_at p l q y.statement)
+    go None = refl
+    go (Some q) = refl
 
 named-cond : (b : Bool) (xs : List Listed) → named_all (cond b [] xs) ≡ cond b [] (named_all xs)
 named-cond true xs = refl
@@ -322,7 +349,8 @@ given-cond : (b : Bool) (xs : List Given) → given_all (cond b [] xs) ≡ cond 
 given-cond true xs = refl
 given-cond false xs = refl
 
-names-from : (look : List ℕ → Value) (ls : List (List ℕ)) (p : ℕ) → named_all (listed_from look ls p) ≡ given_all (given_from look ls p)
+names-from : (look : List ℕ → Result ℤ Lack) (ls : List (List ℕ)) (p : ℕ)
+    → named_all (listed_from look ls p) ≡ given_all (given_from look ls p)
 unfolding listed_from given_from
 names-from look [] p = refl
 names-from look (l ∷ ls) p =

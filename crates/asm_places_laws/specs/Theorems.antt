@@ -6,17 +6,19 @@ use Rattle.std.proofs.lemmas.List.Edits.{sets}
 use mir.Val.{bool_byte}
 use Rattle.text_lines.specs.Lines.{lines_of}
 use Rattle.asm_text.specs.Text.{ascii}
-use Rattle.asm_value.specs.declared.Value.{Value}
+use Rattle.std.specs.Prelude.{ℤ, Result, Ok}
+use Rattle.std.specs.Result.{result_err}
+use Rattle.asm_value.specs.declared.Lack.{Lack}
 use Rattle.asm_line.specs.Line.{line_of}
 use Rattle.asm_write.specs.Written.{layout_of, bytes_of}
 use Rattle.asm_sweeps.specs.Form.{no_names, end?}
-use Rattle.asm_sweeps.specs.Uses.{names_of, verdict, verdict_of}
+use Rattle.asm_sweeps.specs.Uses.{names_of, verdict_of}
 use Rattle.asm_image.specs.Image.{Placed, placing, placed_of, image_of}
-use Rattle.asm_call.specs.Call.{assemble_reply, assemble_call_of}
+use Rattle.asm_call.specs.Call.{assemble_call_of}
 use Rattle.asm_theorems.specs.Theorems.{Accepted}
 use Rattle.asm_labels.specs.Labels.{Given, given_of}
 use Rattle.asm_places.specs.Listing.{Listed, listed_with, listed_of, value_bits, number_at, record_of, records_of}
-use Rattle.asm_places.specs.Call.{recorded, places_verdict, places_call_of}
+use Rattle.asm_places.specs.Call.{recorded, places_verdict, places_reply, places_call_of}
 
 -- ---- the same statements at the same places
 
@@ -28,7 +30,7 @@ placed_all (x ∷ xs) = placing x.place x.statement ∷ placed_all xs
 -- a line is listed for each statement that the image is made of, in the same order and at the same place.
 -- [call places; 02 §12]
 abbrev pub SameStatements : Type 0
-SameStatements = (look : List ℕ → Value) (s : List ℕ) → placed_all (listed_with look s) ≡ placed_of look s
+SameStatements = (look : List ℕ → Result ℤ Lack) (s : List ℕ) → placed_all (listed_with look s) ≡ placed_of look s
 
 -- ---- the number of records
 
@@ -40,7 +42,7 @@ up_to_end (l ∷ ls) = let rest = up_to_end ls in l ∷ cond (end? (line_of no_n
 -- a record for each of them, of eight bytes. [call places]
 abbrev pub RecordEach : Type 0
 RecordEach =
-    (s : List ℕ) → (verdict_of s).refusal ≡ 0
+    (s : List ℕ) → verdict_of s ≡ Ok tt
     → (length (listed_of s) ≡ length (up_to_end (lines_of s)))
     × (length (records_of (listed_of s)) ≡ 8 * length (up_to_end (lines_of s)))
 
@@ -78,13 +80,13 @@ SizesTold = (m s : List ℕ) → Accepted m s → AllSized (listed_of s)
 -- [call places; 02 §12]
 abbrev pub SameRefusal : Type 0
 SameRefusal =
-    (m s b : List ℕ) → length m ≡ 65536 → ((verdict_of s).refusal ≡ 0 → ⊥)
+    (m s b : List ℕ) → length m ≡ 65536 → (verdict_of s ≡ Ok tt → ⊥)
     → ((places_call_of s b).reply ≡ (assemble_call_of m s).reply) × ((places_call_of s b).places ≡ b)
 
 -- accepted, the records stand at the buffer's start and the bytes past them are kept. [call places]
 abbrev pub RecordsThenKept : Type 0
 RecordsThenKept =
-    (s b : List ℕ) → (verdict_of s).refusal ≡ 0 → length (records_of (listed_of s)) ≤ length b
+    (s b : List ℕ) → verdict_of s ≡ Ok tt → length (records_of (listed_of s)) ≤ length b
     → (places_call_of s b).places ≡ records_of (listed_of s) ++ drop (length (records_of (listed_of s))) b
 
 -- ---- room that is always enough
@@ -98,10 +100,10 @@ feeds (b ∷ s) = bool_byte (eqb b 10) + feeds s
 -- accepts and tells whole whatever the assembler accepts. [call places]
 pub record Enough (s b : List ℕ) : Type 0 where
   pub fits : length (records_of (listed_of s)) ≤ length b
-  pub refusal : (places_verdict s b).refusal ≡ (verdict_of s).refusal
-  pub accepted : (verdict_of s).refusal ≡ 0
+  pub refusal : result_err (places_verdict s b) ≡ result_err (verdict_of s)
+  pub accepted : verdict_of s ≡ Ok tt
       → places_call_of s b
-      ≡ recorded (assemble_reply (verdict 0 (length (listed_of s)))) (sets b 0 (records_of (listed_of s)))
+      ≡ recorded (places_reply (Ok (length (listed_of s)))) (sets b 0 (records_of (listed_of s)))
 
 abbrev pub EnoughRoom : Type 0
 EnoughRoom = (s b : List ℕ) → 8 * feeds s + 8 ≤ length b → Enough s b
@@ -117,13 +119,13 @@ BytesInside = (m s : List ℕ) → Accepted m s → AllInside (listed_of s)
 -- ---- names
 
 -- the number of a line's record is what its name stands for. [call places; 02 §12]
-abbrev pub AllNumbered : (look : List ℕ → Value) → List Given → Type 0
+abbrev pub AllNumbered : (look : List ℕ → Result ℤ Lack) → List Given → Type 0
 AllNumbered look [] = Unit
 AllNumbered look (y ∷ ys) =
     (number_at y.place (layout_of y.statement) ≡ value_bits (look y.name)) × AllNumbered look ys
 
 abbrev pub NamesTold : Type 0
-NamesTold = (s : List ℕ) → (verdict_of s).refusal ≡ 0 → AllNumbered (names_of s) (given_of s)
+NamesTold = (s : List ℕ) → verdict_of s ≡ Ok tt → AllNumbered (names_of s) (given_of s)
 
 -- the names are those of the lines whose byte 6 is one, with the same statements at the same places. [call places]
 abbrev pub named_in : List ℕ → ℕ

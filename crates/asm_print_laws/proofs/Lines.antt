@@ -10,15 +10,14 @@ use lib.IntN.{ℤ, pos, negsuc}
 use lib.ListN.{drop}
 use lib.Signed.{mag}
 use borrow.Author.Tests.{ltb-true, ltb-false}
+use Rattle.std.specs.Prelude.{Some, None, Result, Ok}
+use Rattle.asm_value.specs.declared.Lack.{Lack}
 use Rattle.word.proofs.Laws.{bool_cases}
 use Rattle.text.specs.Text.{hex_of, decimal_of}
 use Rattle.text_lines.proofs.Laws.{Plain}
 use Rattle.isa.specs.declared.Instr.{Instr}
-use Rattle.isa.specs.declared.Encoded.TheVariants as e
 use Rattle.isa.specs.Encode.{encode_of}
 use Rattle.isa_ranges.proofs.All.{left, right}
-use Rattle.asm_value.specs.declared.Value.{Value}
-use Rattle.asm_value.specs.declared.Value.TheVariants.{Known}
 use Rattle.asm_text.specs.Text.{ascii, byte_at, name_byte?, digit?}
 use Rattle.asm_words.specs.declared.Word.TheVariants.{Begins}
 use Rattle.asm_words.specs.declared.Keyword.{Keyword}
@@ -26,12 +25,10 @@ use Rattle.asm_words.specs.declared.Keyword.TheVariants as key
 use Rattle.asm_words.specs.declared.Valued.{Valued}
 use Rattle.asm_words.specs.declared.Valued.TheVariants as val
 use Rattle.asm_words.specs.Words.{word_of}
-use Rattle.asm_fits.specs.declared.Fit.TheVariants.{Number}
 use Rattle.asm_line.specs.declared.Statement.{Statement}
 use Rattle.asm_line.specs.declared.Statement.TheVariants.{Word, Fixed}
-use Rattle.asm_line.specs.declared.Reading.TheVariants.{Line}
 use Rattle.asm_line.specs.Statement.{with_value, statement_with, statement_of}
-use Rattle.asm_line.specs.Line.{line_of}
+use Rattle.asm_line.specs.Line.{line_with, line_of}
 use Rattle.asm_write.specs.declared.Layout.TheVariants.{Bytes}
 use Rattle.asm_write.specs.Written.{encoded, layout_of, number_of}
 use Rattle.asm_print.specs.Print.{register_text, number_text, hex_text, address_text}
@@ -39,17 +36,17 @@ use Rattle.asm_print.specs.Print.{with_comma, size_mark, phrase, word_text, targ
 use Rattle.asm_print_laws.specs.Theorems.{Says}
 use Rattle.asm_print_laws.proofs.Here.{all, is_true, low-name, low_digit, plain-append}
 use Rattle.asm_print_laws.proofs.Pieces.{Spells, register-spells, mnemonics, decimal-digits, hex-all}
-use Rattle.asm_print_laws.proofs.Statements.{StatedAs, one-hex, line_read}
+use Rattle.asm_print_laws.proofs.Statements.{StatedAs, Reads, one-hex, line_read}
 use Rattle.asm_print_laws.proofs.Fits.{word_fits}
 
 -- ---- the line of a mnemonic
 size-mark-ends : (wb : ℕ) (t : List ℕ) → byte_at (size_mark wb ++ (32 ∷ t)) 0 < 48
 size-mark-ends wb t = bool_cases (eqb wb 0) (λ q. rw q (omega arith)) (λ q. rw q (omega arith))
 
-pub mnemonic-line : (look : List ℕ → Value) (l : List ℕ) (k : Keyword) (wb : ℕ) (operands : List ℕ) (x : Statement)
+pub mnemonic-line : (look : List ℕ → Result ℤ Lack) (l : List ℕ) (k : Keyword) (wb : ℕ) (operands : List ℕ) (x : Statement)
     → Spells word_of l (Begins k)
     → ((s : List ℕ) (i : ℕ) → drop i s ≡ size_mark wb ++ (32 ∷ operands) → StatedAs s (statement_of look s false (Begins k) i) x)
-    → line_of look (phrase l wb operands) ≡ Line false 0 x
+    → Reads look (phrase l wb operands) x
 unfolding phrase
 mnemonic-line look l k wb operands x h f = line_read look l (size_mark wb ++ (32 ∷ operands)) k x h (size-mark-ends wb operands) f
 
@@ -106,48 +103,51 @@ address_plain prpo dec inc r h =
     (λ q. bool_cases (eqb prpo 0) (λ p. rw (q, p) (plain-append (register_text r) (sign ∷ []) g (k, tt))) (λ p. rw (q, p) (k, g)))
 
 -- ---- what a text says: the line's statement, and that it is one line
-unfoldable pub Whole : (look : List ℕ → Value) (p w : ℕ) → List ℕ → Type 0
+unfoldable pub Whole : (look : List ℕ → Result ℤ Lack) (p w : ℕ) → List ℕ → Type 0
 Whole look p w l = Says look p w l × Plain l
 
 -- an instruction all of whose fields the text names
-module _ (look : List ℕ → Value) (p w : ℕ) where
-  pub fixed-whole : (j : Instr) (l : List ℕ) → encode_of j ≡ e.Word w → line_of look l ≡ Line false 0 (Fixed j) → Plain l → Whole look p w l
+module _ (look : List ℕ → Result ℤ Lack) (p w : ℕ) where
+  pub fixed-whole : (j : Instr) (l : List ℕ) → encode_of j ≡ Some w → Reads look l (Fixed j) → Plain l → Whole look p w l
   unfolding Whole layout_of number_of
-  fixed-whole j l h r k = (record { statement = Fixed j; reads = r; layout = refl; number = ap encoded h }, k)
+  fixed-whole j l h r k = (record { statement = Fixed j; reads = r.0; starts = r.1; layout = refl; number = ap encoded h }, k)
 
   pub word-whole : w < 65536 → Whole look p w (word_text w)
   unfolding Whole layout_of number_of word_text statement_of statement_with with_value
-  word-whole h = (
-    record {
-      statement = Word (Known (pos w));
-      reads = line_read look (ascii "WORD") (32 ∷ hex_text 4 w) (key.Value val.Word) (Word (Known (pos w))) mnemonics.word (omega arith)
-          (λ s i b. one-hex look s i val.Word w h b);
-      layout = refl;
-      number = word_fits w h;
-    },
-    (omega arith, (omega arith, (omega arith, (omega arith, (omega arith, hex-plain 4 w))))),
-  )
+  word-whole h =
+      let r =
+      line_read look (ascii "WORD") (32 ∷ hex_text 4 w) (key.Value val.Word) (Word (Ok (pos w))) mnemonics.word (omega arith)
+      (λ s i b. one-hex look s i val.Word w h b) in (
+        record {
+          statement = Word (Ok (pos w));
+          reads = r.0;
+          starts = r.1;
+          layout = refl;
+          number = word_fits w h;
+        },
+        (omega arith, (omega arith, (omega arith, (omega arith, (omega arith, hex-plain 4 w))))),
+      )
 
   -- one whose value is to fit
-  pub valued-whole : (x : Statement) (l : List ℕ) → line_of look l ≡ Line false 0 x → layout_of x ≡ Bytes 2 → number_of p x ≡ Number w
+  pub valued-whole : (x : Statement) (l : List ℕ) → Reads look l x → layout_of x ≡ Bytes 2 → number_of p x ≡ Ok w
       → Plain l → Whole look p w l
   unfolding Whole
-  valued-whole x l r a n k = (record { statement = x; reads = r; layout = a; number = n }, k)
+  valued-whole x l r a n k = (record { statement = x; reads = r.0; starts = r.1; layout = a; number = n }, k)
 
   branch-line : (l : List ℕ) (m : Valued) (t : ℕ) → Spells word_of l (Begins (key.Value m)) → t < 65536
-      → line_of look (phrase l 0 (hex_text 4 t)) ≡ Line false 0 (with_value m (Known (pos t)))
+      → Reads look (phrase l 0 (hex_text 4 t)) (with_value m (Ok (pos t)))
   unfolding statement_of statement_with
   branch-line l m t h g =
-      mnemonic-line look l (key.Value m) 0 (hex_text 4 t) (with_value m (Known (pos t))) h (λ s i b. one-hex look s i m t g b)
+      mnemonic-line look l (key.Value m) 0 (hex_text 4 t) (with_value m (Ok (pos t))) h (λ s i b. one-hex look s i m t g b)
 
   pub branch-whole : (l : List ℕ) (m : Valued) (off : ℤ) → w < 65536 → Spells word_of l (Begins (key.Value m))
-      → layout_of (with_value m (Known (pos (target_of p off)))) ≡ Bytes 2 → number_of p (with_value m (Known (pos (target_of p off))))
-      ≡ Number w
+      → layout_of (with_value m (Ok (pos (target_of p off)))) ≡ Bytes 2 → number_of p (with_value m (Ok (pos (target_of p off))))
+      ≡ Ok w
       → Whole look p w (branch_text l p w off)
   unfolding branch_text
   branch-whole l m off hw h a n =
       bool_cases (eqb (p % 2) 0)
-      (λ c. rw c (valued-whole (with_value m (Known (pos (target_of p off)))) (phrase l 0 (hex_text 4 (target_of p off)))
+      (λ c. rw c (valued-whole (with_value m (Ok (pos (target_of p off)))) (phrase l 0 (hex_text 4 (target_of p off)))
       (branch-line l m (target_of p off) h (omega arith)) a n
       (phrase-plain l 0 (hex_text 4 (target_of p off)) h.names (hex-plain 4 (target_of p off)))))
       (λ c. rw c (word-whole hw))

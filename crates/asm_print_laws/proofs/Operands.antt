@@ -9,21 +9,18 @@ use lib.IntN.{ℤ, pos, negsuc}
 use lib.ListN.{length, drop}
 use lib.Signed.{mag}
 use borrow.Author.Tests.{lt-ltb, ne_eqb, le-leb}
-use Rattle.asm_value.specs.declared.Value.{Value}
-use Rattle.asm_value.specs.declared.Value.TheVariants.{Known}
+use Rattle.std.specs.Prelude.{Option, Some, None, Result, Ok}
+use Rattle.asm_value.specs.declared.Lack.{Lack}
 use Rattle.asm_value.specs.Value.{fitted, with_sign}
-use Rattle.asm_text.specs.Text.{byte_at, blank?, letter?, name_byte?, digit?, after, numeral, word, same}
+use Rattle.asm_text.specs.Text.{byte_at, blank?, letter?, name_byte?, digit?, after, numeral, word, same, found}
+use Rattle.asm_text.specs.declared.Read.{Read}
 use Rattle.asm_text.proofs.Laws.{after_stop}
-use Rattle.asm_expr.specs.declared.Answer.{Answer}
-use Rattle.asm_expr.specs.declared.Answer.TheVariants.{Parsed}
 use Rattle.asm_expr.specs.Grammar.{parsed, number, named?, digits_at, plain_at, factor_of}
 use Rattle.asm_expr.specs.Meaning.{value_of, answer_of}
 use Rattle.asm_expr.proofs.Laws.{factor-plain}
-use Rattle.asm_operands.specs.declared.Found.{Found}
-use Rattle.asm_operands.specs.declared.Found.TheVariants.{At, Missing}
 use Rattle.asm_operands.specs.Operands.{
   over?,
-  word_below,
+  word_said,
   register_at,
   condition_at,
   flags_at,
@@ -33,9 +30,8 @@ use Rattle.asm_operands.specs.Operands.{
   number?,
   comma?,
 }
-use Rattle.asm_operands.specs.Operands.{comma_register, comma_value, changed_before, changed_after, address_at}
+use Rattle.asm_operands.specs.Operands.{comma_register, comma_value, addressed, changed_before, changed_after, address_at}
 use Rattle.asm_operands.specs.declared.Address.{Address}
-use Rattle.asm_operands.specs.declared.Address.TheVariants.{Of}
 use Rattle.text.specs.Text.{hex_of, decimal_of}
 use Rattle.asm_words.specs.Words.{meaning, registers, register_of, condition_of, flags_of}
 use Rattle.asm_print.specs.Print.{condition_text, register_text, number_text, hex_text, flags_text, address_text, idle?, size_mark}
@@ -44,40 +40,40 @@ use Rattle.asm_print_laws.proofs.Here.{here-one, here-byte, here_end, here-after
 use Rattle.asm_print_laws.proofs.Pieces.{Spells, Digits, register-spells, condition-spells, flags-spells, decimal-digits, hex-digits}
 
 -- n is found, and t follows it
-pub record FoundAt (s t : List ℕ) (f : Found) (n : ℕ) : Type 0 where
+pub record FoundAt (s t : List ℕ) (f : Option (Read ℕ)) (n : ℕ) : Type 0 where
   pub place : ℕ
-  pub is : f ≡ At n place
+  pub is : f ≡ found n place
   pub here : drop place s ≡ t
 
 -- z is the value, and t follows it
-pub record ValueAt (s t : List ℕ) (a : Answer) (z : ℤ) : Type 0 where
+pub record ValueAt (s t : List ℕ) (a : Option (Read (Result ℤ Lack))) (z : ℤ) : Type 0 where
   pub place : ℕ
-  pub is : a ≡ Parsed (Known z) place
+  pub is : a ≡ found (Ok z) place
   pub here : drop place s ≡ t
 
 -- ---- words
 module _ (s : List ℕ) (i : ℕ) (t : List ℕ) (e : Ends t) where
-  word_read : (limit : ℕ) (which : List ℕ → ℕ) (l : List ℕ) (n : ℕ) → Spells which l n → n < limit → Begins s i (l ++ t)
-      → FoundAt s t (word_below limit which s i) n
-  unfolding word_below
-  word_read limit which l n h k b =
+  word_read : (which : List ℕ → Option ℕ) (l : List ℕ) (n : ℕ) → Spells which l (Some n) → Begins s i (l ++ t)
+      → FoundAt s t (word_said which s i) n
+  unfolding word_said
+  word_read which l n h b =
       let j = after blank? s i in
-      let w : which (word (drop j s)) ≡ n =
+      let w : which (word (drop j s)) ≡ Some n =
       ap (λ (x : List ℕ). which (word x)) b ∙ ap which (word-all l t h.names e) ∙ h.is in
       let a : after name_byte? s j ≡ j + length l = here-after s j name_byte? l t b h.names (low-name (byte_at t 0) e) in
-      record { place = j + length l; is = rw (w, lt-ltb n limit k, a); here = here-past s j l t b }
+      record { place = j + length l; is = rw (w, a); here = here-past s j l t b }
 
   pub register-read : (r : ℕ) → r < 8 → Begins s i (register_text r ++ t) → FoundAt s t (register_at s i) r
   unfolding register_at
-  register-read r h b = word_read 8 register_of (register_text r) r (register-spells r h) h b
+  register-read r h b = word_read register_of (register_text r) r (register-spells r h) b
 
   pub condition-read : (c : ℕ) → c < 16 → Begins s i (condition_text c ++ t) → FoundAt s t (condition_at s i) c
   unfolding condition_at
-  condition-read c h b = word_read 16 condition_of (condition_text c) c (condition-spells c h) h b
+  condition-read c h b = word_read condition_of (condition_text c) c (condition-spells c h) b
 
   pub flags-read : (f : ℕ) → f < 31 → Begins s i (flags_text (suc f) ++ t) → FoundAt s t (flags_at s i) (suc f)
   unfolding flags_at
-  flags-read f h b = word_read 32 flags_of (flags_text (suc f)) (suc f) (flags-spells f h) (omega arith) b
+  flags-read f h b = word_read flags_of (flags_text (suc f)) (suc f) (flags-spells f h) b
 
 -- ---- numbers
 digits-read : (negative : Bool) (base : ℕ) (s : List ℕ) (i : ℕ) (l t : List ℕ) (n : ℕ) → base ≤ 16 → Digits base l n → Ends t
@@ -92,7 +88,7 @@ digits-read negative base s i l t n k h e b =
     let c : numeral base 0 (drop i s) ≡ n = ap (numeral base 0) b ∙ numeral-all base 0 l t k h.digits e ∙ h.says in
     rw (d, a, c)
 
-fits : (z : ℤ) → mag z < 2147483648 → fitted z ≡ Known z
+fits : (z : ℤ) → mag z < 2147483648 → fitted z ≡ Ok z
 unfolding fitted
 fits z h = rw (lt-ltb (mag z) 2147483648 h)
 
@@ -114,7 +110,7 @@ module _ (s : List ℕ) (i : ℕ) (t : List ℕ) (e : Ends t) where
   unfolding number? nameless? named?
   hex-nameless k n h b = ap nameless? (hex-parsed k n h b)
 
-module _ (look : List ℕ → Value) (s : List ℕ) (i : ℕ) (t : List ℕ) (e : Ends t) where
+module _ (look : List ℕ → Result ℤ Lack) (s : List ℕ) (i : ℕ) (t : List ℕ) (e : Ends t) where
   pub hex-read : (k n : ℕ) → n < 16 ^ suc k → n < 65536 → Begins s i (hex_text (suc k) n ++ t) → ValueAt s t (value_at look s i) (pos n)
   unfolding value_at hex_text answer_of value_of
   hex-read k n h g b =
@@ -124,7 +120,7 @@ module _ (look : List ℕ → Value) (s : List ℕ) (i : ℕ) (t : List ℕ) (e 
       record {
         place = j + 1 + length l;
         is = ap (answer_of look) (hex-parsed s i t e k n h b)
-            ∙ ap (λ (v : Value). Parsed v (j + 1 + length l)) (fits (pos n) (omega arith));
+            ∙ ap (λ (v : Result ℤ Lack). found v (j + 1 + length l)) (fits (pos n) (omega arith));
         here = here-past s (j + 1) l t d;
       }
 
@@ -143,7 +139,7 @@ module _ (look : List ℕ → Value) (s : List ℕ) (i : ℕ) (t : List ℕ) (e 
       rw (c, m) (digits-read false 10 s (j + 1) l t n (omega arith) g e d) in
       record {
         place = j + 1 + length l;
-        is = ap (answer_of look) (p ∙ q) ∙ ap (λ (v : Value). Parsed v (j + 1 + length l)) (fits (pos n) (omega arith));
+        is = ap (answer_of look) (p ∙ q) ∙ ap (λ (v : Result ℤ Lack). found v (j + 1 + length l)) (fits (pos n) (omega arith));
         here = here-past s (j + 1) l t d;
       }
   number_read (negsuc n) h b =
@@ -158,7 +154,7 @@ module _ (look : List ℕ → Value) (s : List ℕ) (i : ℕ) (t : List ℕ) (e 
       rw (c, f) (digits-read true 10 s (j + 2) l t (suc n) (omega arith) g e d) in
       record {
         place = j + 2 + length l;
-        is = ap (answer_of look) (p ∙ q) ∙ ap (λ (v : Value). Parsed v (j + 2 + length l)) (fits (negsuc n) (omega arith));
+        is = ap (answer_of look) (p ∙ q) ∙ ap (λ (v : Result ℤ Lack). found v (j + 2 + length l)) (fits (negsuc n) (omega arith));
         here = here-past s (j + 2) l t d;
       }
 
@@ -204,7 +200,7 @@ module _ (s : List ℕ) (i : ℕ) (t : List ℕ) (e : Ends t) where
   pub first-flags : (f : ℕ) → f < 31 → drop i s ≡ 32 ∷ (flags_text (suc f) ++ t) → FoundAt s t (flags_at s i) (suc f)
   first-flags f h b = flags-read s i t e f h (begins-blank s i (flags_text (suc f) ++ t) b (flags-solid f t h))
 
-module _ (look : List ℕ → Value) (s : List ℕ) (i : ℕ) (t : List ℕ) (e : Ends t) where
+module _ (look : List ℕ → Result ℤ Lack) (s : List ℕ) (i : ℕ) (t : List ℕ) (e : Ends t) where
   pub first-number : (z : ℤ) → mag z < 99 → drop i s ≡ 32 ∷ (number_text z ++ t) → ValueAt s t (value_at look s i) z
   first-number z h b = number_read look s i t e z h (begins-blank s i (number_text z ++ t) b (number-solid z t))
 
@@ -234,7 +230,7 @@ module _ (s : List ℕ) (i : ℕ) (t : List ℕ) (e : Ends t) where
       let f = next-register s (after blank? s i + 1) t e r h c.1 in
       record { place = f.place; is = rw c.0 f.is; here = f.here }
 
-  pub comma-number : (look : List ℕ → Value) (z : ℤ) → mag z < 99 → drop i s ≡ 44 ∷ (number_text z ++ t)
+  pub comma-number : (look : List ℕ → Result ℤ Lack) (z : ℤ) → mag z < 99 → drop i s ≡ 44 ∷ (number_text z ++ t)
       → ValueAt s t (comma_value look s i) z
   unfolding comma_value
   comma-number look z h b =
@@ -244,8 +240,8 @@ module _ (s : List ℕ) (i : ℕ) (t : List ℕ) (e : Ends t) where
       record { place = f.place; is = rw c.0 f.is; here = f.here }
 
 -- no register stands where a number does
-pub register-none : (s : List ℕ) (i : ℕ) (z : ℤ) (t : List ℕ) → drop i s ≡ 32 ∷ (number_text z ++ t) → register_at s i ≡ Missing
-unfolding register_at word_below number_text register_of registers meaning same name_byte? blank? word
+pub register-none : (s : List ℕ) (i : ℕ) (z : ℤ) (t : List ℕ) → drop i s ≡ 32 ∷ (number_text z ++ t) → register_at s i ≡ None
+unfolding register_at word_said number_text register_of registers meaning same name_byte? blank? word
 register-none s i (pos n) t h =
     let b = begins-blank s i (35 ∷ (decimal_of 1 n ++ t)) h refl in
     rw b
@@ -275,9 +271,9 @@ width_read s i (suc zero) t h b =
 width_read s i (suc (suc n)) t h b = absurd (omega (arith, h))
 
 -- ---- the address of LD and ST
-pub record AddressAt (s t : List ℕ) (a : Address) (prpo dec inc r : ℕ) : Type 0 where
+pub record AddressAt (s t : List ℕ) (a : Option (Read Address)) (prpo dec inc r : ℕ) : Type 0 where
   pub place : ℕ
-  pub is : a ≡ Of prpo dec inc r place
+  pub is : a ≡ addressed prpo dec inc r place
   pub here : drop place s ≡ t
 
 -- neither a blank nor + nor -
@@ -308,7 +304,7 @@ module _ (s : List ℕ) (i : ℕ) (t : List ℕ) (e : Clear t) (r : ℕ) (hr : r
       record { place = k; is = rw (p.0, p.1, f.is, a, c, e.plus, e.minus); here = f.here }
 
   address-after : (sign : ℕ) → Begins s i (register_text r ++ (sign ∷ t)) → sign < 48 → blank? sign ≡ false
-      → (k : ℕ) × (address_at s i ≡ changed_after s (At r k)) × (after blank? s k ≡ k) × (byte_at s k ≡ sign) × (drop (k + 1) s ≡ t)
+      → (k : ℕ) × (address_at s i ≡ changed_after s (found r k)) × (after blank? s k ≡ k) × (byte_at s k ≡ sign) × (drop (k + 1) s ≡ t)
   unfolding address_at
   address-after sign b h n =
       let p = first_plain (sign ∷ t) b in

@@ -9,11 +9,12 @@ use lib.IntN.{ℤ, pos}
 use lib.ListN.{length, drop}
 use lib.Signed.{mag}
 use borrow.Author.Tests.{ne_eqb, lt-leb}
+use Rattle.std.specs.Prelude.{Option, None, Result, Ok}
+use Rattle.asm_value.specs.declared.Lack.{Lack}
 use Rattle.word.proofs.Laws.{bool_cases}
 use Rattle.isa.specs.declared.Instr.TheVariants as instr
-use Rattle.asm_value.specs.declared.Value.{Value}
-use Rattle.asm_value.specs.declared.Value.TheVariants.{Known}
-use Rattle.asm_text.specs.Text.{byte_at, blank?, name_byte?, after, word}
+use Rattle.asm_text.specs.declared.Read.{Read}
+use Rattle.asm_text.specs.Text.{byte_at, blank?, name_byte?, after, word, found}
 use Rattle.asm_text.proofs.Laws.{after_stop, byte-in}
 use Rattle.asm_words.specs.Words.{word_of, free?}
 use Rattle.asm_words.specs.declared.Word.TheVariants.{Begins}
@@ -21,13 +22,10 @@ use Rattle.asm_words.specs.declared.Keyword.{Keyword}
 use Rattle.asm_words.specs.declared.Valued.{Valued}
 use Rattle.asm_line.specs.declared.Statement.{Statement}
 use Rattle.asm_line.specs.declared.Statement.TheVariants.{Fixed, Constant, Cex, MovImm, Ldr, Str}
-use Rattle.asm_line.specs.declared.Stated.{Stated}
-use Rattle.asm_line.specs.declared.Stated.TheVariants.{Fits}
-use Rattle.asm_line.specs.declared.Reading.TheVariants.{Line}
 use Rattle.asm_operands.specs.Operands.{over?, register_at, comma_register, comma_value, comma_address}
 use Rattle.asm_line.specs.Statement.{with_value, one_value, arithmetic, move, exchange, unary, one_register}
 use Rattle.asm_line.specs.Statement.{on_flags, conditional, load, store, move_byte, load_relative, store_relative, statement_of}
-use Rattle.asm_line.specs.Line.{statement_at, line_from, line_of}
+use Rattle.asm_line.specs.Line.{line_with, statement_at, line_from, line_of}
 use Rattle.asm_print.specs.Print.{
   condition_text,
   register_text,
@@ -46,9 +44,9 @@ use Rattle.asm_print_laws.proofs.Operands.{first-number, first-hex, first-hex-na
 use Rattle.asm_print_laws.proofs.Operands.{register-none, register-solid, solid, over-end, address_read}
 
 -- a statement is read, and the line is over
-pub record StatedAs (s : List ℕ) (f : Stated) (x : Statement) : Type 0 where
+pub record StatedAs (s : List ℕ) (f : Option (Read Statement)) (x : Statement) : Type 0 where
   pub place : ℕ
-  pub is : f ≡ Fits x place
+  pub is : f ≡ found x place
   pub here : drop place s ≡ []
 
 -- the last operand is a register or a number
@@ -56,22 +54,22 @@ last-register : (s : List ℕ) (i r : ℕ) → r < 8 → drop i s ≡ 44 ∷ reg
 last-register s i r h b =
     comma-register s i [] (omega arith) r h (b ∙ ap (λ (l : List ℕ). 44 ∷ l) (sym (append-nil (register_text r))))
 
-last-number : (look : List ℕ → Value) (s : List ℕ) (i : ℕ) (z : ℤ) → mag z < 99 → drop i s ≡ 44 ∷ number_text z
+last-number : (look : List ℕ → Result ℤ Lack) (s : List ℕ) (i : ℕ) (z : ℤ) → mag z < 99 → drop i s ≡ 44 ∷ number_text z
     → ValueAt s [] (comma_value look s i) z
 last-number look s i z h b =
     comma-number s i [] (omega arith) look z h (b ∙ ap (λ (l : List ℕ). 44 ∷ l) (sym (append-nil (number_text z))))
 
-module _ (look : List ℕ → Value) (s : List ℕ) (i : ℕ) where
+module _ (look : List ℕ → Result ℤ Lack) (s : List ℕ) (i : ℕ) where
   -- ---- V
   pub one-hex : (m : Valued) (n : ℕ) → n < 65536 → drop i s ≡ 32 ∷ hex_text 4 n
-      → StatedAs s (one_value look s m i) (with_value m (Known (pos n)))
+      → StatedAs s (one_value look s m i) (with_value m (Ok (pos n)))
   unfolding one_value
   one-hex m n h b =
       let v = first-hex look s i [] (omega arith) 3 n h h (b ∙ ap (λ (l : List ℕ). 32 ∷ l) (sym (append-nil (hex_text 4 n)))) in
       record { place = v.place; is = rw v.is; here = v.here }
 
   pub one_number : (m : Valued) (n : ℕ) → n < 99 → drop i s ≡ 32 ∷ number_text (pos n)
-      → StatedAs s (one_value look s m i) (with_value m (Known (pos n)))
+      → StatedAs s (one_value look s m i) (with_value m (Ok (pos n)))
   unfolding one_value
   one_number m n h b =
       let v = first-number look s i [] (omega arith) (pos n) h
@@ -91,7 +89,7 @@ module _ (look : List ℕ → Value) (s : List ℕ) (i : ℕ) where
 
   pub with-constant : (op wb : ℕ) (z : ℤ) (dst : ℕ) → wb < 2 → mag z < 99 → dst < 8
       → drop i s ≡ size_mark wb ++ (32 ∷ with_comma (number_text z) (register_text dst))
-      → StatedAs s (arithmetic look s op i) (Constant op wb (Known z) dst)
+      → StatedAs s (arithmetic look s op i) (Constant op wb (Ok z) dst)
   unfolding arithmetic
   with-constant op wb z dst hw hz hd b =
       let w = width_read s i wb (with_comma (number_text z) (register_text dst)) hw b in
@@ -146,7 +144,7 @@ module _ (look : List ℕ → Value) (s : List ℕ) (i : ℕ) where
 
   pub conditionals : (c m n : ℕ) → c < 16 → m < 99 → n < 99
       → drop i s ≡ 32 ∷ with_comma (condition_text c) (with_comma (number_text (pos m)) (number_text (pos n)))
-      → StatedAs s (conditional look s i) (Cex c (Known (pos m)) (Known (pos n)))
+      → StatedAs s (conditional look s i) (Cex c (Ok (pos m)) (Ok (pos n)))
   unfolding conditional
   conditionals c m n hc hm hn b =
       let f = first-condition s i (44 ∷ with_comma (number_text (pos m)) (number_text (pos n))) (omega arith) c hc b in
@@ -156,7 +154,7 @@ module _ (look : List ℕ → Value) (s : List ℕ) (i : ℕ) where
 
   -- ---- memory
   pub move-byte : (op n dst : ℕ) → n < 256 → dst < 8 → drop i s ≡ 32 ∷ with_comma (hex_text 2 n) (register_text dst)
-      → StatedAs s (move_byte look s op i) (MovImm op true (Known (pos n)) dst)
+      → StatedAs s (move_byte look s op i) (MovImm op true (Ok (pos n)) dst)
   unfolding move_byte
   move-byte op n dst hn hd b =
       let v = first-hex look s i (44 ∷ register_text dst) (omega arith) 1 n hn (omega arith) b in
@@ -166,7 +164,7 @@ module _ (look : List ℕ → Value) (s : List ℕ) (i : ℕ) where
 
   pub load-relative : (z : ℤ) (wb src dst : ℕ) → mag z < 99 → wb < 2 → src < 8 → dst < 8
       → drop i s ≡ size_mark wb ++ (32 ∷ with_comma (register_text src) (with_comma (number_text z) (register_text dst)))
-      → StatedAs s (load_relative look s i) (Ldr (Known z) wb src dst)
+      → StatedAs s (load_relative look s i) (Ldr (Ok z) wb src dst)
   unfolding load_relative
   load-relative z wb src dst hz hw hs hd b =
       let w = width_read s i wb (with_comma (register_text src) (with_comma (number_text z) (register_text dst))) hw b in
@@ -177,7 +175,7 @@ module _ (look : List ℕ → Value) (s : List ℕ) (i : ℕ) where
 
   pub store-relative : (z : ℤ) (wb src dst : ℕ) → mag z < 99 → wb < 2 → src < 8 → dst < 8
       → drop i s ≡ size_mark wb ++ (32 ∷ with_comma (register_text src) (with_comma (register_text dst) (number_text z)))
-      → StatedAs s (store_relative look s i) (Str (Known z) wb src dst)
+      → StatedAs s (store_relative look s i) (Str (Ok z) wb src dst)
   unfolding store_relative
   store-relative z wb src dst hz hw hs hd b =
       let w = width_read s i wb (with_comma (register_text src) (with_comma (register_text dst) (number_text z))) hw b in
@@ -240,9 +238,14 @@ unfolding over? name_byte?
 not-over s h n =
     rw (lt-leb (length s) 0 (byte-in s 0 h), ne_eqb (byte_at s 0) 59 (λ q. false≢true (sym (ap name_byte? q) ∙ n)))
 
+-- a line without a name whose statement is x, and that it begins with no blank
+abbrev pub Reads : (List ℕ → Result ℤ Lack) → List ℕ → Statement → Type 0
+Reads look l x = (line_of look l ≡ line_with None x) × (after blank? l 0 ≡ 0)
+
 -- a word of the language, and what its statement is read from
-pub line_read : (look : List ℕ → Value) (l t : List ℕ) (k : Keyword) (x : Statement) → Spells word_of l (Begins k) → Ends t
-    → ((s : List ℕ) (i : ℕ) → drop i s ≡ t → StatedAs s (statement_of look s false (Begins k) i) x) → line_of look (l ++ t) ≡ Line false 0 x
+pub line_read : (look : List ℕ → Result ℤ Lack) (l t : List ℕ) (k : Keyword) (x : Statement) → Spells word_of l (Begins k) → Ends t
+    → ((s : List ℕ) (i : ℕ) → drop i s ≡ t → StatedAs s (statement_of look s false (Begins k) i) x)
+    → Reads look (l ++ t) x
 unfolding line_of line_from statement_at free?
 line_read look l t k x h e f =
     let s = l ++ t in
@@ -253,4 +256,4 @@ line_read look l t k x h e f =
     let w : word_of (word s) ≡ Begins k = ap word_of (word-all l t h.names e) ∙ h.is in
     let n : after name_byte? s 0 ≡ 0 + length l = here-after s 0 name_byte? l t refl h.names (low-name (byte_at t 0) e) in
     let g = f s (after name_byte? s 0) (ap (λ (j : ℕ). drop j s) n ∙ here-past s 0 l t refl) in
-    rw (a, b, w, g.is, over-end s g.place g.here)
+    (rw (a, b, w, g.is, over-end s g.place g.here), a)

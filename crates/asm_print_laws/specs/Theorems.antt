@@ -1,13 +1,11 @@
 -- What holds of the text of a word, as statements; the proofs folder has a proof of each. Assumes nothing.
-use Rattle.std.specs.Prelude.{ℕ, ◌+◌, ◌*◌, ◌/◌, ◌%◌, ◌<◌, ◌≤◌, ◌≡◌, false, List, [], ◌∷◌, length}
+use Rattle.std.specs.Prelude.{ℕ, ◌+◌, ◌*◌, ◌/◌, ◌%◌, ◌<◌, ◌≤◌, ◌≡◌, List, [], ◌∷◌, length, ℤ, None, Result, Ok}
 use Rattle.std.proofs.lemmas.List.Edits.{sets}
 use Rattle.text_lines.specs.Lines as lines
-use Rattle.asm_value.specs.declared.Value.{Value}
-use Rattle.asm_text.specs.Text.{ascii}
-use Rattle.asm_fits.specs.declared.Fit.TheVariants.{Number}
+use Rattle.asm_value.specs.declared.Lack.{Lack}
+use Rattle.asm_text.specs.Text.{ascii, blank?, after}
 use Rattle.asm_line.specs.declared.Statement.{Statement}
-use Rattle.asm_line.specs.declared.Reading.TheVariants.{Line}
-use Rattle.asm_line.specs.Line.{line_of}
+use Rattle.asm_line.specs.Line.{line_with, line_of}
 use Rattle.asm_write.specs.declared.Layout.TheVariants.{Bytes}
 use Rattle.asm_write.specs.Written.{layout_of, number_of}
 use Rattle.asm_call.specs.Call.{assembled, assemble_call_of}
@@ -15,16 +13,18 @@ use Rattle.asm_print.specs.Print.{text_at, origin_text}
 
 -- ---- a line
 
--- a line l without a name whose statement is the word w at p, with the values that `look` gives. [call text]
-pub record Says (look : List ℕ → Value) (p w : ℕ) (l : List ℕ) : Type 0 where
+-- a line l without a name that begins with no blank, whose statement is the word w at p, with the values that `look`
+-- gives. [call text]
+pub record Says (look : List ℕ → Result ℤ Lack) (p w : ℕ) (l : List ℕ) : Type 0 where
   pub statement : Statement
-  pub reads : line_of look l ≡ Line false 0 statement
+  pub reads : line_of look l ≡ line_with None statement
+  pub starts : after blank? l 0 ≡ 0
   pub layout : layout_of statement ≡ Bytes 2
-  pub number : number_of p statement ≡ Number w
+  pub number : number_of p statement ≡ Ok w
 
 -- The text of a word says that word, at every place, with any names given. [call text]
 abbrev pub TextSays : Type 0
-TextSays = (look : List ℕ → Value) (p w : ℕ) → w < 65536 → Says look p w (text_at p w)
+TextSays = (look : List ℕ → Result ℤ Lack) (p w : ℕ) → w < 65536 → Says look p w (text_at p w)
 
 -- ---- a source
 

@@ -1,37 +1,38 @@
 -- A statement from the spellings of its parts, and bytes put one after the other. Assumes nothing.
 use mathlib.Core.Path.{◌≡◌, refl, ap, ◌∙◌}
 use mathlib.Core.List.{List, [], ◌∷◌, ◌++◌, append-nil, append_assoc}
-use Prim.Native.Nat.{ℕ, zero, suc, ◌+◌, ◌-◌, ◌*◌, ◌/◌, ◌%◌, ◌<◌, ◌≤◌}
+use Prim.Native.Nat.{ℕ, zero, suc, ◌+◌, ◌-◌, ◌/◌, ◌%◌, ◌<◌}
 use native.Mathlib.Numerals.{unary_clauses}
 use native.Mathlib.Omega.{arith}
 use lib.ListN.{length, length-append}
 use lib.Seq.{sets}
-use borrow.Author.Tests.{lt-ltb, le-ltb, eq-eqb, ne_eqb}
-use Rattle.word.specs.Offset.{signed_of}
+use borrow.Author.Tests.{eq-eqb, ne_eqb}
+use Rattle.std.specs.Prelude.{Some, None}
 use Rattle.stores.proofs.Laws.{sets_then}
-use Rattle.asm_print.specs.Print.{register_text, address_text, hex_text, with_comma, size_mark, phrase, word_text, target_of}
+use Rattle.asm_print.specs.Print.{register_text, address_text, hex_text, with_comma, size_mark, phrase, word_text}
 use Rattle.asm_spellings.specs.Spellings.{letters_of, Mnemonic, Long, Short, register_spelling, address_spelling}
 use Rattle.asm_spellings.proofs.Laws.{register-short, address-short}
 use Rattle.asm_printer.specs.Parts.{behind, operands_text}
 
 -- ---- operands
-behind-some : (q : ℕ) (t : List ℕ) → Short q t → behind q ≡ 44 ∷ t
+behind-some : (q : ℕ) (t : List ℕ) → Short q t → behind (Some q) ≡ 44 ∷ t
 unfolding behind
-behind-some q t h = rw (h.some, h.four)
+behind-some q t h = rw h.four
 
-nothing-behind : (t : List ℕ) → t ++ behind 0 ≡ t
+nothing-behind : (t : List ℕ) → t ++ behind None ≡ t
 unfolding behind
 nothing-behind t = append-nil t
 
-pub one-operand : (a : ℕ) (t : List ℕ) → Long a t → operands_text a 0 0 ≡ t
+pub one-operand : (a : ℕ) (t : List ℕ) → Long a t → operands_text a None None ≡ t
 unfolding operands_text behind
 one-operand a t h = rw h (append-nil t)
 
-pub two_operands : (a b : ℕ) (s t : List ℕ) → Long a s → Short b t → operands_text a b 0 ≡ with_comma s t
+pub two_operands : (a b : ℕ) (s t : List ℕ) → Long a s → Short b t → operands_text a (Some b) None ≡ with_comma s t
 unfolding operands_text
 two_operands a b s t h k = rw (h, behind-some b t k) (ap (λ (l : List ℕ). s ++ (44 ∷ l)) (nothing-behind t))
 
-pub three-operands : (a b c : ℕ) (s t u : List ℕ) → Long a s → Short b t → Short c u → operands_text a b c ≡ with_comma s (with_comma t u)
+pub three-operands : (a b c : ℕ) (s t u : List ℕ) → Long a s → Short b t → Short c u
+    → operands_text a (Some b) (Some c) ≡ with_comma s (with_comma t u)
 unfolding operands_text
 three-operands a b c s t u h k l = rw (h, behind-some b t k, behind-some c u l)
 
@@ -46,19 +47,10 @@ of-address a p d i r e hp hd hi hr = rw e (address-short p d i r hp hd hi hr)
 pub with-mnemonic : (q : ℕ) (l : List ℕ) (wb : ℕ) (s t : List ℕ) → Mnemonic q l → s ≡ phrase (letters_of 6 q) wb t → s ≡ phrase l wb t
 with-mnemonic q l wb s t e h = h ∙ ap (λ (m : List ℕ). phrase m wb t) e
 
-pub word-parts : (a w : ℕ) → Long a (hex_text 4 w) → letters_of 6 0x574F5244 ++ (size_mark 0 ++ (32 ∷ operands_text a 0 0)) ≡ word_text w
+pub word-parts : (a w : ℕ) → Long a (hex_text 4 w)
+    → letters_of 6 0x574F5244 ++ (size_mark 0 ++ (32 ∷ operands_text a None None)) ≡ word_text w
 unfolding word_text letters_of
 word-parts a w h = ap (λ (l : List ℕ). 87 ∷ 79 ∷ 82 ∷ 68 ∷ 32 ∷ l) (one-operand a (hex_text 4 w) h)
-
--- ---- targets
-pub target_up : (p half o : ℕ) → o < half → (p + 2 + 2 * o) % 65536 ≡ target_of p (signed_of half o)
-target_up p half o h = rw (lt-ltb o half h)
-
-pub target-down : (p half o : ℕ) → half ≤ 4096 → half ≤ o → o < half + half
-    → (p + 131074 - 2 * (half + half - o)) % 65536 ≡ target_of p (signed_of half o)
-target-down p half o g h k =
-    let e : p + 131074 - 2 * (half + half - o) ≡ p + 2 + 2 * (32768 + 32768 - suc (half + half - suc o)) = omega arith in
-    rw (le-ltb o half h, e)
 
 -- ---- bytes
 
@@ -82,14 +74,6 @@ pub letters-more : (k q : ℕ) → (k ≡ 0 → ⊥) → (q ≡ 0 → ⊥) → l
 unfolding letters_of
 letters-more zero q h g = absurd (h refl)
 letters-more (suc k) q h g = rw (ne_eqb q 0 g) (simp unary_clauses)
-
-pub behind-none : (q : ℕ) → q ≡ 0 → behind q ≡ []
-unfolding behind
-behind-none q e = rw (eq-eqb q 0 e)
-
-pub behind_more : (q : ℕ) → (q ≡ 0 → ⊥) → behind q ≡ (44 ∷ []) ++ letters_of 4 q
-unfolding behind
-behind_more q h = rw (ne_eqb q 0 h)
 
 -- the five pieces of a statement
 five : (a m l b d : List ℕ) → (((a ++ (m ++ (32 ∷ []))) ++ l) ++ b) ++ d ≡ a ++ (m ++ (32 ∷ (l ++ (b ++ d))))

@@ -1,5 +1,5 @@
 -- A statement in parts, as the code makes it before it writes it. Assumes nothing.
-use Rattle.std.specs.Prelude.{ℕ, ◌≡◌, cond, List, [], ◌∷◌, ◌++◌, eqb}
+use Rattle.std.specs.Prelude.{ℕ, ◌≡◌, List, [], ◌∷◌, ◌++◌, Option, Some, None}
 use Prim.Native.Char.{code}
 use Rattle.isa.specs.declared.Instr.{Instr}
 use Rattle.asm_print.specs.Print.{size_mark, text_for}
@@ -7,14 +7,15 @@ use Rattle.asm_spellings.specs.Spellings.{letters_of}
 use Rattle.asm_printer.specs.declared.Parts.{Parts}
 
 -- Parts (declared in the code): a mnemonic's spelling, whether the statement is a byte form, and the spellings of its
--- operands, 0 for none.
+-- one to three operands.
 
--- a comma and an operand of at most four bytes
-unfoldable pub behind : ℕ → List ℕ
-behind q = cond (eqb q 0) [] (code "," ∷ letters_of 4 q)
+-- a comma and an operand of at most four bytes, or nothing
+unfoldable pub behind : Option ℕ → List ℕ
+behind None = []
+behind (Some q) = code "," ∷ letters_of 4 q
 
 -- one to three operands, the first of at most five bytes
-unfoldable pub operands_text : (first second third : ℕ) → List ℕ
+unfoldable pub operands_text : (first : ℕ) (second third : Option ℕ) → List ℕ
 operands_text a b c = letters_of 5 a ++ (behind b ++ behind c)
 
 -- the statement

@@ -1,6 +1,6 @@
 // A word's text: its parts by the ranges of the decoder, then their bytes at the start of a lent
 // buffer.
-#![tactic(auto)]
+#![tactic(auto, unfolding(asm_print::specs::Print::text_for, asm_print::specs::Print::text_at, asm_spellings::specs::Spellings::letters_of, isa::specs::Decode::decode_of, crate::specs::Parts::behind))]
 
 ghost use Rattle.std.specs.Prelude.{◌≡◌, cond, [], ◌∷◌, ◌++◌, ◌+◌, ◌*◌, ◌/◌, ◌%◌, ◌≤◌, ◌<◌, eqb, pos, length};
 ghost use Rattle.std.proofs.lemmas.List.Edits.{sets};
@@ -50,19 +50,19 @@ const STR: u64 = 0x535452;
 
 const WORD: u64 = 0x574F5244;
 
-// A statement in parts: the spellings of its mnemonic and operands, 0 for no operand, and whether
-// it is a byte form.
+// A statement in parts: the spellings of its mnemonic and its one to three operands, and whether it
+// is a byte form.
 #[derive(Clone, Copy)]
 pub struct Parts {
     pub mnemonic: u64,
     pub wb: u16,
     pub first: u64,
-    pub second: u64,
-    pub third: u64,
+    pub second: Option<u64>,
+    pub third: Option<u64>,
 }
 
 // A statement.
-fn statement(mnemonic: u64, wb: u16, first: u64, second: u64, third: u64) -> Parts
+fn statement(mnemonic: u64, wb: u16, first: u64, second: Option<u64>, third: Option<u64>) -> Parts
     ensures { parts_text result
         ≡ phrase (letters_of 6 mnemonic) wb (operands_text first second third) }
 {
@@ -84,8 +84,8 @@ fn word(w: u16) -> Parts
         mnemonic: WORD,
         wb: 0,
         first,
-        second: 0,
-        third: 0,
+        second: None,
+        third: None,
     }
 }
 
@@ -109,7 +109,7 @@ fn branch(q: u64, place: u16, w: u16, half: u32, o: u16) -> Parts
 {
     if place % 2 == 0 {
         let first = hex_word(target(place, half, o));
-        return statement(q, 0, first, 0, 0);
+        return statement(q, 0, first, None, None);
     }
     word(w)
 }
@@ -120,7 +120,7 @@ fn of_register(q: u64, wb: u16, d: u16) -> Parts
     ensures { parts_text result ≡ phrase (letters_of 6 q) wb (register_text d) }
 {
     let first = register(d);
-    statement(q, wb, first, 0, 0)
+    statement(q, wb, first, None, None)
 }
 
 // Two registers.
@@ -131,7 +131,7 @@ fn of_registers(q: u64, wb: u16, s: u16, d: u16) -> Parts
 {
     let first = register(s);
     let second = register(d);
-    statement(q, wb, first, second, 0)
+    statement(q, wb, first, Some(second), None)
 }
 
 // A number.
@@ -140,7 +140,7 @@ fn of_number(q: u64, n: u16) -> Parts
     ensures { parts_text result ≡ phrase (letters_of 6 q) 0 (number_text (pos n)) }
 {
     let first = count(n);
-    statement(q, 0, first, 0, 0)
+    statement(q, 0, first, None, None)
 }
 
 // Flags, if there are any.
@@ -153,7 +153,7 @@ fn of_flags(q: u64, f: u16, w: u16) -> Parts
         return word(w);
     }
     let first = flags(f);
-    statement(q, 0, first, 0, 0)
+    statement(q, 0, first, None, None)
 }
 
 // SWPB and SXT, unless the ignored bit is set.
@@ -193,66 +193,49 @@ fn alu(w: u16) -> Parts
     }
     let first = constant(w / 8 % 8);
     let second = register(w % 8);
-    statement(q, w / 64 % 2, first, second, 0)
+    statement(q, w / 64 % 2, first, Some(second), None)
 }
 
 // SRA, RRC, COMP, SWPB, SXT.
 fn unary(w: u16) -> Parts
     ensures { Prints result w (unary_of w) }
 {
-    let op = w / 8 % 8;
-    if op < 3 {
-        let q = asm_spellings::unary_name(op);
-        return of_register(q, w / 64 % 2, w % 8);
+    match w / 8 % 8 {
+        op @ 0..3 => {
+            let q = asm_spellings::unary_name(op);
+            of_register(q, w / 64 % 2, w % 8)
+        }
+        3 => unless_ignored(SWPB, w),
+        4 => unless_ignored(SXT, w),
+        _ => word(w),
     }
-    if op < 4 {
-        return unless_ignored(SWPB, w);
-    }
-    if op < 5 {
-        return unless_ignored(SXT, w);
-    }
-    word(w)
 }
 
 // SETPRI, SVC, SETCC, CLRCC.
 fn control(w: u16) -> Parts
     ensures { Prints result w (control_of w) }
 {
-    if w < 0x4D88 {
-        return of_number(SETPRI, w % 8);
+    match w {
+        ..0x4D88 => of_number(SETPRI, w % 8),
+        0x4D88..0x4DA0 => word(w),
+        0x4DA0..0x4DB0 => of_number(SVC, w % 16),
+        0x4DB0..0x4DC0 => word(w),
+        0x4DC0..0x4DE0 => of_flags(SETCC, w % 32, w),
+        _ => of_flags(CLRCC, w % 32, w),
     }
-    if w < 0x4DA0 {
-        return word(w);
-    }
-    if w < 0x4DB0 {
-        return of_number(SVC, w % 16);
-    }
-    if w < 0x4DC0 {
-        return word(w);
-    }
-    if w < 0x4DE0 {
-        return of_flags(SETCC, w % 32, w);
-    }
-    of_flags(CLRCC, w % 32, w)
 }
 
 // MOV, SWAP, one register, control.
 fn misc(w: u16) -> Parts
     ensures { Prints result w (misc_of w) }
 {
-    if w < 0x4C80 {
-        return of_registers(MOV, w / 64 % 2, w / 8 % 8, w % 8);
+    match w {
+        ..0x4C80 => of_registers(MOV, w / 64 % 2, w / 8 % 8, w % 8),
+        0x4C80..0x4D00 => swap(w),
+        0x4D00..0x4D80 => unary(w),
+        0x4D80..0x4E00 => control(w),
+        _ => word(w),
     }
-    if w < 0x4D00 {
-        return swap(w);
-    }
-    if w < 0x4D80 {
-        return unary(w);
-    }
-    if w < 0x4E00 {
-        return control(w);
-    }
-    word(w)
 }
 
 // CEX.
@@ -263,7 +246,7 @@ fn conditional(w: u16) -> Parts
     let first = condition(w / 64 % 16);
     let second = count(w / 8 % 8);
     let third = count(w % 8);
-    statement(CEX, 0, first, second, third)
+    statement(CEX, 0, first, Some(second), Some(third))
 }
 
 // Whether an adjustment moves nothing and is not plain.
@@ -284,7 +267,7 @@ fn load(w: u16) -> Parts
     }
     let first = address(w / 512 % 2, w / 256 % 2, w / 128 % 2, w / 8 % 8);
     let second = register(w % 8);
-    statement(LD, w / 64 % 2, first, second, 0)
+    statement(LD, w / 64 % 2, first, Some(second), None)
 }
 
 // ST.
@@ -297,23 +280,19 @@ fn store(w: u16) -> Parts
     }
     let first = register(w / 8 % 8);
     let second = address(w / 512 % 2, w / 256 % 2, w / 128 % 2, w % 8);
-    statement(ST, w / 64 % 2, first, second, 0)
+    statement(ST, w / 64 % 2, first, Some(second), None)
 }
 
 // CEX, LD, ST.
 fn memory(w: u16) -> Parts
     ensures { Prints result w (memory_of w) }
 {
-    if w < 0x5400 {
-        return conditional(w);
+    match w {
+        ..0x5400 => conditional(w),
+        0x5400..0x5800 => word(w),
+        0x5800..0x5C00 => load(w),
+        _ => store(w),
     }
-    if w < 0x5800 {
-        return word(w);
-    }
-    if w < 0x5C00 {
-        return load(w);
-    }
-    store(w)
 }
 
 // MOVL to MOVH.
@@ -323,7 +302,7 @@ fn move_byte(w: u16) -> Parts
     let q = asm_spellings::move_name(w / 2048 % 4);
     let first = hex_byte(w / 8 % 256);
     let second = register(w % 8);
-    statement(q, 0, first, second, 0)
+    statement(q, 0, first, Some(second), None)
 }
 
 // LDR, STR.
@@ -334,35 +313,27 @@ fn relative(w: u16) -> Parts
     let first = register(w / 8 % 8);
     let other = register(w % 8);
     if w < 0xC000 {
-        return statement(LDR, w / 64 % 2, first, way, other);
+        return statement(LDR, w / 64 % 2, first, Some(way), Some(other));
     }
-    statement(STR, w / 64 % 2, first, other, way)
+    statement(STR, w / 64 % 2, first, Some(other), Some(way))
 }
 
 // The parts of a word's text at a place.
 pub fn parts_of(place: u16, w: u16) -> Parts
     ensures { parts_text result ≡ text_at place w }
 {
-    if w < 0x2000 {
-        return branch(BL, place, w, 4096, w % 8192);
+    match w {
+        ..0x2000 => branch(BL, place, w, 4096, w % 8192),
+        0x2000..0x4000 => {
+            let q = asm_spellings::branch_name(w / 1024 % 8);
+            branch(q, place, w, 512, w % 1024)
+        }
+        0x4000..0x4C00 => alu(w),
+        0x4C00..0x5000 => misc(w),
+        0x5000..0x6000 => memory(w),
+        0x6000..0x8000 => move_byte(w),
+        _ => relative(w),
     }
-    if w < 0x4000 {
-        let q = asm_spellings::branch_name(w / 1024 % 8);
-        return branch(q, place, w, 512, w % 1024);
-    }
-    if w < 0x4C00 {
-        return alu(w);
-    }
-    if w < 0x5000 {
-        return misc(w);
-    }
-    if w < 0x6000 {
-        return memory(w);
-    }
-    if w < 0x8000 {
-        return move_byte(w);
-    }
-    relative(w)
 }
 
 // One byte.
@@ -388,14 +359,14 @@ fn put_letters(text: &mut [u8], at: usize, k: usize, q: u64) -> usize
 }
 
 // A comma and an operand, if there is one.
-fn put_behind(text: &mut [u8], at: usize, q: u64) -> usize
+fn put_behind(text: &mut [u8], at: usize, q: Option<u64>) -> usize
     requires { at + 5 ≤ length text.old }
     ensures { (text.new ≡ sets text.old at (behind q))
         × (result ≡ at + length (behind q)) × (result ≤ at + 5) }
 {
-    if q == 0 {
+    let Some(q) = q else {
         return at;
-    }
+    };
     let next = put(text, at, b',');
     put_letters(text, next, 4, q)
 }

@@ -3,10 +3,10 @@ use mathlib.Core.Path.{◌≡◌, refl, sym, ◌∙◌}
 use mathlib.Core.Bool.{false}
 use mathlib.Core.List.{List}
 use Prim.Native.Nat.{ℕ}
-use Rattle.asm_value.specs.declared.Value.{Value}
+use Rattle.std.specs.Prelude.{ℤ, Option, Some, None, Result}
+use Rattle.asm_value.specs.declared.Lack.{Lack}
 use Rattle.asm_line.specs.declared.Statement.{Statement}
-use Rattle.asm_line.specs.declared.Reading.{Reading}
-use Rattle.asm_line.specs.declared.Reading.TheVariants.{Line, Fault}
+use Rattle.asm_line.specs.declared.Line.{Line}
 use Rattle.asm_words.specs.declared.Valued.{Valued}
 use Rattle.asm_words.specs.declared.Valued.TheVariants as val
 use Rattle.asm_line.specs.Statement.{with_value}
@@ -15,7 +15,7 @@ use Rattle.asm_line.proofs.Alike.{Related, AlikeLines, line-related}
 use Rattle.asm_write.specs.Written.{layout_of}
 use Rattle.asm_sweeps.specs.Form.{faulty?, stops?, end?}
 
-abbrev AnyValues : Value → Value → Type 0
+abbrev AnyValues : Result ℤ Lack → Result ℤ Lack → Type 0
 AnyValues v w = Unit
 
 -- both are END, or neither is
@@ -23,7 +23,7 @@ abbrev Stops : Statement → Statement → Type 0
 Stops x y = stops? (layout_of x) ≡ stops? (layout_of y)
 
 -- a statement of one value is not END
-value_on_lem : (m : Valued) (v : Value) → stops? (layout_of (with_value m v)) ≡ false
+value_on_lem : (m : Valued) (v : Result ℤ Lack) → stops? (layout_of (with_value m v)) ≡ false
 unfolding with_value layout_of
 value_on_lem val.Org v = refl
 value_on_lem val.Bss v = refl
@@ -48,12 +48,12 @@ stops-related =
       of-store = λ b r d v w h. refl;
     }
 
-alike-form : (r s : Reading) → AlikeLines AnyValues Stops r s → (faulty? r ≡ faulty? s) × (end? r ≡ end? s)
-alike-form Fault Fault h = (refl, refl)
-alike-form Fault (Line m k y) h = absurd h
-alike-form (Line n i x) Fault h = absurd h
-alike-form (Line n i x) (Line m k y) h = (refl, h.2)
+alike-form : (r s : Option Line) → AlikeLines AnyValues Stops r s → (faulty? r ≡ faulty? s) × (end? r ≡ end? s)
+alike-form None None h = (refl, refl)
+alike-form None (Some y) h = absurd h
+alike-form (Some x) None h = absurd h
+alike-form (Some x) (Some y) h = (refl, h.1)
 
-pub form-alike : (f g : List ℕ → Value) (l : List ℕ)
+pub form-alike : (f g : List ℕ → Result ℤ Lack) (l : List ℕ)
     → (faulty? (line_of f l) ≡ faulty? (line_of g l)) × (end? (line_of f l) ≡ end? (line_of g l))
 form-alike f g l = alike-form (line_of f l) (line_of g l) (line-related AnyValues Stops stops-related f g (λ e. tt) l)

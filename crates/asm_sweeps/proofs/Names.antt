@@ -7,23 +7,26 @@ use native.Mathlib.Numerals.{add-one}
 use native.Mathlib.Nat.{zero-add}
 use native.Mathlib.Omega.{arith}
 use lib.Dec.{leb, eqb}
-use lib.IntN.{ℤ}
+use lib.IntN.{ℤ, pos}
 use lib.ListN.{length, take, drop, set, get_or, length-set, length-map, length-drop}
 use lib.Seq.{take-suc-set, length-take-le, drop-drop, get_or-drop}
 use borrow.Author.Tests.{le-leb, lt-leb, eqb-true}
+use Rattle.std.specs.Prelude.{Result, Ok, Err}
+use Rattle.std.specs.Result.{is_ok, result_unwrap_or}
 use Rattle.text_lines.specs.Lines.{lines_of, LineAt, starts_lf, starts_cr_lf, onto, none}
 use Rattle.text_lines.proofs.Laws.{lines_none}
-use Rattle.asm_value.specs.declared.Value.{Value}
-use Rattle.asm_value.specs.declared.Value.TheVariants.{Known, Unknown, Outside}
+use Rattle.asm_value.specs.declared.Lack.{Lack}
+use Rattle.asm_value.specs.declared.Lack.TheVariants.{Unknown, Outside}
+use Rattle.asm_text.specs.declared.Name.{Name}
 use Rattle.asm_text.specs.Text.{word, key_of, name_byte?, names_at, look_up, look_up_at}
-use Rattle.asm_text.proofs.Laws.{look-up-at, name-zero}
+use Rattle.asm_text.proofs.Laws.{Keyed, look-up-at, name-zero}
 use Rattle.word.proofs.Laws.{bool_cases}
 use Rattle.asm_sweeps.specs.declared.Tally.{Tally}
-use Rattle.asm_sweeps.specs.Places.{Table, table, note_unknown, note_value, one_more, known?, stored_of, named_of}
+use Rattle.asm_sweeps.specs.Places.{Table, table, note_unknown, note_fault, one_more, known?, stored_of, named_of}
 use Rattle.asm_sweeps.specs.Held.{table_at, Holds, line_at, Apart}
 
 -- ---- lists
-map-append : {A : Type 0} (f : ℕ → A) (xs ys : List ℕ) → map f (xs ++ ys) ≡ map f xs ++ map f ys
+map-append : {A B : Type 0} (f : A → B) (xs ys : List A) → map f (xs ++ ys) ≡ map f xs ++ map f ys
 map-append f [] ys = refl
 map-append f (x ∷ xs) ys = ap (λ l. f x ∷ l) (map-append f xs ys)
 
@@ -62,109 +65,126 @@ line_word s at stop q h k =
 -- ---- a name given
 
 -- what is noted changes no count
-pub note-count : (t : Tally) (v : Value) → (note_value t v).count ≡ t.count
-note-count t (Known z) = refl
-note-count t Unknown = refl
-note-count t Outside = refl
+pub note-count : {A : Type 0} (r : Result A Lack) (t : Tally) → (note_fault r t).count ≡ t.count
+note-count (Ok z) t = refl
+note-count (Err Unknown) t = refl
+note-count (Err Outside) t = refl
 
-pub note-line : (t : Tally) (v : Value) → (note_value t v).line ≡ t.line
-note-line t (Known z) = refl
-note-line t Unknown = refl
-note-line t Outside = refl
+pub note-line : {A : Type 0} (r : Result A Lack) (t : Tally) → (note_fault r t).line ≡ t.line
+note-line (Ok z) t = refl
+note-line (Err Unknown) t = refl
+note-line (Err Outside) t = refl
 
--- the same arrays with another tally of as many names
-pub holds_as : (s ps ks : List ℕ) (vs : List ℤ) (t u : Tally) → u.count ≡ t.count → Holds s ps ks vs t → Holds s ps ks vs u
-holds_as s ps ks vs t u e h = record {
-  places = h.places;
-  keys = h.keys;
-  values = h.values;
+-- the words of the library
+pub known-is : (v : Result ℤ Lack) → is_ok v ≡ known? v
+known-is (Ok z) = refl
+known-is (Err e) = refl
+
+pub stored-is : (v : Result ℤ Lack) → result_unwrap_or v (pos 0) ≡ stored_of v
+stored-is (Ok z) = refl
+stored-is (Err e) = refl
+
+abbrev head : List ℕ → ℕ
+head [] = 0
+head (x ∷ xs) = x
+
+abbrev tail : List ℕ → List ℕ
+tail [] = []
+tail (x ∷ xs) = xs
+
+-- each key is its name's
+keyed-of : (s : List ℕ) (ms : List Name) → map (λ (m : Name). m.key) ms ≡ map (λ (m : Name). key_of (word (drop m.place s))) ms
+    → Keyed s ms
+keyed-of s [] e = tt
+keyed-of s (m ∷ ms) e = (ap head e, keyed-of s ms (ap tail e))
+
+-- the same array with another tally of as many names
+pub holds_as : (s : List ℕ) (ms : List Name) (t u : Tally) → u.count ≡ t.count → Holds s ms t → Holds s ms u
+holds_as s ms t u e h = record {
+  size = h.size;
   within = omega (arith, e, h.within);
-  keyed = ap (λ (n : ℕ). take n ks) e ∙ h.keyed ∙ ap (λ (n : ℕ). map (λ (p : ℕ). key_of (word (drop p s))) (take n ps)) (sym e);
+  keyed =
+      ap (λ (n : ℕ). map (λ (m : Name). m.key) (take n ms)) e
+      ∙ h.keyed
+      ∙ ap (λ (n : ℕ). map (λ (m : Name). key_of (word (drop m.place s))) (take n ms)) (sym e);
 }
 
-module _ (s ps ks : List ℕ) (vs : List ℤ) (t : Tally) (h : Holds s ps ks vs t) where
+module _ (s : List ℕ) (ms : List Name) (t : Tally) (h : Holds s ms t) where
   -- the names of the table as the code looks them up
-  pub look-held : look_up_at s (take t.count ps) (take t.count ks) (take t.count vs)
-      ≡ look_up (table_at s ps vs t).names (table_at s ps vs t).values
-  look-held = look-up-at s (take t.count ps) (take t.count ks) (take t.count vs) h.keyed
+  pub look-held : look_up_at s (take t.count ms) ≡ look_up (table_at s ms t).names (table_at s ms t).values
+  look-held = look-up-at s (take t.count ms) (keyed-of s (take t.count ms) h.keyed)
 
-  names-length : length (names_at s (take t.count ps)) ≡ t.count
+  names-length : length (table_at s ms t).names ≡ t.count
   unfolding names_at
   names-length =
-      length-map (take t.count ps) (λ (p : ℕ). word (drop p s))
-      ∙ length-take-le t.count ps (omega (arith, h.places, h.within))
+      length-map (map (λ (m : Name). m.place) (take t.count ms)) (λ (p : ℕ). word (drop p s))
+      ∙ length-map (take t.count ms) (λ (m : Name). m.place)
+      ∙ length-take-le t.count ms (omega (arith, h.size, h.within))
 
-  module _ (n : List ℕ) (v old : Value)
-      (eo : old ≡ look_up_at s (take t.count ps) (take t.count ks) (take t.count vs) n) where
-    found : look_up (table_at s ps vs t).names (table_at s ps vs t).values n ≡ old
-    found = sym (eo ∙ ap (λ (f : List ℕ → Value). f n) look-held)
+  module _ (n : List ℕ) (v old : Result ℤ Lack) (eo : old ≡ look_up_at s (take t.count ms) n) where
+    found : look_up (table_at s ms t).names (table_at s ms t).values n ≡ old
+    found = sym (eo ∙ ap (λ (f : List ℕ → Result ℤ Lack). f n) look-held)
 
     refused : Table
-    refused = table_at s ps vs (note_unknown t)
+    refused = table_at s ms (note_unknown t)
 
     added : Table
     added =
-        table (names_at s (take t.count ps) ++ (n ∷ [])) (take t.count vs ++ (stored_of v ∷ []))
-        (one_more (note_value t v))
+        table ((table_at s ms t).names ++ (n ∷ [])) ((table_at s ms t).values ++ (stored_of v ∷ []))
+        (one_more (note_fault v t))
 
-    pub give-known : known? old ≡ true → table_at s ps vs (note_unknown t) ≡ named_of n v (table_at s ps vs t)
+    pub give-known : known? old ≡ true → table_at s ms (note_unknown t) ≡ named_of n v (table_at s ms t)
     unfolding named_of refused added
     give-known k =
-        sym (ap (λ (x : Bool). cond (x || leb 1024 (length (names_at s (take t.count ps)))) refused added)
-        (ap known? found ∙ k))
+        sym (ap (λ (x : Bool). cond (x || leb 1024 (length (table_at s ms t).names)) refused added) (ap known? found ∙ k))
 
-    pub give-full : known? old ≡ false → 1024 ≤ t.count → table_at s ps vs (note_unknown t) ≡ named_of n v (table_at s ps vs t)
+    pub give-full : known? old ≡ false → 1024 ≤ t.count → table_at s ms (note_unknown t) ≡ named_of n v (table_at s ms t)
     unfolding named_of refused added
     give-full k m =
-        sym (ap (λ (x : Bool). cond (x || leb 1024 (length (names_at s (take t.count ps)))) refused added)
-        (ap known? found ∙ k)
+        sym (ap (λ (x : Bool). cond (x || leb 1024 (length (table_at s ms t).names)) refused added) (ap known? found ∙ k)
         ∙ ap (λ (x : Bool). cond x refused added) (ap (leb 1024) names-length ∙ le-leb 1024 t.count m))
 
-    module _ (k : known? old ≡ false) (m : t.count < 1024) (p : ℕ) (z : ℤ) (u : Tally)
-        (en : n ≡ word (drop p s)) (ez : z ≡ stored_of v) (eu : u ≡ one_more (note_value t v)) where
+    module _ (k : known? old ≡ false) (m : t.count < 1024) (x : Name) (u : Tally)
+        (en : n ≡ word (drop x.place s)) (ez : x.value ≡ stored_of v) (eu : u ≡ one_more (note_fault v t)) where
       more : u.count ≡ suc t.count
-      more = ap (λ (x : Tally). x.count) eu ∙ ap (λ (i : ℕ). i + 1) (note-count t v) ∙ add-one t.count
+      more = ap (λ (y : Tally). y.count) eu ∙ ap (λ (i : ℕ). i + 1) (note-count v t) ∙ add-one t.count
 
-      take_more : (xs : List ℕ) (x : ℕ) → length xs ≡ 1024 → take u.count (set xs t.count x) ≡ take t.count xs ++ (x ∷ [])
-      take_more xs x e =
-          ap (λ (i : ℕ). take i (set xs t.count x)) more ∙ take-suc-set xs t.count x (omega (arith, e, m))
+      take_more : take u.count (set ms t.count x) ≡ take t.count ms ++ (x ∷ [])
+      take_more =
+          ap (λ (i : ℕ). take i (set ms t.count x)) more ∙ take-suc-set ms t.count x (omega (arith, h.size, m))
 
-      names_more : names_at s (take u.count (set ps t.count p)) ≡ names_at s (take t.count ps) ++ (n ∷ [])
+      -- what the names are read for, with one name more
+      map_more : {A : Type 0} (f : Name → A) → map f (take u.count (set ms t.count x)) ≡ map f (take t.count ms) ++ (f x ∷ [])
+      map_more f = ap (map f) take_more ∙ map-append f (take t.count ms) (x ∷ [])
+
+      names_more : names_at s (map (λ (y : Name). y.place) (take u.count (set ms t.count x))) ≡ (table_at s ms t).names ++ (n ∷ [])
       unfolding names_at
       names_more =
-          ap (map (λ (i : ℕ). word (drop i s))) (take_more ps p h.places)
-          ∙ map-append (λ (i : ℕ). word (drop i s)) (take t.count ps) (p ∷ [])
-          ∙ ap (λ (w : List ℕ). map (λ (i : ℕ). word (drop i s)) (take t.count ps) ++ (w ∷ [])) (sym en)
+          ap (map (λ (i : ℕ). word (drop i s))) (map_more (λ (y : Name). y.place))
+          ∙ map-append (λ (i : ℕ). word (drop i s)) (map (λ (y : Name). y.place) (take t.count ms)) (x.place ∷ [])
+          ∙ ap (λ (w : List ℕ). (table_at s ms t).names ++ (w ∷ [])) (sym en)
 
-      values-more : take u.count (set vs t.count z) ≡ take t.count vs ++ (stored_of v ∷ [])
-      values-more =
-          ap (λ (i : ℕ). take i (set vs t.count z)) more
-          ∙ take-suc-set vs t.count z (omega (arith, h.values, m))
-          ∙ ap (λ (x : ℤ). take t.count vs ++ (x ∷ [])) ez
+      values-more : map (λ (y : Name). y.value) (take u.count (set ms t.count x)) ≡ (table_at s ms t).values ++ (stored_of v ∷ [])
+      values-more = map_more (λ (y : Name). y.value) ∙ ap (λ (z : ℤ). (table_at s ms t).values ++ (z ∷ [])) ez
 
-      pub give-new : table_at s (set ps t.count p) (set vs t.count z) u ≡ named_of n v (table_at s ps vs t)
+      pub give-new : table_at s (set ms t.count x) u ≡ named_of n v (table_at s ms t)
       unfolding named_of refused added
       give-new =
-          ap (λ (x : List (List ℕ)). table x (take u.count (set vs t.count z)) u) names_more
-          ∙ ap (λ (x : List ℤ). table (names_at s (take t.count ps) ++ (n ∷ [])) x u) values-more
-          ∙ ap (λ (x : Tally). table (names_at s (take t.count ps) ++ (n ∷ [])) (take t.count vs ++ (stored_of v ∷ [])) x) eu
-          ∙ sym (ap (λ (x : Bool). cond (x || leb 1024 (length (names_at s (take t.count ps)))) refused added)
-          (ap known? found ∙ k)
-          ∙ ap (λ (x : Bool). cond x refused added) (ap (leb 1024) names-length ∙ lt-leb 1024 t.count m))
+          ap (λ (y : List (List ℕ)). table y (map (λ (z : Name). z.value) (take u.count (set ms t.count x))) u) names_more
+          ∙ ap (λ (y : List ℤ). table ((table_at s ms t).names ++ (n ∷ [])) y u) values-more
+          ∙ ap (λ (y : Tally). table ((table_at s ms t).names ++ (n ∷ [])) ((table_at s ms t).values ++ (stored_of v ∷ [])) y) eu
+          ∙ sym (ap (λ (y : Bool). cond (y || leb 1024 (length (table_at s ms t).names)) refused added) (ap known? found ∙ k)
+          ∙ ap (λ (y : Bool). cond y refused added) (ap (leb 1024) names-length ∙ lt-leb 1024 t.count m))
 
-      pub holds-new : (key : ℕ) → key ≡ key_of (word (drop p s))
-          → Holds s (set ps t.count p) (set ks t.count key) (set vs t.count z) u
-      holds-new key ek = record {
-        places = length-set ps t.count p ∙ h.places;
-        keys = length-set ks t.count key ∙ h.keys;
-        values = length-set vs t.count z ∙ h.values;
+      pub holds-new : x.key ≡ key_of (word (drop x.place s)) → Holds s (set ms t.count x) u
+      holds-new ek = record {
+        size = length-set ms t.count x ∙ h.size;
         within = omega (arith, more, m);
         keyed =
-            take_more ks key h.keys
-            ∙ ap (λ (x : List ℕ). x ++ (key ∷ [])) h.keyed
-            ∙ ap (λ (x : ℕ). map (λ (i : ℕ). key_of (word (drop i s))) (take t.count ps) ++ (x ∷ [])) ek
-            ∙ sym (map-append (λ (i : ℕ). key_of (word (drop i s))) (take t.count ps) (p ∷ []))
-            ∙ ap (map (λ (i : ℕ). key_of (word (drop i s)))) (sym (take_more ps p h.places));
+            map_more (λ (y : Name). y.key)
+            ∙ ap (λ (y : List ℕ). y ++ (x.key ∷ [])) h.keyed
+            ∙ ap (λ (y : ℕ). map (λ (z : Name). key_of (word (drop z.place s))) (take t.count ms) ++ (y ∷ [])) ek
+            ∙ sym (map_more (λ (y : Name). key_of (word (drop y.place s))));
       }
 
 -- ---- where a line ends, no word goes on
@@ -173,18 +193,14 @@ abbrev first_line : List (List ℕ) → List ℕ
 first_line [] = []
 first_line (l ∷ ls) = l
 
-abbrev behind : List ℕ → List ℕ
-behind [] = []
-behind (b ∷ t) = t
-
 bools : ◌≡◌ {A = Bool} false true → ⊥
 bools e = let z : ◌≡◌ {A = ℕ} 0 1 = ap (λ (b : Bool). cond b 1 0) e in omega arith
 
 -- the first line after a byte that is in it
 module _ (b : ℕ) (w : List ℕ) (ls : List (List ℕ)) where
   onto-more : (ms : List (List ℕ)) → onto b ms ≡ (b ∷ w) ∷ ls → first_line ms ≡ w
-  onto-more [] e = ap (λ (x : List (List ℕ)). behind (first_line x)) e
-  onto-more (m ∷ ms) e = ap (λ (x : List (List ℕ)). behind (first_line x)) e
+  onto-more [] e = ap (λ (x : List (List ℕ)). tail (first_line x)) e
+  onto-more (m ∷ ms) e = ap (λ (x : List (List ℕ)). tail (first_line x)) e
 
   onto-none : (ms : List (List ℕ)) → onto b ms ≡ [] ∷ ls → ⊥
   onto-none [] e = let z : ◌≡◌ {A = ℕ} 1 0 = ap (λ (x : List (List ℕ)). length (first_line x)) e in omega arith
@@ -198,7 +214,7 @@ crlf-is b t h =
     bool_cases (eqb b 13)
     (λ q. (eqb-true b 13 q, rw q at h)) (λ q. let z : ◌≡◌ {A = Bool} false true = rw q at h in absurd (bools z))
 
-lf-lines : (t : List ℕ) → starts_lf t ≡ true → lines_of t ≡ [] ∷ lines_of (behind t)
+lf-lines : (t : List ℕ) → starts_lf t ≡ true → lines_of t ≡ [] ∷ lines_of (tail t)
 unfolding lines_of
 lf-lines [] h = let z : ◌≡◌ {A = Bool} false true = h in cc
 lf-lines (b ∷ t) h = rw h
@@ -244,7 +260,7 @@ line-stops (b ∷ t) (suc k) ls e =
     let again : (ms : List (List ℕ)) → lines_of t ≡ take k t ∷ ms → name_byte? (get_or t k 0) ≡ false = line-stops t k in
     bool_cases (eqb b 10)
     (λ q. absurd (lf-none b (take k t) ls (lines_of t) (lines-lf b t q ∙ e))) (λ q. bool_cases (starts_cr_lf (b ∷ t))
-    (λ r. absurd (lf-none b (take k t) ls (lines_of (behind t)) (sym (lf-lines t (crlf-is b t r).1) ∙ lines-crlf b t q r ∙ e)))
+    (λ r. absurd (lf-none b (take k t) ls (lines_of (tail t)) (sym (lf-lines t (crlf-is b t r).1) ∙ lines-crlf b t q r ∙ e)))
     (λ r. after-byte t k (lines_of t) refl (onto-more b (take k t) ls (lines_of t) (lines-char b t q r ∙ e)) again))
 
 pub apart_of : (s : List ℕ) (at stop next : ℕ) → LineAt s at stop next → Apart s at stop

@@ -1,25 +1,24 @@
 -- The second sweep: the names that a source gives, and the places of its statements (document 02, §12).
 -- Assumes nothing.
-use Rattle.std.specs.Prelude.{ℕ, ◌+◌, Bool, true, false, cond, ◌||◌, List, [], ◌∷◌, ◌++◌, eqb, leb, ℤ, pos, length, drop}
+use Rattle.std.specs.Prelude.{ℕ, ◌+◌, Bool, true, false, cond, ◌||◌, List, [], ◌∷◌, ◌++◌, leb, ℤ, pos, length, drop}
+use Rattle.std.specs.Prelude.{Option, Some, None, Result, Ok, Err}
 use Rattle.text_lines.specs.Lines.{lines_of}
-use Rattle.asm_value.specs.declared.Value.{Value}
-use Rattle.asm_value.specs.declared.Value.TheVariants.{Known, Unknown, Outside}
+use Rattle.asm_value.specs.declared.Lack.{Lack}
+use Rattle.asm_value.specs.declared.Lack.TheVariants.{Unknown, Outside}
 use Rattle.asm_text.specs.Text.{word, look_up}
-use Rattle.asm_line.specs.declared.Reading.{Reading}
-use Rattle.asm_line.specs.declared.Reading.TheVariants.{Line, Fault}
+use Rattle.asm_line.specs.declared.Line.{Line}
 use Rattle.asm_line.specs.Line.{line_of}
-use Rattle.asm_write.specs.declared.Next.{Next}
-use Rattle.asm_write.specs.declared.Next.TheVariants as next
-use Rattle.asm_write.specs.Written.{layout_of, next_of, name_value}
+use Rattle.asm_write.specs.Written.{Next, layout_of, next_of, name_value}
 use Rattle.asm_sweeps.specs.declared.Tally.{Tally}
 use Rattle.asm_sweeps.specs.Form.{end?}
 
 -- A tally (declared in the code): the number of names given, the place, the number of the line, and the first lines
--- that were at fault with 18 and with 19, 0 where none was.
+-- that were at fault with 18 and with 19.
 
 -- the first line at fault: f, or else k
-unfoldable pub first_of : (f k : ℕ) → ℕ
-first_of f k = cond (eqb f 0) k f
+unfoldable pub first_of : (f : Option ℕ) (k : ℕ) → Option ℕ
+first_of None k = Some k
+first_of (Some f) k = Some f
 
 -- this line has an unknown name, or one name too many: 18; or a value outside its range: 19. [02 §12]
 abbrev pub note_unknown : Tally → Tally
@@ -32,18 +31,19 @@ note_outside t =
     let o = first_of t.outside t.line in
     record { count = t.count; place = t.place; line = t.line; unknown = t.unknown; outside = o }
 
+abbrev pub note_lack : Lack → Tally → Tally
+note_lack Unknown t = note_unknown t
+note_lack Outside t = note_outside t
+
+-- the fault of a value or of a statement's number, where it is at fault
+abbrev pub note_fault : {A : Type 0} → Result A Lack → Tally → Tally
+note_fault (Ok x) t = t
+note_fault (Err e) t = note_lack e t
+
 -- the place after a statement; where ORG's or BSS's value is at fault, it stays. [02 §12]
 abbrev pub placed_at : Tally → Next → Tally
-placed_at t (next.Place n) =
-    record { count = t.count; place = n; line = t.line; unknown = t.unknown; outside = t.outside }
-placed_at t next.Unknown = note_unknown t
-placed_at t next.Outside = note_outside t
-
--- the value of a name at fault
-abbrev pub note_value : Tally → Value → Tally
-note_value t (Known z) = t
-note_value t Unknown = note_unknown t
-note_value t Outside = note_outside t
+placed_at t (Ok n) = record { count = t.count; place = n; line = t.line; unknown = t.unknown; outside = t.outside }
+placed_at t (Err e) = note_lack e t
 
 -- the next line
 abbrev pub next_line : Tally → Tally
@@ -52,7 +52,7 @@ next_line t =
 
 -- "at first 0". [02 §12]
 abbrev pub no_tally : Tally
-no_tally = record { count = 0; place = 0; line = 1; unknown = 0; outside = 0 }
+no_tally = record { count = 0; place = 0; line = 1; unknown = None; outside = None }
 
 -- ---- names
 
@@ -66,16 +66,14 @@ abbrev pub table : List (List ℕ) → List ℤ → Tally → Table
 table ns vs t = record { names = ns; values = vs; tally = t }
 
 -- a name is among those given
-abbrev pub known? : Value → Bool
-known? (Known z) = true
-known? Unknown = false
-known? Outside = false
+abbrev pub known? : Result ℤ Lack → Bool
+known? (Ok z) = true
+known? (Err e) = false
 
 -- the number kept for a name: a value at fault is used nowhere
-abbrev pub stored_of : Value → ℤ
-stored_of (Known z) = z
-stored_of Unknown = pos 0
-stored_of Outside = pos 0
+abbrev pub stored_of : Result ℤ Lack → ℤ
+stored_of (Ok z) = z
+stored_of (Err e) = pos 0
 
 abbrev pub one_more : Tally → Tally
 one_more t =
@@ -83,23 +81,28 @@ one_more t =
 
 -- "18 when a name is .. already given or the 1,025th": it is then not added; else it has its value, which is the place
 -- before its statement or that of EQU. [02 §12]
-unfoldable pub named_of : (n : List ℕ) → Value → Table → Table
+unfoldable pub named_of : (n : List ℕ) → Result ℤ Lack → Table → Table
 named_of n v b =
     cond (known? (look_up b.names b.values n) || leb 1024 (length b.names))
     (table b.names b.values (note_unknown b.tally))
-    (table (b.names ++ (n ∷ [])) (b.values ++ (stored_of v ∷ [])) (one_more (note_value b.tally v)))
+    (table (b.names ++ (n ∷ [])) (b.values ++ (stored_of v ∷ [])) (one_more (note_fault v b.tally)))
 
 -- ---- lines
 
+-- the name before a statement, where there is one. [02 §12]
+abbrev pub maybe_named : (l : List ℕ) → (name : Option ℕ) → Result ℤ Lack → Table → Table
+maybe_named l None v b = b
+maybe_named l (Some q) v b = named_of (word (drop q l)) v b
+
 -- what a statement does, and the name before it: the name is given with the place before the statement. [02 §12]
-abbrev pub line_after : (l : List ℕ) → Reading → Table → Table
-line_after l Fault b = b
-line_after l (Line named q x) b =
-    let after = table b.names b.values (placed_at b.tally (next_of b.tally.place (layout_of x))) in
-    cond named (named_of (word (drop q l)) (name_value b.tally.place (layout_of x)) after) after
+abbrev pub line_after : (l : List ℕ) → Option Line → Table → Table
+line_after l None b = b
+line_after l (Some y) b =
+    let after = table b.names b.values (placed_at b.tally (next_of b.tally.place (layout_of y.statement))) in
+    maybe_named l y.name (name_value b.tally.place (layout_of y.statement)) after
 
 -- a line, read with the names given above it: "only ORG, EQU and BSS need it given above". [02 §12]
-abbrev pub read_above : (l : List ℕ) → Table → Reading
+abbrev pub read_above : (l : List ℕ) → Table → Option Line
 read_above l b = line_of (look_up b.names b.values) l
 
 abbrev pub next_on : Table → Table

@@ -3,72 +3,72 @@
 #![tactic(auto)]
 
 ghost use Rattle.std.specs.Prelude.{◌≡◌, ◌<◌, length, drop};
-ghost use Rattle.asm_text.specs.Text.{word, look_up_at};
+ghost use Rattle.asm_text.specs.Text.{word, values_in};
 ghost use Rattle.asm_line.specs.Line.{line_of};
-ghost use Rattle.asm_sweeps.specs.Form.{no_names, faulty?, end?, stops?, form_of};
-ghost use Rattle.asm_sweeps.specs.Places.{first_of, note_unknown, note_outside, placed_at};
-ghost use Rattle.asm_sweeps.specs.Places.{note_value, known?, stored_of, next_line, one_more};
+ghost use Rattle.asm_sweeps.specs.Form.{end?, stops?, form_of};
+ghost use Rattle.asm_sweeps.specs.Places.{note_lack, note_fault, placed_at, next_line, one_more};
 ghost use Rattle.asm_sweeps.specs.Places.{named_of, line_after, read_above, table_of};
-ghost use Rattle.asm_sweeps.specs.Uses.{note_use, place_after, at_place, use_after, uses_of};
+ghost use Rattle.asm_sweeps.specs.Uses.{place_after, use_after, uses_of, refused};
 ghost use Rattle.asm_sweeps.specs.Uses.{least_of, verdict_for};
 ghost use Rattle.asm_sweeps.specs.Held.{table_at, Holds, line_at, Apart};
 
-use asm_fits::Fit;
-use asm_line::Reading;
-use asm_value::Value;
+use asm_text::{Name, Names};
+use asm_value::{Lack, Value};
 use asm_write::{Layout, Next};
 
 // How far a sweep has come: the number of names given, the place and the line's number; and the
-// first lines at fault with 18 and with 19, 0 where none is.
+// first lines at fault with 18 and with 19.
 #[derive(Clone, Copy)]
 pub struct Tally {
     pub count: usize,
     pub place: u32,
     pub line: u64,
-    pub unknown: u64,
-    pub outside: u64,
+    pub unknown: Option<u64>,
+    pub outside: Option<u64>,
 }
 
-// A refusal, 0 for none, and the line at fault.
+// What a call is refused for: memory of another length (1), a line that fits no statement or a
+// missing END (17), an unknown name (18), a value outside its range (19), a list too short (22).
 #[derive(Clone, Copy)]
-pub struct Verdict {
-    pub refusal: u8,
+pub enum Fault {
+    Memory,
+    Form,
+    Unknown,
+    Outside,
+    Room,
+}
+
+// A refusal: what is at fault, and the line.
+#[derive(Clone, Copy)]
+pub struct Refusal {
+    pub kind: Fault,
     pub line: u64,
 }
 
-// The first line at fault.
-fn first(f: u64, k: u64) -> u64
-    ensures { result ≡ first_of f k }
+// 18 or 19 on this line.
+#[tactic(auto, unfolding(crate::specs::Places::first_of))]
+fn note_lack(e: Lack, t: Tally) -> Tally
+    ensures { result ≡ note_lack e t }
 {
-    if f == 0 {
-        return k;
-    }
-    f
-}
-
-// 18 on this line.
-fn note_unknown(t: Tally) -> Tally
-    ensures { result ≡ note_unknown t }
-{
-    Tally {
-        count: t.count,
-        place: t.place,
-        line: t.line,
-        unknown: first(t.unknown, t.line),
-        outside: t.outside,
+    match e {
+        Lack::Unknown => Tally {
+            unknown: t.unknown.or(Some(t.line)),
+            ..t
+        },
+        Lack::Outside => Tally {
+            outside: t.outside.or(Some(t.line)),
+            ..t
+        },
     }
 }
 
-// 19 on this line.
-fn note_outside(t: Tally) -> Tally
-    ensures { result ≡ note_outside t }
+// The fault of a value or of a statement's number.
+fn note_fault<A: Copy>(r: Result<A, Lack>, t: Tally) -> Tally
+    ensures { result ≡ note_fault r t }
 {
-    Tally {
-        count: t.count,
-        place: t.place,
-        line: t.line,
-        unknown: t.unknown,
-        outside: first(t.outside, t.line),
+    match r {
+        Ok(_) => t,
+        Err(e) => note_lack(e, t),
     }
 }
 
@@ -77,26 +77,8 @@ fn placed_at(t: Tally, n: Next) -> Tally
     ensures { result ≡ placed_at t n }
 {
     match n {
-        Next::Place(p) => Tally {
-            count: t.count,
-            place: p,
-            line: t.line,
-            unknown: t.unknown,
-            outside: t.outside,
-        },
-        Next::Unknown => note_unknown(t),
-        Next::Outside => note_outside(t),
-    }
-}
-
-// The fault of a name's value.
-fn note_value(t: Tally, v: Value) -> Tally
-    ensures { result ≡ note_value t v }
-{
-    match v {
-        Value::Known(_) => t,
-        Value::Unknown => note_unknown(t),
-        Value::Outside => note_outside(t),
+        Ok(place) => Tally { place, ..t },
+        Err(e) => note_lack(e, t),
     }
 }
 
@@ -106,33 +88,8 @@ fn next_line(t: Tally) -> Tally
     ensures { result ≡ next_line t }
 {
     Tally {
-        count: t.count,
-        place: t.place,
         line: t.line + 1,
-        unknown: t.unknown,
-        outside: t.outside,
-    }
-}
-
-// Whether a name is among those given.
-fn is_known(v: Value) -> bool
-    ensures { result ≡ known? v }
-{
-    match v {
-        Value::Known(_) => true,
-        Value::Unknown => false,
-        Value::Outside => false,
-    }
-}
-
-// The number kept for a name.
-fn stored(v: Value) -> i32
-    ensures { result ≡ stored_of v }
-{
-    match v {
-        Value::Known(z) => z,
-        Value::Unknown => 0,
-        Value::Outside => 0,
+        ..t
     }
 }
 
@@ -140,73 +97,34 @@ fn stored(v: Value) -> i32
 pub fn is_stop(l: Layout) -> bool
     ensures { result ≡ stops? l }
 {
-    match l {
-        Layout::Bytes(_) => false,
-        Layout::Origin(_) => false,
-        Layout::Equal(_) => false,
-        Layout::Space(_) => false,
-        Layout::Stop => true,
-    }
+    matches!(l, Layout::Stop)
 }
 
-// Whether a line fits no statement, and whether it is END.
-#[derive(Clone, Copy)]
-pub struct Shape {
-    pub fault: bool,
-    pub end: bool,
-}
-
-// A line in the first sweep: no name is known.
-fn form_line(part: &[u8]) -> Shape
-    ensures fault_value { result.fault ≡ faulty? (line_of no_names part.now) }
-    ensures end_value { result.end ≡ end? (line_of no_names part.now) }
-{
-    let places = [0usize; 1];
-    let keys = [0u32; 1];
-    let values = [0i32; 1];
-    let r = asm_line::read_line(part, &places[..0], &keys[..0], &values[..0], part);
-    match r {
-        Reading::Line {
-            named: _,
-            name: _,
-            statement,
-        } => Shape {
-            fault: false,
-            end: is_stop(asm_write::layout_of(statement)),
-        },
-        Reading::Fault => Shape {
-            fault: true,
-            end: false,
-        },
-    }
-}
-
-// The first sweep: the first line that fits no statement, or that after the last where END is
-// missing; 0 if none is at fault.
-pub fn form(source: &[u8]) -> u64
+// The first sweep, with no name known: the first line that fits no statement, or that after the
+// last where END is missing.
+pub fn form(source: &[u8]) -> Option<u64>
     ensures { result ≡ form_of source.now }
 {
+    let names = Names { source, list: &[] };
     let mut at = 0;
     let mut number: u64 = 1;
     while at < source.len() {
         let l = text_lines::line_at(source, at);
-        let stop = l.stop;
-        let next = l.next;
-        let part = &source[at..stop];
-        let r = form_line(part);
-        if r.fault {
-            return number;
+        let r = asm_line::read_line(&names, &source[at..l.stop]);
+        let Some(line) = r else {
+            return Some(number);
+        };
+        if is_stop(asm_write::layout_of(line.statement)) {
+            return None;
         }
-        if r.end {
-            return 0;
-        }
-        at = next;
+        at = l.next;
         number += 1;
     }
-    number
+    Some(number)
 }
 
 // A tally after a line, and whether the line is END.
+// Kept: both are there after every line, so this is no Option of one.
 #[derive(Clone, Copy)]
 pub struct Noted {
     pub tally: Tally,
@@ -220,126 +138,98 @@ fn one_more(t: Tally) -> Tally
 {
     Tally {
         count: t.count + 1,
-        place: t.place,
-        line: t.line,
-        unknown: t.unknown,
-        outside: t.outside,
+        ..t
     }
 }
 
 // A name given at a place of the source: added with its value, unless it is given already or the
 // table is full (18).
-fn give(
-    source: &[u8],
-    places: &mut [usize],
-    keys: &mut [u32],
-    values: &mut [i32],
-    t: Tally,
-    at: usize,
-    v: Value,
-) -> Tally
-    requires { Holds source.now places.old keys.old values.old t }
-    ensures result_after { table_at source.now places.new values.new result
+fn give(source: &[u8], list: &mut [Name], t: Tally, at: usize, v: Value) -> Tally
+    requires { Holds source.now list.old t }
+    ensures result_after { table_at source.now list.new result
         ≡ named_of (word (drop at source.now)) v
-        (table_at source.now places.old values.old t) }
-    ensures holds { Holds source.now places.new keys.new
-        values.new result }
+        (table_at source.now list.old t) }
+    ensures holds { Holds source.now list.new result }
     ensures line_value { result.line ≡ t.line }
 {
     let n = t.count;
-    let w = asm_text::read_word(source, at);
-    let key = w.key;
-    let old = asm_text::look_up(
+    let key = asm_text::read_word(source, at).value.key;
+    let names = Names {
         source,
-        &places[..n],
-        &keys[..n],
-        &values[..n],
-        source,
-        at,
-        key,
-    );
-    if is_known(old) {
-        return note_unknown(t);
+        list: &list[..n],
+    };
+    let old = asm_text::look_up(&names, source, at, key);
+    if old.is_ok() {
+        return note_lack(Lack::Unknown, t);
     }
     if 1024 <= n {
-        return note_unknown(t);
+        return note_lack(Lack::Unknown, t);
     }
-    places[n] = at;
-    keys[n] = key;
-    values[n] = stored(v);
-    one_more(note_value(t, v))
+    list[n] = Name {
+        place: at,
+        key,
+        value: v.unwrap_or(0),
+    };
+    one_more(note_fault(v, t))
 }
 
 // The line of the source from `at` to `stop` in the second sweep.
-fn name_line(
-    source: &[u8],
-    places: &mut [usize],
-    keys: &mut [u32],
-    values: &mut [i32],
-    t: Tally,
-    at: usize,
-    stop: usize,
-) -> Noted
-    requires { Holds source.now places.old keys.old values.old t
-        × Apart source.now at stop }
-    ensures tally_after { table_at source.now places.new values.new
-        result.tally
+fn name_line(source: &[u8], list: &mut [Name], t: Tally, at: usize, stop: usize) -> Noted
+    requires { Holds source.now list.old t × Apart source.now at stop }
+    ensures tally_after { table_at source.now list.new result.tally
         ≡ line_after (line_at source.now at stop)
         (read_above (line_at source.now at stop)
-        (table_at source.now places.old values.old t))
-        (table_at source.now places.old values.old t) }
+        (table_at source.now list.old t))
+        (table_at source.now list.old t) }
     ensures end_value { result.end ≡ end? (read_above (line_at source.now at stop)
-        (table_at source.now places.old values.old t)) }
-    ensures holds { Holds source.now places.new keys.new
-        values.new result.tally × (result.tally.line ≡ t.line) }
+        (table_at source.now list.old t)) }
+    ensures holds { Holds source.now list.new result.tally
+        × (result.tally.line ≡ t.line) }
 {
-    let n = t.count;
-    let part = &source[at..stop];
-    let r = asm_line::read_line(source, &places[..n], &keys[..n], &values[..n], part);
-    let Reading::Line {
-        named,
-        name,
-        statement,
-    } = r
-    else {
+    let names = Names {
+        source,
+        list: &list[..t.count],
+    };
+    let r = asm_line::read_line(&names, &source[at..stop]);
+    let Some(line) = r else {
         return Noted {
             tally: t,
             end: false,
         };
     };
-    let l = asm_write::layout_of(statement);
+    let l = asm_write::layout_of(line.statement);
     let end = is_stop(l);
     let after = placed_at(t, asm_write::after(t.place, l));
-    if !named {
+    let Some(name) = line.name else {
         return Noted { tally: after, end };
-    }
+    };
     let v = asm_write::name_value(t.place, l);
-    let given = give(source, places, keys, values, after, at + name, v);
+    let given = give(source, list, after, at + name, v);
     Noted { tally: given, end }
 }
 
+// The tally before the first line.
+const START: Tally = Tally {
+    count: 0,
+    place: 0,
+    line: 1,
+    unknown: None,
+    outside: None,
+};
+
 // The second sweep: names and places.
-pub fn collect(source: &[u8], places: &mut [usize], keys: &mut [u32], values: &mut [i32]) -> Tally
-    requires { (length places.old ≡ 1024) × (length keys.old ≡ 1024)
-        × (length values.old ≡ 1024) }
-    ensures result_after { table_at source.now places.new values.new result
-        ≡ table_of source.now }
-    ensures holds { Holds source.now places.new keys.new
-        values.new result }
+pub fn collect(source: &[u8], list: &mut [Name]) -> Tally
+    requires { length list.old ≡ 1024 }
+    ensures result_after { table_at source.now list.new result ≡ table_of source.now }
+    ensures holds { Holds source.now list.new result }
 {
     let mut at = 0;
-    let mut t = Tally {
-        count: 0,
-        place: 0,
-        line: 1,
-        unknown: 0,
-        outside: 0,
-    };
+    let mut t = START;
     while at < source.len() {
         let l = text_lines::line_at(source, at);
         let stop = l.stop;
         let next = l.next;
-        let r = name_line(source, places, keys, values, t, at, stop);
+        let r = name_line(source, list, t, at, stop);
         if r.end {
             return r.tally;
         }
@@ -349,97 +239,50 @@ pub fn collect(source: &[u8], places: &mut [usize], keys: &mut [u32], values: &m
     t
 }
 
-// The fault of a statement's value.
-fn note_use(t: Tally, f: Fit) -> Tally
-    ensures { result ≡ note_use t f }
-{
-    match f {
-        Fit::Number(_) => t,
-        Fit::Unknown => note_unknown(t),
-        Fit::Outside => note_outside(t),
-    }
-}
-
 // The place after a statement; where it is at fault, it stays.
+#[tactic(auto, unfolding(crate::specs::Uses::place_after))]
 pub fn place_after(p: u32, n: Next) -> u32
     ensures { result ≡ place_after p n }
 {
-    match n {
-        Next::Place(q) => q,
-        Next::Unknown => p,
-        Next::Outside => p,
-    }
-}
-
-// The tally at a place.
-fn at_place(t: Tally, p: u32) -> Tally
-    ensures { result ≡ at_place t p }
-{
-    Tally {
-        count: t.count,
-        place: p,
-        line: t.line,
-        unknown: t.unknown,
-        outside: t.outside,
-    }
+    n.unwrap_or(p)
 }
 
 // A line in the third sweep.
-fn use_line(
-    source: &[u8],
-    places: &[usize],
-    keys: &[u32],
-    values: &[i32],
-    part: &[u8],
-    t: Tally,
-) -> Noted
-    ensures tally_value { result.tally ≡ use_after (line_of (look_up_at source.now
-        places.now keys.now values.now) part.now) t }
-    ensures end_value { result.end ≡ end? (line_of (look_up_at source.now
-        places.now keys.now values.now) part.now) }
+fn use_line(names: &Names<'_>, part: &[u8], t: Tally) -> Noted
+    ensures tally_value { result.tally ≡ use_after (line_of (values_in names.now) part.now) t }
+    ensures end_value { result.end ≡ end? (line_of (values_in names.now) part.now) }
     ensures line_value { result.tally.line ≡ t.line }
 {
-    let r = asm_line::read_line(source, places, keys, values, part);
-    let Reading::Line {
-        named: _,
-        name: _,
-        statement,
-    } = r
-    else {
+    let r = asm_line::read_line(names, part);
+    let Some(line) = r else {
         return Noted {
             tally: t,
             end: false,
         };
     };
-    let l = asm_write::layout_of(statement);
+    let l = asm_write::layout_of(line.statement);
     let end = is_stop(l);
-    let noted = note_use(t, asm_write::used(t.place, statement));
     let place = place_after(t.place, asm_write::after(t.place, l));
+    let used = note_fault(asm_write::used(t.place, line.statement), t);
     Noted {
-        tally: at_place(noted, place),
+        tally: Tally { place, ..used },
         end,
     }
 }
 
 // The third sweep: uses.
-pub fn uses(source: &[u8], places: &[usize], keys: &[u32], values: &[i32]) -> Tally
-    ensures { result ≡ uses_of (look_up_at source.now places.now
-        keys.now values.now) source.now }
+pub fn uses(names: &Names<'_>) -> Tally
+    ensures { result ≡ uses_of (values_in names.now) names.now.source.now }
 {
+    let source = names.source;
     let mut at = 0;
-    let mut t = Tally {
-        count: 0,
-        place: 0,
-        line: 1,
-        unknown: 0,
-        outside: 0,
-    };
+    let mut t = START;
     while at < source.len() {
         let l = text_lines::line_at(source, at);
         let stop = l.stop;
         let next = l.next;
         let part = &source[at..stop];
-        let r = use_line(source, places, keys, values, part, t);
+        let r = use_line(names, part, t);
         if r.end {
             return r.tally;
         }
@@ -450,49 +293,33 @@ pub fn uses(source: &[u8], places: &[usize], keys: &[u32], values: &[i32]) -> Ta
 }
 
 // The lesser of two lines at fault.
-fn least(a: u64, b: u64) -> u64
+#[tactic(auto, unfolding(crate::specs::Uses::least_of))]
+fn least(a: Option<u64>, b: Option<u64>) -> Option<u64>
     ensures { result ≡ least_of a b }
 {
-    if a == 0 {
-        return b;
+    match (a, b) {
+        (Some(x), Some(y)) => Some(x.min(y)),
+        _ => a.or(b),
     }
-    if b == 0 {
-        return a;
+}
+
+// A refusal of a kind, where a line is at fault with it.
+fn refused(kind: Fault, line: Option<u64>) -> Result<(), Refusal>
+    ensures { result ≡ refused kind line }
+{
+    match line {
+        None => Ok(()),
+        Some(line) => Err(Refusal { kind, line }),
     }
-    if a < b { a } else { b }
 }
 
 // The verdict after three sweeps.
-pub fn decide(form: u64, t: Tally, u: Tally) -> Verdict
+#[tactic(auto, unfolding(crate::specs::Uses::verdict_for))]
+pub fn decide(form: Option<u64>, t: Tally, u: Tally) -> Result<(), Refusal>
     ensures { result ≡ verdict_for form t u }
 {
-    if form != 0 {
-        return Verdict {
-            refusal: 17,
-            line: form,
-        };
-    }
+    refused(Fault::Form, form)?;
     let unknown = least(t.unknown, u.unknown);
-    if unknown != 0 {
-        return Verdict {
-            refusal: 18,
-            line: unknown,
-        };
-    }
-    if t.outside != 0 {
-        return Verdict {
-            refusal: 19,
-            line: t.outside,
-        };
-    }
-    if u.outside != 0 {
-        return Verdict {
-            refusal: 19,
-            line: u.outside,
-        };
-    }
-    Verdict {
-        refusal: 0,
-        line: 0,
-    }
+    refused(Fault::Unknown, unknown)?;
+    refused(Fault::Outside, t.outside.or(u.outside))
 }

@@ -1,23 +1,34 @@
 -- Laws of the text: what stands at a place decides what stands from there on. Assumes nothing.
 use mathlib.Core.Path.{◌≡◌, refl, sym, ap, ◌∙◌, fun_ext}
-use mathlib.Core.Bool.{Bool, true, false, cond, ◌&&◌, not}
+use mathlib.Core.Bool.{Bool, true, false, cond, ◌&&◌}
 use mathlib.Core.List.{List, [], ◌∷◌, map}
-use Prim.Native.Nat.{ℕ, ◌+◌, ◌*◌, ◌%◌, ◌<◌, ◌≤◌, min}
+use Prim.Native.Nat.{ℕ, ◌+◌, ◌-◌, ◌*◌, ◌%◌, ◌<◌, ◌≤◌, min}
 use native.Mathlib.Nat.{mul-le-mul_right}
 use native.Mathlib.Numerals.{add-one}
 use native.Mathlib.Omega.{arith}
 use lib.Dec.{ltb, leb, eqb}
 use lib.ListN.{length, get_or, drop, drop_of_length-le, get_or-eq_default}
 use lib.Seq.{drop-cons}
-use lib.IntN.{ℤ, pos}
-use borrow.Author.Tests.{leb-true, lt-ltb, le-ltb, ltb-true, ltb-false, eq-eqb, ne_eqb, eqb-true}
+use lib.Pointwise.{pointwise}
+use Rattle.std.proofs.lemmas.List.Sums.{take_while-cons}
+use borrow.Author.Tests.{leb-true, lt-ltb, le-ltb, le-leb, lt-leb, ltb-true, ltb-false, eq-eqb, ne_eqb, eqb-true}
 use Rattle.word.proofs.Laws.{bool_cases}
-use Rattle.asm_value.specs.declared.Value.TheVariants.{Known, Unknown}
+use Rattle.std.specs.Prelude.{Ok, Err, Option, Some, None}
+use Rattle.std.specs.List.{prefix_len, take_while}
+use Rattle.asm_value.specs.declared.Lack.TheVariants.{Unknown}
+use Rattle.asm_text.specs.declared.Name.{Name}
+use Rattle.asm_text.specs.declared.Read.{Read}
 use Rattle.asm_text.specs.Text.{byte_at, blank?, name_byte?, digit_of, digit?, span, after, numeral, word, same}
-use Rattle.asm_text.specs.Text.{spelled_from, key_from, key_of, look_up, names_at, look_up_at}
+use Rattle.asm_text.specs.Text.{spelled_from, key_from, key_of, look_up, names_at, look_up_at, found}
 
 clash : {X : Type 0} {b : Bool} → b ≡ true → b ≡ false → X
 clash {b = b} p q = let z : ◌≡◌ {A = Bool} true false = sym p ∙ q in let e : ◌≡◌ {A = ℕ} 0 1 = cc in absurd (omega arith)
+
+-- what was read, taken apart
+pub found-same : {A : Type 0} (v w : A) (i j : ℕ) → found v i ≡ found w j → (v ≡ w) × (i ≡ j)
+found-same {A = A} v w i j h =
+    let e : ◌≡◌ {A = Read A} (record { value = v; next = i }) (record { value = w; next = j }) = cc in
+    (ap (λ (r : Read A). r.value) e, ap (λ (r : Read A). r.next) e)
 
 -- a test of two bounds
 pub both_true : (lo b hi : ℕ) → leb lo b && leb b hi ≡ true → (lo ≤ b) × (b ≤ hi)
@@ -52,7 +63,56 @@ module _ (p : ℕ → Bool) where
   unfolding after
   after-le s i = omega arith
 
+-- `after`, by the library's words
+pub span-is : (p : ℕ → Bool) (l : List ℕ) → span p l ≡ prefix_len p l
+unfolding span
+span-is p [] = refl
+span-is p (b ∷ l) = bool_cases (p b) (λ q. rw (q, span-is p l) (omega arith)) (λ q. rw q)
+
+pub after-is : (p : ℕ → Bool) (s : List ℕ) (i n : ℕ) → n ≡ prefix_len p (drop i s) → i + n ≡ after p s i
+unfolding after
+after-is p s i n e = rw (span-is p (drop i s), e)
+
+pub drop-upto : (s : List ℕ) (i : ℕ) → drop (min i (length s)) s ≡ drop i s
+drop-upto s i = place-cases s i
+    (λ k. let h : min i (length s) ≡ i = omega arith in rw h)
+    (λ k. let h : min i (length s) ≡ length s = omega arith in
+    let z : drop (length s) s ≡ [] = drop_of_length-le s (omega arith) in rw (h, z, drop_of_length-le s k))
+
 -- ---- digits
+
+some? : Option ℕ → ℕ
+some? (Some x) = 1
+some? None = 0
+
+pub some-none : (x : ℕ) → Some x ≡ None → ⊥
+unfolding some?
+some-none x e = let h : 1 ≡ 0 = ap some? e in omega (arith, h)
+
+pub digit-low : (b : ℕ) → 48 ≤ b → b ≤ 57 → Some (b - 48) ≡ cond (digit? 16 b) (Some (digit_of b)) None
+unfolding digit? digit_of
+digit-low b h k = simp (le-leb 48 b h, le-leb b 57 k, lt-ltb (b - 48) 16 (omega arith))
+
+pub digit-high : (b : ℕ) → 65 ≤ b → b ≤ 70 → Some (b - 65 + 10) ≡ cond (digit? 16 b) (Some (digit_of b)) None
+unfolding digit? digit_of
+digit-high b h k = let e : b - 65 + 10 ≡ b - 55 = omega arith in
+    simp (e, le-leb 48 b (omega arith), lt-leb b 57 (omega arith), le-leb 65 b h, le-leb b 70 k, lt-ltb (b - 55) 16 (omega arith))
+
+pub digit-none : (b : ℕ) → leb 48 b && leb b 57 ≡ false → leb 65 b && leb b 70 ≡ false
+    → None ≡ cond (digit? 16 b) (Some (digit_of b)) None
+unfolding digit? digit_of
+digit-none b h k = simp (h, k)
+
+-- what a digit that was read says
+pub some-digit : (b d : ℕ) → Some d ≡ cond (digit? 16 b) (Some (digit_of b)) None → d ≡ digit_of b
+some-digit b d e = bool_cases (digit? 16 b) (λ q. let k : Some d ≡ Some (digit_of b) = rw q at e in cc)
+    (λ q. let k : Some d ≡ None = rw q at e in absurd (some-none d k))
+
+pub none-digit : (base b : ℕ) → base ≤ 16 → None ≡ cond (digit? 16 b) (Some (digit_of b)) None → base ≤ digit_of b
+unfolding digit?
+none-digit base b h e = bool_cases (ltb (digit_of b) 16)
+    (λ q. let k : None ≡ Some (digit_of b) = rw q at e in absurd (some-none (digit_of b) (sym k)))
+    (λ q. omega (arith, ltb-false (digit_of b) 16 q))
 
 -- what the digits say, cut at 2^32
 pub sat : ℕ → ℕ → List ℕ → ℕ
@@ -112,59 +172,30 @@ pub name-zero : name_byte? 0 ≡ false
 unfolding name_byte?
 name-zero = refl
 
-pub word_more : (s : List ℕ) (i : ℕ) → name_byte? (byte_at s i) ≡ true → word (drop i s) ≡ byte_at s i ∷ word (drop (i + 1) s)
+pub word-is : (l : List ℕ) → take_while name_byte? l ≡ word l
 unfolding word
-word_more s i h =
-    let k : i < length s = kind-in name_byte? name-zero s i h in
-    rw (add-one i, drop-cons s i 0 k, h)
-
-pub word-stop : (s : List ℕ) (i : ℕ) → name_byte? (byte_at s i) ≡ false → word (drop i s) ≡ []
-unfolding word
-word-stop s i h = place-cases s i
-    (λ k. rw (drop-cons s i 0 k, h)) (λ k. rw (drop_of_length-le s k))
+word-is [] = refl
+word-is (b ∷ l) = take_while-cons name_byte? b l ∙ ap (λ m. cond (name_byte? b) (b ∷ m) []) (word-is l)
 
 -- ---- a word's spelling and key, byte by byte
-module _ (s : List ℕ) (i n : ℕ) where
-  pub spelled-more : name_byte? (byte_at s i) ≡ true
-      → spelled_from (min (n * 256 + byte_at s i) 281474976710656) (word (drop (i + 1) s)) ≡ spelled_from n (word (drop i s))
+module _ (w : List ℕ) (k n : ℕ) where
+  pub spelled-more : k < length w → spelled_from (min (n * 256 + get_or w k 0) 281474976710656) (drop (k + 1) w) ≡ spelled_from n (drop k w)
   unfolding spelled_from
-  spelled-more h = rw (word_more s i h)
+  spelled-more h = rw (add-one k, drop-cons w k 0 h)
 
-  pub spelled-stop : name_byte? (byte_at s i) ≡ false → spelled_from n (word (drop i s)) ≡ n
+  pub spelled-stop : length w ≤ k → spelled_from n (drop k w) ≡ n
   unfolding spelled_from
-  spelled-stop h = rw (word-stop s i h)
+  spelled-stop h = rw (drop_of_length-le w h)
 
-  pub key_more : name_byte? (byte_at s i) ≡ true
-      → key_from ((n * 31 + byte_at s i) % 4294967296) (word (drop (i + 1) s)) ≡ key_from n (word (drop i s))
+  pub key_more : k < length w → key_from ((n * 31 + get_or w k 0) % 4294967296) (drop (k + 1) w) ≡ key_from n (drop k w)
   unfolding key_from
-  key_more h = rw (word_more s i h)
+  key_more h = rw (add-one k, drop-cons w k 0 h)
 
-  pub key-stop : name_byte? (byte_at s i) ≡ false → key_from n (word (drop i s)) ≡ n
+  pub key-stop : length w ≤ k → key_from n (drop k w) ≡ n
   unfolding key_from
-  key-stop h = rw (word-stop s i h)
+  key-stop h = rw (drop_of_length-le w h)
 
--- ---- two words, byte by byte
-module _ (t : List ℕ) (i : ℕ) (s : List ℕ) (j : ℕ) where
-  pub same_stop : name_byte? (byte_at t i) ≡ false → same (word (drop i t)) (word (drop j s)) ≡ not (name_byte? (byte_at s j))
-  unfolding same
-  same_stop h = bool_cases (name_byte? (byte_at s j))
-      (λ q. rw (word-stop t i h, word_more s j q, q)) (λ q. rw (word-stop t i h, word-stop s j q, q))
-
-  pub same-short : name_byte? (byte_at t i) ≡ true → name_byte? (byte_at s j) ≡ false
-      → same (word (drop i t)) (word (drop j s)) ≡ false
-  unfolding same
-  same-short h k = rw (word_more t i h, word-stop s j k)
-
-  pub same-other : name_byte? (byte_at t i) ≡ true → name_byte? (byte_at s j) ≡ true → (byte_at t i ≡ byte_at s j → ⊥)
-      → same (word (drop i t)) (word (drop j s)) ≡ false
-  unfolding same
-  same-other h k d = rw (word_more t i h, word_more s j k, ne_eqb (byte_at t i) (byte_at s j) d)
-
-  pub same_more : name_byte? (byte_at t i) ≡ true → name_byte? (byte_at s j) ≡ true → byte_at t i ≡ byte_at s j
-      → same (word (drop (i + 1) t)) (word (drop (j + 1) s)) ≡ same (word (drop i t)) (word (drop j s))
-  unfolding same
-  same_more h k e = rw (word_more t i h, word_more s j k, eq-eqb (byte_at t i) (byte_at s j) e)
-
+-- ---- two words
 pub and_parts : (a b : Bool) → a && b ≡ true → (a ≡ true) × (b ≡ true)
 and_parts true b e = (refl, e)
 and_parts false b e = clash e refl
@@ -178,47 +209,55 @@ same-is (x ∷ a) (y ∷ b) e =
     let p = and_parts (eqb x y) (same a b) e in
     ap (λ z. z ∷ a) (eqb-true x y p.0) ∙ ap (λ l. y ∷ l) (same-is a b p.1)
 
+-- two lists that the code found equal or not
+pointwise-same : (a b : List ℕ) → pointwise eqb a b ≡ same a b
+unfolding same
+pointwise-same [] [] = refl
+pointwise-same [] (y ∷ b) = refl
+pointwise-same (x ∷ a) [] = refl
+pointwise-same (x ∷ a) (y ∷ b) = ap (λ t. eqb x y && t) (pointwise-same a b)
+
+pub words-same : (a b m n : List ℕ) (r : Bool) → a ≡ m → b ≡ n → r ≡ pointwise eqb a b → same m n ≡ r
+words-same a b m n r e f h = sym (h ∙ pointwise-same a b ∙ ap (λ x. same x b) e ∙ ap (same m) f)
+
 -- ---- the table of names
-module _ (s ps ks : List ℕ) (vs : List ℤ) (n : List ℕ) (k : ℕ) where
-  pub look_hit : k < length ps → k < length ks → k < length vs
-      → eqb (get_or ks k 0) (key_of n) && same (word (drop (get_or ps k 0) s)) n ≡ true
-      → look_up_at s (drop k ps) (drop k ks) (drop k vs) n ≡ Known (get_or vs k (pos 0))
-  unfolding look_up_at
-  look_hit a b d e = rw (drop-cons ps k 0 a, drop-cons ks k 0 b, drop-cons vs k (pos 0) d, e)
-
-  pub look-miss : k < length ps → k < length ks → k < length vs
-      → eqb (get_or ks k 0) (key_of n) && same (word (drop (get_or ps k 0) s)) n ≡ false
-      → look_up_at s (drop (k + 1) ps) (drop (k + 1) ks) (drop (k + 1) vs) n ≡ look_up_at s (drop k ps) (drop k ks) (drop k vs) n
-  unfolding look_up_at
-  look-miss a b d e = rw (add-one k, drop-cons ps k 0 a, drop-cons ks k 0 b, drop-cons vs k (pos 0) d, e)
-
-  pub look-end : length ps ≤ k → look_up_at s (drop k ps) (drop k ks) (drop k vs) n ≡ Unknown
-  unfolding look_up_at
-  look-end h = rw (drop_of_length-le ps h)
-
-  pub look-no-key : k < length ps → length ks ≤ k → look_up_at s (drop k ps) (drop k ks) (drop k vs) n ≡ Unknown
-  unfolding look_up_at
-  look-no-key a h = rw (drop-cons ps k 0 a, drop_of_length-le ks h)
-
-  pub look-no-value : k < length ps → k < length ks → length vs ≤ k
-      → look_up_at s (drop k ps) (drop k ks) (drop k vs) n ≡ Unknown
-  unfolding look_up_at
-  look-no-value a b h = rw (drop-cons ps k 0 a, drop-cons ks k 0 b, drop_of_length-le vs h)
-
 and_no : (a : Bool) → a && false ≡ false
 and_no true = refl
 and_no false = refl
 
-look-each : (s ps : List ℕ) (vs : List ℤ) (n : List ℕ)
-    → look_up_at s ps (map (λ (p : ℕ). key_of (word (drop p s))) ps) vs n ≡ look_up (names_at s ps) vs n
+module _ (s : List ℕ) (ms : List Name) (n : List ℕ) (k : ℕ) (d : Name) where
+  pub look_hit : k < length ms → (get_or ms k d).key ≡ key_of n → same (word (drop (get_or ms k d).place s)) n ≡ true
+      → look_up_at s (drop k ms) n ≡ Ok (get_or ms k d).value
+  unfolding look_up_at
+  look_hit h e f = rw (drop-cons ms k d h, f, eq-eqb (get_or ms k d).key (key_of n) e)
+
+  pub look-key : k < length ms → ((get_or ms k d).key ≡ key_of n → ⊥) → look_up_at s (drop (k + 1) ms) n ≡ look_up_at s (drop k ms) n
+  unfolding look_up_at
+  look-key h e = rw (add-one k, drop-cons ms k d h, ne_eqb (get_or ms k d).key (key_of n) e)
+
+  pub look-word : k < length ms → same (word (drop (get_or ms k d).place s)) n ≡ false
+      → look_up_at s (drop (k + 1) ms) n ≡ look_up_at s (drop k ms) n
+  unfolding look_up_at
+  look-word h f = rw (add-one k, drop-cons ms k d h, f, and_no (eqb (get_or ms k d).key (key_of n)))
+
+pub look-end : (s : List ℕ) (ms : List Name) (n : List ℕ) (k : ℕ) → length ms ≤ k → look_up_at s (drop k ms) n ≡ Err Unknown
+unfolding look_up_at
+look-end s ms n k h = rw (drop_of_length-le ms h)
+
+-- each key is its name's
+abbrev pub Keyed : List ℕ → List Name → Type 0
+Keyed s [] = Unit
+Keyed s (m ∷ ms) = (m.key ≡ key_of (word (drop m.place s))) × Keyed s ms
+
+look-each : (s : List ℕ) (ms : List Name) (n : List ℕ) → Keyed s ms
+    → look_up_at s ms n ≡ look_up (names_at s (map (λ (m : Name). m.place) ms)) (map (λ (m : Name). m.value) ms) n
 unfolding look_up_at look_up names_at
-look-each s [] vs n = refl
-look-each s (p ∷ ps) [] n = refl
-look-each s (p ∷ ps) (v ∷ vs) n = bool_cases (same (word (drop p s)) n)
-    (λ q. rw (q, eq-eqb (key_of (word (drop p s))) (key_of n) (ap key_of (same-is (word (drop p s)) n q))))
-    (λ q. rw (q, and_no (eqb (key_of (word (drop p s))) (key_of n))) (look-each s ps vs n))
+look-each s [] n h = refl
+look-each s (m ∷ ms) n h = bool_cases (same (word (drop m.place s)) n)
+    (λ q. rw (q, eq-eqb m.key (key_of n) (h.0 ∙ ap key_of (same-is (word (drop m.place s)) n q))))
+    (λ q. rw (q, and_no (eqb m.key (key_of n))) (look-each s ms n h.1))
 
 -- where each key is its name's, a look-up by keys is a look-up by names
-pub look-up-at : (s ps ks : List ℕ) (vs : List ℤ) → ks ≡ map (λ (p : ℕ). key_of (word (drop p s))) ps
-    → look_up_at s ps ks vs ≡ look_up (names_at s ps) vs
-look-up-at s ps ks vs e = ap (λ l. look_up_at s ps l vs) e ∙ fun_ext (λ n. look-each s ps vs n)
+pub look-up-at : (s : List ℕ) (ms : List Name) → Keyed s ms
+    → look_up_at s ms ≡ look_up (names_at s (map (λ (m : Name). m.place) ms)) (map (λ (m : Name). m.value) ms)
+look-up-at s ms h = fun_ext (λ n. look-each s ms n h)

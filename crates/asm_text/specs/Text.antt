@@ -1,14 +1,21 @@
 -- The text of a source, a list of bytes: blanks, digits, words, and the value of a name. Assumes nothing.
-use Rattle.std.specs.Prelude.{Bool, true, false, cond, ◌&&◌, ◌||◌, List, [], ◌∷◌, map, ℕ, suc, ◌+◌, ◌-◌, ◌*◌, ◌%◌, ◌^◌, min, ltb, leb, eqb, get_or, drop, ℤ}
+use Rattle.std.specs.Prelude.{Bool, true, false, cond, ◌&&◌, ◌||◌, List, [], ◌∷◌, map, ℕ, suc, ◌+◌, ◌-◌, ◌*◌, ◌%◌, ◌^◌, min, ltb, leb, eqb, get_or, drop, ℤ, Result, Ok, Err, Option, Some}
 use Prim.Native.Char.{code}
 use Prim.Native.String.{String, [] as none, ◌∷◌ as ◌then◌}
-use Rattle.asm_value.specs.declared.Value.{Value}
-use Rattle.asm_value.specs.declared.Value.TheVariants.{Known, Unknown}
+use Rattle.asm_value.specs.declared.Lack.{Lack}
+use Rattle.asm_value.specs.declared.Lack.TheVariants.{Unknown}
+use Rattle.asm_text.specs.declared.Read.{Read}
+use Rattle.asm_text.specs.declared.Name.{Name}
+use Rattle.asm_text.specs.declared.Names.{Names}
 
 -- the bytes of a text that is written in letters: each character's code
 abbrev pub ascii : String → List ℕ
 ascii none = []
 ascii (c then s) = code c ∷ ascii s
+
+-- v was read, up to the place i
+abbrev pub found : {A : Type 0} → A → ℕ → Option (Read A)
+found v i = Some (record { value = v; next = i })
 
 -- the byte at i; 0 past the end
 abbrev pub byte_at : List ℕ → ℕ → ℕ
@@ -84,20 +91,22 @@ key_of w = key_from 0 w
 -- ---- names
 
 -- the value of a name: of the first among the names that is the same; none is unknown, 18. [02 §12]
-unfoldable pub look_up : List (List ℕ) → List ℤ → List ℕ → Value
-look_up [] vs n = Unknown
-look_up (m ∷ ms) [] n = Unknown
-look_up (m ∷ ms) (v ∷ vs) n = cond (same m n) (Known v) (look_up ms vs n)
+unfoldable pub look_up : List (List ℕ) → List ℤ → List ℕ → Result ℤ Lack
+look_up [] vs n = Err Unknown
+look_up (m ∷ ms) [] n = Err Unknown
+look_up (m ∷ ms) (v ∷ vs) n = cond (same m n) (Ok v) (look_up ms vs n)
 
 -- the names of a source s that start at places
 unfoldable pub names_at : List ℕ → List ℕ → List (List ℕ)
 names_at s ps = map (λ (p : ℕ). word (drop p s)) ps
 
--- the same look-up in a table that holds for each name its place in the source s, its key and its value; where each key
+-- the same look-up in a list that holds for each name its place in the source s, its key and its value; where each key
 -- is its name's, it is `look_up` (Laws: look-up-at)
-unfoldable pub look_up_at : List ℕ → List ℕ → List ℕ → List ℤ → List ℕ → Value
-look_up_at s [] ks vs n = Unknown
-look_up_at s (p ∷ ps) [] vs n = Unknown
-look_up_at s (p ∷ ps) (k ∷ ks) [] n = Unknown
-look_up_at s (p ∷ ps) (k ∷ ks) (v ∷ vs) n =
-    cond (eqb k (key_of n) && same (word (drop p s)) n) (Known v) (look_up_at s ps ks vs n)
+unfoldable pub look_up_at : List ℕ → List Name → List ℕ → Result ℤ Lack
+look_up_at s [] n = Err Unknown
+look_up_at s (m ∷ ms) n =
+    cond (eqb m.key (key_of n) && same (word (drop m.place s)) n) (Ok m.value) (look_up_at s ms n)
+
+-- the values that names give
+abbrev pub values_in : Names → List ℕ → Result ℤ Lack
+values_in names = look_up_at names.source.now names.list.now

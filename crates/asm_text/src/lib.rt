@@ -2,12 +2,27 @@
 // the end reads as the byte 0, which is no blank, no digit and no letter.
 #![tactic(auto)]
 
-ghost use Rattle.std.specs.Prelude.{◌≡◌, ◌+◌, ◌*◌, ◌%◌, ◌≤◌, ◌<◌, ◌^◌, min, ◌&&◌, eqb, drop};
+ghost use Rattle.std.specs.Prelude.{◌≡◌, ◌+◌, ◌-◌, ◌*◌, ◌%◌, ◌≤◌, ◌<◌, ◌^◌, min, cond, Some, None, drop, length};
+ghost use Rattle.std.specs.List.{prefix_len};
 ghost use Rattle.asm_text.specs.Text.{byte_at, blank?, letter?, name_byte?};
 ghost use Rattle.asm_text.specs.Text.{digit_of, after, digit?, numeral};
-ghost use Rattle.asm_text.specs.Text.{word, same, spelled, key_of, look_up_at};
+ghost use Rattle.asm_text.specs.Text.{word, spelled, key_of, values_in};
 
-use asm_value::Value;
+use asm_value::{Lack, Value};
+
+// What was read, and the place after it.
+#[derive(Clone, Copy)]
+pub struct Read<T> {
+    pub value: T,
+    pub next: usize,
+}
+
+// A word: its spelling as one number, and its key.
+#[derive(Clone, Copy)]
+pub struct Token {
+    pub spelled: u64,
+    pub key: u32,
+}
 
 // The byte at i, or 0 past the end.
 pub fn byte_at(s: &[u8], i: usize) -> u8
@@ -40,53 +55,53 @@ pub fn is_name_byte(b: u8) -> bool
     ((65 <= b) & (b <= 90)) | ((48 <= b) & (b <= 57))
 }
 
-// What a digit says, 0 to 15; 16 for any other byte.
-pub fn digit(b: u8) -> u64
-    ensures value { result ≡ digit_of b }
-    ensures upper_bound { result ≤ 16 }
+// What a digit says, 0 to 15; none for any other byte.
+pub fn digit(b: u8) -> Option<u64>
+    ensures { result ≡ cond (digit? 16 b) (Some (digit_of b)) None }
 {
-    if (48 <= b) & (b <= 57) {
-        return (b - 48) as u64;
+    match b {
+        b'0'..=b'9' => Some((b - b'0') as u64),
+        b'A'..=b'F' => Some((b - b'A' + 10) as u64),
+        _ => None,
     }
-    if (65 <= b) & (b <= 70) {
-        return (b - 55) as u64;
-    }
-    16
+}
+
+// The bytes from `at` on; none past the end.
+fn rest(s: &[u8], at: usize) -> &[u8]
+    ensures { result.now ≡ drop at s.now }
+{
+    &s[at.min(s.len())..]
+}
+
+// How many bytes at the front are blanks.
+// Kept: a twin of `name_bytes`, since the contract of a test passed in is longer than both.
+fn blanks(s: &[u8]) -> usize
+    ensures value { result ≡ prefix_len blank? s.now }
+    ensures upper_bound { result ≤ length s.now }
+{
+    s.iter().take_while(|b| is_blank(**b)).count()
+}
+
+// How many bytes at the front are letters and digits.
+fn name_bytes(s: &[u8]) -> usize
+    ensures value { result ≡ prefix_len name_byte? s.now }
+    ensures upper_bound { result ≤ length s.now }
+{
+    s.iter().take_while(|b| is_name_byte(**b)).count()
 }
 
 // The first place from `at` on that holds no blank.
 pub fn skip_blanks(s: &[u8], at: usize) -> usize
     ensures { result ≡ after blank? s.now at }
 {
-    let mut i = at;
-    loop {
-        let b = byte_at(s, i);
-        if !is_blank(b) {
-            return i;
-        }
-        i += 1;
-    }
+    at + blanks(rest(s, at))
 }
 
 // The first place from `at` on that holds no letter and no digit.
 pub fn name_end(s: &[u8], at: usize) -> usize
     ensures { result ≡ after name_byte? s.now at }
 {
-    let mut i = at;
-    loop {
-        let b = byte_at(s, i);
-        if !is_name_byte(b) {
-            return i;
-        }
-        i += 1;
-    }
-}
-
-// Digits that were read: what they say, cut at 2^32, and the place after them.
-#[derive(Clone, Copy)]
-pub struct Numeral {
-    pub size: u64,
-    pub next: usize,
+    at + name_bytes(rest(s, at))
 }
 
 // One digit more.
@@ -95,37 +110,24 @@ fn grow(size: u64, base: u64, d: u64) -> u64
     ensures value { result ≡ min (size * base + d) (2 ^ 32) }
     ensures upper_bound { result ≤ 2 ^ 32 }
 {
-    let n = size * base + d;
-    if 4294967296 <= n {
-        return 4294967296;
-    }
-    n
+    (size * base + d).min(4294967296)
 }
 
-// The digits from `at` on, of any number.
-pub fn read_digits(s: &[u8], at: usize, base: u64) -> Numeral
+// The digits from `at` on, of any number: what they say, cut at 2^32.
+pub fn read_digits(s: &[u8], at: usize, base: u64) -> Read<u64>
     requires { (1 ≤ base) × (base ≤ 16) }
     ensures next_value { result.next ≡ after (digit? base) s.now at }
-    ensures size_value { result.size ≡ min (numeral base 0 (drop at s.now)) (2 ^ 32) }
+    ensures size_value { result.value ≡ min (numeral base 0 (drop at s.now)) (2 ^ 32) }
 {
-    let mut i = at;
-    let mut size: u64 = 0;
-    loop {
-        let d = digit(byte_at(s, i));
-        if base <= d {
-            return Numeral { size, next: i };
-        }
-        size = grow(size, base, d);
-        i += 1;
+    let mut next = at;
+    let mut value = 0;
+    while let Some(d) = digit(byte_at(s, next))
+        && d < base
+    {
+        value = grow(value, base, d);
+        next += 1;
     }
-}
-
-// A word that was read: its spelling as one number, its key, and the place after it.
-#[derive(Clone, Copy)]
-pub struct Token {
-    pub spelled: u64,
-    pub key: u32,
-    pub next: usize,
+    Read { value, next }
 }
 
 // The spelling with one byte more.
@@ -134,11 +136,7 @@ fn spell(n: u64, b: u8) -> u64
     ensures value { result ≡ min (n * 256 + b) (2 ^ 48) }
     ensures upper_bound { result ≤ 2 ^ 48 }
 {
-    let m = n * 256 + b as u64;
-    if 281474976710656 <= m {
-        return 281474976710656;
-    }
-    m
+    (n * 256 + b as u64).min(281474976710656)
 }
 
 // The key with one byte more.
@@ -149,92 +147,58 @@ fn mix(key: u32, b: u8) -> u32
 }
 
 // The letters and digits from `at` on.
-pub fn read_word(s: &[u8], at: usize) -> Token
+pub fn word(s: &[u8], at: usize) -> &[u8]
+    ensures value { result.now ≡ word (drop at s.now) }
+    ensures next_value { at + length result.now ≡ after name_byte? s.now at }
+    ensures upper_bound { length result.now ≤ length s.now - at }
+{
+    let r = rest(s, at);
+    &r[..name_bytes(r)]
+}
+
+// A word with its spelling and its key, and the place after it.
+pub fn read_word(s: &[u8], at: usize) -> Read<Token>
     ensures next_value { result.next ≡ after name_byte? s.now at }
-    ensures spelled_value { result.spelled ≡ spelled (word (drop at s.now)) }
-    ensures key_value { result.key ≡ key_of (word (drop at s.now)) }
+    ensures spelled_value { result.value.spelled ≡ spelled (word (drop at s.now)) }
+    ensures key_value { result.value.key ≡ key_of (word (drop at s.now)) }
 {
-    let mut i = at;
-    let mut n: u64 = 0;
-    let mut key: u32 = 0;
-    loop {
-        let b = byte_at(s, i);
-        if !is_name_byte(b) {
-            return Token {
-                spelled: n,
-                key,
-                next: i,
-            };
-        }
-        n = spell(n, b);
-        key = mix(key, b);
-        i += 1;
+    let mut spelled = 0;
+    let mut key = 0;
+    let w = word(s, at);
+    for b in w {
+        spelled = spell(spelled, *b);
+        key = mix(key, *b);
     }
+    let value = Token { spelled, key };
+    let next = at + w.len();
+    Read { value, next }
 }
 
-// The word of t at p and the word of s at q are the same.
-fn same_word(t: &[u8], p: usize, s: &[u8], q: usize) -> bool
-    ensures { result ≡ same (word (drop p t.now)) (word (drop q s.now)) }
-{
-    let mut i = p;
-    let mut j = q;
-    loop {
-        let a = byte_at(t, i);
-        let b = byte_at(s, j);
-        if !is_name_byte(a) {
-            return !is_name_byte(b);
-        }
-        if !is_name_byte(b) {
-            return false;
-        }
-        if a != b {
-            return false;
-        }
-        i += 1;
-        j += 1;
-    }
+// A name that was given: the place in the source where it starts, its key and its value.
+#[derive(Clone, Copy)]
+pub struct Name {
+    pub place: usize,
+    pub key: u32,
+    pub value: i32,
 }
 
-// The name of the source at `place`, with the key `there`, is the word of s at `at`, with the key
-// `key`.
-fn is_name(source: &[u8], place: usize, there: u32, s: &[u8], at: usize, key: u32) -> bool
-    ensures { result ≡ eqb there key
-        && same (word (drop place source.now)) (word (drop at s.now)) }
-{
-    if there != key {
-        return false;
-    }
-    same_word(source, place, s, at)
+// The names given in a source.
+#[derive(Clone, Copy)]
+pub struct Names<'a> {
+    pub source: &'a [u8],
+    pub list: &'a [Name],
 }
 
-// The value of the name of s at `at`, whose key is `key`: places[k] is where in the source the k-th
-// name given starts, keys[k] its key, values[k] its value.
-pub fn look_up(
-    source: &[u8],
-    places: &[usize],
-    keys: &[u32],
-    values: &[i32],
-    s: &[u8],
-    at: usize,
-    key: u32,
-) -> Value
+// The value of the name of s at `at`, whose key is `key`.
+pub fn look_up(names: &Names<'_>, s: &[u8], at: usize, key: u32) -> Value
     requires { key ≡ key_of (word (drop at s.now)) }
-    ensures { result ≡ look_up_at
-        source.now places.now keys.now values.now
-        (word (drop at s.now)) }
+    ensures { result ≡ values_in names.now (word (drop at s.now)) }
 {
-    let mut k = 0;
-    while k < places.len() {
-        if keys.len() <= k {
-            return Value::Unknown;
+    let w = word(s, at);
+    for n in names.list {
+        if n.key == key && word(names.source, n.place) == w {
+            return Ok(n.value);
         }
-        if values.len() <= k {
-            return Value::Unknown;
-        }
-        if is_name(source, places[k], keys[k], s, at, key) {
-            return Value::Known(values[k]);
-        }
-        k += 1;
     }
-    Value::Unknown
+    Err(Lack::Unknown)
 }

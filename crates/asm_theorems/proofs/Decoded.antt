@@ -12,14 +12,12 @@ use borrow.Author.Tests.{lt-ltb}
 use Rattle.word.specs.Offset.{signed_of}
 use Rattle.isa.specs.declared.Instr.{Instr}
 use Rattle.isa.specs.declared.Instr.TheVariants as i
-use Rattle.isa.specs.declared.Encoded.{Encoded}
-use Rattle.isa.specs.declared.Encoded.TheVariants as e
+use Rattle.std.specs.Prelude.{Option, Some, None, Ok, Err}
 use Rattle.isa.specs.Decode.{decode_of}
 use Rattle.isa.specs.Encode.{encode_of, when_fits}
 use Rattle.isa_laws.proofs.EncodeDecode.{encode-decode}
-use Rattle.asm_fits.specs.declared.Fit.{Fit}
-use Rattle.asm_fits.specs.declared.Fit.TheVariants.{Number, Unknown, Outside}
-use Rattle.asm_fits.specs.Fits.{residue_of, count_fit, offset_fit, immediate_fit, constant_fit, branch_fit}
+use Rattle.asm_value.specs.declared.Lack.TheVariants.{Unknown, Outside}
+use Rattle.asm_fits.specs.Fits.{Fit, residue_of, count_fit, offset_fit, immediate_fit, constant_fit, branch_fit}
 use Rattle.asm_line.specs.declared.Statement.{Statement}
 use Rattle.asm_line.specs.declared.Statement.TheVariants as st
 use Rattle.asm_line.proofs.Lawful.{Worded, Lawful, LawfulLine, line-lawful}
@@ -30,32 +28,30 @@ use Rattle.asm_theorems.specs.Theorems.{Uncovered, Means, word_in, Assembles, Wo
 use Rattle.asm_theorems.specs.Theorems.{Encodes, Coded, CodedBoth, NotRefused, NeverRefused}
 use Rattle.asm_theorems.proofs.Image.{byte-held, word_held}
 use Rattle.asm_theorems.proofs.Accepted.{Good, accepted-whole, assembled-good, assembled-memory}
-use Rattle.asm_theorems.proofs.Values.{number-inj, unknown-not, outside-not, count_of, offset-of, byte_of, word_of, immediate-of}
+use Rattle.asm_theorems.proofs.Values.{number-inj, lack-not, count_of, offset-of, byte_of, word_of, immediate-of}
 use Rattle.asm_theorems.proofs.Values.{constant_of, branch-of}
 
 -- ---- from a statement's number to its instruction
-encoded-of : (x : Encoded) (n : ℕ) → encoded x ≡ Number n → x ≡ e.Word n
-encoded-of (e.Word w) n h = ap e.Word (number-inj w n h)
-encoded-of e.Refused n h = absurd (outside-not n h)
+encoded-of : (x : Option ℕ) (n : ℕ) → encoded x ≡ Ok n → x ≡ Some n
+encoded-of (Some w) n h = ap Some (number-inj w n h)
+encoded-of None n h = absurd (lack-not Outside n h)
 
 -- the word decodes to the instruction that was encoded
-pub decoded : (j : Instr) (n : ℕ) → encoded (encode_of j) ≡ Number n → decode_of n ≡ j
+pub decoded : (j : Instr) (n : ℕ) → encoded (encode_of j) ≡ Ok n → decode_of n ≡ j
 decoded j n h = encode-decode j n (encoded-of (encode_of j) n h)
 
-coded-of : (f : Fit) (g : ℕ → Instr) (n : ℕ) → coded f g ≡ Number n → (k : ℕ) × (f ≡ Number k) × (decode_of n ≡ g k)
-coded-of (Number k) g n h = (k, refl, decoded (g k) n h)
-coded-of Unknown g n h = absurd (unknown-not n h)
-coded-of Outside g n h = absurd (outside-not n h)
+coded-of : (f : Fit) (g : ℕ → Instr) (n : ℕ) → coded f g ≡ Ok n → (k : ℕ) × (f ≡ Ok k) × (decode_of n ≡ g k)
+coded-of (Ok k) g n h = (k, refl, decoded (g k) n h)
+coded-of (Err d) g n h = absurd (lack-not d n h)
 
-both_of : (a b : Fit) (g : ℕ → ℕ → Instr) (n : ℕ) → coded_both a b g ≡ Number n
-    → (j : ℕ) × (k : ℕ) × (a ≡ Number j) × (b ≡ Number k) × (decode_of n ≡ g j k)
-both_of (Number j) b g n h = let c = coded-of b (g j) n h in (j, c.0, refl, c.1, c.2)
-both_of Unknown b g n h = absurd (unknown-not n h)
-both_of Outside (Number k) g n h = absurd (outside-not n h)
-both_of Outside Unknown g n h = absurd (unknown-not n h)
-both_of Outside Outside g n h = absurd (outside-not n h)
+both_of : (a b : Fit) (g : ℕ → ℕ → Instr) (n : ℕ) → coded_both a b g ≡ Ok n
+    → (j : ℕ) × (k : ℕ) × (a ≡ Ok j) × (b ≡ Ok k) × (decode_of n ≡ g j k)
+both_of (Ok j) b g n h = let c = coded-of b (g j) n h in (j, c.0, refl, c.1, c.2)
+both_of (Err Unknown) b g n h = absurd (lack-not Unknown n h)
+both_of (Err Outside) (Ok k) g n h = absurd (lack-not Outside n h)
+both_of (Err Outside) (Err d) g n h = absurd (lack-not d n h)
 
-means : (p : ℕ) (x : Statement) (n : ℕ) → number_of p x ≡ Number n → Means p x (decode_of n)
+means : (p : ℕ) (x : Statement) (n : ℕ) → number_of p x ≡ Ok n → Means p x (decode_of n)
 unfolding number_of
 means p st.Nothing n h = tt
 means p (st.Org v) n h = tt
@@ -100,16 +96,15 @@ means p (st.Str v wb src dst) n h =
     (b.0, b.1, c.2 ∙ ap (λ (z : ℤ). i.Str z wb src dst) b.2)
 
 -- ---- at its place
-placed_of : (size p : ℕ) (f : Fit) (n : ℕ) → placed size p f ≡ Number n → f ≡ Number n
-placed_of size p (Number k) n h = go (misplaced? size p) h
+placed_of : (size p : ℕ) (f : Fit) (n : ℕ) → placed size p f ≡ Ok n → f ≡ Ok n
+placed_of size p (Ok k) n h = go (misplaced? size p) h
   where
-    go : (b : Bool) → cond b Outside (Number k) ≡ Number n → Number k ≡ Number n
-    go true e = absurd (outside-not n e)
+    go : (b : Bool) → cond b (Err Outside) (Ok k) ≡ Ok n → ◌≡◌ {A = Fit} (Ok k) (Ok n)
+    go true e = absurd (lack-not Outside n e)
     go false e = e
-placed_of size p Unknown n h = absurd (unknown-not n h)
-placed_of size p Outside n h = absurd (outside-not n h)
+placed_of size p (Err d) n h = absurd (lack-not d n h)
 
-number-of : (p : ℕ) (x : Statement) (n : ℕ) → used_of p x ≡ Number n → number_of p x ≡ Number n
+number-of : (p : ℕ) (x : Statement) (n : ℕ) → used_of p x ≡ Ok n → number_of p x ≡ Ok n
 unfolding used_of
 number-of p x n h = placed_of (size_of (layout_of x)) p (number_of p x) n h
 
@@ -142,7 +137,7 @@ module _ (m s : List ℕ) (x : Placed) (after : List Placed) (h : Assembles m s 
   n : ℕ
   n = good.1.0
 
-  number : number_of x.place x.statement ≡ Number n
+  number : number_of x.place x.statement ≡ Ok n
   unfolding n
   number = number-of x.place x.statement n good.1.1
 
@@ -181,21 +176,19 @@ byte-data m s p v after h u =
     (b.0, b.1, byte-is m s x after h refl u ∙ ap (λ (k : ℕ). k % 256) b.2 ∙ d)
 
 -- ---- encode is never refused
-coded_by : (f : Fit) (g : ℕ → Instr) → ((k : ℕ) → f ≡ Number k → Encodes (g k)) → Coded f g
-coded_by (Number k) g h = h k refl
-coded_by Unknown g h = tt
-coded_by Outside g h = tt
+coded_by : (f : Fit) (g : ℕ → Instr) → ((k : ℕ) → f ≡ Ok k → Encodes (g k)) → Coded f g
+coded_by (Ok k) g h = h k refl
+coded_by (Err d) g h = tt
 
-both_by : (a b : Fit) (g : ℕ → ℕ → Instr) → ((j k : ℕ) → a ≡ Number j → b ≡ Number k → Encodes (g j k)) → CodedBoth a b g
-both_by (Number j) b g h = coded_by b (g j) (λ k. h j k refl)
-both_by Unknown b g h = tt
-both_by Outside b g h = tt
+both_by : (a b : Fit) (g : ℕ → ℕ → Instr) → ((j k : ℕ) → a ≡ Ok j → b ≡ Ok k → Encodes (g j k)) → CodedBoth a b g
+both_by (Ok j) b g h = coded_by b (g j) (λ k. h j k refl)
+both_by (Err d) b g h = tt
 
-worded : (x : Encoded) → Worded x → (w : ℕ) × (x ≡ e.Word w)
-worded (e.Word w) h = (w, refl)
-worded e.Refused h = absurd h
+worded : (x : Option ℕ) → Worded x → (w : ℕ) × (x ≡ Some w)
+worded (Some w) h = (w, refl)
+worded None h = absurd h
 
-when : (b : Bool) (w : ℕ) → b ≡ true → (k : ℕ) × (when_fits b w ≡ e.Word k)
+when : (b : Bool) (w : ℕ) → b ≡ true → (k : ℕ) × (when_fits b w ≡ Some k)
 when b w h = (w, ap (λ (t : Bool). when_fits t w) h)
 
 not_refused : (p : ℕ) (x : Statement) → Lawful x → NotRefused p x
@@ -247,4 +240,4 @@ not_refused p (st.Str v wb src dst) l = coded_by (offset_fit v) _
     )))
 
 pub never-refused : NeverRefused
-never-refused look l named q x e p = not_refused p x (subst LawfulLine e (line-lawful look l))
+never-refused look l name x e p = not_refused p x (subst LawfulLine e (line-lawful look l))

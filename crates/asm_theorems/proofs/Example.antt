@@ -13,34 +13,35 @@ use borrow.Author.Tests.{eq-eqb, ltb-true, ltb-false}
 use Rattle.isa.specs.declared.Instr.TheVariants as i
 use Rattle.isa.specs.Encode.{encode_of}
 use Rattle.text_lines.specs.Lines.{lines_of}
-use Rattle.asm_value.specs.declared.Value.{Value}
-use Rattle.asm_value.specs.declared.Value.TheVariants as v
+use Rattle.std.specs.Prelude.{Result, Ok, Err}
+use Rattle.asm_value.specs.declared.Lack.{Lack}
 use Rattle.asm_value.specs.Value.{fitted, applied, joined}
 use Rattle.asm_text.specs.Text.{blank?, letter?, name_byte?, digit_of, digit?, span, after, numeral, word, same, look_up}
 use Rattle.asm_words.specs.Words.{meaning, branches, operations, unaries, moves, valued_words, other_words, keywords, registers}
 use Rattle.asm_words.specs.Words.{conditions, emulated, words, word_of, free?, register_of}
 use Rattle.asm_expr.specs.Grammar.{named?, digits_at, name_at, plain_at, closed, plus?, times?, chain, parts_of, factor_with, factor_of}
 use Rattle.asm_expr.specs.Meaning.{value_of, answer_of}
-use Rattle.asm_operands.specs.Operands.{over?, word_below, register_at, width_at, value_at, nameless?, number?, comma?, comma_register}
+use Rattle.asm_operands.specs.Operands.{over?, word_said, register_at, width_at, value_at, nameless?, number?, comma?, comma_register}
 use Rattle.asm_fits.specs.Fits.{residue_of, within_of, fit_of, way_of, steps_of}
 use Rattle.word.proofs.Laws.{bool_cases}
 use Rattle.asm_line.specs.declared.Statement.TheVariants.{Org, End, Branch, MovImm}
 use Rattle.asm_line.specs.Statement.{with_value, one_value, equate, move_byte, statement_with, statement_of}
 use Rattle.asm_line.specs.Line.{statement_at, after_name, line_from, line_of}
 use Rattle.asm_write.specs.Written.{number_of, layout_of, misplaced?, used_of, onward, next_of, place_value, name_value}
+use Rattle.asm_sweeps.specs.declared.Fault.TheVariants.{Memory}
 use Rattle.asm_sweeps.specs.Form.{form_from}
 use Rattle.asm_sweeps.specs.Places.{first_of, named_of, table_from}
-use Rattle.asm_sweeps.specs.Uses.{place_after, uses_from, names_of, least_of, verdict, verdict_for, verdict_of}
+use Rattle.asm_sweeps.specs.Uses.{place_after, uses_from, names_of, least_of, refusal, verdict_for, verdict_of}
 use Rattle.asm_image.specs.Image.{placing, placed_from, placed_of}
 use Rattle.asm_call.specs.Call.{assemble_verdict}
 use Rattle.asm_theorems.specs.Theorems.{Accepted, Assembles, Leads, byte_taken, sample, Sample}
 use Rattle.asm_theorems.proofs.Accepted.{refusal-accepted}
 use Rattle.asm_theorems.proofs.Decoded.{words-decode}
 
-no_fault : verdict_of sample ≡ verdict 0 0
+no_fault : verdict_of sample ≡ Ok tt
 unfolding fitted applied joined blank? letter? name_byte? digit_of digit? span after numeral word same look_up meaning branches operations
     unaries moves valued_words other_words keywords registers conditions emulated words word_of free? register_of digits_at name_at plain_at
-    closed named? plus? times? chain parts_of factor_with factor_of value_of answer_of over? word_below register_at width_at value_at
+    closed named? plus? times? chain parts_of factor_with factor_of value_of answer_of over? word_said register_at width_at value_at
     nameless?
     number? comma? comma_register residue_of within_of fit_of way_of steps_of with_value one_value equate move_byte statement_with
     statement_of
@@ -50,11 +51,11 @@ unfolding fitted applied joined blank? letter? name_byte? digit_of digit? span a
 no_fault = refl
 
 placed-are : placed_of (names_of sample) sample
-    ≡ placing 0 (Org (v.Known (pos 256))) ∷ placing 256 (MovImm 3 false (v.Known (pos 256)) 0)
-    ∷ placing 258 (Branch 7 (v.Known (pos 256))) ∷ placing 260 End ∷ []
+    ≡ placing 0 (Org (Ok (pos 256))) ∷ placing 256 (MovImm 3 false (Ok (pos 256)) 0)
+    ∷ placing 258 (Branch 7 (Ok (pos 256))) ∷ placing 260 End ∷ []
 unfolding fitted applied joined blank? letter? name_byte? digit_of digit? span after numeral word same look_up meaning branches operations
     unaries moves valued_words other_words keywords registers conditions emulated words word_of free? register_of digits_at name_at plain_at
-    closed named? plus? times? chain parts_of factor_with factor_of value_of answer_of over? word_below register_at width_at value_at
+    closed named? plus? times? chain parts_of factor_with factor_of value_of answer_of over? word_said register_at width_at value_at
     nameless?
     number? comma? comma_register with_value one_value equate move_byte statement_with statement_of statement_at after_name line_from
     line_of
@@ -62,10 +63,9 @@ unfolding fitted applied joined blank? letter? name_byte? digit_of digit? span a
 placed-are = refl
 
 -- ---- the two words
-abbrev in_known : Value → ℤ
-in_known (v.Known z) = z
-in_known v.Unknown = pos 0
-in_known v.Outside = pos 0
+abbrev in_known : Result ℤ Lack → ℤ
+in_known (Ok z) = z
+in_known (Err d) = pos 0
 
 abbrev in_pos : ℤ → ℕ
 in_pos (pos n) = n
@@ -86,17 +86,17 @@ module _ (m : List ℕ) (hm : length m ≡ 65536) where
   accepted : Accepted m sample
   unfolding assemble_verdict
   accepted =
-      refusal-accepted m sample (ap (λ (b : Bool). (cond b (verdict_of sample) (verdict 1 0)).refusal) (eq-eqb (length m) 65536 hm)
-      ∙ ap (λ x. x.refusal) no_fault)
+      refusal-accepted m sample
+      (ap (λ (b : Bool). cond b (verdict_of sample) (Err (refusal Memory 0))) (eq-eqb (length m) 65536 hm) ∙ no_fault)
 
-  move-there : Assembles m sample (placing 256 (MovImm 3 false (v.Known (pos 256)) 0))
-      (placing 258 (Branch 7 (v.Known (pos 256))) ∷ placing 260 End ∷ [])
-  move-there = record { accepted = accepted; before = placing 0 (Org (v.Known (pos 256))) ∷ []; among = placed-are }
+  move-there : Assembles m sample (placing 256 (MovImm 3 false (Ok (pos 256)) 0))
+      (placing 258 (Branch 7 (Ok (pos 256))) ∷ placing 260 End ∷ [])
+  move-there = record { accepted = accepted; before = placing 0 (Org (Ok (pos 256))) ∷ []; among = placed-are }
 
-  branch-there : Assembles m sample (placing 258 (Branch 7 (v.Known (pos 256)))) (placing 260 End ∷ [])
+  branch-there : Assembles m sample (placing 258 (Branch 7 (Ok (pos 256)))) (placing 260 End ∷ [])
   branch-there = record {
     accepted = accepted;
-    before = placing 0 (Org (v.Known (pos 256))) ∷ placing 256 (MovImm 3 false (v.Known (pos 256)) 0) ∷ [];
+    before = placing 0 (Org (Ok (pos 256))) ∷ placing 256 (MovImm 3 false (Ok (pos 256)) 0) ∷ [];
     among = placed-are;
   }
 

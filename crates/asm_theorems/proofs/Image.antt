@@ -8,8 +8,8 @@ use lib.Dec.{eqb}
 use lib.ListN.{length, get_or, set, length-set}
 use lib.Seq.{sets, length-sets, get_or-set_same, get_or-set_other}
 use borrow.Author.Tests.{eqb-true, eqb-false}
-use Rattle.asm_fits.specs.declared.Fit.{Fit}
-use Rattle.asm_fits.specs.declared.Fit.TheVariants.{Number, Unknown, Outside}
+use Rattle.std.specs.Prelude.{Ok, Err}
+use Rattle.asm_fits.specs.Fits.{Fit}
 use Rattle.word.proofs.Laws.{bool_cases}
 use Rattle.asm_write.specs.Written.{layout_of, size_of, used_of, bytes_for, bytes_with, bytes_of}
 use Rattle.asm_image.specs.Image.{Placed, image_of}
@@ -32,9 +32,8 @@ for-length size n =
     (λ r. rw (q, r) (let e = eqb-false size 0 q in let d = eqb-false size 1 r in omega (arith, e, d))))
 
 bytes-length : (size : ℕ) (f : Fit) → length (bytes_with size f) ≤ size
-bytes-length size (Number n) = for-length size n
-bytes-length size Unknown = omega arith
-bytes-length size Outside = omega arith
+bytes-length size (Ok n) = for-length size n
+bytes-length size (Err d) = omega arith
 
 pub others-kept : OthersKept
 unfolding image_of
@@ -57,7 +56,7 @@ length_kept (x ∷ xs) m =
     ∙ length-sets m x.place (bytes_of x.place x.statement)
 
 -- ---- the bytes of a statement that fits
-module _ (before after : List Placed) (x : Placed) (m : List ℕ) (n : ℕ) (e : used_of x.place x.statement ≡ Number n)
+module _ (before after : List Placed) (x : Placed) (m : List ℕ) (n : ℕ) (e : used_of x.place x.statement ≡ Ok n)
     (hm : length m ≡ 65536) where
   p : ℕ
   p = x.place

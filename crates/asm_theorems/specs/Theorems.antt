@@ -1,24 +1,20 @@
 -- What holds of the assembler, as statements; the proofs folder has a proof of each. assemble_call_of is what a C host's
 -- call answers, placed_of a source's statements at their places. Assumes nothing.
 use Rattle.std.specs.Prelude.{ℕ, ◌+◌, ◌*◌, ◌/◌, ◌%◌, ◌<◌, ◌≤◌, ◌≡◌, Bool, false, cond, not, ◌&&◌, List, [], ◌∷◌, ◌++◌, eqb, ℤ, pos, negsuc, length, get_or}
+use Rattle.std.specs.Prelude.{Option, Some, Result, Ok, Err}
 use Rattle.std.specs.Int.Signed.{mag}
 use Rattle.word.specs.Offset.{signed_of, bits_of}
 use Rattle.isa.specs.declared.Instr.{Instr}
 use Rattle.isa.specs.declared.Instr.TheVariants as i
-use Rattle.isa.specs.declared.Encoded.TheVariants as e
 use Rattle.isa.specs.Decode.{decode_of}
 use Rattle.isa.specs.Encode.{encode_of}
 use Rattle.asm_text.specs.Text.{ascii}
-use Rattle.asm_value.specs.declared.Value.{Value}
-use Rattle.asm_value.specs.declared.Value.TheVariants.{Known}
-use Rattle.asm_fits.specs.declared.Fit.{Fit}
-use Rattle.asm_fits.specs.declared.Fit.TheVariants as fit
-use Rattle.asm_fits.specs.Fits.{residue_of, count_fit, offset_fit, immediate_fit, constant_fit, branch_fit}
+use Rattle.asm_value.specs.declared.Lack.{Lack}
+use Rattle.asm_fits.specs.Fits.{Fit, residue_of, count_fit, offset_fit, immediate_fit, constant_fit, branch_fit}
 use Rattle.asm_line.specs.declared.Statement.{Statement}
 use Rattle.asm_line.specs.declared.Statement.TheVariants.{Nothing, Org, Equ, Bss, Byte, Word, End, Fixed, Bl, Branch}
 use Rattle.asm_line.specs.declared.Statement.TheVariants.{Constant, SetPri, Svc, Cex, MovImm, Ldr, Str}
-use Rattle.asm_line.specs.declared.Reading.TheVariants.{Line}
-use Rattle.asm_line.specs.Line.{line_of}
+use Rattle.asm_line.specs.Line.{line_with, line_of}
 use Rattle.asm_write.specs.Written.{layout_of, size_of}
 use Rattle.asm_sweeps.specs.Uses.{names_of}
 use Rattle.asm_image.specs.Image.{Placed, placing, placed_of, image_of}
@@ -42,7 +38,7 @@ OthersKept = (xs : List Placed) (m : List ℕ) (a : ℕ) → Uncovered xs a → 
 
 -- "BSS's included": it covers none. [02 §12]
 abbrev pub SpaceUncovered : Type 0
-SpaceUncovered = (p a : ℕ) (v : Value) → Covers (placing p (Bss v)) a → ⊥
+SpaceUncovered = (p a : ℕ) (v : Result ℤ Lack) → Covers (placing p (Bss v)) a → ⊥
 
 abbrev pub LengthKept : Type 0
 LengthKept = (xs : List Placed) (m : List ℕ) → length (image_of xs m) ≡ length m
@@ -87,16 +83,16 @@ Means p (Byte v) j = Unit
 Means p (Word v) j = Unit
 Means p End j = Unit
 Means p (Fixed k) j = j ≡ k
-Means p (Bl v) j = (z : ℤ) × (off : ℤ) × (v ≡ Known z) × (j ≡ i.Bl off) × (mag off < 4096) × Leads p off z
-Means p (Branch c v) j = (z : ℤ) × (off : ℤ) × (v ≡ Known z) × (j ≡ i.Branch c off) × (mag off < 512) × Leads p off z
+Means p (Bl v) j = (z : ℤ) × (off : ℤ) × (v ≡ Ok z) × (j ≡ i.Bl off) × (mag off < 4096) × Leads p off z
+Means p (Branch c v) j = (z : ℤ) × (off : ℤ) × (v ≡ Ok z) × (j ≡ i.Branch c off) × (mag off < 512) × Leads p off z
 Means p (Constant op wb v dst) j =
-    (n : ℕ) × (n < 8) × (v ≡ Known (get_or constants n (pos 0))) × (j ≡ i.Alu op 1 wb n dst)
-Means p (SetPri v) j = (n : ℕ) × (v ≡ Known (pos n)) × (j ≡ i.SetPri n)
-Means p (Svc v) j = (n : ℕ) × (v ≡ Known (pos n)) × (j ≡ i.Svc n)
-Means p (Cex c t f) j = (m : ℕ) × (n : ℕ) × (t ≡ Known (pos m)) × (f ≡ Known (pos n)) × (j ≡ i.Cex c m n)
-Means p (MovImm op number v dst) j = (z : ℤ) × (v ≡ Known z) × (j ≡ i.MovImm op (byte_taken op number z) dst)
-Means p (Ldr v wb src dst) j = (z : ℤ) × (v ≡ Known z) × (j ≡ i.Ldr z wb src dst)
-Means p (Str v wb src dst) j = (z : ℤ) × (v ≡ Known z) × (j ≡ i.Str z wb src dst)
+    (n : ℕ) × (n < 8) × (v ≡ Ok (get_or constants n (pos 0))) × (j ≡ i.Alu op 1 wb n dst)
+Means p (SetPri v) j = (n : ℕ) × (v ≡ Ok (pos n)) × (j ≡ i.SetPri n)
+Means p (Svc v) j = (n : ℕ) × (v ≡ Ok (pos n)) × (j ≡ i.Svc n)
+Means p (Cex c t f) j = (m : ℕ) × (n : ℕ) × (t ≡ Ok (pos m)) × (f ≡ Ok (pos n)) × (j ≡ i.Cex c m n)
+Means p (MovImm op number v dst) j = (z : ℤ) × (v ≡ Ok z) × (j ≡ i.MovImm op (byte_taken op number z) dst)
+Means p (Ldr v wb src dst) j = (z : ℤ) × (v ≡ Ok z) × (j ≡ i.Ldr z wb src dst)
+Means p (Str v wb src dst) j = (z : ℤ) × (v ≡ Ok z) × (j ≡ i.Str z wb src dst)
 
 -- ---- the image of an accepted source
 
@@ -120,31 +116,29 @@ WordsDecode =
 -- "The image holds the .. data at the stated addresses": a WORD's two bytes are its value, a BYTE's one too. [02 §12]
 abbrev pub WordHeld : Type 0
 WordHeld =
-    (m s : List ℕ) (p : ℕ) (v : Value) (after : List Placed) → Assembles m s (placing p (Word v)) after
+    (m s : List ℕ) (p : ℕ) (v : Result ℤ Lack) (after : List Placed) → Assembles m s (placing p (Word v)) after
     → Uncovered after p → Uncovered after (p + 1)
-    → (z : ℤ) × (v ≡ Known z) × (word_in (assemble_call_of m s).memory p ≡ residue_of z)
+    → (z : ℤ) × (v ≡ Ok z) × (word_in (assemble_call_of m s).memory p ≡ residue_of z)
 
 abbrev pub ByteHeld : Type 0
 ByteHeld =
-    (m s : List ℕ) (p : ℕ) (v : Value) (after : List Placed) → Assembles m s (placing p (Byte v)) after
+    (m s : List ℕ) (p : ℕ) (v : Result ℤ Lack) (after : List Placed) → Assembles m s (placing p (Byte v)) after
     → Uncovered after p
-    → (z : ℤ) × (v ≡ Known z) × (get_or (assemble_call_of m s).memory p 0 ≡ residue_of z % 256)
+    → (z : ℤ) × (v ≡ Ok z) × (get_or (assemble_call_of m s).memory p 0 ≡ residue_of z % 256)
 
 -- ---- encode is never refused
 
 abbrev pub Encodes : Instr → Type 0
-Encodes j = (w : ℕ) × (encode_of j ≡ e.Word w)
+Encodes j = (w : ℕ) × (encode_of j ≡ Some w)
 
 -- where the values fit
 abbrev pub Coded : Fit → (ℕ → Instr) → Type 0
-Coded (fit.Number n) f = Encodes (f n)
-Coded fit.Unknown f = Unit
-Coded fit.Outside f = Unit
+Coded (Ok n) f = Encodes (f n)
+Coded (Err d) f = Unit
 
 abbrev pub CodedBoth : Fit → Fit → (ℕ → ℕ → Instr) → Type 0
-CodedBoth (fit.Number m) x f = Coded x (f m)
-CodedBoth fit.Unknown x f = Unit
-CodedBoth fit.Outside x f = Unit
+CodedBoth (Ok m) x f = Coded x (f m)
+CodedBoth (Err d) x f = Unit
 
 -- each instruction that numberOf has encoded is encoded
 abbrev pub NotRefused : (p : ℕ) → Statement → Type 0
@@ -169,7 +163,7 @@ NotRefused p (Str v wb src dst) = Coded (offset_fit v) (λ (n : ℕ). i.Str (sig
 -- a statement that does not fit is 19 by its values alone: `encode` refuses nothing that a line says. [02 §12]
 abbrev pub NeverRefused : Type 0
 NeverRefused =
-    (look : List ℕ → Value) (l : List ℕ) (named : Bool) (q : ℕ) (x : Statement) → line_of look l ≡ Line named q x
+    (look : List ℕ → Result ℤ Lack) (l : List ℕ) (name : Option ℕ) (x : Statement) → line_of look l ≡ line_with name x
     → (p : ℕ) → NotRefused p x
 
 -- ---- an example that meets the premises
@@ -187,8 +181,8 @@ sample =
 abbrev pub Sample : Type 0
 Sample =
     (m : List ℕ) → length m ≡ 65536
-    → Assembles m sample (placing 256 (MovImm 3 false (Known (pos 256)) 0))
-    (placing 258 (Branch 7 (Known (pos 256))) ∷ placing 260 End ∷ [])
-    × Assembles m sample (placing 258 (Branch 7 (Known (pos 256)))) (placing 260 End ∷ [])
+    → Assembles m sample (placing 256 (MovImm 3 false (Ok (pos 256)) 0))
+    (placing 258 (Branch 7 (Ok (pos 256))) ∷ placing 260 End ∷ [])
+    × Assembles m sample (placing 258 (Branch 7 (Ok (pos 256)))) (placing 260 End ∷ [])
     × (decode_of (word_in (assemble_call_of m sample).memory 256) ≡ i.MovImm 3 1 0)
     × (decode_of (word_in (assemble_call_of m sample).memory 258) ≡ i.Branch 7 (negsuc 1))

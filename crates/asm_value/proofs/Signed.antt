@@ -1,55 +1,19 @@
--- Numbers with a sign: what the code's casts and `!` give, and that the operations on 32 bits fit 64. Assumes nothing.
+-- Numbers with a sign: that the operations on 32 bits fit 64. Assumes nothing.
 use mathlib.Core.Path.{◌≡◌, refl, sym, ap, ◌∙◌, subst}
-use mathlib.Core.Bool.{true, false}
-use Prim.Native.Nat.{ℕ, zero, suc, ◌+◌, ◌-◌, ◌*◌, ◌/◌, ◌<◌, ◌≤◌}
-use native.Mathlib.Nat.{not-suc-le-zero, mul-le-mul, div-le_self, le_trans}
+use Prim.Native.Nat.{ℕ, zero, suc, ◌+◌, ◌*◌, ◌/◌, ◌<◌, ◌≤◌}
+use native.Mathlib.Nat.{mul-le-mul, div-le_self, le_trans}
 use native.Mathlib.Omega.{arith}
-use lib.Dec.{T, ltb}
+use lib.Dec.{ltb}
 use lib.IntN.{ℤ, pos, negsuc, nat_abs, neg_ℤ, sub_ℕ, ◌+ℤ◌, ◌-ℤ◌, ◌*ℤ◌}
-use lib.Signed.{mag, lt_z, non_neg, quot_z}
+use lib.Signed.{mag, quot_z}
 use mir.Syntax.{w32, w64}
-use mir.Val.{to_z, of_z, Fits, SFits}
+use mir.Val.{to_z, of_z, SFits}
 use mir.ValLaws.{to_z_pos, to_z-of_z}
+use Rattle.std.specs.Prelude.{Err}
 use Rattle.asm_value.specs.Value.{fitted, quotient, towards_zero}
-use Rattle.asm_value.specs.declared.Value.TheVariants.{Outside}
+use Rattle.asm_value.specs.declared.Lack.TheVariants.{Outside}
 use borrow.Author.Tests.{lt-ltb, ltb-true}
 use Rattle.word.proofs.Laws.{bool_cases}
-use Rattle.word.proofs.Offset.{kept}
-
--- what a test of the sign says
-below : (z : ℤ) → SFits w64 z → lt_z (to_z w64 (of_z w64 z)) (pos 0) ≡ true → lt_z z (pos 0) ≡ true
-below z f e = rw (to_z-of_z w64 z f) at e
-
-above : (z : ℤ) → SFits w64 z → lt_z (to_z w64 (of_z w64 z)) (pos 0) ≡ false → lt_z z (pos 0) ≡ false
-above z f e = rw (to_z-of_z w64 z f) at e
-
--- `!z` of a number below zero
-flipped : (z : ℤ) → SFits w64 z → lt_z z (pos 0) ≡ true → to_z w64 (18446744073709551615 - of_z w64 z) ≡ pos (mag z)
-flipped (pos n) f e = let k : n < 0 = ltb-true n 0 e in absurd (not-suc-le-zero k)
-flipped (negsuc n) f e =
-    let h : n < 9223372036854775808 = f.sfits in
-    let k : 18446744073709551615 - (18446744073709551616 - suc n) ≡ n = omega arith in
-    ap (to_z w64) k ∙ to_z_pos w64 n h
-
--- a number that is `pos m` may be cast
-cast : (z : ℤ) (m : ℕ) → z ≡ pos m → m < 9223372036854775808 → T (non_neg z) × Fits w64 (nat_abs z)
-cast z m e h = rw e (tt, record { fits = omega arith })
-
-module _ (z : ℤ) (f : SFits w64 z) where
-  -- the cast and the value of `!z` below zero, and of `z` from zero on
-  pub down-cast : lt_z (to_z w64 (of_z w64 z)) (pos 0) ≡ true
-      → T (non_neg (to_z w64 (18446744073709551615 - of_z w64 z))) × Fits w64 (nat_abs (to_z w64 (18446744073709551615 - of_z w64 z)))
-  down-cast e = cast _ (mag z) (flipped z f (below z f e)) f.sfits
-
-  pub down-mag : lt_z (to_z w64 (of_z w64 z)) (pos 0) ≡ true → nat_abs (to_z w64 (18446744073709551615 - of_z w64 z)) ≡ mag z
-  down-mag e = ap nat_abs (flipped z f (below z f e))
-
-  pub up-cast : lt_z (to_z w64 (of_z w64 z)) (pos 0) ≡ false
-      → T (non_neg (to_z w64 (of_z w64 z))) × Fits w64 (nat_abs (to_z w64 (of_z w64 z)))
-  up-cast e = cast _ (mag z) (to_z-of_z w64 z f ∙ kept z (above z f e)) f.sfits
-
-  pub up-mag : lt_z (to_z w64 (of_z w64 z)) (pos 0) ≡ false → nat_abs (to_z w64 (of_z w64 z)) ≡ mag z
-  up-mag e = ap nat_abs (to_z-of_z w64 z f ∙ kept z (above z f e))
 
 -- ---- 32 bits in 64
 
@@ -153,7 +117,7 @@ towards-zero (pos a) (negsuc b) = refl
 towards-zero (negsuc a) (pos b) = refl
 towards-zero (negsuc a) (negsuc b) = refl
 
-pub no-quotient : (x y : ℤ) → y ≡ pos 0 → quotient x y ≡ Outside
+pub no-quotient : (x y : ℤ) → y ≡ pos 0 → quotient x y ≡ Err Outside
 no-quotient x y e = rw e
 
 pub some-quotient : (x y : ℤ) → ((of_z w32 y ≡ 0) → ⊥) → quotient x y ≡ fitted (quot_z x y)
@@ -168,10 +132,6 @@ minus-fits n h = record { sfits = omega (arith, mag-add (pos 0) (neg_ℤ (pos n)
 pub minus_is : (n : ℕ) → pos 0 -ℤ pos n ≡ neg_ℤ (pos n)
 minus_is zero = refl
 minus_is (suc n) = simp (lt-ltb 0 (suc n) (omega arith)) (ap negsuc (omega arith))
-
--- a number of 64 bits that 32 hold, cut
-pub small : (z : ℤ) → mag z < 2147483648 → to_z w32 (of_z w32 (to_z w64 (of_z w64 z))) ≡ z
-small z h = rw (to_z-of_z w64 z (record { sfits = omega arith })) (to_z-of_z w32 z (record { sfits = h }))
 
 pub sized : (n : ℕ) → n ≤ 4294967296 → to_z w64 (of_z w64 (pos 0 -ℤ to_z w64 n)) ≡ neg_ℤ (pos n)
 sized n h = rw (to_z_pos w64 n (omega arith)) (to_z-of_z w64 (pos 0 -ℤ pos n) (minus-fits n h) ∙ minus_is n)

@@ -4,35 +4,22 @@
 #![tactic(auto)]
 
 ghost use Rattle.std.specs.Prelude.{◌≡◌, ◌≤◌, ◌^◌};
-ghost use Rattle.std.specs.Int.Signed.{mag};
 ghost use Rattle.asm_value.specs.Value.{fitted, with_sign, applied, joined};
 
-// A value; a name without one (18); a value outside 32 bits or a division by zero (19).
+// Why there is no value: a name without one (18); a value outside 32 bits or a division by zero (19).
 #[derive(Clone, Copy)]
-pub enum Value {
-    Known(i32),
+pub enum Lack {
     Unknown,
     Outside,
 }
 
-// n of n and of -(n + 1).
-fn magnitude(z: i64) -> u64
-    ensures { result ≡ mag z }
-{
-    if z < 0 {
-        return !z as u64;
-    }
-    z as u64
-}
+pub type Value = Result<i32, Lack>;
 
 // z, if 32 bits hold it.
 fn fit(z: i64) -> Value
     ensures { result ≡ fitted z }
 {
-    if 2147483648 <= magnitude(z) {
-        return Value::Outside;
-    }
-    Value::Known(z as i32)
+    i32::try_from(z).or(Err(Lack::Outside))
 }
 
 // A number as it is written: its digits, and whether `-` stands before them.
@@ -63,7 +50,7 @@ fn apply(op: u8, a: i32, b: i32) -> Value
         return fit(x * y);
     }
     if b == 0 {
-        return Value::Outside;
+        return Err(Lack::Outside);
     }
     let q = x / y;
     fit(q)
@@ -74,16 +61,8 @@ pub fn combine(op: u8, a: Value, b: Value) -> Value
     ensures { result ≡ joined op a b }
 {
     match a {
-        Value::Unknown => Value::Unknown,
-        Value::Outside => match b {
-            Value::Unknown => Value::Unknown,
-            Value::Outside => Value::Outside,
-            Value::Known(_) => Value::Outside,
-        },
-        Value::Known(x) => match b {
-            Value::Unknown => Value::Unknown,
-            Value::Outside => Value::Outside,
-            Value::Known(y) => apply(op, x, y),
-        },
+        Ok(x) => apply(op, x, b?),
+        Err(Lack::Unknown) => a,
+        Err(Lack::Outside) => b.and(a),
     }
 }

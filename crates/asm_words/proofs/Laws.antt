@@ -1,10 +1,11 @@
 -- Laws of the words. The code looks a word up by its spelling as one number, in tables of numbers; a table in letters says
 -- the same, since no two words are spelled alike (asm_text's Spelling). Then flags, letter by letter. Assumes nothing.
-use mathlib.Core.Path.{◌≡◌, refl, sym, ap, ◌∙◌}
+use mathlib.Core.Path.{◌≡◌, refl, sym, ap, ◌∙◌, subst}
 use mathlib.Core.Bool.{Bool, true, false, cond, ◌&&◌, false≢true}
 use mathlib.Core.List.{List, [], ◌∷◌, map}
 use Prim.Native.Nat.{ℕ, zero, suc, ◌+◌, ◌-◌, ◌*◌, ◌/◌, ◌%◌, ◌<◌, ◌≤◌}
 use Prim.Native.String.{String}
+use Rattle.std.specs.Prelude.{Option, Some, None}
 use native.Mathlib.Numerals.{add-one}
 use native.Mathlib.Omega.{arith}
 use mir.Syntax.{w64}
@@ -14,8 +15,8 @@ use lib.ListN.{length, get_or, drop, take, drop_of_length-le}
 use lib.Seq.{drop-cons}
 use borrow.Author.Tests.{eq-eqb, ne_eqb, eqb-true, leb-true, ltb-true}
 use Rattle.word.proofs.Laws.{bool_cases}
-use Rattle.asm_text.specs.Text.{ascii, byte_at, name_byte?, word, same, spelled, spelled_from}
-use Rattle.asm_text.proofs.Laws.{word_more, word-stop, and_parts, same-is}
+use Rattle.asm_text.specs.Text.{ascii, name_byte?, word, same, spelled, spelled_from}
+use Rattle.asm_text.proofs.Laws.{and_parts, same-is}
 use Rattle.asm_text.proofs.Spelling.{same-spelling}
 use Rattle.asm_words.specs.declared.Word.{Word}
 use Rattle.asm_words.specs.declared.Word.TheVariants.{Free, Reserved, Begins}
@@ -24,7 +25,8 @@ use Rattle.asm_words.specs.declared.Keyword.TheVariants as key
 use Rattle.asm_words.specs.declared.Valued.{Valued}
 use Rattle.asm_words.specs.declared.Valued.TheVariants as val
 use Rattle.asm_words.specs.Words.{meaning, each, branches, operations, unaries, moves, valued_words, other_words, keywords, registers}
-use Rattle.asm_words.specs.Words.{conditions, emulated, words, word_of, register_of, condition_of, flags, flag_of, with_bit, flags_from}
+use Rattle.asm_words.specs.Words.{conditions, emulated, words, word_of, register_of, condition_of, flags, flag_of}
+use Rattle.asm_words.specs.Words.{with_bit, flags_from, flags_of, some_flag, free?}
 use Rattle.asm_words.specs.Rows.{number_in, valued_at, plain_at, groups, nth_of, word_at}
 
 -- ---- a test of each row
@@ -80,18 +82,18 @@ module _ {A : Type 0} (none : A) (t : List ℕ) (p : ℕ) (e : p ≡ spelled (wo
       rw (agree r parts.0, in_letters rows parts.1)
 
 -- ---- tables of numbers, row by row
-module _ (none : ℕ) (rs : List ℕ) (p k : ℕ) (h : k < length rs) where
-  pub number-hit : get_or rs k 0 / 256 ≡ p → number_in none (drop k rs) p ≡ get_or rs k 0 % 256
+module _ (rs : List ℕ) (p k : ℕ) (h : k < length rs) where
+  pub number-hit : get_or rs k 0 / 256 ≡ p → number_in (drop k rs) p ≡ Some (get_or rs k 0 % 256)
   unfolding number_in
   number-hit e = rw (drop-cons rs k 0 h, eq-eqb (get_or rs k 0 / 256) p e)
 
-  pub number-miss : (get_or rs k 0 / 256 ≡ p → ⊥) → number_in none (drop (k + 1) rs) p ≡ number_in none (drop k rs) p
+  pub number-miss : (get_or rs k 0 / 256 ≡ p → ⊥) → number_in (drop (k + 1) rs) p ≡ number_in (drop k rs) p
   unfolding number_in
   number-miss e = rw (add-one k, drop-cons rs k 0 h, ne_eqb (get_or rs k 0 / 256) p e)
 
-pub number-end : (none : ℕ) (rs : List ℕ) (p k : ℕ) → length rs ≤ k → number_in none (drop k rs) p ≡ none
+pub number-end : (rs : List ℕ) (p k : ℕ) → length rs ≤ k → number_in (drop k rs) p ≡ None
 unfolding number_in
-number-end none rs p k h = rw (drop_of_length-le rs h)
+number-end rs p k h = rw (drop_of_length-le rs h)
 
 -- a table in letters as numbers
 unfoldable pub packed : List (String × ℕ) → List ℕ
@@ -101,26 +103,26 @@ packed (r ∷ rows) = (spelled (ascii r.0) * 256 + r.1) ∷ packed rows
 abbrev small? : String × ℕ → Bool
 small? r = ltb r.1 256
 
-pub number-packed : (none : ℕ) (rows : List (String × ℕ)) (p : ℕ) → every small? rows ≡ true
-    → number_in none (packed rows) p ≡ spelled_in none rows p
+pub number-packed : (rows : List (String × ℕ)) (p : ℕ) → every small? rows ≡ true
+    → number_in (packed rows) p ≡ spelled_in None (each Some rows) p
 unfolding number_in packed spelled_in
-number-packed none [] p h = refl
-number-packed none (r ∷ rows) p h =
+number-packed [] p h = refl
+number-packed (r ∷ rows) p h =
     let parts = and_parts (small? r) (every small? rows) h in
     let k = ltb-true r.1 256 parts.0 in
     let q : (spelled (ascii r.0) * 256 + r.1) / 256 ≡ spelled (ascii r.0) = omega (arith, k) in
     let m : (spelled (ascii r.0) * 256 + r.1) % 256 ≡ r.1 = omega (arith, k) in
-    rw (q, m, number-packed none rows p parts.1)
+    rw (q, m, number-packed rows p parts.1)
 
 -- the first row for p, and what a test says of it
 record Hit (q : ℕ → Bool) (rs : List ℕ) (p : ℕ) : Type 0 where
   pub row : ℕ
   pub is : row / 256 ≡ p
-  pub says : number_in 0 rs p ≡ row % 256
+  pub says : number_in rs p ≡ Some (row % 256)
   pub tested : q row ≡ true
 
 found : {X : Type 0} (q : ℕ → Bool) (rs : List ℕ) (p : ℕ) → every q rs ≡ true
-    → (Hit q rs p → X) → (number_in 0 rs p ≡ 0 → X) → X
+    → (Hit q rs p → X) → (number_in rs p ≡ None → X) → X
 unfolding number_in
 found q [] p e f g = g refl
 found q (r ∷ rs) p e f g =
@@ -130,19 +132,20 @@ found q (r ∷ rs) p e f g =
     (λ (x : Hit q rs p). f (record { row = x.row; is = x.is; says = rw t x.says; tested = x.tested })) (λ z. g (rw t z)))
 
 -- ---- the conditions
-pub condition-is : (p : ℕ) (t : List ℕ) → p ≡ spelled (word t) → number_in 16 (packed conditions) p ≡ condition_of (word t)
+pub condition-is : (p : ℕ) (t : List ℕ) → p ≡ spelled (word t) → number_in (packed conditions) p ≡ condition_of (word t)
 unfolding conditions condition_of word name_byte? same spelled spelled_from
-condition-is p t e = number-packed 16 conditions p refl ∙ in_letters 16 t p e conditions refl
+condition-is p t e = number-packed conditions p refl ∙ in_letters None t p e (each Some conditions) refl
 
 -- ---- the registers
-register-is : (p : ℕ) (t : List ℕ) → p ≡ spelled (word t) → spelled_in 8 registers p ≡ register_of (word t)
+register-is : (p : ℕ) (t : List ℕ) → p ≡ spelled (word t) → spelled_in None (each Some registers) p ≡ register_of (word t)
 unfolding registers register_of word name_byte? same spelled spelled_from
-register-is p t e = in_letters 8 t p e registers refl
+register-is p t e = in_letters None t p e (each Some registers) refl
 
-pub register-at : (p n : ℕ) → n ≡ spelled_in 8 registers p → (t : List ℕ) → p ≡ spelled (word t) → n ≡ register_of (word t)
+pub register-at : (p : ℕ) (n : Option ℕ) → n ≡ spelled_in None (each Some registers) p → (t : List ℕ) → p ≡ spelled (word t)
+    → n ≡ register_of (word t)
 register-at p n h t e = h ∙ register-is p t e
 
-pub register-by-number : (k : ℕ) → k < 8 → k ≡ spelled_in 8 registers (0x5230 + k)
+pub register-by-number : (k : ℕ) → k < 8 → Some k ≡ spelled_in None (each Some registers) (0x5230 + k)
 unfolding spelled_in registers spelled spelled_from
 register-by-number zero h = refl
 register-by-number (suc zero) h = refl
@@ -155,7 +158,7 @@ register-by-number (suc (suc (suc (suc (suc (suc (suc zero))))))) h = refl
 register-by-number (suc (suc (suc (suc (suc (suc (suc (suc k)))))))) h = absurd (omega (arith, h))
 
 pub register-none : (p : ℕ) → (leb 0x5230 p && leb p 0x5237) ≡ false → (p ≡ 0x4250 → ⊥) → (p ≡ 0x4C52 → ⊥) → (p ≡ 0x5350 → ⊥)
-    → (p ≡ 0x5043 → ⊥) → 8 ≡ spelled_in 8 registers p
+    → (p ≡ 0x5043 → ⊥) → None ≡ spelled_in None (each Some registers) p
 unfolding spelled_in registers spelled spelled_from
 register-none p h bp lr sp pc =
     let out : (q : ℕ) → (leb 0x5230 q && leb q 0x5237) ≡ true → eqb q p ≡ false =
@@ -289,9 +292,13 @@ unfolding word_at nth_of groups valued_at plain_at number_of key_number valued_n
     moves other_words registers conditions emulated
 numbers-say = refl
 
+unfoldable pub word_by : Option ℕ → Word
+word_by None = Free
+word_by (Some n) = word_at n
+
 by_number : (p : ℕ) (rows : List (String × Word)) → map numbered rows ≡ map says rows
-    → word_at (spelled_in 0 (each number_of rows) p) ≡ spelled_in Free rows p
-unfolding spelled_in word_at
+    → word_by (spelled_in None (each Some (each number_of rows)) p) ≡ spelled_in Free rows p
+unfolding spelled_in word_at word_by
 by_number p [] h = refl
 by_number p (r ∷ rows) h =
     bool_cases (eqb (spelled (ascii r.0)) p) (λ q. rw q (ap (λ (l : List Word). get_or l 0 Free) h))
@@ -301,21 +308,30 @@ by_number p (r ∷ rows) h =
 unfoldable rows_of : List ℕ
 rows_of = packed (each number_of words)
 
+says? : Option ℕ → ℕ → Bool
+says? None n = false
+says? (Some m) n = eqb m n
+
+said : (o : Option ℕ) (n : ℕ) → says? o n ≡ true → o ≡ Some n
+unfolding says?
+said None n e = absurd (false≢true e)
+said (Some m) n e = ap Some (eqb-true m n e)
+
 -- each word is in its group, and each row of a group is a word's
 in_group : ℕ → Bool
-in_group r = eqb (number_in 0 (group (r / 256 % 61)) (r / 256)) (r % 256)
+in_group r = says? (number_in (group (r / 256 % 61)) (r / 256)) (r % 256)
 
 in_words : ℕ → Bool
-in_words r = eqb (number_in 0 rows_of (r / 256)) (r % 256)
+in_words r = says? (number_in rows_of (r / 256)) (r % 256)
 
 all-in-group : every in_group rows_of ≡ true
 unfolding rows_of packed spelled spelled_from number_of key_number valued_number words keywords valued_words branches operations unaries
-    moves other_words registers conditions emulated in_group group number_in table starts
+    moves other_words registers conditions emulated in_group says? group number_in table starts
 all-in-group = refl
 
 all-in-words : every in_words table ≡ true
 unfolding rows_of packed spelled spelled_from number_of key_number valued_number words keywords valued_words branches operations unaries
-    moves other_words registers conditions emulated in_words number_in table
+    moves other_words registers conditions emulated in_words says? number_in table
 all-in-words = refl
 
 in_group_lem : (q : ℕ → Bool) (h : ℕ) → every q table ≡ true → every q (group h) ≡ true
@@ -323,14 +339,14 @@ unfolding group
 in_group_lem q h e =
     every_take q (get_or starts (h + 1) 0 - get_or starts h 0) (drop (get_or starts h 0) table) (every_drop q (get_or starts h 0) table e)
 
-group-is : (p : ℕ) → number_in 0 (group (p % 61)) p ≡ number_in 0 rows_of p
+group-is : (p : ℕ) → number_in (group (p % 61)) p ≡ number_in rows_of p
 unfolding in_group in_words
 group-is p = found in_group rows_of p all-in-group
     (λ (x : Hit in_group rows_of p).
-    let t = eqb-true (number_in 0 (group (x.row / 256 % 61)) (x.row / 256)) (x.row % 256) x.tested in
+    let t = said (number_in (group (x.row / 256 % 61)) (x.row / 256)) (x.row % 256) x.tested in
     (rw x.is at t) ∙ sym x.says) (λ z. found in_words (group (p % 61)) p (in_group_lem in_words (p % 61) all-in-words)
     (λ (x : Hit in_words (group (p % 61)) p).
-    let t = eqb-true (number_in 0 rows_of (x.row / 256)) (x.row % 256) x.tested in
+    let t = said (number_in rows_of (x.row / 256)) (x.row % 256) x.tested in
     x.says ∙ sym (rw x.is at t))
     (λ y. y ∙ sym z))
 
@@ -344,10 +360,10 @@ unfolding number_of key_number valued_number words keywords valued_words branche
     emulated
 all_small = refl
 
-pub word-is : (p : ℕ) (t : List ℕ) → p ≡ spelled (word t) → word_at (number_in 0 (group (p % 61)) p) ≡ word_of (word t)
+pub word-is : (p : ℕ) (t : List ℕ) → p ≡ spelled (word t) → word_by (number_in (group (p % 61)) p) ≡ word_of (word t)
 unfolding word_of rows_of
 word-is p t e =
-    ap word_at (group-is p ∙ number-packed 0 (each number_of words) p all_small) ∙ by_number p words numbers-say
+    ap word_by (group-is p ∙ number-packed (each number_of words) p all_small) ∙ by_number p words numbers-say
     ∙ in_letters Free t p e words all-proper
 
 -- ---- the fields that words carry are within their formats
@@ -407,26 +423,25 @@ unfolding words keywords valued_words branches operations unaries moves other_wo
 words_count = refl
 
 -- ---- flags, letter by letter
-module _ (s : List ℕ) (i f : ℕ) where
-  pub flags-stop : name_byte? (byte_at s i) ≡ false → flags_from f (word (drop i s)) ≡ f
+module _ (w : List ℕ) (k f : ℕ) where
+  pub flags-stop : length w ≤ k → flags_from (Some f) (drop k w) ≡ Some f
   unfolding flags_from
-  flags-stop h = rw (word-stop s i h)
+  flags-stop h = rw (drop_of_length-le w h)
 
-  pub flags-fail : name_byte? (byte_at s i) ≡ true → with_bit f (flag_of (byte_at s i)) ≡ 32 → flags_from f (word (drop i s)) ≡ 32
+  pub flags-fail : k < length w → None ≡ with_bit f (flag_of (get_or w k 0)) → None ≡ flags_from (Some f) (drop k w)
   unfolding flags_from
-  flags-fail h e = rw (word_more s i h, eq-eqb (with_bit f (flag_of (byte_at s i))) 32 e)
+  flags-fail h e = rw (drop-cons w k 0 h) (ap (λ o. flags_from o (drop (suc k) w)) e)
 
-  pub flags-more : name_byte? (byte_at s i) ≡ true → (with_bit f (flag_of (byte_at s i)) ≡ 32 → ⊥)
-      → flags_from (with_bit f (flag_of (byte_at s i))) (word (drop (i + 1) s)) ≡ flags_from f (word (drop i s))
+  pub flags-more : k < length w → flags_from (with_bit f (flag_of (get_or w k 0))) (drop (k + 1) w) ≡ flags_from (Some f) (drop k w)
   unfolding flags_from
-  flags-more h e = rw (word_more s i h, ne_eqb (with_bit f (flag_of (byte_at s i))) 32 e)
+  flags-more h = rw (add-one k, drop-cons w k 0 h)
 
 -- a bit that is not there yet leaves less than 32
-either : (P : ℕ → Type 0) (b : Bool) (x y : ℕ) → P x → P y → P (cond b x y)
+either : {A : Type 0} (P : A → Type 0) (b : Bool) (x y : A) → P x → P y → P (cond b x y)
 either P true x y f g = f
 either P false x y f g = g
 
-by_flag : (P : ℕ → Type 0) → P 16 → P 8 → P 4 → P 2 → P 1 → P 0 → (b : ℕ) → P (flag_of b)
+by_flag : (P : Option ℕ → Type 0) → P (Some 16) → P (Some 8) → P (Some 4) → P (Some 2) → P (Some 1) → P None → (b : ℕ) → P (flag_of b)
 unfolding flag_of meaning flags same
 by_flag P v s n z c none b =
     either P (same (ascii "V") (b ∷ [])) _ _ v
@@ -435,21 +450,74 @@ by_flag P v s n z c none b =
     (either P (same (ascii "Z") (b ∷ [])) _ _ z
     (either P (same (ascii "C") (b ∷ [])) _ _ c none))))
 
-module _ (f b bit : ℕ) (e : bit ≡ flag_of b) where
-  pub flag-fits : f < 32 → f / bit % 2 ≡ 0 → f + bit < 32
-  flag-fits h z =
-      let k = by_flag (λ (x : ℕ). f / x % 2 ≡ 0 → f + x < 32) (λ q. omega (arith, h, q)) (λ q. omega (arith, h, q))
-      (λ q. omega (arith, h, q)) (λ q. omega (arith, h, q)) (λ q. omega (arith, h, q)) (λ q. omega (arith, h)) b in
-      rw e (k (rw e at z))
+abbrev Bit : Option ℕ → Type 0
+Bit None = Unit
+Bit (Some x) = (0 < x) × ((f : ℕ) → f < 32 → f / x % 2 ≡ 0 → f + x < 32)
 
-  pub with_none : bit ≡ 0 → 32 ≡ with_bit f (flag_of b)
-  unfolding with_bit
-  with_none z = rw (eq-eqb (flag_of b) 0 (sym e ∙ z))
+bits : (b : ℕ) → Bit (flag_of b)
+bits b = by_flag Bit (omega arith, λ f h q. omega (arith, h, q)) (omega arith, λ f h q. omega (arith, h, q))
+    (omega arith, λ f h q. omega (arith, h, q)) (omega arith, λ f h q. omega (arith, h, q)) (omega arith, λ f h q. omega (arith, h, q)) tt b
 
-  pub with-new : (bit ≡ 0 → ⊥) → f / bit % 2 ≡ 0 → f + bit ≡ with_bit f (flag_of b)
-  unfolding with_bit
-  with-new h z = rw (ne_eqb (flag_of b) 0 (λ q. h (e ∙ q)), eq-eqb (f / flag_of b % 2) 0 (rw e at z)) (ap (λ x. f + x) e)
+module _ (f b bit : ℕ) (e : Some bit ≡ flag_of b) where
+  pub flag-bit : (0 < bit) × (f < 32 → f / bit % 2 ≡ 0 → f + bit < 32)
+  flag-bit = let k : Bit (Some bit) = subst Bit (sym e) (bits b) in (k.0, k.1 f)
 
-  pub with-old : (bit ≡ 0 → ⊥) → (f / bit % 2 ≡ 0 → ⊥) → 32 ≡ with_bit f (flag_of b)
-  unfolding with_bit
-  with-old h z = rw (ne_eqb (flag_of b) 0 (λ q. h (e ∙ q)), ne_eqb (f / flag_of b % 2) 0 (λ q. z (rw e q)))
+-- ---- what the tables in letters say is below their limits
+abbrev pub Less : ℕ → Option ℕ → Type 0
+Less limit None = Unit
+Less limit (Some n) = n < limit
+
+meaning-less : (limit : ℕ) (rows : List (String × ℕ)) (w : List ℕ) → every (λ (r : String × ℕ). ltb r.1 limit) rows ≡ true
+    → Less limit (meaning None (each Some rows) w)
+unfolding meaning
+meaning-less limit [] w h = tt
+meaning-less limit (r ∷ rows) w h =
+    let parts = and_parts (ltb r.1 limit) (every (λ (r : String × ℕ). ltb r.1 limit) rows) h in
+    bool_cases (same (ascii r.0) w) (λ q. rw q (ltb-true r.1 limit parts.0)) (λ q. rw q (meaning-less limit rows w parts.1))
+
+pub register-less : (w : List ℕ) → Less 8 (register_of w)
+unfolding register_of registers
+register-less w = meaning-less 8 registers w refl
+
+pub condition-less : (w : List ℕ) → Less 16 (condition_of w)
+unfolding condition_of conditions
+condition-less w = meaning-less 16 conditions w refl
+
+bit-less : (f : ℕ) → f < 32 → (o : Option ℕ) → Bit o → Less 32 (with_bit f o)
+unfolding with_bit
+bit-less f h None k = tt
+bit-less f h (Some x) k = bool_cases (eqb (f / x % 2) 0) (λ q. rw q (k.1 f h (eqb-true (f / x % 2) 0 q))) (λ q. rw q tt)
+
+with-less : (f b : ℕ) → f < 32 → Less 32 (with_bit f (flag_of b))
+with-less f b h = bit-less f h (flag_of b) (bits b)
+
+from-less : (o : Option ℕ) (l : List ℕ) → Less 32 o → Less 32 (flags_from o l)
+unfolding flags_from
+from-less None l h = tt
+from-less (Some f) [] h = h
+from-less (Some f) (b ∷ l) h = from-less (with_bit f (flag_of b)) l (with-less f b h)
+
+some-less : (o : Option ℕ) → Less 32 o → Less 32 (some_flag o)
+unfolding some_flag
+some-less None h = tt
+some-less (Some zero) h = tt
+some-less (Some (suc f)) h = h
+
+pub flags-less : (w : List ℕ) → Less 32 (flags_of w)
+unfolding flags_of
+flags-less w = some-less (flags_from (Some 0) w) (from-less (Some 0) w (omega arith))
+
+pub flags-none : (o : Option ℕ) (f : ℕ) → o ≡ Some f → f ≡ 0 → None ≡ some_flag o
+unfolding some_flag
+flags-none o f e z = rw (e, z)
+
+pub flags-some : (o : Option ℕ) (f : ℕ) → o ≡ Some f → (f ≡ 0 → ⊥) → Some f ≡ some_flag o
+unfolding some_flag
+flags-some o zero e z = absurd (z refl)
+flags-some o (suc f) e z = rw e
+
+pub not-free : (w : Word) → (w ≡ Free → ⊥) → false ≡ free? w
+unfolding free?
+not-free Free h = absurd (h refl)
+not-free Reserved h = refl
+not-free (Begins k) h = refl

@@ -1,6 +1,6 @@
 -- A table as the code keeps it, one number a row: a word's bytes in base 256 (asm_text's `spelled`), times 256, and a
 -- number below 256. Laws tie each such table to the words in letters. Assumes nothing.
-use Rattle.std.specs.Prelude.{◌≡◌, cond, List, [], ◌∷◌, ℕ, ◌-◌, ◌/◌, ◌%◌, eqb, ltb, get_or}
+use Rattle.std.specs.Prelude.{◌≡◌, cond, List, [], ◌∷◌, ℕ, ◌-◌, ◌/◌, ◌%◌, eqb, ltb, get_or, Option, Some, None}
 use Rattle.asm_text.specs.Text.{word, spelled}
 use Rattle.asm_words.specs.declared.Word.{Word}
 use Rattle.asm_words.specs.declared.Word.TheVariants.{Free, Reserved, Begins}
@@ -9,10 +9,10 @@ use Rattle.asm_words.specs.declared.Keyword.TheVariants as key
 use Rattle.asm_words.specs.declared.Valued.{Valued}
 use Rattle.asm_words.specs.declared.Valued.TheVariants as val
 
--- what the first row for the spelling p says; `none` if there is no row for it
-unfoldable pub number_in : ℕ → List ℕ → ℕ → ℕ
-number_in none [] p = none
-number_in none (r ∷ rs) p = cond (eqb (r / 256) p) (r % 256) (number_in none rs p)
+-- what the first row for the spelling p says, if there is a row for it
+unfoldable pub number_in : List ℕ → ℕ → Option ℕ
+number_in [] p = None
+number_in (r ∷ rs) p = cond (eqb (r / 256) p) (Some (r % 256)) (number_in rs p)
 
 -- r is what f says of each word that p spells
 abbrev pub Says : {A : Type 0} → (List ℕ → A) → (p : ℕ) → A → Type 0

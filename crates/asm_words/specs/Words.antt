@@ -1,6 +1,6 @@
 -- The words of the language, in letters, each with what it stands for. `Word`, `Keyword` and `Valued` are declared in
 -- the code; a number in a row is a field of the instruction. Assumes nothing.
-use Rattle.std.specs.Prelude.{Bool, true, false, cond, List, [], ◌∷◌, ◌++◌, ℕ, ◌+◌, ◌/◌, ◌%◌, eqb}
+use Rattle.std.specs.Prelude.{Bool, true, false, cond, List, [], ◌∷◌, ◌++◌, ℕ, zero, suc, ◌+◌, ◌/◌, ◌%◌, eqb, Option, Some, None}
 use Prim.Native.String.{String}
 use Rattle.asm_text.specs.Text.{ascii, same}
 use Rattle.asm_words.specs.declared.Word.{Word}
@@ -100,13 +100,13 @@ free? Free = true
 free? Reserved = false
 free? (Begins k) = false
 
--- the register with this name; 8 for any other word
-unfoldable pub register_of : List ℕ → ℕ
-register_of w = meaning 8 registers w
+-- the register with this name
+unfoldable pub register_of : List ℕ → Option ℕ
+register_of w = meaning None (each Some registers) w
 
--- the code of a condition; 16 for any other word
-unfoldable pub condition_of : List ℕ → ℕ
-condition_of w = meaning 16 conditions w
+-- the code of a condition
+unfoldable pub condition_of : List ℕ → Option ℕ
+condition_of w = meaning None (each Some conditions) w
 
 -- ---- flags
 
@@ -114,19 +114,27 @@ condition_of w = meaning 16 conditions w
 unfoldable pub flags : List (String × ℕ)
 flags = ("V", 16) ∷ ("S", 8) ∷ ("N", 4) ∷ ("Z", 2) ∷ ("C", 1) ∷ []
 
--- the bit of the flag with this letter; 0 for any other byte
-unfoldable pub flag_of : ℕ → ℕ
-flag_of b = meaning 0 flags (b ∷ [])
+-- the bit of the flag with this letter
+unfoldable pub flag_of : ℕ → Option ℕ
+flag_of b = meaning None (each Some flags) (b ∷ [])
 
--- flags f with one bit more; 32 if it is none, or is there already. [02 §12]
-unfoldable pub with_bit : ℕ → ℕ → ℕ
-with_bit f bit = cond (eqb bit 0) 32 (cond (eqb (f / bit % 2) 0) (f + bit) 32)
+-- flags f with one bit more, if there is one and they have it not. [02 §12]
+unfoldable pub with_bit : ℕ → Option ℕ → Option ℕ
+with_bit f None = None
+with_bit f (Some bit) = cond (eqb (f / bit % 2) 0) (Some (f + bit)) None
 
--- flags f with the letters of a word; 32 once one does not fit
-unfoldable pub flags_from : ℕ → List ℕ → ℕ
-flags_from f [] = f
-flags_from f (b ∷ l) = cond (eqb (with_bit f (flag_of b)) 32) 32 (flags_from (with_bit f (flag_of b)) l)
+-- flags with the letters of a word; none once one does not fit
+unfoldable pub flags_from : Option ℕ → List ℕ → Option ℕ
+flags_from None l = None
+flags_from (Some f) [] = Some f
+flags_from (Some f) (b ∷ l) = flags_from (with_bit f (flag_of b)) l
 
--- one to five of V S N Z C, each once, in any order; 32 for any other word, and for none. [02 §12]
-unfoldable pub flags_of : List ℕ → ℕ
-flags_of w = cond (eqb (flags_from 0 w) 0) 32 (flags_from 0 w)
+-- flags of which there is one at least
+unfoldable pub some_flag : Option ℕ → Option ℕ
+some_flag None = None
+some_flag (Some zero) = None
+some_flag (Some (suc f)) = Some (suc f)
+
+-- one to five of V S N Z C, each once, in any order. [02 §12]
+unfoldable pub flags_of : List ℕ → Option ℕ
+flags_of w = some_flag (flags_from (Some 0) w)

@@ -3,7 +3,7 @@
 // number times 256, and then what the word stands for, by number.
 #![tactic(auto)]
 
-ghost use Rattle.std.specs.Prelude.{◌≡◌, ◌≤◌, ◌<◌, drop};
+ghost use Rattle.std.specs.Prelude.{◌≡◌, ◌≤◌, ◌<◌, drop, IfSome};
 ghost use Rattle.asm_text.specs.Text.{word};
 ghost use Rattle.asm_words.specs.Rows.{number_in, Says, valued_at, plain_at, groups, nth_of, word_at};
 ghost use Rattle.asm_words.specs.Words.{word_of, free?, register_of, condition_of};
@@ -61,6 +61,7 @@ pub enum Word {
 
 // All words, in groups by the remainder of the spelling divided by 61; the number is what
 // `word_at` takes.
+// Kept: rows as numbers, as docs/DECISIONS.md says of a table of this crate; the call is as fast as that.
 const ROWS: [u64; 107] = [
     // R5
     0x523530,
@@ -291,22 +292,20 @@ const CONDITIONS: [u64; 18] = [
     0x564307, 0x484908, 0x4C5309, 0x47450A, 0x4C540B, 0x47540C, 0x4C450D, 0x54520E, 0x464C0F,
 ];
 
-// What the first row for p says, or `none`.
-fn row_number(rows: &[u64], none: u8, p: u64) -> u8
-    ensures { result ≡ number_in none rows.now p }
+// What the first row for p says.
+fn row_number(rows: &[u64], p: u64) -> Option<u8>
+    ensures { result ≡ number_in rows.now p }
 {
-    let mut k = 0;
-    while k < rows.len() {
-        let row = rows[k];
+    for row in rows {
         if row / 256 == p {
-            return (row % 256) as u8;
+            return Some((row % 256) as u8);
         }
-        k += 1;
     }
-    none
+    None
 }
 
 // What begins a statement of one value, by its number.
+#[tactic(auto, unfolding(crate::specs::Rows::valued_at))]
 fn valued_at(n: u8) -> Valued
     ensures { result ≡ valued_at n }
 {
@@ -323,6 +322,7 @@ fn valued_at(n: u8) -> Valued
 }
 
 // What begins any other statement and holds no number, by its number.
+#[tactic(auto, unfolding(crate::specs::Rows::plain_at))]
 fn plain_at(n: u8) -> Keyword
     ensures { result ≡ plain_at n }
 {
@@ -344,6 +344,7 @@ fn plain_at(n: u8) -> Keyword
 }
 
 // What begins a statement, by its number below 47.
+#[tactic(auto, unfolding(crate::specs::Rows::groups, crate::specs::Rows::nth_of))]
 fn keyword_at(n: u8) -> Keyword
     requires { n < 47 }
     ensures { result ≡ nth_of groups n }
@@ -364,6 +365,7 @@ fn keyword_at(n: u8) -> Keyword
 }
 
 // What a row of ROWS says, by its number.
+#[tactic(auto, unfolding(crate::specs::Rows::word_at))]
 fn word_at(n: u8) -> Word
     ensures { result ≡ word_at n }
 {
@@ -384,100 +386,91 @@ pub fn find_word(p: u64) -> Word
     let from = STARTS[h];
     let to = STARTS[h + 1];
     let rows = ROWS;
-    word_at(row_number(&rows[from..to], 0, p))
+    match row_number(&rows[from..to], p) {
+        Some(n) => word_at(n),
+        None => Word::Free,
+    }
 }
 
 // Whether a word may be a name.
 pub fn is_free(w: Word) -> bool
     ensures { result ≡ free? w }
 {
-    match w {
-        Word::Free => true,
-        Word::Reserved => false,
-        Word::Begins(_) => false,
-    }
+    matches!(w, Word::Free)
 }
 
-// The number of the register that p spells, 0 to 7; 8 for any other word.
-pub fn register_number(p: u64) -> u8
+// The number of the register that p spells, 0 to 7; none for any other word.
+pub fn register_number(p: u64) -> Option<u8>
     ensures { Says register_of p result }
 {
     // R0 to R7
     if (0x5230 <= p) & (p <= 0x5237) {
-        return (p - 0x5230) as u8;
+        return Some((p - 0x5230) as u8);
     }
     // BP
     if p == 0x4250 {
-        return 4;
+        return Some(4);
     }
     // LR
     if p == 0x4C52 {
-        return 5;
+        return Some(5);
     }
     // SP
     if p == 0x5350 {
-        return 6;
+        return Some(6);
     }
     // PC
     if p == 0x5043 {
-        return 7;
+        return Some(7);
     }
-    8
+    None
 }
 
-// The code of the condition that p spells, 0 to 15; 16 for any other word.
-pub fn condition_number(p: u64) -> u8
+// The code of the condition that p spells, 0 to 15; none for any other word.
+pub fn condition_number(p: u64) -> Option<u8>
     ensures { Says condition_of p result }
 {
     let rows = CONDITIONS;
-    row_number(&rows, 16, p)
+    row_number(&rows, p)
 }
 
-// The bit of a flag's letter, or 0.
-fn flag_bit(b: u8) -> u8
+// The bit of a flag's letter.
+#[tactic(auto, unfolding(crate::specs::Words::flag_of, crate::specs::Words::meaning, crate::specs::Words::flags, asm_text::specs::Text::same))]
+fn flag_bit(b: u8) -> Option<u8>
     ensures { result ≡ flag_of b }
 {
     match b {
-        b'V' => 16,
-        b'S' => 8,
-        b'N' => 4,
-        b'Z' => 2,
-        b'C' => 1,
-        _ => 0,
+        b'V' => Some(16),
+        b'S' => Some(8),
+        b'N' => Some(4),
+        b'Z' => Some(2),
+        b'C' => Some(1),
+        _ => None,
     }
 }
 
 // Flags with the bit of one letter more, unless they have it.
-fn add_flag(f: u8, b: u8) -> u8
+#[tactic(auto, unfolding(crate::specs::Words::with_bit))]
+fn add_flag(f: u8, b: u8) -> Option<u8>
     requires { f < 32 }
     ensures value { result ≡ with_bit f (flag_of b) }
-    ensures upper_bound { result ≤ 32 }
+    ensures upper_bound { IfSome result (λ g. g < 32) }
 {
-    let bit = flag_bit(b);
-    if bit == 0 {
-        return 32;
-    }
+    let bit = flag_bit(b)?;
     if f / bit % 2 == 0 {
-        return f + bit;
+        return Some(f + bit);
     }
-    32
+    None
 }
 
-// The flags that the word at a place lists, 1 to 31; 32 if it lists none.
-pub fn flags_number(s: &[u8], at: usize) -> u8
+// The flags that the word at a place lists, 1 to 31; none if it lists none.
+pub fn flags_number(s: &[u8], at: usize) -> Option<u8>
     ensures { result ≡ flags_of (word (drop at s.now)) }
 {
-    let mut i = at;
     let mut f = 0;
-    loop {
-        let b = asm_text::byte_at(s, i);
-        if !asm_text::is_name_byte(b) {
-            return if f == 0 { 32 } else { f };
-        }
-        f = add_flag(f, b);
-        if f == 32 {
-            return 32;
-        }
-        i += 1;
+    let w = asm_text::word(s, at);
+    for b in w {
+        f = add_flag(f, *b)?;
     }
+    if f == 0 { None } else { Some(f) }
 }

@@ -1,54 +1,48 @@
 -- What a statement puts into memory, and where the next one stands (document 02, §12). p is the statement's place.
 -- Assumes nothing.
-use Rattle.std.specs.Prelude.{ℕ, ◌+◌, ◌/◌, ◌%◌, min, Bool, cond, ◌||◌, ◌&&◌, List, [], ◌∷◌, ltb, eqb, pos, negsuc}
+use Rattle.std.specs.Prelude.{ℕ, ◌+◌, ◌/◌, ◌%◌, min, Bool, cond, ◌||◌, ◌&&◌, List, [], ◌∷◌, ltb, eqb, ℤ, pos, negsuc}
+use Rattle.std.specs.Prelude.{Option, Some, None, Result, Ok, Err}
 use Rattle.word.specs.Offset.{signed_of}
 use Rattle.isa.specs.declared.Instr.{Instr}
 use Rattle.isa.specs.declared.Instr.TheVariants as i
-use Rattle.isa.specs.declared.Encoded.{Encoded}
-use Rattle.isa.specs.declared.Encoded.TheVariants as e
 use Rattle.isa.specs.Encode.{encode_of}
-use Rattle.asm_value.specs.declared.Value.{Value}
-use Rattle.asm_value.specs.declared.Value.TheVariants as v
-use Rattle.asm_fits.specs.declared.Fit.{Fit}
-use Rattle.asm_fits.specs.declared.Fit.TheVariants.{Number, Unknown, Outside}
-use Rattle.asm_fits.specs.Fits.{word_fit, byte_fit, count_fit, offset_fit, immediate_fit, constant_fit, branch_fit}
+use Rattle.asm_value.specs.declared.Lack.{Lack}
+use Rattle.asm_value.specs.declared.Lack.TheVariants.{Unknown, Outside}
+use Rattle.asm_fits.specs.Fits.{Fit, ◌>>=◌, word_fit, byte_fit, count_fit, offset_fit, immediate_fit, constant_fit, branch_fit}
 use Rattle.asm_line.specs.declared.Statement.{Statement}
 use Rattle.asm_line.specs.declared.Statement.TheVariants.{Nothing, Org, Equ, Bss, Byte, Word, End, Fixed, Bl, Branch}
 use Rattle.asm_line.specs.declared.Statement.TheVariants.{Constant, SetPri, Svc, Cex, MovImm, Ldr, Str}
 use Rattle.asm_write.specs.declared.Layout.{Layout}
 use Rattle.asm_write.specs.declared.Layout.TheVariants.{Bytes, Origin, Equal, Space, Stop}
-use Rattle.asm_write.specs.declared.Next.{Next}
-use Rattle.asm_write.specs.declared.Next.TheVariants as next
 
 -- ---- the number that a statement stands for
 
 -- the encoder's word. It refuses no instruction made here (asm_theorems: never-refused). "the encoded instructions".
 -- [02 §12]
-abbrev pub encoded : Encoded → Fit
-encoded (e.Word w) = Number w
-encoded e.Refused = Outside
+abbrev pub encoded : Option ℕ → Fit
+encoded (Some w) = Ok w
+encoded None = Err Outside
 
 -- the word of the instruction made of a number that fits
 abbrev pub coded : Fit → (ℕ → Instr) → Fit
-coded (Number n) f = encoded (encode_of (f n))
-coded Unknown f = Unknown
-coded Outside f = Outside
+coded x f = do
+  n ← x
+  encoded (encode_of (f n))
 
 -- of two numbers that fit: an unknown name in either decides. "then 18, then 19". [02 §12]
 abbrev pub coded_both : Fit → Fit → (ℕ → ℕ → Instr) → Fit
-coded_both (Number m) x f = coded x (f m)
-coded_both Unknown x f = Unknown
-coded_both Outside Unknown f = Unknown
-coded_both Outside (Number n) f = Outside
-coded_both Outside Outside f = Outside
+coded_both (Ok m) x f = coded x (f m)
+coded_both (Err Unknown) x f = Err Unknown
+coded_both (Err Outside) (Ok n) f = Err Outside
+coded_both (Err Outside) (Err e) f = Err e
 
 -- A byte, a word or an instruction's word; 0 for a statement that has no bytes. [02 §12; 003 14]
 unfoldable pub number_of : (p : ℕ) → Statement → Fit
-number_of p Nothing = Number 0
-number_of p (Org x) = Number 0
-number_of p (Equ x) = Number 0
-number_of p (Bss x) = Number 0
-number_of p End = Number 0
+number_of p Nothing = Ok 0
+number_of p (Org x) = Ok 0
+number_of p (Equ x) = Ok 0
+number_of p (Bss x) = Ok 0
+number_of p End = Ok 0
 number_of p (Byte x) = byte_fit x
 number_of p (Word x) = word_fit x
 number_of p (Fixed j) = encoded (encode_of j)
@@ -99,9 +93,9 @@ misplaced? size p = eqb size 2 && eqb (p % 2) 1 || ltb 0 size && ltb 65536 (p + 
 
 -- a number that fits, where its bytes may stand
 abbrev pub placed : (size p : ℕ) → Fit → Fit
-placed size p (Number n) = cond (misplaced? size p) Outside (Number n)
-placed size p Unknown = Unknown
-placed size p Outside = Outside
+placed size p x = do
+  n ← x
+  cond (misplaced? size p) (Err Outside) (Ok n)
 
 -- a statement's number, or its fault: 18 before 19. [02 §12]
 unfoldable pub used_of : (p : ℕ) → Statement → Fit
@@ -113,9 +107,8 @@ bytes_for size n = cond (eqb size 0) [] (cond (eqb size 1) ((n % 256) ∷ []) ((
 
 -- a statement's bytes; none where it is at fault. [02 §12]
 abbrev pub bytes_with : (size : ℕ) → Fit → List ℕ
-bytes_with size (Number n) = bytes_for size n
-bytes_with size Unknown = []
-bytes_with size Outside = []
+bytes_with size (Ok n) = bytes_for size n
+bytes_with size (Err e) = []
 
 abbrev pub bytes_of : (p : ℕ) → Statement → List ℕ
 bytes_of p x = bytes_with (size_of (layout_of x)) (used_of p x)
@@ -126,36 +119,38 @@ bytes_of p x = bytes_with (size_of (layout_of x)) (used_of p x)
 unfoldable pub onward : (p n : ℕ) → ℕ
 onward p n = min (p + n) 2147483648
 
+-- the place after a statement, or why there is none
+abbrev pub Next : Type 0
+Next = Result ℕ Lack
+
 -- "ORG and BSS from 0". [02 §12]
-abbrev pub org_next : Value → Next
-org_next (v.Known (pos n)) = next.Place n
-org_next (v.Known (negsuc n)) = next.Outside
-org_next v.Unknown = next.Unknown
-org_next v.Outside = next.Outside
+abbrev pub org_next : Result ℤ Lack → Next
+org_next (Ok (pos n)) = Ok n
+org_next (Ok (negsuc n)) = Err Outside
+org_next (Err e) = Err e
 
 -- the bytes that BSS leaves out must be there: "any byte passes #FFFF". [02 §12]
 unfoldable pub room_for : (p n : ℕ) → Next
-room_for p n = cond (eqb n 0) (next.Place p) (cond (ltb 65536 (p + n)) next.Outside (next.Place (p + n)))
+room_for p n = cond (eqb n 0) (Ok p) (cond (ltb 65536 (p + n)) (Err Outside) (Ok (p + n)))
 
-abbrev pub bss_next : ℕ → Value → Next
-bss_next p (v.Known (pos n)) = room_for p n
-bss_next p (v.Known (negsuc n)) = next.Outside
-bss_next p v.Unknown = next.Unknown
-bss_next p v.Outside = next.Outside
+abbrev pub bss_next : ℕ → Result ℤ Lack → Next
+bss_next p x = do
+  n ← org_next x
+  room_for p n
 
 -- the place after a statement; an unknown name in ORG or BSS is 18, a value that is no place 19. [02 §12]
 unfoldable pub next_of : (p : ℕ) → Layout → Next
-next_of p (Bytes n) = next.Place (onward p n)
+next_of p (Bytes n) = Ok (onward p n)
 next_of p (Origin x) = org_next x
-next_of p (Equal x) = next.Place p
+next_of p (Equal x) = Ok p
 next_of p (Space x) = bss_next p x
-next_of p Stop = next.Place p
+next_of p Stop = Ok p
 
 -- "A name .. is the place before its statement .. or the value of EQU". [02 §12]
-unfoldable pub place_value : ℕ → Value
-place_value p = cond (ltb p 2147483648) (v.Known (pos p)) v.Outside
+unfoldable pub place_value : ℕ → Result ℤ Lack
+place_value p = cond (ltb p 2147483648) (Ok (pos p)) (Err Outside)
 
-unfoldable pub name_value : (p : ℕ) → Layout → Value
+unfoldable pub name_value : (p : ℕ) → Layout → Result ℤ Lack
 name_value p (Bytes n) = place_value p
 name_value p (Origin x) = place_value p
 name_value p (Equal x) = x

@@ -1,17 +1,19 @@
 // What a statement puts into memory at a place, and where the next statement stands.
 #![tactic(auto)]
 
-ghost use Rattle.std.specs.Prelude.{◌≡◌, ◌<◌};
+ghost use Rattle.std.specs.Prelude.{◌≡◌};
+ghost use Rattle.word.specs.Offset.{signed_of};
+ghost use Rattle.isa.specs.declared.Instr.TheVariants as i;
 ghost use Rattle.isa.specs.Encode.{encode_of};
-ghost use Rattle.asm_line.specs.declared.Statement.TheVariants as s;
-ghost use Rattle.asm_write.specs.Written.{encoded, number_of, layout_of, size_of};
+ghost use Rattle.asm_fits.specs.Fits.{count_fit, offset_fit, immediate_fit, constant_fit};
+ghost use Rattle.asm_write.specs.Written.{encoded, coded, coded_both, number_of, layout_of, size_of};
 ghost use Rattle.asm_write.specs.Written.{misplaced?, used_of, onward, org_next};
 ghost use Rattle.asm_write.specs.Written.{room_for, bss_next, next_of, place_value, name_value};
 
 use asm_fits::Fit;
 use asm_line::Statement;
-use asm_value::Value;
-use isa::{Encoded, Instr};
+use asm_value::{Lack, Value};
+use isa::Instr;
 use word::signed;
 
 // What a statement does to the place: it has so many bytes, or a value, or it stops the source.
@@ -29,196 +31,116 @@ pub enum Layout {
 }
 
 // The place after a statement, or an unknown name (18), or no place (19).
-#[derive(Clone, Copy)]
-pub enum Next {
-    Place(u32),
-    Unknown,
-    Outside,
-}
+pub type Next = Result<u32, Lack>;
 
 // The word of an instruction.
 fn word_of(x: Instr) -> Fit
     ensures { result ≡ encoded (encode_of x) }
 {
-    match isa_encode::encode(x) {
-        Encoded::Word(w) => Fit::Number(w),
-        Encoded::Refused => Fit::Outside,
-    }
-}
-
-// BL.
-fn branch_and_link(p: u32, v: Value) -> Fit
-    ensures { result ≡ number_of p (s.Bl v) }
-{
-    match asm_fits::branch(4096, p, v) {
-        Fit::Number(n) => word_of(Instr::Bl {
-            off: signed(4096, n),
-        }),
-        Fit::Unknown => Fit::Unknown,
-        Fit::Outside => Fit::Outside,
-    }
-}
-
-// BEQ to BRA.
-fn branch(p: u32, cond: u8, v: Value) -> Fit
-    ensures { result ≡ number_of p (s.Branch cond v) }
-{
-    match asm_fits::branch(512, p, v) {
-        Fit::Number(n) => word_of(Instr::Branch {
-            cond,
-            off: signed(512, n),
-        }),
-        Fit::Unknown => Fit::Unknown,
-        Fit::Outside => Fit::Outside,
-    }
+    isa_encode::encode(x).ok_or(Lack::Outside)
 }
 
 // ADD to BIS of a constant.
-fn constant(p: u32, op: u8, wb: u8, v: Value, dst: u8) -> Fit
-    ensures { result ≡ number_of p (s.Constant op wb v dst) }
+fn constant(op: u8, wb: u8, v: Value, dst: u8) -> Fit
+    ensures { result ≡ coded (constant_fit v) (λ n. i.Alu op 1 wb n dst) }
 {
-    match asm_fits::constant(v) {
-        Fit::Number(n) => word_of(Instr::Alu {
-            op,
-            rc: 1,
-            wb,
-            src: n as u8,
-            dst,
-        }),
-        Fit::Unknown => Fit::Unknown,
-        Fit::Outside => Fit::Outside,
-    }
-}
-
-// SETPRI.
-fn set_priority(p: u32, v: Value) -> Fit
-    ensures { result ≡ number_of p (s.SetPri v) }
-{
-    match asm_fits::count(8, v) {
-        Fit::Number(n) => word_of(Instr::SetPri { level: n as u8 }),
-        Fit::Unknown => Fit::Unknown,
-        Fit::Outside => Fit::Outside,
-    }
-}
-
-// SVC.
-fn service(p: u32, v: Value) -> Fit
-    ensures { result ≡ number_of p (s.Svc v) }
-{
-    match asm_fits::count(16, v) {
-        Fit::Number(n) => word_of(Instr::Svc { vector: n as u8 }),
-        Fit::Unknown => Fit::Unknown,
-        Fit::Outside => Fit::Outside,
-    }
+    word_of(Instr::Alu {
+        op,
+        rc: 1,
+        wb,
+        src: asm_fits::constant(v)? as u8,
+        dst,
+    })
 }
 
 // CEX: an unknown name in either count decides.
-fn conditional(p: u32, cond: u8, t: Value, f: Value) -> Fit
-    ensures { result ≡ number_of p (s.Cex cond t f) }
+fn conditional(cond: u8, t: Value, f: Value) -> Fit
+    ensures { result ≡ coded_both (count_fit 8 t) (count_fit 8 f) (i.Cex cond) }
 {
     let a = asm_fits::count(8, t);
     let b = asm_fits::count(8, f);
     match a {
-        Fit::Number(m) => match b {
-            Fit::Number(n) => word_of(Instr::Cex {
-                cond,
-                true_count: m as u8,
-                false_count: n as u8,
-            }),
-            Fit::Unknown => Fit::Unknown,
-            Fit::Outside => Fit::Outside,
-        },
-        Fit::Unknown => Fit::Unknown,
-        Fit::Outside => match b {
-            Fit::Number(_) => Fit::Outside,
-            Fit::Unknown => Fit::Unknown,
-            Fit::Outside => Fit::Outside,
-        },
+        Ok(m) => word_of(Instr::Cex {
+            cond,
+            true_count: m as u8,
+            false_count: b? as u8,
+        }),
+        Err(Lack::Unknown) => a,
+        Err(Lack::Outside) => b.and(a),
     }
 }
 
 // MOVL, MOVLZ, MOVLS, MOVH.
-fn immediate(p: u32, op: u8, plain: bool, v: Value, dst: u8) -> Fit
-    ensures { result ≡ number_of p (s.MovImm op plain v dst) }
+fn immediate(op: u8, plain: bool, v: Value, dst: u8) -> Fit
+    ensures { result ≡ coded (immediate_fit op plain v) (λ n. i.MovImm op n dst) }
 {
-    match asm_fits::immediate(op, plain, v) {
-        Fit::Number(n) => word_of(Instr::MovImm {
-            op,
-            byte: n as u8,
-            dst,
-        }),
-        Fit::Unknown => Fit::Unknown,
-        Fit::Outside => Fit::Outside,
-    }
+    word_of(Instr::MovImm {
+        op,
+        byte: asm_fits::immediate(op, plain, v)? as u8,
+        dst,
+    })
 }
 
 // LDR.
-fn load_relative(p: u32, v: Value, wb: u8, src: u8, dst: u8) -> Fit
-    ensures { result ≡ number_of p (s.Ldr v wb src dst) }
+fn load_relative(v: Value, wb: u8, src: u8, dst: u8) -> Fit
+    ensures { result ≡ coded (offset_fit v) (λ n. i.Ldr (signed_of 64 n) wb src dst) }
 {
-    match asm_fits::offset(v) {
-        Fit::Number(n) => word_of(Instr::Ldr {
-            off: signed(64, n),
-            wb,
-            src,
-            dst,
-        }),
-        Fit::Unknown => Fit::Unknown,
-        Fit::Outside => Fit::Outside,
-    }
+    let off = signed(64, asm_fits::offset(v)?);
+    word_of(Instr::Ldr { off, wb, src, dst })
 }
 
 // STR.
-fn store_relative(p: u32, v: Value, wb: u8, src: u8, dst: u8) -> Fit
-    ensures { result ≡ number_of p (s.Str v wb src dst) }
+// Kept: LDR and STR make two instructions; one function with a closure for that is no plainer.
+fn store_relative(v: Value, wb: u8, src: u8, dst: u8) -> Fit
+    ensures { result ≡ coded (offset_fit v) (λ n. i.Str (signed_of 64 n) wb src dst) }
 {
-    match asm_fits::offset(v) {
-        Fit::Number(n) => word_of(Instr::Str {
-            off: signed(64, n),
-            wb,
-            src,
-            dst,
-        }),
-        Fit::Unknown => Fit::Unknown,
-        Fit::Outside => Fit::Outside,
-    }
+    let off = signed(64, asm_fits::offset(v)?);
+    word_of(Instr::Str { off, wb, src, dst })
 }
 
 // The number that a statement stands for; 0 for one without bytes.
+#[tactic(auto, unfolding(crate::specs::Written::number_of))]
 fn number(p: u32, x: Statement) -> Fit
     ensures { result ≡ number_of p x }
 {
     match x {
-        Statement::Nothing => Fit::Number(0),
-        Statement::Org(_) => Fit::Number(0),
-        Statement::Equ(_) => Fit::Number(0),
-        Statement::Bss(_) => Fit::Number(0),
-        Statement::End => Fit::Number(0),
+        Statement::Nothing | Statement::End => Ok(0),
+        Statement::Org(_) | Statement::Equ(_) | Statement::Bss(_) => Ok(0),
         Statement::Byte(v) => asm_fits::byte(v),
         Statement::Word(v) => asm_fits::word(v),
         Statement::Fixed(j) => word_of(j),
-        Statement::Bl(v) => branch_and_link(p, v),
-        Statement::Branch { cond, target } => branch(p, cond, target),
-        Statement::Constant { op, wb, value, dst } => constant(p, op, wb, value, dst),
-        Statement::SetPri(v) => set_priority(p, v),
-        Statement::Svc(v) => service(p, v),
+        Statement::Bl(v) => word_of(Instr::Bl {
+            off: signed(4096, asm_fits::branch(4096, p, v)?),
+        }),
+        Statement::Branch { cond, target } => word_of(Instr::Branch {
+            cond,
+            off: signed(512, asm_fits::branch(512, p, target)?),
+        }),
+        Statement::Constant { op, wb, value, dst } => constant(op, wb, value, dst),
+        Statement::SetPri(v) => word_of(Instr::SetPri {
+            level: asm_fits::count(8, v)? as u8,
+        }),
+        Statement::Svc(v) => word_of(Instr::Svc {
+            vector: asm_fits::count(16, v)? as u8,
+        }),
         Statement::Cex {
             cond,
             true_count,
             false_count,
-        } => conditional(p, cond, true_count, false_count),
+        } => conditional(cond, true_count, false_count),
         Statement::MovImm {
             op,
             plain,
             value,
             dst,
-        } => immediate(p, op, plain, value, dst),
-        Statement::Ldr { off, wb, src, dst } => load_relative(p, off, wb, src, dst),
-        Statement::Str { off, wb, src, dst } => store_relative(p, off, wb, src, dst),
+        } => immediate(op, plain, value, dst),
+        Statement::Ldr { off, wb, src, dst } => load_relative(off, wb, src, dst),
+        Statement::Str { off, wb, src, dst } => store_relative(off, wb, src, dst),
     }
 }
 
 // What a statement does to the place.
+#[tactic(auto, unfolding(crate::specs::Written::layout_of))]
 pub fn layout_of(x: Statement) -> Layout
     ensures { result ≡ layout_of x }
 {
@@ -239,10 +161,7 @@ pub fn size(l: Layout) -> u8
 {
     match l {
         Layout::Bytes(n) => n,
-        Layout::Origin(_) => 0,
-        Layout::Equal(_) => 0,
-        Layout::Space(_) => 0,
-        Layout::Stop => 0,
+        _ => 0,
     }
 }
 
@@ -256,110 +175,81 @@ fn misplaced(size: u8, p: u32) -> bool
 }
 
 // A statement's number, or its fault.
+#[tactic(auto, unfolding(crate::specs::Written::used_of))]
 pub fn used(p: u32, x: Statement) -> Fit
     ensures { result ≡ used_of p x }
 {
-    let bytes = size(layout_of(x));
-    match number(p, x) {
-        Fit::Number(n) => {
-            if misplaced(bytes, p) {
-                return Fit::Outside;
-            }
-            Fit::Number(n)
-        }
-        Fit::Unknown => Fit::Unknown,
-        Fit::Outside => Fit::Outside,
+    let n = number(p, x)?;
+    if misplaced(size(layout_of(x)), p) {
+        return Err(Lack::Outside);
     }
+    Ok(n)
 }
 
 // The place n bytes on; 2,147,483,648 stands for every place from there on.
+#[tactic(auto, unfolding(crate::specs::Written::onward))]
 fn moved(p: u32, n: u8) -> u32
     ensures { result ≡ onward p n }
 {
-    let q = p as u64 + n as u64;
-    if q < 2147483648 {
-        return q as u32;
-    }
-    2147483648
+    p.saturating_add(n as u32).min(2147483648)
 }
 
 // The place after ORG.
 fn origin(v: Value) -> Next
     ensures { result ≡ org_next v }
 {
-    match v {
-        Value::Known(z) => {
-            if z < 0 {
-                return Next::Outside;
-            }
-            Next::Place(z as u32)
-        }
-        Value::Unknown => Next::Unknown,
-        Value::Outside => Next::Outside,
-    }
+    u32::try_from(v?).or(Err(Lack::Outside))
 }
 
 // The place after n bytes left out.
+#[tactic(auto, unfolding(crate::specs::Written::room_for))]
 fn room(p: u32, n: u32) -> Next
     ensures { result ≡ room_for p n }
 {
     if n == 0 {
-        return Next::Place(p);
+        return Ok(p);
     }
     if 65536 < p as u64 + n as u64 {
-        return Next::Outside;
+        return Err(Lack::Outside);
     }
-    Next::Place(p + n)
+    Ok(p + n)
 }
 
 // The place after BSS.
 fn space(p: u32, v: Value) -> Next
     ensures { result ≡ bss_next p v }
 {
-    match v {
-        Value::Known(z) => {
-            if z < 0 {
-                return Next::Outside;
-            }
-            room(p, z as u32)
-        }
-        Value::Unknown => Next::Unknown,
-        Value::Outside => Next::Outside,
-    }
+    room(p, origin(v)?)
 }
 
 // The place after a statement.
+#[tactic(auto, unfolding(crate::specs::Written::next_of))]
 pub fn after(p: u32, l: Layout) -> Next
     ensures { result ≡ next_of p l }
 {
     match l {
-        Layout::Bytes(n) => Next::Place(moved(p, n)),
+        Layout::Bytes(n) => Ok(moved(p, n)),
         Layout::Origin(v) => origin(v),
-        Layout::Equal(_) => Next::Place(p),
         Layout::Space(v) => space(p, v),
-        Layout::Stop => Next::Place(p),
+        Layout::Equal(_) | Layout::Stop => Ok(p),
     }
 }
 
 // A place as the value of a name.
+#[tactic(auto, unfolding(crate::specs::Written::place_value))]
 fn place_value(p: u32) -> Value
     ensures { result ≡ place_value p }
 {
-    if p < 2147483648 {
-        return Value::Known(p as i32);
-    }
-    Value::Outside
+    i32::try_from(p).or(Err(Lack::Outside))
 }
 
 // The value of a name before a statement.
+#[tactic(auto, unfolding(crate::specs::Written::name_value))]
 pub fn name_value(p: u32, l: Layout) -> Value
     ensures { result ≡ name_value p l }
 {
     match l {
-        Layout::Bytes(_) => place_value(p),
-        Layout::Origin(_) => place_value(p),
         Layout::Equal(v) => v,
-        Layout::Space(_) => place_value(p),
-        Layout::Stop => place_value(p),
+        _ => place_value(p),
     }
 }

@@ -129,12 +129,11 @@ module _ (b : List ℕ) (k : ℕ) where
       deliver_at k (rest_from b at) s ≡ deliver_at k (rest_from b (at + 1)) (event_on (event_at b at) s)
   index-due at s h e = rw (eq-eqb (step_at b at) k e) at (turn at s h)
 
-  -- a record of step k, applied from its parts
+  -- a record of step k, applied
   pub index-applied :
       (at : ℕ) (s : State) {t : State} → at < event_count b → step_at b at ≡ k →
-      t ≡ event_on (record { step = step_at b at; device = byte_at b (8 * at + 4); byte = byte_at b (8 * at + 5) }) s →
+      t ≡ event_on (event_at b at) s →
       deliver_at k (rest_from b (at + 1)) t ≡ deliver_at k (rest_from b at) s
-  unfolding event_at
   index-applied at s h e q = ap (deliver_at k (rest_from b (at + 1))) q ∙ sym (index-due at s h e)
 
   pub index-early :

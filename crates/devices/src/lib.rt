@@ -8,7 +8,7 @@ ghost use Rattle.machine.specs.Events.{event_at, event_count, events_of};
 ghost use Rattle.machine.specs.Devices.{event_status, events_waiting, waiting, raised, fallen};
 ghost use Rattle.machine.specs.Devices.{event_writes, event_on, deliver_at};
 ghost use Rattle.machine.specs.Refusal.{events_fit_below};
-ghost use Rattle.devices.specs.Cursor.{Behind, Ordered, state_from};
+ghost use Rattle.devices.specs.Cursor.{Behind, Ordered, state_from, event_of};
 
 use machine::Lines;
 
@@ -17,6 +17,14 @@ use machine::Lines;
 pub struct Delivered {
     pub lines: Lines,
     pub next: usize,
+}
+
+// An event: its step, its device and the byte that it brings.
+#[derive(Clone, Copy)]
+pub struct Event {
+    pub step: u32,
+    pub device: u8,
+    pub byte: u8,
 }
 
 // One event of device d, as the lines count it.
@@ -28,7 +36,7 @@ fn one_event(d: u8) -> Lines
 }
 
 // How many events of device d wait?
-fn events_waiting(lines: Lines, d: u8) -> Lines
+pub fn events_waiting(lines: Lines, d: u8) -> Lines
     requires { d < 8 }
     ensures { result ≡ events_waiting lines d }
 {
@@ -75,34 +83,30 @@ fn event_status(t: u8) -> u8
 }
 
 // The writes of an event on an enabled device whose status byte is t.
-fn receive(mem: &mut [u8], device: u8, byte: u8, t: u8)
-    requires { (length mem.old ≡ 65536) × (device < 8) }
-    ensures { (k : ℕ) → mem.new
-        ≡ commit (event_writes (record { step = k; device = device; byte = byte }) t)
-        mem.old }
+fn receive(mem: &mut [u8; 65536], e: Event, t: u8)
+    requires { e.device < 8 }
+    ensures { mem.new ≡ commit (event_writes (event_of e) t) mem.old }
 {
-    let i = 2 * device as usize;
+    let i = 2 * e.device as usize;
     if t / 2 % 2 == 1 {
-        mem[i + 1] = byte;
+        mem[i + 1] = e.byte;
     }
     mem[i] = event_status(t);
 }
 
 // One event: the lines after it. A device with ENA clear is left alone.
-fn event_on(mem: &mut [u8], lines: Lines, device: u8, byte: u8) -> Lines
-    requires { (length mem.old ≡ 65536) × (device < 8) }
-    ensures { (c : Core) (h : Bool) (k n : ℕ) → state_from c result h n mem.new
-        ≡ event_on (record { step = k; device = device; byte = byte })
-        (state_from c lines h n mem.old) }
+fn event_on(mem: &mut [u8; 65536], lines: Lines, e: Event) -> Lines
+    requires { e.device < 8 }
+    ensures { (c : Core) (h : Bool) (n : ℕ) → state_from c result h n mem.new
+        ≡ event_on (event_of e) (state_from c lines h n mem.old) }
 {
-    let i = 2 * device as usize;
-    let t = mem[i];
+    let t = mem[2 * e.device as usize];
     if t / 16 % 2 != 1 {
         return lines;
     }
-    receive(mem, device, byte, t);
+    receive(mem, e, t);
     if t % 2 == 1 {
-        return raise(lines, device);
+        return raise(lines, e.device);
     }
     lines
 }
@@ -115,9 +119,26 @@ pub fn step_at(events: &[u8], k: usize) -> u32
     little_endian::four_at(events, 8 * k)
 }
 
+// The event of record k.
+pub fn event_at(events: &[u8], k: usize) -> Event
+    requires { 8 * k + 8 ≤ length events.now }
+    ensures { event_of result ≡ event_at events.now k }
+{
+    Event {
+        step: step_at(events, k),
+        device: events[8 * k + 4],
+        byte: events[8 * k + 5],
+    }
+}
+
 // Applies the events due at step `count`, from record `next` on; earlier ones are passed over.
-pub fn deliver(mem: &mut [u8], events: &[u8], next: usize, count: u32, lines: Lines) -> Delivered
-    requires mem_len { length mem.old ≡ 65536 }
+pub fn deliver(
+    mem: &mut [u8; 65536],
+    events: &[u8],
+    next: usize,
+    count: u32,
+    lines: Lines,
+) -> Delivered
     requires behind_2 { Behind events.now next count }
     requires ordered { Ordered events.now }
     requires events_value { events_fit_below events.now (event_count events.now) ≡ true }
@@ -128,17 +149,15 @@ pub fn deliver(mem: &mut [u8], events: &[u8], next: usize, count: u32, lines: Li
     ensures behind { Behind events.now result.next (count + 1) }
 {
     let n = events.len() / 8;
-    let mut at = next;
     let mut l = lines;
-    while at < n {
-        let step = step_at(events, at);
-        if count < step {
-            break;
+    for at in next..n {
+        let e = event_at(events, at);
+        if count < e.step {
+            return Delivered { lines: l, next: at };
         }
-        if step == count {
-            l = event_on(mem, l, events[8 * at + 4], events[8 * at + 5]);
+        if e.step == count {
+            l = event_on(mem, l, e);
         }
-        at += 1;
     }
-    Delivered { lines: l, next: at }
+    Delivered { lines: l, next: n }
 }

@@ -11,6 +11,11 @@ use Rattle.std.proofs.Common.{
   ◌&&◌,
   ltb,
   List,
+  Option,
+  None,
+  Some,
+  is_some,
+  true≢false,
   sym,
   refl,
   ap,
@@ -24,23 +29,18 @@ use Rattle.std.proofs.Common.{
 use mathlib.Core.Bool.{and-false}
 use Rattle.machine.specs.Entry.{priority, best_from, best, above}
 use Rattle.machine_laws.proofs.Cases.{bool_cases, and_left, and_both}
-use Rattle.entry.specs.Lines.{line_above}
+use Rattle.entry.specs.Lines.{line_above, Line}
 
 best-no-lines : (m : List ℕ) → best 0 m ≡ 8
 unfolding best_from
 best-no-lines m = refl
 
 module _ (m : List ℕ) (l p : ℕ) where
-  line-none : best l m ≡ 8 → 8 ≡ line_above m l p
+  pub line-none : best l m ≡ 8 → 8 ≡ line_above m l p
   line-none e = ap (λ (d : ℕ). cond (above m d p) d 8) (sym e)
 
   pub line-no-lines : l ≡ 0 → 8 ≡ line_above m l p
   line-no-lines e = line-none (ap (λ (x : ℕ). best x m) e ∙ best-no-lines m)
-
-  pub line-absent : (d : ℕ) → d ≡ best l m → 8 ≤ d → d ≤ 8 → 8 ≡ line_above m l p
-  line-absent d e h k =
-      let z : d ≡ 8 = omega arith in
-      line-none (sym e ∙ z)
 
   pub line-found : (d q : ℕ) → d ≡ best l m → d < 8 → q ≡ priority m d → p < q → d ≡ line_above m l p
   line-found d q e h f g =
@@ -66,3 +66,8 @@ module _ (m : List ℕ) (l p : ℕ) where
       (λ t. let z : d ≡ best l m = e ∙ ap (λ (b : Bool). cond b (best l m) 8) t in
       let k = ltb-true (best l m) 8 (and_left _ _ t) in let w : ⊥ = omega arith in absurd w)
       (λ f. f)
+
+  -- no answer, no line above
+  pub line-none-above : (o : Option ℕ) → Line o (line_above m l p) → is_some o ≡ false → above m (best l m) p ≡ false
+  line-none-above None h e = line-isnt 8 (sym h) (omega arith)
+  line-none-above (Some d) h e = absurd (true≢false e)

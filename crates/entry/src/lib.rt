@@ -7,7 +7,7 @@ ghost use Rattle.machine.specs.Memory.{word_at, word_writes, commit};
 ghost use Rattle.machine.specs.Entry.{vector_psw, vector_pc, priority, better, best};
 ghost use Rattle.machine.specs.Entry.{entered_psw, pushed, pushes, pulled};
 ghost use Rattle.machine.specs.Step.{entered, chained};
-ghost use Rattle.entry.specs.Lines.{line_above};
+ghost use Rattle.entry.specs.Lines.{line_above, Line};
 
 use machine::{ByteAddr, Lines};
 
@@ -19,40 +19,39 @@ pub struct Pulled {
 }
 
 // The word at an address, bit 0 dropped.
-fn word_at(mem: &[u8], a: u16) -> u16
-    requires { length mem.now ≡ 65536 }
+fn word_at(mem: &[u8; 65536], a: u16) -> u16
     ensures { result ≡ word_at mem.now a }
 {
     memory::read_word(mem, memory::word_of(ByteAddr(a)))
 }
 
 // The two words of vector v.
-fn vector_psw(mem: &[u8], v: u8) -> u16
-    requires { (length mem.now ≡ 65536) × (v < 16) }
+fn vector_psw(mem: &[u8; 65536], v: u8) -> u16
+    requires { v < 16 }
     ensures { result ≡ vector_psw mem.now v }
 {
     word_at(mem, 0xFFC0 + 4 * v as u16)
 }
 
-fn vector_pc(mem: &[u8], v: u8) -> u16
-    requires { (length mem.now ≡ 65536) × (v < 16) }
+fn vector_pc(mem: &[u8; 65536], v: u8) -> u16
+    requires { v < 16 }
     ensures { result ≡ vector_pc mem.now v }
 {
     word_at(mem, 0xFFC0 + 4 * v as u16 + 2)
 }
 
 // The priority of vector v.
-pub fn priority_of(mem: &[u8], v: u8) -> u16
-    requires { (length mem.now ≡ 65536) × (v < 16) }
+pub fn priority_of(mem: &[u8; 65536], v: u8) -> u16
+    requires { v < 16 }
     ensures { result ≡ priority mem.now v }
 {
     word::current_priority(vector_psw(mem, v))
 }
 
-// The better of line d and the best e of those after it.
-fn better_of(mem: &[u8], d: u8, e: u8) -> u8
-    requires { (length mem.now ≡ 65536) × (d < 8) × (e ≤ 8) }
-    ensures { (result ≡ better mem.now d e) × (result ≤ 8) }
+// The better of line d and the best e of those after it, 8 for none.
+fn better_of(mem: &[u8; 65536], d: u8, e: u8) -> u8
+    requires { (d < 8) × (e ≤ 8) }
+    ensures { (result ≡ better mem.now d e) × (result < 8) }
 {
     if e < 8 {
         if priority_of(mem, d) < priority_of(mem, e) {
@@ -62,43 +61,38 @@ fn better_of(mem: &[u8], d: u8, e: u8) -> u8
     d
 }
 
-// The best waiting line, 8 for none.
-pub fn best_line(mem: &[u8], lines: Lines) -> u8
-    requires { length mem.now ≡ 65536 }
-    ensures { (result ≡ best lines mem.now) × (result ≤ 8) }
+// The best waiting line, if one waits.
+// Kept: 8 for none within the loop, since an Option there takes 25 host instructions more of a call.
+pub fn best_line(mem: &[u8; 65536], lines: Lines) -> Option<u8>
+    ensures { Line result (best lines mem.now) }
 {
-    let mut d: u8 = 8;
     let mut e: u8 = 8;
-    while 0 < d {
-        d -= 1;
+    for d in (0..8).rev() {
         if devices::waits(lines, d) {
             e = better_of(mem, d, e);
         }
     }
-    e
+    if e < 8 { Some(e) } else { None }
 }
 
-// The best waiting line if its priority is above `level`, else 8.
-pub fn best_above(mem: &[u8], lines: Lines, level: u16) -> u8
-    requires { length mem.now ≡ 65536 }
-    ensures { (result ≡ line_above mem.now lines level) × (result ≤ 8) }
+// The best waiting line, if its priority is above `level`.
+pub fn best_above(mem: &[u8; 65536], lines: Lines, level: u16) -> Option<u8>
+    ensures { Line result (line_above mem.now lines level) }
 {
-    let d = best_line(mem, lines);
-    if d < 8 {
+    if let Some(d) = best_line(mem, lines) {
         if level < priority_of(mem, d) {
-            return d;
+            return Some(d);
         }
     }
-    8
+    None
 }
 
 // The same, asked at every step; no vector is read where no line waits.
-pub fn line_above(mem: &[u8], lines: Lines, level: u16) -> u8
-    requires { length mem.now ≡ 65536 }
-    ensures { (result ≡ line_above mem.now lines level) × (result ≤ 8) }
+pub fn line_above(mem: &[u8; 65536], lines: Lines, level: u16) -> Option<u8>
+    ensures { Line result (line_above mem.now lines level) }
 {
     if lines == 0 {
-        return 8;
+        return None;
     }
     best_above(mem, lines, level)
 }
@@ -121,19 +115,17 @@ fn set_three(regs: &mut [u16; 8], lr: u16, sp: u16, pc: u16)
 }
 
 // A word pushed: the SP that it leaves.
-fn push(mem: &mut [u8], sp: u16, v: u16) -> u16
-    requires { length mem.old ≡ 65536 }
+fn push(mem: &mut [u8; 65536], sp: u16, v: u16) -> u16
     ensures { (result ≡ down sp 2) ×
         (mem.new ≡ commit (word_writes (down sp 2) v) mem.old) }
 {
-    let to = std::num::wrapping_sub_u16(sp, 2);
+    let to = sp.wrapping_sub(2);
     memory::write_word(mem, memory::word_of(ByteAddr(to)), v);
     to
 }
 
 // The frame pushed: PC, LR, PSW, CEX. The SP that it leaves.
-fn push_frame(regs: &[u16; 8], mem: &mut [u8], psw: u16, cex: u16) -> u16
-    requires { length mem.old ≡ 65536 }
+fn push_frame(regs: &[u16; 8], mem: &mut [u8; 65536], psw: u16, cex: u16) -> u16
     ensures { (result ≡ pushed (core_of regs.now psw cex)) ×
         (mem.new ≡ commit (pushes (core_of regs.now psw cex)) mem.old) }
 {
@@ -144,8 +136,15 @@ fn push_frame(regs: &[u16; 8], mem: &mut [u8], psw: u16, cex: u16) -> u16
 }
 
 // An entry by vector v that pushes: the PSW after it. CEX is then clear.
-pub fn enter(regs: &mut [u16; 8], mem: &mut [u8], psw: u16, cex: u16, v: u8, fault: bool) -> u16
-    requires { (length mem.old ≡ 65536) × (v < 16) }
+pub fn enter(
+    regs: &mut [u16; 8],
+    mem: &mut [u8; 65536],
+    psw: u16,
+    cex: u16,
+    v: u8,
+    fault: bool,
+) -> u16
+    requires { v < 16 }
     ensures core { core_of regs.new result 0 ≡
         entered (core_of regs.old psw cex) mem.old v fault }
     ensures memory { mem.new ≡
@@ -163,8 +162,8 @@ pub fn enter(regs: &mut [u16; 8], mem: &mut [u8], psw: u16, cex: u16, v: u8, fau
 }
 
 // A chained entry by vector v, which pushes nothing: the PSW after it. CEX is then clear.
-pub fn chain(regs: &mut [u16; 8], mem: &[u8], psw: u16, v: u8) -> u16
-    requires { (length mem.now ≡ 65536) × (v < 16) }
+pub fn chain(regs: &mut [u16; 8], mem: &[u8; 65536], psw: u16, v: u8) -> u16
+    requires { v < 16 }
     ensures { (x : ℕ) → core_of regs.new result 0 ≡
         chained (core_of regs.old psw x) mem.now v }
 {
@@ -176,17 +175,16 @@ pub fn chain(regs: &mut [u16; 8], mem: &[u8], psw: u16, v: u8) -> u16
 }
 
 // A return that pulls.
-pub fn pull(regs: &mut [u16; 8], mem: &[u8]) -> Pulled
-    requires { length mem.now ≡ 65536 }
+pub fn pull(regs: &mut [u16; 8], mem: &[u8; 65536]) -> Pulled
     ensures { (p x : ℕ) → core_of regs.new result.psw result.cex ≡
         pulled (core_of regs.old p x) mem.now }
 {
     let s = regs[6];
     let x = word_at(mem, s);
-    let p = word_at(mem, std::num::wrapping_add_u16(s, 2));
-    let lr = word_at(mem, std::num::wrapping_add_u16(s, 4));
-    let pc = word_at(mem, std::num::wrapping_add_u16(s, 6));
-    set_three(regs, lr, std::num::wrapping_add_u16(s, 8), pc);
+    let p = word_at(mem, s.wrapping_add(2));
+    let lr = word_at(mem, s.wrapping_add(4));
+    let pc = word_at(mem, s.wrapping_add(6));
+    set_three(regs, lr, s.wrapping_add(8), pc);
     Pulled {
         psw: p % 8 + p / 16 % 32 * 16 + p / 8192 % 8 * 8192,
         cex: x % 128,

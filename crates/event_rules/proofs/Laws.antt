@@ -9,34 +9,35 @@ use lib.Dec.{eqb}
 use lib.ListN.{drop}
 use lib.Seq.{drop-nil}
 use borrow.Author.Tests.{eqb-true, eqb-false}
-use Rattle.machine.specs.declared.Verdict.{Verdict}
-use Rattle.machine.specs.declared.Verdict.TheVariants.{Accepted}
+use Rattle.std.specs.Prelude.{Result, Ok, Err}
+use Rattle.machine.specs.declared.Refusal.{Refusal}
 use Rattle.machine.specs.Refusal.{event_fits, events_fit_below, in_order, in_order_below, Rule, first_broken}
 use Rattle.machine_laws.proofs.Cases.{bool_cases, and_left, and_both}
 
 -- ---- the first broken rule
 
--- whether rule k is broken, and its verdict
+-- whether rule k is broken, and its refusal
 abbrev pub broken? : ℕ → List Rule → Bool
 broken? k [] = false
 broken? zero (x ∷ xs) = x.broken
 broken? (suc k) (x ∷ xs) = broken? k xs
 
-abbrev pub verdict? : ℕ → List Rule → Verdict
-verdict? k [] = Accepted
-verdict? zero (x ∷ xs) = x.verdict
+abbrev pub verdict? : ℕ → List Rule → Result (Unit {0}) Refusal
+verdict? k [] = Ok tt
+verdict? zero (x ∷ xs) = Err x.refusal
 verdict? (suc k) (x ∷ xs) = verdict? k xs
 
 -- rule k holds, so the first that is broken comes after it; rule k is broken, and none before it
-pub holds : (k : ℕ) (xs : List Rule) {v : Verdict} → v ≡ first_broken (drop k xs) → broken? k xs ≡ false → v
-    ≡ first_broken (drop (suc k) xs)
+pub holds : (k : ℕ) (xs : List Rule) {v : Result (Unit {0}) Refusal} → v ≡ first_broken (drop k xs) → broken? k xs ≡ false
+    → v ≡ first_broken (drop (suc k) xs)
 holds k [] e h = e ∙ ap first_broken (drop-nil k)
-holds zero (x ∷ xs) e h = e ∙ ap (λ t. cond t x.verdict (first_broken xs)) h
+holds zero (x ∷ xs) e h = e ∙ ap (λ t. cond t (Err x.refusal) (first_broken xs)) h
 holds (suc k) (x ∷ xs) e h = holds k xs e h
 
-pub breaks : (k : ℕ) (xs : List Rule) {v : Verdict} → v ≡ first_broken (drop k xs) → broken? k xs ≡ true → verdict? k xs ≡ v
+pub breaks : (k : ℕ) (xs : List Rule) {v : Result (Unit {0}) Refusal} → v ≡ first_broken (drop k xs) → broken? k xs ≡ true
+    → verdict? k xs ≡ v
 breaks k [] e h = absurd (false≢true h)
-breaks zero (x ∷ xs) e h = sym (e ∙ ap (λ t. cond t x.verdict (first_broken xs)) h)
+breaks zero (x ∷ xs) e h = sym (e ∙ ap (λ t. cond t (Err x.refusal) (first_broken xs)) h)
 breaks (suc k) (x ∷ xs) e h = breaks k xs e h
 
 -- ---- rules 6 and 7

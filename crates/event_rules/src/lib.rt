@@ -12,16 +12,13 @@ ghost use Rattle.devices.specs.Cursor.{Ordered};
 
 use devices::step_at;
 use little_endian::{four_at, two_at};
-use machine::Verdict;
+use machine::{Refusal, Verdict};
 
 // Rule 5: a multiple of 8 bytes, at most 4,096 records.
 fn events_fit(n: usize) -> bool
     ensures { result ≡ events_fit n }
 {
-    if n % 8 != 0 {
-        return false;
-    }
-    n <= 32768
+    n % 8 == 0 && n <= 32768
 }
 
 // Rule 6, of record k: device at most 7, bytes 6-7 zero.
@@ -29,10 +26,7 @@ fn event_fits(events: &[u8], k: usize) -> bool
     requires { 8 * k + 8 ≤ length events.now }
     ensures { result ≡ event_fits events.now k }
 {
-    if 8 <= events[8 * k + 4] {
-        return false;
-    }
-    two_at(events, 8 * k + 6) == 0
+    events[8 * k + 4] < 8 && two_at(events, 8 * k + 6) == 0
 }
 
 // Rule 6, of the first `count` records.
@@ -40,12 +34,10 @@ fn fields_fit(events: &[u8], count: usize) -> bool
     requires { 8 * count ≤ length events.now }
     ensures { result ≡ events_fit_below events.now count }
 {
-    let mut k: usize = 0;
-    while k < count {
+    for k in 0..count {
         if !event_fits(events, k) {
             return false;
         }
-        k += 1;
     }
     true
 }
@@ -66,12 +58,10 @@ fn records_in_order(events: &[u8]) -> usize
         → in_order_below events.now (suc result) ≡ false }
 {
     let n = events.len() / 8;
-    let mut k: usize = 0;
-    while k + 1 < n {
-        if !in_order(events, k) {
-            return k + 1;
+    for k in 1..n {
+        if !in_order(events, k - 1) {
+            return k;
         }
-        k += 1;
     }
     n
 }
@@ -81,10 +71,7 @@ fn records_in_order(events: &[u8]) -> usize
 fn marks_on(step: u32, before: u32, marks: u8) -> u8
     ensures { result ≡ cond (ltb before step) 0 marks }
 {
-    if before < step {
-        return 0;
-    }
-    marks
+    if before < step { 0 } else { marks }
 }
 
 // Is the mark of device d set?
@@ -110,11 +97,9 @@ fn has_twins(events: &[u8]) -> bool
     ensures { Ordered events.now
         → result ≡ twins_below events.now (event_count events.now) }
 {
-    let n = events.len() / 8;
-    let mut k: usize = 0;
     let mut before: u32 = 0;
     let mut marks: u8 = 0;
-    while k < n {
+    for k in 0..events.len() / 8 {
         let step = step_at(events, k);
         let device = events[8 * k + 4];
         marks = marks_on(step, before, marks);
@@ -123,7 +108,6 @@ fn has_twins(events: &[u8]) -> bool
         }
         marks = mark(marks, device);
         before = step;
-        k += 1;
     }
     false
 }
@@ -135,10 +119,8 @@ fn rising(events: &[u8]) -> bool
         × (in_order_below events.now (event_count events.now) ≡ true)
         × (twins_below events.now (event_count events.now) ≡ false) }
 {
-    let n = events.len() / 8;
-    let mut k: usize = 0;
     let mut least: u64 = 0;
-    while k < n {
+    for k in 0..events.len() / 8 {
         if !event_fits(events, k) {
             return false;
         }
@@ -147,7 +129,6 @@ fn rising(events: &[u8]) -> bool
             return false;
         }
         least = step + 1;
-        k += 1;
     }
     true
 }
@@ -159,23 +140,23 @@ pub fn events_verdict(events: &[u8]) -> Verdict
         → result ≡ first_broken (drop 5 (rules_of memory r events.now n)) }
 {
     if !events_fit(events.len()) {
-        return Verdict::EventsLength;
+        return Err(Refusal::EventsLength);
     }
     if rising(events) {
-        return Verdict::Accepted;
+        return Ok(());
     }
     let count = events.len() / 8;
     let ordered = records_in_order(events);
     let fit = fields_fit(events, count);
     if !fit {
-        return Verdict::EventFields;
+        return Err(Refusal::EventFields);
     }
     let twins = has_twins(events);
     if ordered < count {
-        return Verdict::EventOrder;
+        return Err(Refusal::EventOrder);
     }
     if twins {
-        return Verdict::EventTwins;
+        return Err(Refusal::EventTwins);
     }
-    Verdict::Accepted
+    Ok(())
 }

@@ -11,6 +11,11 @@ use Rattle.std.proofs.Common.{
   ◌%◌,
   ◌^◌,
   ◌<◌,
+  ◌≤◌,
+  Option,
+  Some,
+  None,
+  append_assoc,
   Bool,
   true,
   false,
@@ -23,6 +28,7 @@ use Rattle.std.proofs.Common.{
   ◌++◌,
   length,
   get_or,
+  take,
   drop,
   set,
   sym,
@@ -42,7 +48,14 @@ use lib.Seq.{sets, sets-eq, set-get_or}
 use Rattle.stores.proofs.Laws.{sets-before, sets-past}
 use Rattle.word.specs.Width.{bit}
 use Rattle.machine_laws.proofs.Cases.{bool_cases}
-use Rattle.soundness.specs.Findings.{Kind, Handler, Finding, nothing}
+use Rattle.std.specs.Option.{MatchOption}
+use Rattle.std.proofs.lemmas.Option.{MatchOption-at_some, MatchOption-at_none}
+use Rattle.std.proofs.lemmas.Slice.{put_mid-paste}
+use Rattle.std.proofs.lemmas.List.Edits.{paste_all}
+use borrow.Rule.Slice.PartMut.{put_mid}
+use Rattle.soundness.specs.Findings.{Kind, Handler, Finding, Seen, nothing, finding, finding_of, find_after, breaks?, detail_of, address_of}
+use Rattle.findings.specs.declared.Breach.{Breach}
+use Rattle.findings.specs.Told.{breach_of}
 use Rattle.machine.specs.Record.{count_byte}
 use Rattle.soundness.specs.Judge.{four_bytes, finding_bytes, findings_bytes}
 use Rattle.soundness.proofs.Blocks.{joined, Sixteen, joined_at, blocks, block-sixteen, blocks-sixteen, joined-blocks}
@@ -168,12 +181,40 @@ tell-law c l l' bs g i h x y y' b b' at e same p =
       nine = length-set bs i v ∙ g.nine;
     }
 
--- what code tells of one kind
-pub tell-put : (l x : List ℕ) (b d : Bool) → b ≡ true → d ≡ true → (l' : List ℕ) → l' ≡ x → l' ≡ cond b (cond d x l) l
-tell-put l x b d p q l' e = e ∙ sym ((λ i. cond (p i) (cond (q i) x l) l))
+-- what code tells of one kind, from its breach
+told-by : (m : Option Breach) (b : Bool) (w : Breach) → m ≡ cond b (Some w) None → (l l' : List ℕ) (g : Breach → List ℕ)
+    → MatchOption m (l' ≡ l) (λ x. l' ≡ g x) → l' ≡ cond b (g w) l
+told-by m b w e l l' g h = by-test b e
+  where
+    by-test : (b : Bool) → m ≡ cond b (Some w) None → l' ≡ cond b (g w) l
+    by-test true e = MatchOption-at_some (l' ≡ l) (λ x. l' ≡ g x) w e h
+    by-test false e = MatchOption-at_none (l' ≡ l) (λ x. l' ≡ g x) e h
 
-pub tell-not : (l x : List ℕ) (b d : Bool) → d ≡ false → l ≡ cond b (cond d x l) l
-tell-not l x b d q = bool_cases b (λ p. rw p (rw q refl)) (λ p. rw p refl)
+pub kind-law : (c : ℕ) (l l' : List ℕ) (bs : List (List ℕ)) → Stage l bs → (i : ℕ) → i < 9 → (x : Finding) (κ : Kind) (k : ℕ) (z : Seen)
+    (h : Handler) → z.runs ≡ h → get_or bs i [] ≡ finding_bytes c x → (m : Option Breach) → m ≡ breach_of κ z
+    → MatchOption m (l' ≡ l) (λ b. l' ≡ cond (eqb (get_or l (16 * i + 8) 0) 0)
+    (sets l (16 * i) (finding_bytes c (finding k b.detail b.address h))) l)
+    → Stage l' (set bs i (finding_bytes c (find_after κ k z x)))
+kind-law c l l' bs g i n x κ k z h q at m e told =
+    let w : Breach = record { detail = detail_of κ z; address = address_of κ z } in
+    tell-law c l l' bs g i n x (finding k (detail_of κ z) (address_of κ z) h) (finding_of κ k z) (breaks? κ z) (breaks? κ z) at refl
+    (λ t j. finding k (detail_of κ z) (address_of κ z) (sym q j))
+    (told-by m (breaks? κ z) w e l l'
+    (λ b. cond (eqb (get_or l (16 * i + 8) 0) 0) (sets l (16 * i) (finding_bytes c (finding k b.detail b.address h))) l) told)
+
+-- ---- sixteen bytes copied
+
+pub copied-law : (l v zs : List ℕ) (i k : ℕ) → v ≡ zs → length zs ≡ 16 → k ≡ 16 → i + 16 ≤ length l → put_mid i k l v ≡ sets l i zs
+copied-law l v zs i k e n m h =
+    put_mid-paste i k l v zs 16 e (sym m) (sym n)
+    ∙ paste_all l i zs 16 (sym n)
+    ∙ sym (append_assoc (take i l) zs (drop (i + 16) l))
+    ∙ ap (λ (j : ℕ). take i l ++ zs ++ drop (i + j) l) (sym n)
+    ∙ sym (sets-eq zs l i (omega (arith, n, h)))
+
+pub bit-law : (b : Bool) → bit b ≤ 1
+bit-law true = omega arith
+bit-law false = omega arith
 
 -- a sum in four bytes may wrap
 low_part : (p q z : ℕ) → (256 * p * q + z) % 256 ≡ z % 256

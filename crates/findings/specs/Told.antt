@@ -1,28 +1,39 @@
 -- What code is told of a step, and the findings after it (document 01, "Resumption"; document 02, §13).
 -- Assumes nothing.
-use Rattle.std.specs.Prelude.{◌≡◌, ℕ, true}
-use Rattle.machine.specs.State.{pc}
-use Rattle.machine.specs.Devices.{device?}
+use Rattle.std.specs.Prelude.{◌≡◌, ℕ, cond, Option, Some, None}
 use Rattle.soundness.specs.Findings.{Kind, started, faulted, unopened, trapped, unclosed, changed, slept, device}
 use Rattle.soundness.specs.Findings.{foreign}
-use Rattle.soundness.specs.Findings.{Finding, Seen, breaks?, vector_of, first_of, reads_in, find_after}
+use Rattle.soundness.specs.Findings.{Finding, Seen, breaks?, detail_of, address_of, find_after}
+use Rattle.findings.specs.declared.Kind as code
+use Rattle.findings.specs.declared.Kind.TheVariants as kinds
+use Rattle.findings.specs.declared.Breach.{Breach}
 use Rattle.findings.specs.declared.Shown.{Shown}
 
--- The breaches that x has are those of a step that shows z, and what it has beside a breach is what is told of it.
--- [01 Resumption; 02 §13]
+-- The place of a kind among the findings. [call judge]
+abbrev pub number_of : code.Kind → ℕ
+number_of kinds.Started = 0
+number_of kinds.Faulted = 1
+number_of kinds.Unopened = 2
+number_of kinds.Trapped = 3
+number_of kinds.Unclosed = 4
+number_of kinds.Changed = 5
+number_of kinds.Slept = 6
+number_of kinds.Device = 7
+number_of kinds.Foreign = 8
+
+-- What is to be told of the breach that a step makes of a kind, if it makes one. [01 Resumption; 02 §13]
+abbrev pub breach_of : Kind → Seen → Option Breach
+breach_of κ z = cond (breaks? κ z) (Some (record { detail = detail_of κ z; address = address_of κ z })) None
+
+-- The breaches that x has are those of a step that shows z. [01 Resumption; 02 §13]
 pub record Shows (x : Shown) (z : Seen) : Type 0 where
-  pub is_faulted : x.faulted ≡ breaks? faulted z
-  pub is_unopened : x.unopened ≡ breaks? unopened z
-  pub is_trapped : x.trapped ≡ breaks? trapped z
-  pub is_changed : x.changed ≡ breaks? changed z
-  pub is_slept : x.slept ≡ breaks? slept z
-  pub is_device : x.device ≡ breaks? device z
-  pub is_foreign : x.«foreign» ≡ breaks? foreign z
-  pub vector : x.vector ≡ vector_of z.act
-  pub from : x.from ≡ pc z.begins.core
-  pub changes : breaks? changed z ≡ true → x.changes ≡ z.changes
-  pub device_at : breaks? device z ≡ true → x.device_at ≡ first_of device? (reads_in z)
-  pub foreign_at : breaks? foreign z ≡ true → x.foreign_at ≡ first_of z.foreign (reads_in z)
+  pub is_faulted : x.faulted ≡ breach_of faulted z
+  pub is_unopened : x.unopened ≡ breach_of unopened z
+  pub is_trapped : x.trapped ≡ breach_of trapped z
+  pub is_changed : x.changed ≡ breach_of changed z
+  pub is_slept : x.slept ≡ breach_of slept z
+  pub is_device : x.device ≡ breach_of device z
+  pub is_foreign : x.«foreign» ≡ breach_of foreign z
 
 -- What is found after step k, which shows z, of the kinds that are a step's. [01 Resumption]
 abbrev pub told_after : (k : ℕ) → Seen → (Kind → Finding) → Kind → Finding

@@ -13,7 +13,8 @@ use Rattle.word.specs.Psw.{bit_of}
 use Rattle.word.proofs.Laws.{two-halves, width-pos, fits_word, low-lt}
 use Rattle.alu.specs.Sums.{add_with_carry, negative, differs, overflow_of}
 use Rattle.alu.specs.Alu.{summed, shifted, halved, sign_flags}
-use Rattle.flags.specs.Kept.{nothing?, minus?, held}
+use Rattle.flags.specs.declared.Kept.{Kept}
+use Rattle.flags.specs.Kept.{nothing?, minus?, held, held_in}
 use Rattle.flags.proofs.Bits.{and-bit, xor-bit, top_bit, low_bit, kept_top, kept-carry}
 use Rattle.flags.proofs.Laws.{held-put-carry, held_two, held-four}
 
@@ -109,8 +110,8 @@ module _ (byte : Bool) (dst b c : ℕ) {a : ℕ} (ea : a ≡ low (width_of byte)
 
   pub sum-psw : {k over : ℕ} → b < 2 ^ width_of byte → c ≤ 1 → k ≡ (a + b + c) * 2 ^ (16 - width_of byte)
       → over ≡ bit_and (bit_xor a (a + b + c)) (bit_xor b (a + b + c)) * 2 ^ (16 - width_of byte)
-      → (last' sum' over' p : ℕ) → held p k k over ≡ (summed (width_of byte) dst b c (held p last' sum' over')).psw
-  sum-psw {k} {over} hb hc ek eo last' sum' over' p =
+      → (kept : Kept) (p : ℕ) → held p k k over ≡ (summed (width_of byte) dst b c (held_in p kept)).psw
+  sum-psw {k} {over} hb hc ek eo kept p =
       let w = width_of byte in
       let x = low w dst in
       let m = 2 ^ (16 - w) in
@@ -118,26 +119,26 @@ module _ (byte : Bool) (dst b c : ℕ) {a : ℕ} (ea : a ≡ low (width_of byte)
       let fk : k ≡ (x + b + c) * m = ek ∙ ap (λ (y : ℕ). (y + b + c) * m) ea in
       let fo : over ≡ bit_and (bit_xor x (x + b + c)) (bit_xor b (x + b + c)) * m =
       eo ∙ ap (λ (y : ℕ). bit_and (bit_xor y (y + b + c)) (bit_xor b (y + b + c)) * m) ea in
-      held-four p last' sum' over' k k over s.carry (eqb s.value 0) (negative w s.value) (overflow_of w x b s.value)
+      held-four p kept.last kept.sum kept.over k k over s.carry (eqb s.value 0) (negative w s.value) (overflow_of w x b s.value)
       (ap (bit_of 16) fk ∙ sum-carry byte x b c (low-lt w dst) hb hc) (ap nothing? fk ∙ sum-zero byte x b c (low-lt w dst) hb hc)
       (ap minus? fk ∙ sum-sign byte x b c (low-lt w dst) hb hc) (ap (bit_of 15) fo ∙ sum_over byte x b c (low-lt w dst) hb hc)
 
 pub logic-psw : (byte : Bool) (v : ℕ) {last' : ℕ} → v < 2 ^ width_of byte → last' ≡ v * 2 ^ (16 - width_of byte)
-    → (last p sum over : ℕ) → held p last' sum over ≡ sign_flags (width_of byte) (held p last sum over) v
-logic-psw byte v {last'} h e last p sum over =
+    → (kept : Kept) (p : ℕ) → held p last' kept.sum kept.over ≡ sign_flags (width_of byte) (held_in p kept) v
+logic-psw byte v {last'} h e kept p =
     let w = width_of byte in
-    held_two p last sum over last' (eqb v 0) (negative w v)
+    held_two p kept.last kept.sum kept.over last' (eqb v 0) (negative w v)
     (ap nothing? e ∙ kept-nothing byte v ∙ ap (λ (q : ℕ). eqb q 0) (mod-eq_of_lt h))
     (ap minus? e ∙ kept-minus byte v (omega arith) ∙ sym (sign byte v h))
 
 -- what `logic` leaves, where C is the bit that fell out
-pub shift-psw : (byte : Bool) (dst high : ℕ) {v : ℕ} {q : ℕ → ℕ → ℕ → ℕ} → v ≡ halved (width_of byte) dst high → (last sum : ℕ)
-    → ((p c over : ℕ) → q p c over ≡ sign_flags (width_of byte) (held p last c over) v)
-    → (p over : ℕ) → q p (dst * 65536) over ≡ (shifted (width_of byte) dst high (held p last sum over)).psw
-shift-psw byte dst high e last sum f p over =
+pub shift-psw : (byte : Bool) (dst high : ℕ) {v : ℕ} {q : ℕ → ℕ} → v ≡ halved (width_of byte) dst high → (kept : Kept)
+    → ((p : ℕ) → q p ≡ sign_flags (width_of byte) (held p kept.last (dst * 65536) kept.over) v)
+    → (p : ℕ) → q p ≡ (shifted (width_of byte) dst high (held_in p kept)).psw
+shift-psw byte dst high e kept f p =
     let d : dst * 65536 / 65536 ≡ dst = omega arith in
-    let g = held-put-carry p last sum over (dst * 65536) (eqb (dst % 2) 1) (ap (λ (q : ℕ). eqb (q % 2) 1) d) in
-    f p (dst * 65536) over ∙ λ i. sign_flags (width_of byte) (sym g i) (e i)
+    let g = held-put-carry p kept.last kept.sum kept.over (dst * 65536) (eqb (dst % 2) 1) (ap (λ (q : ℕ). eqb (q % 2) 1) d) in
+    f p ∙ λ i. sign_flags (width_of byte) (sym g i) (e i)
 
 -- ---- what fits
 

@@ -60,6 +60,7 @@ fn by(m: Move, p: Depth) -> Depth
 
 // The depth after an act: only an entry that pushes and a return that pulls move it. The move is a
 // constant of each arm, so that nothing is left of it in the compiled code.
+// Kept: without the move a run with a journal takes more host instructions (docs/DECISIONS.md).
 pub fn moved(a: Act, p: Depth) -> Depth
     requires { p.opened < 4294967295 }
     ensures { result ≡ depth_after a p }

@@ -1,11 +1,10 @@
 -- A run carried on where no event is due: by a stretch, which is uneventful, or by one step, whose events are none, so that the step taken
 -- at once is the definition's. What comes after one another adds up. Assumes nothing.
-use Prim.Native.Nat.{ℕ, ◌+◌, ◌-◌, ◌*◌, ◌/◌, ◌%◌, ◌<◌, ◌≤◌}
+use Prim.Native.Nat.{ℕ, ◌+◌, ◌-◌, ◌/◌, ◌%◌, ◌<◌, ◌≤◌}
 use native.Mathlib.Omega.{arith}
 use mathlib.Core.Bool.{Bool, true, false, not, ◌||◌, false≢true}
 use mathlib.Core.List.{List, []}
 use mathlib.Core.Path.{◌≡◌, refl, sym, ap, subst, ◌∙◌}
-use mir.Val.{bool_byte}
 use lib.Dec.{eqb, ltb}
 use lib.ListN.{length}
 use mathlib.Mathlib.Data.Bool.Basic.{or-eq-false-eq-eq-false-and-eq-false}
@@ -22,7 +21,7 @@ use Rattle.run_laws.proofs.Depth.{depth-start, depth-next, open-le}
 use Rattle.stretch_memory.specs.Served.{running}
 use Rattle.stretch.specs.Stretch.{Undisturbed, Passes}
 use Rattle.frame_step.specs.Took.{Took}
-use Rattle.free_run.specs.Free.{Along, Goes, Tried}
+use Rattle.free_run.specs.Free.{Along, Goes}
 use Rattle.free_run.proofs.Laws.{reached-stretch, reached-step, state_is, depth-on}
 
 -- ---- what a run has come to
@@ -65,41 +64,16 @@ took-opened k s u d d' added added' log log' f =
     let o = open-le [] s d 1 in
     omega arith
 
--- ---- one step, or none
-
-module _ (s t u : State) (d d' : Depth) (added added' : ℕ) (log log' : List ℕ) (b : Bool)
-    (f : Tried s d added log t u d' added' log' b) where
-  -- the records fit the room
-  pub tried-fits : added ≤ length log / 8 → added' ≤ length log / 8
-  tried-fits h = bool_cases b (λ q. (f.step q).room) (λ q. subst (λ (i : ℕ). i ≤ length log / 8) (sym (f.none q).2) h)
-
-  -- and a frame for each of the steps left
-  pub tried-opened : (left n : ℕ) → 0 < left → d.opened + left ≤ n → d'.opened + (left - bool_byte b) ≤ n
-  tried-opened left n l h =
-      bool_cases b
-      (λ q. let o = took-opened (length log / 8) s u d d' added added' log log' (f.step q) in rw q (omega arith))
-      (λ q. let e : d'.opened ≡ d.opened = ap (λ (x : Depth). x.opened) (f.none q).1 in rw q (omega arith))
-
-pub tried-none :
-    (s u : State) (d : Depth) (added : ℕ) (log : List ℕ) → Tried s d added log s u d added log false
-tried-none s u d added log = record { step = λ q. absurd (false≢true q); none = λ q. (refl, refl, refl, refl) }
-
-pub tried-taken :
-    (s t u : State) (d d' : Depth) (added added' : ℕ) (log log' : List ℕ) → Took (length log / 8) s d added log u d' added' log'
-    → Tried s d added log t u d' added' log' true
-tried-taken s t u d d' added added' log log' f = record { step = λ q. f; none = λ q. absurd (false≢true (sym q)) }
+-- ---- one step
 
 -- where no line waits
-pub tried-lines :
-    (l : ℕ) → l ≡ 0 → (regs m regs' m' : List ℕ) (psw cex psw' cex' n : ℕ) (d d' : Depth) (added added' : ℕ) (log log' : List ℕ) (b : Bool)
-    → Tried (running regs psw cex 0 n m) d added log (running regs' psw' cex' 0 n m') (running regs' psw' cex' 0 (n + 1) m')
-    d' added' log' b
-    → Tried (running regs psw cex l n m) d added log (running regs' psw' cex' l n m') (running regs' psw' cex' l (n + 1) m')
-    d' added' log' b
-tried-lines l e regs m regs' m' psw cex psw' cex' n d d' added added' log log' b f =
+pub took-lines :
+    (l : ℕ) → l ≡ 0 → (regs m regs' m' : List ℕ) (psw cex psw' cex' n : ℕ) (k : ℕ) (d d' : Depth) (added added' : ℕ) (log log' : List ℕ)
+    → Took k (running regs psw cex 0 n m) d added log (running regs' psw' cex' 0 (n + 1) m') d' added' log'
+    → Took k (running regs psw cex l n m) d added log (running regs' psw' cex' l (n + 1) m') d' added' log'
+took-lines l e regs m regs' m' psw cex psw' cex' n k d d' added added' log log' f =
     subst
-    (λ (l : ℕ). Tried (running regs psw cex l n m) d added log (running regs' psw' cex' l n m') (running regs' psw' cex' l (n + 1) m')
-    d' added' log' b)
+    (λ (l : ℕ). Took k (running regs psw cex l n m) d added log (running regs' psw' cex' l (n + 1) m') d' added' log')
     (sym e) f
 
 -- the test before a step between two stretches
@@ -113,6 +87,18 @@ quiet l x b h =
     is_true c e = bool_cases c (λ r. r) (λ r. absurd (false≢true (sym e ∙ ap not r)))
 
 -- ---- carried on
+
+-- the same from equal parts
+pub goes-as :
+    (n : ℕ) (s : State) (d : Depth) (added : ℕ) (log : List ℕ) {s₁ s₂ : State} {d₁ d₂ : Depth} {added₁ added₂ : ℕ} {log₁ log₂ : List ℕ}
+    {j₁ j₂ : ℕ} → s₂ ≡ s₁ → d₂ ≡ d₁ → added₂ ≡ added₁ → log₂ ≡ log₁ → j₂ ≡ j₁ → Goes n s d added log s₁ d₁ added₁ log₁ j₁
+    → Goes n s d added log s₂ d₂ added₂ log₂ j₂
+goes-as n s d added log {s₁} {s₂} {d₁} {d₂} {added₁} {added₂} {log₁} {log₂} {j₁} {j₂} es ed ea el ej g =
+    subst (λ (x : State). Goes n s d added log x d₂ added₂ log₂ j₂) (sym es)
+    (subst (λ (x : Depth). Goes n s d added log s₁ x added₂ log₂ j₂) (sym ed)
+    (subst (λ (x : ℕ). Goes n s d added log s₁ d₁ x log₂ j₂) (sym ea)
+    (subst (λ (x : List ℕ). Goes n s d added log s₁ d₁ added₁ x j₂) (sym el)
+    (subst (λ (x : ℕ). Goes n s d added log s₁ d₁ added₁ log₁ x) (sym ej) g))))
 
 pub goes_none :
     (n : ℕ) (regs m : List ℕ) (psw cex l count : ℕ) (d : Depth) (added : ℕ) (log : List ℕ)
@@ -150,49 +136,24 @@ module _ (n : ℕ) (s : State) (d : Depth) (added : ℕ) (log : List ℕ) (regs 
         (running regs₁ psw₁ cex₁ l (i + (left - q)) m₁) (left - q) w));
   }
 
-  -- by one step, or none
-  pub goes-tried :
-      0 < left → length log₁ ≡ length log → (d₂ : Depth) (added₂ : ℕ) (log₂ : List ℕ) (b : Bool)
-      → Tried (running regs psw cex l (s.count + (n - left)) m) d₁ added₁ log₁
-      (running regs₁ psw₁ cex₁ l (s.count + (n - left)) m₁) (running regs₁ psw₁ cex₁ l (s.count + (n - left) + 1) m₁) d₂ added₂ log₂ b
-      → Goes n s d added log (running regs₁ psw₁ cex₁ l (s.count + (n - (left - bool_byte b))) m₁) d₂ added₂ log₂ (n - (left - bool_byte b))
-  goes-tried h size d₂ added₂ log₂ b g = record {
+  -- by one step
+  pub goes-took :
+      0 < left → length log₁ ≡ length log → (d₂ : Depth) (added₂ : ℕ) (log₂ : List ℕ)
+      → Took (length log₁ / 8) (running regs psw cex l (s.count + (n - left)) m) d₁ added₁ log₁
+      (running regs₁ psw₁ cex₁ l (s.count + (n - left) + 1) m₁) d₂ added₂ log₂
+      → Goes n s d added log (running regs₁ psw₁ cex₁ l (s.count + (n - (left - 1))) m₁) d₂ added₂ log₂ (n - (left - 1))
+  goes-took h size d₂ added₂ log₂ g = record {
     on = λ ev s₀ k lent p done u e a.
         let i = s.count + (n - left) in
         let x = f.on ev s₀ k lent p done u e a in
-        bool_cases b
-        (λ t.
         let here : i + 1 ≡ s.count + (n - (left - 1)) = omega arith in
         let there : done + (n - left) + 1 ≡ done + (n - (left - 1)) = omega arith in
         let room : length log₁ / 8 ≡ k = ap (λ (j : ℕ). j / 8) size ∙ sym e in
         let w : Took k _ d₁ added₁ log₁ (running regs₁ psw₁ cex₁ l (i + 1) m₁) d₂ added₂ log₂ =
         subst (λ (j : ℕ). Took j (running regs psw cex l i m) d₁ added₁ log₁ (running regs₁ psw₁ cex₁ l (i + 1) m₁) d₂ added₂ log₂) room
-        (g.step t) in
-        rw t
-        (subst (λ (j : ℕ). Along ev s₀ k lent p (running regs₁ psw₁ cex₁ l j m₁) d₂ added₂ log₂ (done + (n - (left - 1)))) here
+        g in
+        subst (λ (j : ℕ). Along ev s₀ k lent p (running regs₁ psw₁ cex₁ l j m₁) d₂ added₂ log₂ (done + (n - (left - 1)))) here
         (subst (Along ev s₀ k lent p (running regs₁ psw₁ cex₁ l (i + 1) m₁) d₂ added₂ log₂) there
         (took-reaches ev s₀ k lent p (running regs psw cex l i m) d₁ added₁ log₁ (done + (n - left)) x
-        (running regs₁ psw₁ cex₁ l (i + 1) m₁) d₂ added₂ log₂ refl (u i (omega arith) (omega arith) _) w))))
-        (λ t.
-        let z : left - 0 ≡ left = omega arith in
-        let w = g.none t in
-        rw (t, z)
-        (subst (λ (v : State). Along ev s₀ k lent p v d₂ added₂ log₂ (done + (n - left))) (sym w.0)
-        (subst (λ (v : Depth). Along ev s₀ k lent p (running regs psw cex l i m) v added₂ log₂ (done + (n - left))) (sym w.1)
-        (subst (λ (v : ℕ). Along ev s₀ k lent p (running regs psw cex l i m) d₁ v log₂ (done + (n - left))) (sym w.2)
-        (subst (λ (v : List ℕ). Along ev s₀ k lent p (running regs psw cex l i m) d₁ added₁ v (done + (n - left))) (sym w.3) x)))));
+        (running regs₁ psw₁ cex₁ l (i + 1) m₁) d₂ added₂ log₂ refl (u i (omega arith) (omega arith) _) w));
   }
-
--- ---- the loop
-
--- a turn that takes a step leaves fewer, and one that takes none is the last
-pub turn-less :
-    (left q : ℕ) (a b : Bool) → a ≡ true → 0 < q → q ≤ left → 2 * (q - bool_byte b) + bool_byte b < 2 * left + bool_byte a
-turn-less left q a b e l h = rw e (bool_cases b (λ t. rw t (omega arith)) (λ t. rw t (omega arith)))
-
-pub turn_last : (left q : ℕ) (a : Bool) → a ≡ true → q ≤ left → 2 * q + 0 < 2 * left + bool_byte a
-turn_last left q a e h = rw e (omega arith)
-
--- no more is taken away than there is
-pub taken-le : (q : ℕ) (b : Bool) → 0 < q → bool_byte b ≤ q
-taken-le q b l = bool_cases b (λ t. rw t (omega arith)) (λ t. rw t (omega arith))

@@ -1,13 +1,12 @@
 -- A run in which no event is due, carried on: from what it has reached to what it reaches in so many steps more.
 -- Assumes nothing.
-use Rattle.std.specs.Prelude.{ℕ, ◌+◌, ◌/◌, Bool, true, false, List, ◌≡◌, length}
+use Rattle.std.specs.Prelude.{ℕ, ◌+◌, ◌/◌, false, List, ◌≡◌, length}
 use Rattle.machine.specs.declared.Depth.{Depth}
 use Rattle.machine.specs.State.{State}
 use Rattle.machine.specs.Events.{Event}
 use Rattle.machine.specs.Logged.{run_logged}
 use Rattle.machine.specs.Depth.{depth_from}
 use Rattle.stretch.specs.Stretch.{Undisturbed}
-use Rattle.frame_step.specs.Took.{Took}
 use Rattle.free_run.specs.Reached.{Reached}
 
 -- A run from s₀ at the depth p, with room for k records in the log that was lent, has come in so many steps to the
@@ -27,10 +26,3 @@ pub record Goes
       (ev : List Event) (s₀ : State) (k : ℕ) (lent : List ℕ) (p : Depth) (done : ℕ) →
       Undisturbed ev s.count (s.count + n) → k ≡ length now / 8 →
       Along ev s₀ k lent p s d there now done → Along ev s₀ k lent p s' d' there' now' (done + j)
-
--- One step that leaves u, or none, and then t, which is s. [01 One step, in order; 02 §1; 02 §10]
-pub record Tried
-    (s : State) (d : Depth) (there : ℕ) (now : List ℕ)
-    (t u : State) (d' : Depth) (there' : ℕ) (now' : List ℕ) (taken : Bool) : Type 0 where
-  pub step : taken ≡ true → Took (length now / 8) s d there now u d' there' now'
-  pub none : taken ≡ false → (t ≡ s) × (d' ≡ d) × (there' ≡ there) × (now' ≡ now)

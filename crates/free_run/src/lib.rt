@@ -2,10 +2,12 @@
 // open or close a frame or show a byte, as long as they can be taken at once.
 #![tactic(auto)]
 
-ghost use Rattle.std.specs.Prelude.{false, ◌≡◌, ◌+◌, ◌-◌, ◌/◌, ◌%◌, ◌<◌, ◌≤◌, length, get_or};
+ghost use Rattle.std.specs.Prelude.{false, ◌≡◌, ◌+◌, ◌-◌, ◌/◌, ◌%◌, ◌<◌, ◌≤◌, MatchOption, length, get_or};
 ghost use Rattle.word.specs.Psw.{asleep?};
 ghost use Rattle.stretch_memory.specs.Served.{running};
-ghost use Rattle.free_run.specs.Free.{Goes, Tried};
+ghost use Rattle.frame_step.specs.Took.{Took};
+ghost use Rattle.show_step.specs.Steps.{Same};
+ghost use Rattle.free_run.specs.Free.{Goes};
 
 use machine::{ByteAddr, Depth, Lines};
 
@@ -19,82 +21,70 @@ pub struct Freed {
     pub added: usize,
 }
 
-// What a step between two stretches leaves, and whether it was taken; else nothing has changed.
+// What a step between two stretches leaves.
 #[derive(Clone, Copy)]
 struct Went {
     psw: u16,
     cex: u16,
     depth: Depth,
     added: usize,
-    taken: bool,
 }
 
-// One step by its word, no line waiting and no CEX block open.
+// One step by its word, no line waiting and no CEX block open, if it is one of these; else nothing
+// has changed.
 fn fetched(
     regs: &mut [u16; 8],
-    mem: &mut [u8],
+    mem: &mut [u8; 65536],
     log: &mut [u8],
     count: u32,
     psw: u16,
     cex: u16,
     depth: Depth,
     added: usize,
-) -> Went
-    requires { (length mem.old ≡ 65536) × (depth.opened < 4294967295)
-        × (added ≤ length log.old / 8) × (get_or regs.old 7 0 % 2 ≡ 0)
-        × (cex % 64 ≡ 0) × (asleep? psw ≡ false) }
-    ensures { Tried
-        (running regs.old psw cex 0 count mem.old)
-        depth added log.old
-        (running regs.new result.psw result.cex 0 count mem.new)
-        (running regs.new result.psw result.cex 0 (count + 1) mem.new)
-        result.depth result.added log.new result.taken }
+) -> Option<Went>
+    requires { (depth.opened < 4294967295) × (added ≤ length log.old / 8)
+        × (get_or regs.old 7 0 % 2 ≡ 0) × (cex % 64 ≡ 0) × (asleep? psw ≡ false) }
+    ensures { MatchOption result (Same regs.old mem.old log.old regs.new mem.new log.new)
+        (λ w. Took (length log.old / 8)
+        (running regs.old psw cex 0 count mem.old) depth added log.old
+        (running regs.new w.psw w.cex 0 (count + 1) mem.new) w.depth w.added log.new) }
 {
     let w = memory::read_word(mem, memory::word_of(ByteAddr(regs[7])));
     if 0xC000 <= w {
-        let x = show_step::show(regs, mem, log, count, w, added);
-        return Went {
+        let added = show_step::show(regs, mem, log, count, w, added)?;
+        return Some(Went {
             psw,
             cex,
             depth,
-            added: x.added,
-            taken: x.taken,
-        };
+            added,
+        });
     }
     if w / 16 == 0x4DA {
-        let f = frame_step::trap(regs, mem, psw, cex, w, depth);
+        let f = frame_step::trap(regs, mem, psw, cex, w, depth)?;
         let depth = f.depth;
-        return Went {
+        return Some(Went {
             psw: f.psw,
             cex: f.cex,
             depth,
             added,
-            taken: f.taken,
-        };
+        });
     }
     if w / 1024 == 23 {
-        let x = show_step::show_indexed(regs, mem, log, count, w, added);
-        return Went {
+        let added = show_step::show_indexed(regs, mem, log, count, w, added)?;
+        return Some(Went {
             psw,
             cex,
             depth,
-            added: x.added,
-            taken: x.taken,
-        };
+            added,
+        });
     }
-    Went {
-        psw,
-        cex,
-        depth,
-        added,
-        taken: false,
-    }
+    None
 }
 
 // One step where a stretch ends, if it is one of these and no line waits.
 fn between(
     regs: &mut [u16; 8],
-    mem: &mut [u8],
+    mem: &mut [u8; 65536],
     log: &mut [u8],
     count: u32,
     psw: u16,
@@ -102,39 +92,28 @@ fn between(
     lines: Lines,
     depth: Depth,
     added: usize,
-) -> Went
-    requires { (length mem.old ≡ 65536) × (depth.opened < 4294967295)
-        × (added ≤ length log.old / 8) }
-    ensures { Tried
-        (running regs.old psw cex lines count mem.old)
-        depth added log.old
-        (running regs.new result.psw result.cex lines count mem.new)
-        (running regs.new result.psw result.cex lines (count + 1) mem.new)
-        result.depth result.added log.new result.taken }
+) -> Option<Went>
+    requires { (depth.opened < 4294967295) × (added ≤ length log.old / 8) }
+    ensures { MatchOption result (Same regs.old mem.old log.old regs.new mem.new log.new)
+        (λ w. Took (length log.old / 8)
+        (running regs.old psw cex lines count mem.old) depth added log.old
+        (running regs.new w.psw w.cex lines (count + 1) mem.new) w.depth w.added log.new) }
 {
-    let none = Went {
-        psw,
-        cex,
-        depth,
-        added,
-        taken: false,
-    };
     if (lines != 0) | (cex % 64 != 0) | word::asleep(psw) {
-        return none;
+        return None;
     }
     if regs[7] == 0xFFFF {
         let f = frame_step::leave(regs, mem, depth);
         let depth = f.depth;
-        return Went {
+        return Some(Went {
             psw: f.psw,
             cex: f.cex,
             depth,
             added,
-            taken: true,
-        };
+        });
     }
     if regs[7] % 2 == 1 {
-        return none;
+        return None;
     }
     fetched(regs, mem, log, count, psw, cex, depth, added)
 }
@@ -143,7 +122,7 @@ fn between(
 // where a step is for the general way.
 pub fn run_free(
     regs: &mut [u16; 8],
-    mem: &mut [u8],
+    mem: &mut [u8; 65536],
     log: &mut [u8],
     psw: u16,
     cex: u16,
@@ -153,8 +132,7 @@ pub fn run_free(
     added: usize,
     n: u32,
 ) -> Freed
-    requires { (length mem.old ≡ 65536) × (count + n ≤ 4294967295)
-        × (depth.opened + n ≤ 4294967295) × (added ≤ length log.old / 8) }
+    requires { (count + n ≤ 4294967295) × (depth.opened + n ≤ 4294967295) × (added ≤ length log.old / 8) }
     ensures goes { Goes n
         (running regs.old psw cex lines count mem.old)
         depth added log.old
@@ -168,26 +146,25 @@ pub fn run_free(
         cex,
         depth,
         added,
-        taken: true,
     };
     let mut left = n;
-    while t.taken & (0 < left) {
+    // Kept: no count over a range, since a turn's stretch does many steps.
+    while 0 < left {
         let d = t.depth;
         let there = t.added;
         let q = stretch::stretch(regs, mem, t.psw, t.cex, lines, left);
         left = q.left;
-        t = Went {
-            psw: q.psw,
-            cex: q.cex,
-            depth: d,
-            added: there,
-            taken: false,
-        };
-        if 0 < left {
-            let i = count + (n - left);
-            t = between(regs, mem, log, i, q.psw, q.cex, lines, d, there);
-            left -= t.taken as u32;
+        t.psw = q.psw;
+        t.cex = q.cex;
+        if left == 0 {
+            break;
         }
+        let i = count + (n - left);
+        let Some(w) = between(regs, mem, log, i, q.psw, q.cex, lines, d, there) else {
+            break;
+        };
+        t = w;
+        left -= 1;
     }
     let depth = t.depth;
     Freed {

@@ -1,50 +1,18 @@
 -- Bytes copied one by one: what is still to be copied, over what is copied, is at each turn what the whole part writes. A part of a record
 -- is a part of the journal, 64 bytes a place; and a record copied out is one step of `back_of`. Assumes nothing.
-use Rattle.std.proofs.Common.{
-  ◌≡◌,
-  ℕ,
-  zero,
-  suc,
-  ◌+◌,
-  ◌-◌,
-  ◌*◌,
-  ◌%◌,
-  ◌<◌,
-  ◌≤◌,
-  eqb,
-  ◌≢◌,
-  List,
-  length,
-  get_or,
-  take,
-  drop,
-  set,
-  sym,
-  ap,
-  ◌∙◌,
-  subst,
-  add-zero,
-  arith,
-  length-drop,
-  length-take-le,
-  get_or-drop,
-  get_or-set_other,
-  get_or-take,
-  get_or-set_same,
-  take-take,
-  ext_get_or,
-}
+use Rattle.std.specs.Prelude.{Err}
+use Rattle.machine.specs.declared.Refusal.{Refusal}
+use Rattle.std.proofs.Common.{◌≡◌, ℕ, zero, suc, ◌+◌, ◌-◌, ◌*◌, ◌%◌, ◌<◌, ◌≤◌, List, length, get_or, take, drop, set}
+use Rattle.std.proofs.Common.{sym, ap, ◌∙◌, add-zero, arith, length-drop, length-take-le, get_or-drop, get_or-take}
+use Rattle.std.proofs.Common.{take-take, ext_get_or}
 use lib.Seq.{slice, slice-cons, slice_empty, length-slice}
-use Rattle.machine_laws.proofs.Cases.{bool_cases, eq_of, neq-of}
 use Rattle.machine.specs.Memory.{byte_at, commit}
 use Rattle.machine.specs.Record.{two_at}
 use Rattle.journal.specs.Record.{placed, state_out, memory_out}
 use Rattle.journal.specs.Ring.{journal_of, places_of, record_at, preceding}
 use Rattle.journal.specs.Back.{Lent, lent_of, one_back, back_of}
 use Rattle.journal.specs.Call.{back_verdict, back_call_of}
-use Rattle.machine.specs.declared.Verdict.TheVariants.{Accepted}
-use Rattle.machine.specs.Refusal.{refusal_number}
-use Rattle.machine_laws.proofs.Records.{is-accepted}
+use Rattle.machine.specs.Refusal.{refusal_number, accepted?}
 use Rattle.journal.proofs.Calls.{back-zero, back-suc, back-refused}
 
 abbrev pub rest : (m j : List ℕ) (from a n i : ℕ) → List ℕ
@@ -97,25 +65,6 @@ part-two j p i h =
     let hi = part-byte j p (i + 1) h ∙ ap (byte_at j) e in
     λ o. lo o + 256 * hi o
 
--- one more byte of the state record
-pub state-turn : (s j : List ℕ) (p i : ℕ) → length s ≡ 32 → i < 32 → ((k : ℕ) → k < i → byte_at s k ≡ byte_at j (64 * p + k))
-    → (k : ℕ) → k < i + 1 → byte_at (set s i (byte_at j (64 * p + i))) k ≡ byte_at j (64 * p + k)
-state-turn s j p i l h f k g =
-    bool_cases (eqb i k)
-    (λ q. let e : i ≡ k = eq_of q in
-    subst (λ x. byte_at (set s i (byte_at j (64 * p + i))) x ≡ byte_at j (64 * p + x)) e (get_or-set_same s i (byte_at j (64 * p + i)) 0
-    (omega arith))) (λ q. let e : i ≢ k = neq-of q in get_or-set_other s i k (byte_at j (64 * p + i)) 0 (omega arith) ∙ f k (omega arith))
-
--- a buffer of 32 bytes that are those of the record
-pub state-copied : (s j : List ℕ) (p : ℕ) → length s ≡ 32 → 64 * p + 64 ≤ length j
-    → ((i : ℕ) → i < 32 → byte_at s i ≡ byte_at j (64 * p + i))
-    → s ≡ state_out (record_at j p)
-state-copied s j p l h f =
-    let e = record_at j p in
-    let n : length (take 64 (drop (64 * p) j)) ≡ 64 = length-take-le 64 (drop (64 * p) j) (rw (length-drop (64 * p) j) (omega arith)) in
-    ext_get_or 0 s (take 32 e) (l ∙ sym (length-take-le 32 e (omega arith)))
-    (λ i q. let k : i < 32 = omega arith in f i k ∙ sym (get_or-take 32 e i 0 k ∙ part-byte j p i (omega arith)))
-
 -- the two parts of memory, written one after the other
 pub memory_copied : (m j : List ℕ) (p a : ℕ) → 64 * p + 64 ≤ length j → a ≡ two_at j (64 * p + 48)
     → commit (placed a (slice (64 * p + 50) (64 * p + 50 + 8) j)) (commit (placed 0 (slice (64 * p + 32) (64 * p + 32 + 16) j)) m)
@@ -151,12 +100,8 @@ back_end x left e = ap (λ k. back_of k x) e ∙ back-zero x
 abbrev pub lent_at : (memory state journal : List ℕ) (kept place : ℕ) → Lent
 lent_at memory state journal kept place = lent_of memory state (journal_of journal kept place)
 
-pub refused-answer : (k : ℕ) (x : Lent) (r : ℕ) → r ≡ refusal_number (back_verdict k x) → r ≢ 0
-    → (r ≡ (back_call_of k x).reply) × (x ≡ (back_call_of k x).lent)
-refused-answer k x r e n =
-    let a = back-refused k x (λ q. n (e ∙ q)) in
-    (e ∙ sym (ap (λ y. y.reply) a), sym (ap (λ y. y.lent) a))
-
--- no refusal: accepted
-pub passed-of : (k : ℕ) (x : Lent) (r : ℕ) → r ≡ refusal_number (back_verdict k x) → r ≡ 0 → back_verdict k x ≡ Accepted
-passed-of k x r e z = is-accepted (back_verdict k x) (sym e ∙ z)
+pub refused-answer : (k : ℕ) (l : Lent) (x : Refusal) (r : ℕ) → back_verdict k l ≡ Err x → r ≡ refusal_number (Err x)
+    → (r ≡ (back_call_of k l).reply) × (l ≡ (back_call_of k l).lent)
+refused-answer k l x r e f =
+    let a = back-refused k l (ap accepted? e) in
+    (f ∙ sym (ap (λ y. y.reply) a ∙ ap refusal_number e), sym (ap (λ y. y.lent) a))

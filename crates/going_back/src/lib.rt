@@ -17,13 +17,10 @@ fn put_bytes(memory: &mut [u8], journal: &[u8], from: usize, a: u16, n: usize)
     ensures { memory.new ≡ commit (placed a
         (slice from (from + n) journal.now)) memory.old }
 {
-    let mut i: usize = 0;
     let mut at = a;
-    while i < n {
-        let x = at as usize;
-        memory[x] = journal[from + i];
-        at = std::num::wrapping_add_u16(at, 1);
-        i += 1;
+    for i in 0..n {
+        memory[at as usize] = journal[from + i];
+        at = at.wrapping_add(1);
     }
 }
 
@@ -32,12 +29,7 @@ fn put_state(state: &mut [u8], journal: &[u8], p: usize)
     requires { (length state.old ≡ 32) × (64 * p + 64 ≤ length journal.now) }
     ensures { state.new ≡ state_out (record_at journal.now p) }
 {
-    let o = 64 * p;
-    let mut i: usize = 0;
-    while i < 32 {
-        state[i] = journal[o + i];
-        i += 1;
-    }
+    state.copy_from_slice(&journal[64 * p..64 * p + 32]);
 }
 
 // The record at place p copied out, fields in order.
@@ -60,10 +52,7 @@ fn place_before(places: u32, p: u32) -> u32
     requires { p < places }
     ensures { (result ≡ preceding places p) × (result < places) }
 {
-    if p == 0 {
-        return places - 1;
-    }
-    p - 1
+    if p == 0 { places - 1 } else { p - 1 }
 }
 
 // Back k steps, no more than are kept: the ring then. The journal's bytes stay.
@@ -76,16 +65,15 @@ fn go_back(memory: &mut [u8], state: &mut [u8], journal: &[u8], r: Ring, k: u32)
         (journal_of journal.now r.kept r.place)) }
 {
     let places = (journal.len() / 64) as u32;
-    let mut left = k;
-    let mut c = r.kept;
     let mut p = r.place;
-    while 0 < left {
+    for _ in 0..k {
         p = place_before(places, p);
         copy_out(memory, state, journal, p as usize);
-        c -= 1;
-        left -= 1;
     }
-    Ring { kept: c, place: p }
+    Ring {
+        kept: r.kept - k,
+        place: p,
+    }
 }
 
 // The call of going back: refused, it replies the refusal's number and leaves all as it was; else
@@ -106,10 +94,8 @@ pub fn back_call(
         ≡ (back_call_of k (lent_of memory.old state.old
         (journal_of journal.now kept.old place.old))).lent }
 {
-    let verdict = journal_rules::back_verdict(memory, state, journal, *kept, *place, k);
-    let refused = refusal::refusal_number(verdict) as u32;
-    if refused != 0 {
-        return refused;
+    if let Err(refused) = journal_rules::back_verdict(memory, state, journal, *kept, *place, k) {
+        return refusal::refusal_number(refused) as u32;
     }
     let r = Ring {
         kept: *kept,

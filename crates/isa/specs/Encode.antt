@@ -1,40 +1,38 @@
--- The word of each instruction; refused where it is illegal or a field does not fit its format.
+-- The word of each instruction; none where it is illegal or a field does not fit its format.
 -- Assumes nothing.
-use Rattle.std.specs.Prelude.{ℕ, ◌+◌, ◌*◌, Bool, cond, ◌&&◌, ltb, ℤ}
+use Rattle.std.specs.Prelude.{ℕ, ◌+◌, ◌*◌, Bool, cond, ◌&&◌, ltb, ℤ, Option, Some, None}
 use Rattle.word.specs.Offset.{bits_of, off_fits}
 use Rattle.isa.specs.declared.Instr.{Instr}
 use Rattle.isa.specs.declared.Instr.TheVariants.{Illegal, Bl, Branch, Alu, Mov, Swap, Unary, Swpb, Sxt, SetPri}
 use Rattle.isa.specs.declared.Instr.TheVariants.{Svc, SetCc, ClrCc, Cex, Ld, St, MovImm, Ldr, Str}
-use Rattle.isa.specs.declared.Encoded.{Encoded}
-use Rattle.isa.specs.declared.Encoded.TheVariants.{Word, Refused}
 
 -- The word, where every field fits. [01 Who can be turned back]
-abbrev pub when_fits : Bool → ℕ → Encoded
-when_fits fits w = cond fits (Word w) Refused
+abbrev pub when_fits : Bool → ℕ → Option ℕ
+when_fits fits w = cond fits (Some w) None
 
 -- Three fields below their limits, the last below 8: MOV, SWAP, SRA to COMP, CEX. [003 14]
-abbrev pub three_word : ℕ → ℕ → ℕ → ℕ → ℕ → ℕ → Encoded
+abbrev pub three_word : ℕ → ℕ → ℕ → ℕ → ℕ → ℕ → Option ℕ
 three_word base high middle x y z = when_fits (ltb x high && ltb y middle && ltb z 8) (base + x * 64 + y * 8 + z)
 
 -- SWPB and SXT, which differ in the word that all fields zero have. [003 14; 02 §14]
-abbrev pub register_word : ℕ → ℕ → ℕ → Encoded
+abbrev pub register_word : ℕ → ℕ → ℕ → Option ℕ
 register_word base dst ignored = when_fits (ltb dst 8 && ltb ignored 2) (base + ignored * 64 + dst)
 
 -- LD and ST, likewise. [003 14]
-abbrev pub indexed_word : ℕ → ℕ → ℕ → ℕ → ℕ → ℕ → ℕ → Encoded
+abbrev pub indexed_word : ℕ → ℕ → ℕ → ℕ → ℕ → ℕ → ℕ → Option ℕ
 indexed_word base prpo dec inc wb src dst =
     when_fits (ltb prpo 2 && ltb dec 2 && ltb inc 2 && ltb wb 2 && ltb src 8 && ltb dst 8)
     (base + prpo * 512 + dec * 256 + inc * 128 + wb * 64 + src * 8 + dst)
 
 -- LDR and STR, likewise. [003 14]
-abbrev pub relative_word : ℕ → ℤ → ℕ → ℕ → ℕ → Encoded
+abbrev pub relative_word : ℕ → ℤ → ℕ → ℕ → ℕ → Option ℕ
 relative_word base off wb src dst =
     when_fits (off_fits 64 off && ltb wb 2 && ltb src 8 && ltb dst 8)
     (base + bits_of 64 off * 128 + wb * 64 + src * 8 + dst)
 
 -- The word of an instruction, with the ignored bit that it carries. [003 14; 01 Who can be turned back; 02 §14]
-unfoldable pub encode_of : Instr → Encoded
-encode_of Illegal = Refused
+unfoldable pub encode_of : Instr → Option ℕ
+encode_of Illegal = None
 encode_of (Bl off) = when_fits (off_fits 4096 off) (bits_of 4096 off)
 encode_of (Branch cond off) = when_fits (ltb cond 8 && off_fits 512 off) (0x2000 + cond * 1024 + bits_of 512 off)
 encode_of (Alu op rc wb src dst) =

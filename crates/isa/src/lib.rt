@@ -1,9 +1,10 @@
-// The instruction set of XM-23: the instructions, and what the encoder answers. What each word
-// means, and the word of each instruction, is in specs/; crate isa_decode reads a word, crate
-// isa_encode writes one.
+// The instruction set of XM-23: the instructions. What each word means, and the word of each
+// instruction, is in specs/; crate isa_decode reads a word, crate isa_encode writes one.
 
 // A decoded instruction: a case for each format. Offsets are in the format's unit, with their sign.
 // ignored is bit 6 of the word, which says nothing of what the instruction does.
+// Kept: the fields are numbers, for the C interface hands them as such, and an instruction with a
+// field that its format cannot hold has to be refused and not be ruled out.
 #![tactic(auto)]
 
 #[derive(Clone, Copy)]
@@ -115,11 +116,4 @@ pub enum Instr {
         src: u8,
         dst: u8,
     },
-}
-
-// The word of an instruction, or refusal 8.
-#[derive(Clone, Copy)]
-pub enum Encoded {
-    Word(u16),
-    Refused,
 }

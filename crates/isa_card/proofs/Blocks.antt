@@ -1,12 +1,12 @@
 -- The blocks of an operation are its rows: the next word and the number of words go by them. A row of another operation is passed over,
 -- for any rows that follow each other up to #FFFF; which blocks an operation then has is computed for all of them. Assumes nothing.
 use Prim.Native.Nat.{ℕ, zero, suc, ◌+◌, ◌-◌, ◌<◌, ◌≤◌}
-use mathlib.Core.Path.{◌≡◌, refl, sym, ap, subst, ◌∙◌}
+use mathlib.Core.Path.{◌≡◌, refl, sym, ap, ◌∙◌}
 use mathlib.Core.Bool.{Bool, true, false, cond, ◌&&◌}
 use mathlib.Core.List.{List, [], ◌∷◌}
 use native.Mathlib.Omega.{arith}
 use borrow.Author.Tests.{leb-true, leb-false, le-leb, lt-leb, lt-ltb, le-ltb, ne_eqb, ltb-false}
-use lib.Dec.{T, eqb, leb, ltb, eqb→eq, leb→le, ltb→lt}
+use lib.Dec.{T, eqb, leb, ltb, eqb→eq, ltb→lt}
 use Rattle.word.proofs.Laws.{bool_cases}
 use Rattle.isa_ranges.specs.declared.Operation.{Operation}
 use Rattle.isa_ranges.specs.Operation.{operation_number}
@@ -15,7 +15,7 @@ use Rattle.isa_ranges.proofs.All.{all_below, at, left, right}
 use Rattle.isa_ranges.proofs.Rows.{follows, begins-le, follows-rest, follows-le, rows-follow, row-operation}
 use Rattle.isa_ranges.proofs.Count.{count_rows, count-rows}
 use Rattle.isa_card.specs.declared.Block.{Block}
-use Rattle.isa_card.specs.declared.Next.TheVariants.{Found}
+use Rattle.std.specs.Prelude.{Some}
 use Rattle.isa_card.specs.Words.{means, count_of, next_of}
 use Rattle.isa_card.specs.Blocks.{block_of, is_twice, blocks_of, at_least, first_among}
 use Rattle.isa_card.specs.Theorems.{NoOperation, sum_below, CountsAddUp}
@@ -46,7 +46,7 @@ raise o first (row ∷ rest) t w v a b =
     let l : first ≤ row.0 = begins-le first row rest t in
     bool_cases (is_of o row.1)
     (λ q. rw (q, lt-ltb w (first + (suc row.0 - first)) (omega arith), lt-ltb v (first + (suc row.0 - first)) (omega arith))
-    (ap Found (at-least-le w first a ∙ sym (at-least-le v first b))))
+    (ap Some (at-least-le w first a ∙ sym (at-least-le v first b))))
     (λ q. rw q (raise o (suc row.0) rest (follows-rest first row rest t) w v (omega arith) (omega arith)))
 
 skip-to : (o n w : ℕ) → 0 < o → n + w ≤ 65536 → ((u : ℕ) → w ≤ u → u < n + w → means o u ≡ false) → next_of o w ≡ next_of o (n + w)
@@ -144,28 +144,6 @@ count-total (suc o) h l =
 pub count-illegal : count_of 0 ≡ 1624
 unfolding rows operation_number
 count-illegal = count-of-rows 0
-
--- a block ends at #FFFF at the latest, and two of them are no more than all words
-small : ℕ → Bool
-small o = leb ((block_of (suc o)).first + (block_of (suc o)).size) 65536 && leb ((block_of (suc o)).size + (block_of (suc o)).size) 65536
-
-all_small : T (all_below 41 small)
-unfolding small
-all_small = tt
-
-abbrev pub Small : Block → Type 0
-Small b = (b.first + b.size ≤ 65536) × (b.size + b.size ≤ 65536)
-
-pub block-small : (o : ℕ) (b : Block) → b ≡ block_of o → 0 < o → o < 42 → Small b
-unfolding small
-block-small zero b e h l = absurd (omega arith)
-block-small (suc o) b e h l =
-    let t = at 41 small all_small o (omega arith) in
-    let c = block_of (suc o) in
-    subst Small (sym e) (
-      leb→le (c.first + c.size) 65536 (left (leb (c.first + c.size) 65536) (leb (c.size + c.size) 65536) t),
-      leb→le (c.size + c.size) 65536 (right (leb (c.first + c.size) 65536) (leb (c.size + c.size) 65536) t),
-    )
 
 -- ---- the sum
 

@@ -2,7 +2,7 @@
 -- Assumes nothing.
 use Prim.Native.Nat.{ℕ, zero, suc, ◌+◌, ◌-◌, ◌<◌, ◌≤◌}
 use mathlib.Core.Path.{◌≡◌, refl, sym, ap, ◌∙◌}
-use mathlib.Core.Bool.{Bool, true, false, cond, false≢true, ◌||◌}
+use mathlib.Core.Bool.{Bool, true, false, cond, ◌||◌}
 use mathlib.Core.Logic.{⊎_elim}
 use mathlib.Core.List.{List, [], ◌∷◌}
 use native.Mathlib.Nat.{eq-or-lt_of_le}
@@ -12,8 +12,8 @@ use lib.Dec.{T, ltb}
 use lib.ListN.{length}
 use Rattle.word.proofs.Laws.{bool_cases}
 use Rattle.isa_ranges.specs.Count.{count_below}
-use Rattle.isa_card.specs.declared.Next.{Next}
-use Rattle.isa_card.specs.declared.Next.TheVariants.{Found, Nothing}
+use Rattle.std.specs.Prelude.{Option, Some, None}
+use Rattle.std.proofs.lemmas.Option.{none-some, same_Some}
 use Rattle.isa_card.specs.Words.{means, words_from, head_of, next_of}
 use Rattle.isa_card.specs.Theorems.{CountWords, NextLeast, NextNone, step_on, steps_from, StepsList}
 use Rattle.isa_card.specs.Theorems.{among, rising, ListExact, ListRises}
@@ -67,11 +67,11 @@ next-words : (o w : ℕ) → 0 < o → next_of o w ≡ head_of (words_from o w (
 unfolding next_of
 next-words o w h = ap (λ (b : Bool). head_of (cond b [] (words_from o w (65536 - w)))) (ne_eqb o 0 (λ e. omega arith))
 
-pub next-illegal : (w : ℕ) → next_of 0 w ≡ Nothing
+pub next-illegal : (w : ℕ) → next_of 0 w ≡ None
 unfolding next_of
 next-illegal w = refl
 
-pub next_here : (o w : ℕ) → 0 < o → w < 65536 → means o w ≡ true → next_of o w ≡ Found w
+pub next_here : (o w : ℕ) → 0 < o → w < 65536 → means o w ≡ true → next_of o w ≡ Some w
 next_here o w h l q =
     let e : 65536 - w ≡ suc (65535 - w) = omega arith in
     next-words o w h ∙ ap (λ (n : ℕ). head_of (words_from o w n)) e ∙ ap head_of (words-yes o w (65535 - w) q)
@@ -82,33 +82,22 @@ next-skip o w h l q =
     next-words o w h ∙ ap (λ (n : ℕ). head_of (words_from o w n)) e ∙ ap head_of (words-no o w (65536 - suc w) q)
     ∙ sym (next-words o (suc w) h)
 
-pub next-end : (o w : ℕ) → 0 < o → 65536 ≤ w → next_of o w ≡ Nothing
+pub next-end : (o w : ℕ) → 0 < o → 65536 ≤ w → next_of o w ≡ None
 next-end o w h l =
     let e : 65536 - w ≡ 0 = omega arith in
     next-words o w h ∙ ap (λ (n : ℕ). head_of (words_from o w n)) e ∙ ap head_of (words-end o w)
 
 -- ---- the next is the least
 
-abbrev is_found : Next → Bool
-is_found (Found v) = true
-is_found Nothing = false
-
-abbrev found_in : Next → ℕ
-found_in (Found v) = v
-found_in Nothing = 0
-
-not_found : (x : Next) (v : ℕ) → x ≡ Nothing → x ≡ Found v → ⊥
-not_found x v e f = false≢true (sym (ap is_found e) ∙ ap is_found f)
-
 abbrev Least : ℕ → ℕ → ℕ → Type 0
 Least o w v = (means o v ≡ true) × (w ≤ v) × (v < 65536) × ((u : ℕ) → w ≤ u → u < v → means o u ≡ false)
 
-least-in : (n o w v : ℕ) → 0 < o → n + w ≡ 65536 → next_of o w ≡ Found v → Least o w v
-least-in zero o w v h s e = absurd (not_found (next_of o w) v (next-end o w h (omega arith)) e)
+least-in : (n o w v : ℕ) → 0 < o → n + w ≡ 65536 → next_of o w ≡ Some v → Least o w v
+least-in zero o w v h s e = absurd (none-some v (sym (next-end o w h (omega arith)) ∙ e))
 least-in (suc n) o w v h s e =
     bool_cases (means o w)
     (λ q.
-    let d : w ≡ v = ap found_in (sym (next_here o w h (omega arith) q) ∙ e) in
+    let d : w ≡ v = same_Some w v (sym (next_here o w h (omega arith) q) ∙ e) in
     (ap (means o) (sym d) ∙ q, omega arith, omega arith, λ u a b. absurd (omega arith))) (λ q.
     let i : Least o (suc w) v = least-in n o (suc w) v h (omega arith) (sym (next-skip o w h (omega arith) q) ∙ e) in
     let l : suc w ≤ v = i.1 in (
@@ -120,19 +109,19 @@ least-in (suc n) o w v h s e =
     ))
 
 pub next-least : NextLeast
-next-least zero w v e = absurd (not_found (next_of 0 w) v (next-illegal w) e)
+next-least zero w v e = absurd (none-some v (sym (next-illegal w) ∙ e))
 next-least (suc o) w v e =
     let h : 0 < suc o = omega arith in
     bool_cases (ltb w 65536)
     (λ q.
     let l : w < 65536 = ltb-true w 65536 q in
     let i : Least (suc o) w v = least-in (65536 - w) (suc o) w v h (omega arith) e in
-    (h, i.0, i.1, i.2, i.3)) (λ q. absurd (not_found (next_of (suc o) w) v (next-end (suc o) w h (ltb-false w 65536 q)) e))
+    (h, i.0, i.1, i.2, i.3)) (λ q. absurd (none-some v (sym (next-end (suc o) w h (ltb-false w 65536 q)) ∙ e)))
 
-none_in : (n o w : ℕ) → 0 < o → n + w ≡ 65536 → next_of o w ≡ Nothing → (u : ℕ) → w ≤ u → u < 65536 → means o u ≡ false
+none_in : (n o w : ℕ) → 0 < o → n + w ≡ 65536 → next_of o w ≡ None → (u : ℕ) → w ≤ u → u < 65536 → means o u ≡ false
 none_in zero o w h s e u a b = absurd (omega arith)
 none_in (suc n) o w h s e u a b =
-    bool_cases (means o w) (λ q. absurd (not_found (next_of o w) w e (next_here o w h (omega arith) q)))
+    bool_cases (means o w) (λ q. absurd (none-some w (sym e ∙ next_here o w h (omega arith) q)))
     (λ q.
     ⊎_elim (λ (z : w ≡ u). ap (means o) (sym z) ∙ q)
     (λ (z : w < u). none_in n o (suc w) h (omega arith) (sym (next-skip o w h (omega arith) q) ∙ e) u z b) (eq-or-lt_of_le a))
@@ -181,9 +170,9 @@ list-rises o = rises-in 65536 o 0 0 (omega arith) (omega arith)
 
 -- ---- stepping
 
-steps-suc : (o w n : ℕ) (x : Next) → next_of o w ≡ x → steps_from o w (suc n) ≡ step_on x (λ v. steps_from o v n)
+steps-suc : (o w n : ℕ) (x : Option ℕ) → next_of o w ≡ x → steps_from o w (suc n) ≡ step_on x (λ v. steps_from o v n)
 unfolding steps_from
-steps-suc o w n x e = ap (λ (y : Next). step_on y (λ v. steps_from o v n)) e
+steps-suc o w n x e = ap (λ (y : Option ℕ). step_on y (λ v. steps_from o v n)) e
 
 steps-zero : (o w : ℕ) → steps_from o w 0 ≡ []
 unfolding steps_from
@@ -191,18 +180,18 @@ steps-zero o w = refl
 
 steps-in : (n o w k : ℕ) → 0 < o → n + w ≡ 65536 → n ≤ k → steps_from o w k ≡ words_from o w n
 steps-in zero o w zero h s l = steps-zero o w ∙ sym (words-end o w)
-steps-in zero o w (suc k) h s l = steps-suc o w k Nothing (next-end o w h (omega arith)) ∙ sym (words-end o w)
+steps-in zero o w (suc k) h s l = steps-suc o w k None (next-end o w h (omega arith)) ∙ sym (words-end o w)
 steps-in (suc n) o w zero h s l = absurd (omega arith)
 steps-in (suc n) o w (suc k) h s l =
     bool_cases (means o w)
-    (λ q. steps-suc o w k (Found w) (next_here o w h (omega arith) q)
+    (λ q. steps-suc o w k (Some w) (next_here o w h (omega arith) q)
     ∙ ap (λ (vs : List ℕ). w ∷ vs) (steps-in n o (suc w) k h (omega arith) (omega arith)) ∙ sym (words-yes o w n q))
     (λ q. steps-suc o w k (next_of o (suc w)) (next-skip o w h (omega arith) q)
     ∙ sym (steps-suc o (suc w) k (next_of o (suc w)) refl)
     ∙ steps-in n o (suc w) (suc k) h (omega arith) (omega arith) ∙ sym (words-no o w n q))
 
 pub steps-list : StepsList
-steps-list zero = steps-suc 0 0 65535 Nothing (next-illegal 0)
+steps-list zero = steps-suc 0 0 65535 None (next-illegal 0)
 steps-list (suc o) =
     steps-in 65536 (suc o) 0 65536 (omega arith) (omega arith) (omega arith)
     ∙ ap (λ (b : Bool). cond b [] (words_from (suc o) 0 65536)) (sym (ne_eqb (suc o) 0 (λ e. omega arith)))

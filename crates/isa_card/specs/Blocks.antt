@@ -1,9 +1,7 @@
 -- The words of each operation by its number, as the code has them: proofs/Blocks.antt shows that they are the rows'.
 -- Each row has the numbers below its limit that the rows above it leave. Assumes nothing.
-use Rattle.std.specs.Prelude.{ℕ, ◌+◌, ◌-◌, ◌*◌, Bool, false, cond, List, [], ◌∷◌, ltb}
+use Rattle.std.specs.Prelude.{ℕ, ◌+◌, ◌-◌, ◌*◌, Bool, false, cond, List, [], ◌∷◌, ltb, Option, Some, None}
 use Rattle.isa_card.specs.declared.Block.{Block}
-use Rattle.isa_card.specs.declared.Next.{Next}
-use Rattle.isa_card.specs.declared.Next.TheVariants.{Found, Nothing}
 
 -- Block n of blocks of a size that follow each other from a word on. [02 §11]
 abbrev pub nth_block : ℕ → ℕ → ℕ → Block
@@ -46,6 +44,6 @@ blocks_of o = block_of o ∷ cond (is_twice o) (above_block (block_of o) ∷ [])
 abbrev pub at_least : ℕ → ℕ → ℕ
 at_least w first = cond (ltb w first) first w
 
-abbrev pub first_among : List Block → ℕ → Next
-first_among [] w = Nothing
-first_among (b ∷ rest) w = cond (ltb w (b.first + b.size)) (Found (at_least w b.first)) (first_among rest w)
+abbrev pub first_among : List Block → ℕ → Option ℕ
+first_among [] w = None
+first_among (b ∷ rest) w = cond (ltb w (b.first + b.size)) (Some (at_least w b.first)) (first_among rest w)

@@ -1,8 +1,7 @@
 -- What holds of the counts and the lists, as statements; the proofs folder has a proof of each. Assumes nothing.
 use Rattle.std.specs.Prelude.{ℕ, zero, suc, ◌+◌, ◌<◌, ◌≤◌, ◌≡◌, Bool, true, false, ◌&&◌, ◌||◌, List, [], ◌∷◌, T, eqb, leb, ltb}
+use Rattle.std.specs.Prelude.{Option, Some, None}
 use Rattle.isa_ranges.specs.Count.{count_below}
-use Rattle.isa_card.specs.declared.Next.{Next}
-use Rattle.isa_card.specs.declared.Next.TheVariants.{Found, Nothing}
 use Rattle.isa_card.specs.Words.{means, words_of, count_of, legal_from, next_of}
 
 -- The count is the number of words below 65,536 that decode so. [02 §11]
@@ -19,23 +18,23 @@ CountsAddUp = sum_below 42 count_of ≡ 65536
 
 -- A number that is no operation's counts no word, and there is no next. [02 §11]
 abbrev pub NoOperation : Type 0
-NoOperation = (o w : ℕ) → 42 ≤ o → (count_of o ≡ 0) × (next_of o w ≡ Nothing)
+NoOperation = (o w : ℕ) → 42 ≤ o → (count_of o ≡ 0) × (next_of o w ≡ None)
 
 -- A word that is found is legal and means the operation, lies at or above the given one, and is the least. [02 §11]
 abbrev pub NextLeast : Type 0
 NextLeast =
-    (o w v : ℕ) → next_of o w ≡ Found v
+    (o w v : ℕ) → next_of o w ≡ Some v
     → (0 < o) × (means o v ≡ true) × (w ≤ v) × (v < 65536) × ((u : ℕ) → w ≤ u → u < v → means o u ≡ false)
 
 -- Where none is found there is none. [02 §11]
 abbrev pub NextNone : Type 0
-NextNone = (o w : ℕ) → 0 < o → next_of o w ≡ Nothing → (u : ℕ) → w ≤ u → u < 65536 → means o u ≡ false
+NextNone = (o w : ℕ) → 0 < o → next_of o w ≡ None → (u : ℕ) → w ≤ u → u < 65536 → means o u ≡ false
 
 -- The words that stepping finds from w on, with at most n calls: the next, then the next above it, until there is none.
 -- [02 §11]
-abbrev pub step_on : Next → (ℕ → List ℕ) → List ℕ
-step_on (Found v) above = v ∷ above (suc v)
-step_on Nothing above = []
+abbrev pub step_on : Option ℕ → (ℕ → List ℕ) → List ℕ
+step_on (Some v) above = v ∷ above (suc v)
+step_on None above = []
 
 unfoldable pub steps_from : ℕ → ℕ → ℕ → List ℕ
 steps_from o w zero = []

@@ -1,9 +1,7 @@
 -- All words, for the reference card: how many words mean an operation, and its legal words one after the other.
 -- Assumes nothing.
-use Rattle.std.specs.Prelude.{ℕ, zero, suc, ◌+◌, ◌-◌, ◌*◌, Bool, cond, List, [], ◌∷◌, eqb, length}
+use Rattle.std.specs.Prelude.{ℕ, zero, suc, ◌+◌, ◌-◌, ◌*◌, Bool, cond, List, [], ◌∷◌, eqb, length, Option, Some, None}
 use Rattle.isa_ranges.specs.Operation.{operation_of, operation_number}
-use Rattle.isa_card.specs.declared.Next.{Next}
-use Rattle.isa_card.specs.declared.Next.TheVariants.{Found, Nothing}
 
 -- Whether a word means the operation with the number o, 0 being that of the illegal words. [02 §11]
 abbrev pub means : ℕ → ℕ → Bool
@@ -28,12 +26,12 @@ count_of o = length (words_of o)
 abbrev pub legal_from : ℕ → ℕ → List ℕ
 legal_from o w = cond (eqb o 0) [] (words_from o w (65536 - w))
 
-abbrev pub head_of : List ℕ → Next
-head_of [] = Nothing
-head_of (v ∷ rest) = Found v
+abbrev pub head_of : List ℕ → Option ℕ
+head_of [] = None
+head_of (v ∷ rest) = Some v
 
 -- "a call gives the first at or above a given word, or none". [02 §11]
-unfoldable pub next_of : ℕ → ℕ → Next
+unfoldable pub next_of : ℕ → ℕ → Option ℕ
 next_of o w = head_of (legal_from o w)
 
 -- What xm23_count replies: the number of words in bits 31-8. [02 §11]
@@ -41,9 +39,9 @@ unfoldable pub count_reply : ℕ → ℕ
 count_reply o = count_of o * 0x100
 
 -- What xm23_next replies: 1 in bits 15-8 and the word in bits 31-16, or 0 for none. [02 §11]
-abbrev pub found_reply : Next → ℕ
-found_reply (Found v) = 0x100 + v * 0x10000
-found_reply Nothing = 0
+abbrev pub found_reply : Option ℕ → ℕ
+found_reply (Some v) = 0x100 + v * 0x10000
+found_reply None = 0
 
 unfoldable pub next_reply : ℕ → ℕ → ℕ
 next_reply o w = found_reply (next_of o w)

@@ -2,22 +2,15 @@
 // are one block; SRA to SXT have a second one, with bit 6 set.
 #![tactic(auto)]
 
-ghost use Rattle.std.specs.Prelude.{◌≡◌, ◌<◌, ◌≤◌, ◌+◌, ◌*◌};
+ghost use Rattle.std.specs.Prelude.{◌≡◌, ◌<◌, ◌≤◌, ◌+◌, ◌*◌, [], ◌∷◌};
 ghost use Rattle.isa_card.specs.Words.{count_of, next_of};
-ghost use Rattle.isa_card.specs.Blocks.{nth_block, misc_block, block_of, is_twice, at_least};
+ghost use Rattle.isa_card.specs.Blocks.{nth_block, misc_block, block_of, is_twice, first_among};
 
 // Words that follow each other: the first, and how many.
 #[derive(Clone, Copy)]
 struct Block {
     first: u32,
     size: u32,
-}
-
-// The first legal word at or above a given one with an operation, or none.
-#[derive(Clone, Copy)]
-pub enum Next {
-    Found(u32),
-    Nothing,
 }
 
 // Block n of blocks of a size that follow each other from a word on.
@@ -37,22 +30,14 @@ fn misc_block(operation: u32) -> Block
     requires operation_bound { operation < 33 }
     ensures { result ≡ misc_block operation }
 {
-    if operation < 23 {
-        return nth_block(operation - 22, 0x4C00, 0x80);
+    match operation {
+        22 => nth_block(0, 0x4C00, 0x80),
+        23 => nth_block(0, 0x4C80, 0x80),
+        24..=28 => nth_block(operation - 24, 0x4D00, 8),
+        29 => nth_block(0, 0x4D80, 8),
+        30 => nth_block(0, 0x4DA0, 0x10),
+        _ => nth_block(operation - 31, 0x4DC0, 0x20),
     }
-    if operation < 24 {
-        return nth_block(operation - 23, 0x4C80, 0x80);
-    }
-    if operation < 29 {
-        return nth_block(operation - 24, 0x4D00, 8);
-    }
-    if operation < 30 {
-        return nth_block(operation - 29, 0x4D80, 8);
-    }
-    if operation < 31 {
-        return nth_block(operation - 30, 0x4DA0, 0x10);
-    }
-    nth_block(operation - 31, 0x4DC0, 0x20)
 }
 
 // The words of an operation, the first ones of SRA to SXT.
@@ -61,38 +46,23 @@ fn block_of(operation: u32) -> Block
     requires operation_bound { operation < 42 }
     ensures { result ≡ block_of operation }
 {
-    if operation < 2 {
-        return nth_block(operation - 1, 0, 0x2000);
+    match operation {
+        1 => nth_block(0, 0, 0x2000),
+        2..=9 => nth_block(operation - 2, 0x2000, 0x400),
+        10..=21 => nth_block(operation - 10, 0x4000, 0x100),
+        22..=32 => misc_block(operation),
+        33 => nth_block(0, 0x5000, 0x400),
+        34..=35 => nth_block(operation - 34, 0x5800, 0x400),
+        36..=39 => nth_block(operation - 36, 0x6000, 0x800),
+        _ => nth_block(operation - 40, 0x8000, 0x4000),
     }
-    if operation < 10 {
-        return nth_block(operation - 2, 0x2000, 0x400);
-    }
-    if operation < 22 {
-        return nth_block(operation - 10, 0x4000, 0x100);
-    }
-    if operation < 33 {
-        return misc_block(operation);
-    }
-    if operation < 34 {
-        return nth_block(operation - 33, 0x5000, 0x400);
-    }
-    if operation < 36 {
-        return nth_block(operation - 34, 0x5800, 0x400);
-    }
-    if operation < 40 {
-        return nth_block(operation - 36, 0x6000, 0x800);
-    }
-    nth_block(operation - 40, 0x8000, 0x4000)
 }
 
 // Whether the operation has a second block, 64 words above the first: SRA, RRC, COMP, SWPB, SXT.
 fn is_twice(operation: u32) -> bool
     ensures { result ≡ is_twice operation }
 {
-    if operation < 24 {
-        return false;
-    }
-    operation < 29
+    matches!(operation, 24..=28)
 }
 
 // How many of the 65,536 words mean the operation with this number.
@@ -100,48 +70,47 @@ pub fn count_of(operation: u32) -> u32
     ensures count { result ≡ count_of operation }
     ensures fits { result ≤ 65536 }
 {
-    if operation < 1 {
-        return 1624;
+    match operation {
+        0 => 1624,
+        1..=41 => {
+            let size = block_of(operation).size;
+            if is_twice(operation) {
+                size + size
+            } else {
+                size
+            }
+        }
+        _ => 0,
     }
-    if operation > 41 {
-        return 0;
-    }
-    let size = block_of(operation).size;
-    if is_twice(operation) {
-        return size + size;
-    }
-    size
 }
 
-// The greater of two words.
-fn at_least(word: u32, first: u32) -> u32
-    ensures { result ≡ at_least word first }
+// The first word of a block at or above a given one, or none.
+fn next_in(words: Block, word: u32) -> Option<u32>
+    requires { words.first + words.size ≤ 65536 }
+    ensures { result ≡ first_among (words ∷ []) word }
 {
-    if word < first {
-        return first;
+    if word < words.first + words.size {
+        Some(word.max(words.first))
+    } else {
+        None
     }
-    word
 }
 
 // The first legal word at or above a given one with the operation of this number, or none.
-pub fn next_of(operation: u32, word: u32) -> Next
+pub fn next_of(operation: u32, word: u32) -> Option<u32>
     ensures { result ≡ next_of operation word }
 {
-    if operation < 1 {
-        return Next::Nothing;
-    }
-    if operation > 41 {
-        return Next::Nothing;
+    if operation < 1 || 41 < operation {
+        return None;
     }
     let words = block_of(operation);
-    if word < words.first + words.size {
-        return Next::Found(at_least(word, words.first));
-    }
+    let found = next_in(words, word);
     if !is_twice(operation) {
-        return Next::Nothing;
+        return found;
     }
-    if word < words.first + 64 + words.size {
-        return Next::Found(at_least(word, words.first + 64));
-    }
-    Next::Nothing
+    let above = Block {
+        first: words.first + 64,
+        size: words.size,
+    };
+    found.or(next_in(above, word))
 }

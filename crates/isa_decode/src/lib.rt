@@ -1,6 +1,7 @@
 // What each word means. `decode` is total: a word that is not in the table of section 14 decodes to
 // `Illegal`.
-#![tactic(auto)]
+// Kept: a step decodes; told by a match on ranges, a word took 70 host instructions and not 57.
+#![tactic(auto, unfolding(isa::specs::Decode::decode_of))]
 
 ghost use Rattle.std.specs.Prelude.{◌≡◌, ◌<◌, ◌≤◌};
 ghost use Rattle.isa.specs.Decode.{unary_of, control_of, misc_of, memory_of, relative_of};

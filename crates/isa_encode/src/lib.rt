@@ -1,149 +1,117 @@
 // The word of each instruction. `encode` refuses `Illegal` and an instruction with a field that its
 // format cannot hold.
-#![tactic(auto)]
+#![tactic(auto, unfolding(isa::specs::Encode::encode_of))]
 
 ghost use Rattle.std.specs.Prelude.{◌≡◌, ◌<◌, ◌≤◌, ◌+◌, ◌*◌, ltb};
 ghost use Rattle.isa.specs.Encode.{when_fits, encode_of, register_word};
 ghost use Rattle.isa.specs.Encode.{three_word, indexed_word, relative_word};
 
-use isa::{Encoded, Instr};
+use isa::Instr;
 use word::{magnitude, offset_bits};
 
 // BL: an offset of 13 bits.
-fn encode_bl(off: i16) -> Encoded
+fn encode_bl(off: i16) -> Option<u16>
     ensures { result ≡ encode_of (Instr.Bl off) }
 {
-    if 4096 <= magnitude(off) {
-        return Encoded::Refused;
+    if magnitude(off) < 4096 {
+        Some(offset_bits(4096, off))
+    } else {
+        None
     }
-    Encoded::Word(offset_bits(4096, off))
 }
 
 // The branches with a condition and BRA: an offset of 10 bits.
-fn encode_branch(cond: u8, off: i16) -> Encoded
+fn encode_branch(cond: u8, off: i16) -> Option<u16>
     ensures { result ≡ encode_of (Instr.Branch cond off) }
 {
-    if 8 <= cond {
-        return Encoded::Refused;
+    if cond < 8 && magnitude(off) < 512 {
+        Some(0x2000 + cond as u16 * 1024 + offset_bits(512, off))
+    } else {
+        None
     }
-    if 512 <= magnitude(off) {
-        return Encoded::Refused;
-    }
-    Encoded::Word(0x2000 + cond as u16 * 1024 + offset_bits(512, off))
 }
 
 // Three fields, x below high, y below middle and z below 8: MOV, SWAP, SRA to COMP, CEX, and the
 // last three of ADD to BIS, LD, ST, LDR, STR. base is the word with these fields zero.
-fn encode_three(base: u16, high: u8, middle: u8, x: u8, y: u8, z: u8) -> Encoded
+fn encode_three(base: u16, high: u8, middle: u8, x: u8, y: u8, z: u8) -> Option<u16>
     requires high_bound { base + high * 64 ≤ 65536 }
     requires middle_bound { middle ≤ 8 }
     ensures { result ≡ three_word base high middle x y z }
 {
-    if high <= x {
-        return Encoded::Refused;
+    if x < high && y < middle && z < 8 {
+        Some(base + x as u16 * 64 + y as u16 * 8 + z as u16)
+    } else {
+        None
     }
-    if middle <= y {
-        return Encoded::Refused;
-    }
-    if 8 <= z {
-        return Encoded::Refused;
-    }
-    Encoded::Word(base + x as u16 * 64 + y as u16 * 8 + z as u16)
 }
 
 // ADD to BIS.
-fn encode_alu(op: u8, rc: u8, wb: u8, src: u8, dst: u8) -> Encoded
+fn encode_alu(op: u8, rc: u8, wb: u8, src: u8, dst: u8) -> Option<u16>
     ensures { result ≡ encode_of (Instr.Alu op rc wb src dst) }
 {
-    if 12 <= op {
-        return Encoded::Refused;
+    if 12 <= op || 2 <= rc {
+        return None;
     }
-    if 2 <= rc {
-        return Encoded::Refused;
-    }
-    encode_three(
-        0x4000 + op as u16 * 256 + rc as u16 * 128,
-        2,
-        8,
-        wb,
-        src,
-        dst,
-    )
+    let base = 0x4000 + op as u16 * 256 + rc as u16 * 128;
+    encode_three(base, 2, 8, wb, src, dst)
 }
 
 // SWPB and SXT; base is the word with all fields zero.
-fn encode_register(base: u16, dst: u8, ignored: u8) -> Encoded
+fn encode_register(base: u16, dst: u8, ignored: u8) -> Option<u16>
     requires { base < 0x8000 }
     ensures { result ≡ register_word base dst ignored }
 {
-    if 8 <= dst {
-        return Encoded::Refused;
-    }
-    if 2 <= ignored {
-        return Encoded::Refused;
-    }
-    Encoded::Word(base + ignored as u16 * 64 + dst as u16)
+    (dst < 8 && ignored < 2).then_some(base + ignored as u16 * 64 + dst as u16)
 }
 
 // A format with one field, below limit: SETPRI, SVC, SETCC, CLRCC. base is the word with it zero.
-fn encode_one(base: u16, limit: u8, x: u8) -> Encoded
+fn encode_one(base: u16, limit: u8, x: u8) -> Option<u16>
     requires { base < 0x8000 }
     ensures { result ≡ when_fits (ltb x limit) (base + x) }
 {
-    if limit <= x {
-        return Encoded::Refused;
-    }
-    Encoded::Word(base + x as u16)
+    (x < limit).then_some(base + x as u16)
 }
 
 // LD and ST; base is the word with all fields zero.
-fn encode_indexed(base: u16, prpo: u8, dec: u8, inc: u8, wb: u8, src: u8, dst: u8) -> Encoded
+fn encode_indexed(base: u16, prpo: u8, dec: u8, inc: u8, wb: u8, src: u8, dst: u8) -> Option<u16>
     requires { base < 0x8000 }
     ensures { result ≡ indexed_word base prpo dec inc wb src dst }
 {
-    if 2 <= prpo {
-        return Encoded::Refused;
-    }
-    if 2 <= dec {
-        return Encoded::Refused;
-    }
-    if 2 <= inc {
-        return Encoded::Refused;
+    if 2 <= prpo || 2 <= dec || 2 <= inc {
+        return None;
     }
     let first = base + prpo as u16 * 512 + dec as u16 * 256 + inc as u16 * 128;
     encode_three(first, 2, 8, wb, src, dst)
 }
 
 // MOVL, MOVLZ, MOVLS, MOVH.
-fn encode_mov_imm(op: u8, byte: u8, dst: u8) -> Encoded
+fn encode_mov_imm(op: u8, byte: u8, dst: u8) -> Option<u16>
     ensures { result ≡ encode_of (Instr.MovImm op byte dst) }
 {
-    if 4 <= op {
-        return Encoded::Refused;
+    if op < 4 && dst < 8 {
+        Some(0x6000 + op as u16 * 2048 + byte as u16 * 8 + dst as u16)
+    } else {
+        None
     }
-    if 8 <= dst {
-        return Encoded::Refused;
-    }
-    Encoded::Word(0x6000 + op as u16 * 2048 + byte as u16 * 8 + dst as u16)
 }
 
 // LDR and STR, an offset of 7 bits; base is the word with all fields zero.
-fn encode_relative(base: u16, off: i16, wb: u8, src: u8, dst: u8) -> Encoded
+fn encode_relative(base: u16, off: i16, wb: u8, src: u8, dst: u8) -> Option<u16>
     requires { base ≤ 0xC000 }
     ensures { result ≡ relative_word base off wb src dst }
 {
     if 64 <= magnitude(off) {
-        return Encoded::Refused;
+        return None;
     }
     encode_three(base + offset_bits(64, off) * 128, 2, 8, wb, src, dst)
 }
 
-// The word of an instruction, or its refusal.
-pub fn encode(i: Instr) -> Encoded
+// The word of an instruction, or none where it is refused.
+pub fn encode(i: Instr) -> Option<u16>
     ensures { result ≡ encode_of i }
 {
     match i {
-        Instr::Illegal => Encoded::Refused,
+        Instr::Illegal => None,
         Instr::Bl { off } => encode_bl(off),
         Instr::Branch { cond, off } => encode_branch(cond, off),
         Instr::Alu {

@@ -16,8 +16,8 @@ use Rattle.word.proofs.Laws.{bool_cases}
 use Rattle.isa.specs.declared.Instr.{Instr}
 use Rattle.isa.specs.declared.Instr.TheVariants.{Illegal, Bl, Branch, Alu, Mov, Swap, Unary, Swpb, Sxt, SetPri, Svc, SetCc, ClrCc, Cex, Ld}
 use Rattle.isa.specs.declared.Instr.TheVariants.{St, MovImm, Ldr, Str}
-use Rattle.isa.specs.declared.Encoded.{Encoded}
-use Rattle.isa.specs.declared.Encoded.TheVariants.{Word, Refused}
+use Rattle.std.specs.Prelude.{Option, Some, None}
+use Rattle.std.proofs.lemmas.Option.{same_Some}
 use Rattle.isa.specs.Decode.{decode_of}
 use Rattle.isa.specs.Encode.{relative_word, encode_of}
 use Rattle.isa.specs.Legal.{is_legal}
@@ -31,9 +31,9 @@ use Rattle.isa_ranges.proofs.Rows.{row-operation}
 use Rattle.isa_laws.proofs.EncodeDecode.{in-relative}
 use Rattle.isa_laws.specs.Theorems.{DecodeEncode, SameWord, IllegalExactly}
 
-abbrev is_word : Encoded → ℕ → Bool
-is_word (Word v) w = eqb v w
-is_word Refused w = false
+abbrev is_word : Option ℕ → ℕ → Bool
+is_word (Some v) w = eqb v w
+is_word None w = false
 
 -- the operation of a word is the illegal one
 abbrev pub illegal? : ℕ → Bool
@@ -44,15 +44,15 @@ illegal? w = same_operation (operation_of w) op.Illegal
 bits-signed : (half n : ℕ) → n < half + half → bits_of half (signed_of half n) ≡ n
 bits-signed half n h = bool_cases (ltb n half) (λ q. rw q) (λ q. let k = ltb-false n half q in rw q (omega arith))
 
-bl-back : (w : ℕ) → w < 0x2000 → encode_of (decode_of w) ≡ Word w
+bl-back : (w : ℕ) → w < 0x2000 → encode_of (decode_of w) ≡ Some w
 unfolding decode_of encode_of
 bl-back w h =
     let z = signed_of 4096 (w % 8192) in
     let f = lt-ltb (mag z) 4096 (signed-mag 4096 (w % 8192) (omega arith)) in
     let e : w % 8192 ≡ w = omega arith in
-    rw (lt-ltb w 0x2000 h, f) (ap Word (bits-signed 4096 (w % 8192) (omega arith) ∙ e))
+    rw (lt-ltb w 0x2000 h, f) (ap Some (bits-signed 4096 (w % 8192) (omega arith) ∙ e))
 
-branch_back : (w : ℕ) → 0x2000 ≤ w → w < 0x4000 → encode_of (decode_of w) ≡ Word w
+branch_back : (w : ℕ) → 0x2000 ≤ w → w < 0x4000 → encode_of (decode_of w) ≡ Some w
 unfolding decode_of encode_of
 branch_back w l h =
     let z = signed_of 512 (w % 1024) in
@@ -60,24 +60,24 @@ branch_back w l h =
     let b = bits-signed 512 (w % 1024) (omega arith) in
     let e : 0x2000 + w / 1024 % 8 * 1024 + w % 1024 ≡ w = omega arith in
     rw (le-ltb w 0x2000 l, lt-ltb w 0x4000 h, lt-ltb (w / 1024 % 8) 8 (omega arith), f)
-    (ap Word (ap (λ (n : ℕ). 0x2000 + w / 1024 % 8 * 1024 + n) b ∙ e))
+    (ap Some (ap (λ (n : ℕ). 0x2000 + w / 1024 % 8 * 1024 + n) b ∙ e))
 
 -- fields that follow each other
 joined : (base a b c d k m w : ℕ) → c * 8 + d ≡ k → b * 64 + k ≡ m → base + (a * 128 + m) ≡ w → base + a * 128 + b * 64 + c * 8 + d ≡ w
 joined base a b c d k m w p q r = omega (arith, p, q, r)
 
-immediate-back : (w : ℕ) → 0x6000 ≤ w → w < 0x8000 → encode_of (decode_of w) ≡ Word w
+immediate-back : (w : ℕ) → 0x6000 ≤ w → w < 0x8000 → encode_of (decode_of w) ≡ Some w
 unfolding decode_of encode_of
 immediate-back w l h =
     let e : 0x6000 + w / 2048 % 4 * 2048 + w / 8 % 256 * 8 + w % 8 ≡ w = omega arith in
     rw (le-ltb w 0x2000 (omega arith), le-ltb w 0x4000 (omega arith), le-ltb w 0x4C00 (omega arith), le-ltb w 0x5000 (omega arith))
     (rw (le-ltb w 0x6000 l, lt-ltb w 0x8000 h, lt-ltb (w / 2048 % 4) 4 (omega arith), lt-ltb (w / 8 % 256) 256 (omega arith))
-    (rw (lt-ltb (w % 8) 8 (omega arith)) (ap Word e)))
+    (rw (lt-ltb (w % 8) 8 (omega arith)) (ap Some e)))
 
 -- LDR and STR
 module _ (base w : ℕ) where
   relative-word : base + w % 16384 ≡ w
-      → relative_word base (signed_of 64 (w / 128 % 128)) (w / 64 % 2) (w / 8 % 8) (w % 8) ≡ Word w
+      → relative_word base (signed_of 64 (w / 128 % 128)) (w / 64 % 2) (w / 8 % 8) (w % 8) ≡ Some w
   relative-word e =
       let z = signed_of 64 (w / 128 % 128) in
       let f = lt-ltb (mag z) 64 (signed-mag 64 (w / 128 % 128) (omega arith)) in
@@ -86,9 +86,9 @@ module _ (base w : ℕ) where
       (sym (mod-mul w (omega arith) (omega arith))) (sym (mod-mul w (omega arith) (omega arith)))
       (ap (λ (n : ℕ). base + n) (sym (mod-mul w (omega arith) (omega arith))) ∙ e) in
       rw (f, lt-ltb (w / 64 % 2) 2 (omega arith), lt-ltb (w / 8 % 8) 8 (omega arith), lt-ltb (w % 8) 8 (omega arith))
-      (ap Word (ap (λ (n : ℕ). base + n * 128 + w / 64 % 2 * 64 + w / 8 % 8 * 8 + w % 8) b ∙ s))
+      (ap Some (ap (λ (n : ℕ). base + n * 128 + w / 64 % 2 * 64 + w / 8 % 8 * 8 + w % 8) b ∙ s))
 
-relative-back : (w : ℕ) → 0x8000 ≤ w → w < 65536 → encode_of (decode_of w) ≡ Word w
+relative-back : (w : ℕ) → 0x8000 ≤ w → w < 65536 → encode_of (decode_of w) ≡ Some w
 unfolding encode_of
 relative-back w l h =
     ap encode_of (in-relative w l)
@@ -104,11 +104,11 @@ tested : T (all_below 32 (λ hi. all_below 256 (λ lo. test (0x4000 + hi * 256 +
 unfolding test decode_of encode_of
 tested = tt
 
-is_word_lem : (x : Encoded) (w : ℕ) → T (is_word x w) → x ≡ Word w
-is_word_lem (Word v) w t = ap Word (eqb→eq v w t)
-is_word_lem Refused w t = absurd t
+is_word_lem : (x : Option ℕ) (w : ℕ) → T (is_word x w) → x ≡ Some w
+is_word_lem (Some v) w t = ap Some (eqb→eq v w t)
+is_word_lem None w t = absurd t
 
-middle-back : (w : ℕ) → 0x4000 ≤ w → w < 0x6000 → is_legal (decode_of w) ≡ true → encode_of (decode_of w) ≡ Word w
+middle-back : (w : ℕ) → 0x4000 ≤ w → w < 0x6000 → is_legal (decode_of w) ≡ true → encode_of (decode_of w) ≡ Some w
 unfolding test
 middle-back w l h e =
     let n = 0x4000 + (w - 0x4000) / 256 * 256 + (w - 0x4000) % 256 in
@@ -176,12 +176,8 @@ legal-listed : (w : ℕ) → w < 65536 → is_legal (decode_of w) ≡ not (liste
 unfolding listed_illegal
 legal-listed w h = legal-operation w ∙ ap (λ o. not (same_operation o op.Illegal)) (row-operation w h)
 
-abbrev word_in : Encoded → ℕ
-word_in (Word w) = w
-word_in Refused = 0
-
 pub same_word : SameWord
-same_word v w hv hw ev ew = (λ e. ap word_in (sym (decode-encode v hv ev) ∙ ap encode_of e ∙ decode-encode w hw ew), λ e. ap decode_of e)
+same_word v w hv hw ev ew = (λ e. same_Some v w (sym (decode-encode v hv ev) ∙ ap encode_of e ∙ decode-encode w hw ew), λ e. ap decode_of e)
 
 illegal-of : (i : Instr) → is_legal i ≡ false → i ≡ Illegal
 illegal-of Illegal e = refl

@@ -2,7 +2,7 @@
 -- each field is what the decoder takes from the word. Assumes nothing.
 use Prim.Native.Nat.{ℕ, suc, ◌+◌, ◌-◌, ◌*◌, ◌/◌, ◌%◌, ◌<◌, ◌≤◌}
 use mathlib.Core.Path.{◌≡◌, refl, ◌∙◌}
-use mathlib.Core.Bool.{Bool, true, false, ◌&&◌}
+use mathlib.Core.Bool.{Bool, true, ◌&&◌}
 use native.Mathlib.Omega.{arith}
 use borrow.Author.Tests.{lt-ltb, le-ltb, ltb-true}
 use lib.Dec.{ltb}
@@ -11,24 +11,17 @@ use lib.Signed.{mag}
 use Rattle.word.specs.Offset.{signed_of, bits_of, off_fits}
 use Rattle.isa.specs.declared.Instr.TheVariants.{Illegal, Bl, Branch, Alu, Mov, Swap, Unary, Swpb, Sxt, SetPri, Svc, SetCc, ClrCc, Cex, Ld}
 use Rattle.isa.specs.declared.Instr.TheVariants.{St, MovImm, Ldr, Str}
-use Rattle.isa.specs.declared.Encoded.TheVariants.{Word}
+use Rattle.std.proofs.lemmas.Bool.{and_parts}
+use Rattle.std.proofs.lemmas.Option.{cond_some}
 use Rattle.isa.specs.Decode.{unary_of, control_of, misc_of, memory_of, relative_of, decode_of}
-use Rattle.isa.specs.Encode.{when_fits, encode_of}
+use Rattle.isa.specs.Encode.{encode_of}
 use Rattle.isa_laws.specs.Theorems.{EncodeDecode}
 
 -- ---- what an answer that is a word says of the fields
 
-sure : (b : Bool) (x w : ℕ) → when_fits b x ≡ Word w → (b ≡ true) × (x ≡ w)
-sure true x w e = (refl, cc)
-sure false x w e = (cc, cc)
-
-both : (a b : Bool) → (a && b) ≡ true → (a ≡ true) × (b ≡ true)
-both true b e = (refl, e)
-both false b e = (let z : ◌≡◌ {A = Bool} false true = e in z, let z : ◌≡◌ {A = Bool} false true = e in (cc))
-
 -- the last bound of a row, and the rest
 last : (p : Bool) (a m : ℕ) → (p && ltb a m) ≡ true → (p ≡ true) × (a < m)
-last p a m e = ((both p (ltb a m) e).0, ltb-true a m (both p (ltb a m) e).1)
+last p a m e = ((and_parts p (ltb a m) e).0, ltb-true a m (and_parts p (ltb a m) e).1)
 
 -- ---- offsets
 
@@ -268,14 +261,14 @@ pub encode-decode : EncodeDecode
 unfolding encode_of
 encode-decode Illegal w e = cc
 encode-decode (Bl off) w e =
-    let s = sure (off_fits 4096 off) (bits_of 4096 off) w e in
+    let s = cond_some _ _ w e in
     bl off w (ltb-true (mag off) 4096 s.0) s.1
 encode-decode (Branch cond off) w e =
-    let s = sure (ltb cond 8 && off_fits 512 off) (0x2000 + cond * 1024 + bits_of 512 off) w e in
+    let s = cond_some _ _ w e in
     let b1 = last (ltb cond 8) (mag off) 512 s.0 in
     branch cond off w (ltb-true cond 8 b1.0) b1.1 s.1
 encode-decode (Alu op rc wb src dst) w e =
-    let s = sure (ltb op 12 && ltb rc 2 && ltb wb 2 && ltb src 8 && ltb dst 8)
+    let s = cond_some (ltb op 12 && ltb rc 2 && ltb wb 2 && ltb src 8 && ltb dst 8)
     (0x4000 + op * 256 + rc * 128 + wb * 64 + src * 8 + dst) w e in
     let b4 = last (ltb op 12 && ltb rc 2 && ltb wb 2 && ltb src 8) dst 8 s.0 in
     let b3 = last (ltb op 12 && ltb rc 2 && ltb wb 2) src 8 b4.0 in
@@ -283,47 +276,47 @@ encode-decode (Alu op rc wb src dst) w e =
     let b1 = last (ltb op 12) rc 2 b2.0 in
     alu op rc wb src dst w (ltb-true op 12 b1.0) b1.1 b2.1 b3.1 b4.1 s.1
 encode-decode (Mov wb src dst) w e =
-    let s = sure (ltb wb 2 && ltb src 8 && ltb dst 8) (0x4C00 + wb * 64 + src * 8 + dst) w e in
+    let s = cond_some _ _ w e in
     let b2 = last (ltb wb 2 && ltb src 8) dst 8 s.0 in
     let b1 = last (ltb wb 2) src 8 b2.0 in
     mov wb src dst w (ltb-true wb 2 b1.0) b1.1 b2.1 s.1
 encode-decode (Swap src dst ignored) w e =
-    let s = sure (ltb src 8 && ltb dst 8 && ltb ignored 2) (0x4C80 + ignored * 64 + src * 8 + dst) w e in
+    let s = cond_some _ _ w e in
     let b2 = last (ltb src 8 && ltb dst 8) ignored 2 s.0 in
     let b1 = last (ltb src 8) dst 8 b2.0 in
     swap src dst ignored w (ltb-true src 8 b1.0) b1.1 b2.1 s.1
 encode-decode (Unary op wb dst) w e =
-    let s = sure (ltb op 3 && ltb wb 2 && ltb dst 8) (0x4D00 + wb * 64 + op * 8 + dst) w e in
+    let s = cond_some _ _ w e in
     let b2 = last (ltb op 3 && ltb wb 2) dst 8 s.0 in
     let b1 = last (ltb op 3) wb 2 b2.0 in
     unary op wb dst w (ltb-true op 3 b1.0) b1.1 b2.1 s.1
 encode-decode (Swpb dst ignored) w e =
-    let s = sure (ltb dst 8 && ltb ignored 2) (0x4D18 + ignored * 64 + dst) w e in
+    let s = cond_some _ _ w e in
     let b1 = last (ltb dst 8) ignored 2 s.0 in
     swpb dst ignored w (ltb-true dst 8 b1.0) b1.1 s.1
 encode-decode (Sxt dst ignored) w e =
-    let s = sure (ltb dst 8 && ltb ignored 2) (0x4D20 + ignored * 64 + dst) w e in
+    let s = cond_some _ _ w e in
     let b1 = last (ltb dst 8) ignored 2 s.0 in
     sxt dst ignored w (ltb-true dst 8 b1.0) b1.1 s.1
 encode-decode (SetPri level) w e =
-    let s = sure (ltb level 8) (0x4D80 + level) w e in
+    let s = cond_some _ _ w e in
     setpri level w (ltb-true level 8 s.0) s.1
 encode-decode (Svc vector) w e =
-    let s = sure (ltb vector 16) (0x4DA0 + vector) w e in
+    let s = cond_some _ _ w e in
     svc vector w (ltb-true vector 16 s.0) s.1
 encode-decode (SetCc flags) w e =
-    let s = sure (ltb flags 32) (0x4DC0 + flags) w e in
+    let s = cond_some _ _ w e in
     setcc flags w (ltb-true flags 32 s.0) s.1
 encode-decode (ClrCc flags) w e =
-    let s = sure (ltb flags 32) (0x4DE0 + flags) w e in
+    let s = cond_some _ _ w e in
     clrcc flags w (ltb-true flags 32 s.0) s.1
 encode-decode (Cex cond onTrue onFalse) w e =
-    let s = sure (ltb cond 16 && ltb onTrue 8 && ltb onFalse 8) (0x5000 + cond * 64 + onTrue * 8 + onFalse) w e in
+    let s = cond_some _ _ w e in
     let b2 = last (ltb cond 16 && ltb onTrue 8) onFalse 8 s.0 in
     let b1 = last (ltb cond 16) onTrue 8 b2.0 in
     cex cond onTrue onFalse w (ltb-true cond 16 b1.0) b1.1 b2.1 s.1
 encode-decode (Ld prpo dec inc wb src dst) w e =
-    let s = sure (ltb prpo 2 && ltb dec 2 && ltb inc 2 && ltb wb 2 && ltb src 8 && ltb dst 8)
+    let s = cond_some (ltb prpo 2 && ltb dec 2 && ltb inc 2 && ltb wb 2 && ltb src 8 && ltb dst 8)
     (0x5800 + prpo * 512 + dec * 256 + inc * 128 + wb * 64 + src * 8 + dst) w e in
     let b5 = last (ltb prpo 2 && ltb dec 2 && ltb inc 2 && ltb wb 2 && ltb src 8) dst 8 s.0 in
     let b4 = last (ltb prpo 2 && ltb dec 2 && ltb inc 2 && ltb wb 2) src 8 b5.0 in
@@ -332,7 +325,7 @@ encode-decode (Ld prpo dec inc wb src dst) w e =
     let b1 = last (ltb prpo 2) dec 2 b2.0 in
     ld prpo dec inc wb src dst w (ltb-true prpo 2 b1.0) b1.1 b2.1 b3.1 b4.1 b5.1 s.1
 encode-decode (St prpo dec inc wb src dst) w e =
-    let s = sure (ltb prpo 2 && ltb dec 2 && ltb inc 2 && ltb wb 2 && ltb src 8 && ltb dst 8)
+    let s = cond_some (ltb prpo 2 && ltb dec 2 && ltb inc 2 && ltb wb 2 && ltb src 8 && ltb dst 8)
     (0x5C00 + prpo * 512 + dec * 256 + inc * 128 + wb * 64 + src * 8 + dst) w e in
     let b5 = last (ltb prpo 2 && ltb dec 2 && ltb inc 2 && ltb wb 2 && ltb src 8) dst 8 s.0 in
     let b4 = last (ltb prpo 2 && ltb dec 2 && ltb inc 2 && ltb wb 2) src 8 b5.0 in
@@ -341,18 +334,18 @@ encode-decode (St prpo dec inc wb src dst) w e =
     let b1 = last (ltb prpo 2) dec 2 b2.0 in
     st prpo dec inc wb src dst w (ltb-true prpo 2 b1.0) b1.1 b2.1 b3.1 b4.1 b5.1 s.1
 encode-decode (MovImm op byte dst) w e =
-    let s = sure (ltb op 4 && ltb byte 256 && ltb dst 8) (0x6000 + op * 2048 + byte * 8 + dst) w e in
+    let s = cond_some _ _ w e in
     let b2 = last (ltb op 4 && ltb byte 256) dst 8 s.0 in
     let b1 = last (ltb op 4) byte 256 b2.0 in
     movimm op byte dst w (ltb-true op 4 b1.0) b1.1 b2.1 s.1
 encode-decode (Ldr off wb src dst) w e =
-    let s = sure (off_fits 64 off && ltb wb 2 && ltb src 8 && ltb dst 8) (0x8000 + bits_of 64 off * 128 + wb * 64 + src * 8 + dst) w e in
+    let s = cond_some _ _ w e in
     let b3 = last (off_fits 64 off && ltb wb 2 && ltb src 8) dst 8 s.0 in
     let b2 = last (off_fits 64 off && ltb wb 2) src 8 b3.0 in
     let b1 = last (off_fits 64 off) wb 2 b2.0 in
     ldr off wb src dst w (ltb-true (mag off) 64 b1.0) b1.1 b2.1 b3.1 s.1
 encode-decode (Str off wb src dst) w e =
-    let s = sure (off_fits 64 off && ltb wb 2 && ltb src 8 && ltb dst 8) (0xC000 + bits_of 64 off * 128 + wb * 64 + src * 8 + dst) w e in
+    let s = cond_some _ _ w e in
     let b3 = last (off_fits 64 off && ltb wb 2 && ltb src 8) dst 8 s.0 in
     let b2 = last (off_fits 64 off && ltb wb 2) src 8 b3.0 in
     let b1 = last (off_fits 64 off) wb 2 b2.0 in

@@ -9,8 +9,7 @@ use lib.Dec.{eqb}
 use Rattle.word.specs.Offset.{bits_of}
 use Rattle.isa.specs.declared.Instr.TheVariants.{Illegal, Bl, Branch, Alu, Mov, Swap, Unary, Swpb, Sxt, SetPri, Svc, SetCc, ClrCc, Cex, Ld}
 use Rattle.isa.specs.declared.Instr.TheVariants.{St, MovImm, Ldr, Str}
-use Rattle.isa.specs.declared.Encoded.{Encoded}
-use Rattle.isa.specs.declared.Encoded.TheVariants.{Word, Refused}
+use Rattle.std.specs.Prelude.{Option, Some, None}
 use Rattle.isa.specs.Decode.{decode_of}
 use Rattle.isa.specs.Encode.{encode_of}
 use Rattle.isa.proofs.Laws.{decode-fields}
@@ -124,18 +123,18 @@ number-instr (Str off wb src dst) h =
 -- ---- the replies
 
 pub reply-refusal : ReplyRefusal
-reply-refusal (Word w) = omega arith
-reply-refusal Refused = refl
+reply-refusal (Some w) = omega arith
+reply-refusal None = refl
 
 -- the reply to a decoded word's number is the encoder's answer to its instruction
-reply-decoded : (w : ℕ) (x : Encoded) → encode_of (decode_of w) ≡ x → encode_number (number_of (decode_of w)) ≡ reply_of x
+reply-decoded : (w : ℕ) (x : Option ℕ) → encode_of (decode_of w) ≡ x → encode_number (number_of (decode_of w)) ≡ reply_of x
 reply-decoded w x e =
     let n = number_of (decode_of w) in
     let b : instr_of n ≡ decode_of w = number-instr (decode_of w) (decode-fields w) in
     reply-encoded n n (sym (ap number_of b)) x refl (ap encode_of b ∙ e)
 
 pub number-decode-encode : NumberDecodeEncode
-number-decode-encode w h e = reply-decoded w (Word w) (decode-encode w h e)
+number-decode-encode w h e = reply-decoded w (Some w) (decode-encode w h e)
 
 pub number-same-word : NumberSameWord
 number-same-word v w hv hw ev ew = (
@@ -146,15 +145,15 @@ number-same-word v w hv hw ev ew = (
 
 pub number-illegal : NumberIllegal
 unfolding encode_of
-number-illegal w e = reply-decoded w Refused (ap encode_of e)
+number-illegal w e = reply-decoded w None (ap encode_of e)
 
 -- by the answer to the instruction that n names
-accepted : (n : ℕ) (x : Encoded) → number_of (instr_of n) ≡ n → encode_of (instr_of n) ≡ x
+accepted : (n : ℕ) (x : Option ℕ) → number_of (instr_of n) ≡ n → encode_of (instr_of n) ≡ x
     → encode_number n ≡ reply_of x → encode_number n % 256 ≡ 0 → number_of (decode_of (encode_number n / 65536)) ≡ n
-accepted n (Word w) k q r h =
+accepted n (Some w) k q r h =
     let e : encode_number n / 65536 ≡ w = omega arith in
     rw e (ap number_of (encode-decode (instr_of n) w q) ∙ k)
-accepted n Refused k q r h = absurd (omega arith)
+accepted n None k q r h = absurd (omega arith)
 
 pub number-encode-decode : NumberEncodeDecode
 number-encode-decode n h = go (eqb (number_of (instr_of n)) n) refl

@@ -1,10 +1,8 @@
 -- What holds of the instruction set, as statements; the proofs folder has a proof of each. decode_of and encode_of are
 -- the decoder and the encoder, number_of and encode_number what the two calls of a C host exchange. Assumes nothing.
-use Rattle.std.specs.Prelude.{ℕ, ◌/◌, ◌%◌, ◌<◌, ◌≡◌, true, not, ◌↔◌}
+use Rattle.std.specs.Prelude.{ℕ, ◌/◌, ◌%◌, ◌<◌, ◌≡◌, true, not, ◌↔◌, Option, Some, None}
 use Rattle.isa.specs.declared.Instr.{Instr}
 use Rattle.isa.specs.declared.Instr.TheVariants.{Illegal}
-use Rattle.isa.specs.declared.Encoded.{Encoded}
-use Rattle.isa.specs.declared.Encoded.TheVariants.{Word, Refused}
 use Rattle.isa.specs.Decode.{decode_of}
 use Rattle.isa.specs.Encode.{encode_of}
 use Rattle.isa.specs.Legal.{is_legal}
@@ -18,12 +16,12 @@ use Rattle.isa_number.specs.Reply.{reply_of, refusal_number, encode_number}
 
 -- An instruction encoded without refusal decodes to itself. [003 14]
 abbrev pub EncodeDecode : Type 0
-EncodeDecode = (i : Instr) (w : ℕ) → encode_of i ≡ Word w → decode_of w ≡ i
+EncodeDecode = (i : Instr) (w : ℕ) → encode_of i ≡ Some w → decode_of w ≡ i
 
 -- "Encoding after decoding then gives back each legal word unaltered"; demand 2 zeroed the ignored bit.
 -- [003 14; 02 §14]
 abbrev pub DecodeEncode : Type 0
-DecodeEncode = (w : ℕ) → w < 65536 → is_legal (decode_of w) ≡ true → encode_of (decode_of w) ≡ Word w
+DecodeEncode = (w : ℕ) → w < 65536 → is_legal (decode_of w) ≡ true → encode_of (decode_of w) ≡ Some w
 
 -- "two legal ones are equal exactly if their words are". [02 §14]
 abbrev pub SameWord : Type 0
@@ -47,12 +45,12 @@ NumberInstr = (i : Instr) → Fields i → instr_of (number_of i) ≡ i
 
 -- The low byte of a reply is its refusal: 0 or 8. [01 Who can be turned back]
 abbrev pub ReplyRefusal : Type 0
-ReplyRefusal = (x : Encoded) → reply_of x % 256 ≡ refusal_number x
+ReplyRefusal = (x : Option ℕ) → reply_of x % 256 ≡ refusal_number x
 
 -- A legal word's number is encoded by that word. [02 §14]
 abbrev pub NumberDecodeEncode : Type 0
 NumberDecodeEncode =
-    (w : ℕ) → w < 65536 → is_legal (decode_of w) ≡ true → encode_number (number_of (decode_of w)) ≡ reply_of (Word w)
+    (w : ℕ) → w < 65536 → is_legal (decode_of w) ≡ true → encode_number (number_of (decode_of w)) ≡ reply_of (Some w)
 
 -- Two legal words have equal numbers exactly if they are the same word. [02 §14]
 abbrev pub NumberSameWord : Type 0
@@ -62,7 +60,7 @@ NumberSameWord =
 
 -- An illegal word's number is refused. [01 Who can be turned back]
 abbrev pub NumberIllegal : Type 0
-NumberIllegal = (w : ℕ) → decode_of w ≡ Illegal → encode_number (number_of (decode_of w)) ≡ reply_of Refused
+NumberIllegal = (w : ℕ) → decode_of w ≡ Illegal → encode_number (number_of (decode_of w)) ≡ reply_of None
 
 -- A number that is not refused is that of the instruction which the word in the reply means.
 -- [01 Who can be turned back]

@@ -1,45 +1,19 @@
 // An instruction as one number of eight bytes, there and back (specs/Number.antt has the layout).
-#![tactic(auto)]
+#![tactic(auto, unfolding(crate::specs::Number::number_of, crate::specs::Number::instr_of))]
 
 ghost use Rattle.std.specs.Prelude.{◌≡◌};
-ghost use Rattle.word.specs.Offset.{signed_of, bits_of};
 ghost use Rattle.isa_number.specs.Number.{bytes_of, number_of, up_to3_of, up_to6_of};
 ghost use Rattle.isa_number.specs.Number.{up_to12_of, up_to15_of, up_to18_of, instr_of};
+ghost use Rattle.isa_number.specs.Number.{offset_in};
 
 use isa::Instr;
-use word::magnitude;
-
-// The two's complement of a number.
-fn twos(z: i16) -> u16
-    ensures { result ≡ bits_of 0x8000 z }
-{
-    if z < 0 {
-        return 65535 - magnitude(z);
-    }
-    magnitude(z)
-}
-
-// The number with this two's complement.
-fn from_twos(n: u16) -> i16
-    ensures { result ≡ signed_of 0x8000 n }
-{
-    if n < 0x8000 {
-        return n as i16;
-    }
-    !((65535 - n) as i16)
-}
 
 // A format, five fields and the two bytes above them, lowest first.
 fn bytes(format: u8, a: u8, b: u8, c: u8, d: u8, e: u8, x: u16) -> u64
     ensures { result ≡ bytes_of format a b c d e x }
 {
-    format as u64
-        + a as u64 * 0x100
-        + b as u64 * 0x10000
-        + c as u64 * 0x1000000
-        + d as u64 * 0x100000000
-        + e as u64 * 0x10000000000
-        + x as u64 * 0x1000000000000
+    let [low, high] = x.to_le_bytes();
+    u64::from_le_bytes([format, a, b, c, d, e, low, high])
 }
 
 // An instruction's number.
@@ -48,8 +22,8 @@ pub fn number(i: Instr) -> u64
 {
     match i {
         Instr::Illegal => bytes(0, 0, 0, 0, 0, 0, 0),
-        Instr::Bl { off } => bytes(1, 0, 0, 0, 0, 0, twos(off)),
-        Instr::Branch { cond, off } => bytes(2, cond, 0, 0, 0, 0, twos(off)),
+        Instr::Bl { off } => bytes(1, 0, 0, 0, 0, 0, off.cast_unsigned()),
+        Instr::Branch { cond, off } => bytes(2, cond, 0, 0, 0, 0, off.cast_unsigned()),
         Instr::Alu {
             op,
             rc,
@@ -88,33 +62,38 @@ pub fn number(i: Instr) -> u64
             dst,
         } => bytes(15, prpo, dec, inc, wb, src, dst as u16),
         Instr::MovImm { op, byte, dst } => bytes(16, op, byte, dst, 0, 0, 0),
-        Instr::Ldr { off, wb, src, dst } => bytes(17, wb, src, dst, 0, 0, twos(off)),
-        Instr::Str { off, wb, src, dst } => bytes(18, wb, src, dst, 0, 0, twos(off)),
+        Instr::Ldr { off, wb, src, dst } => bytes(17, wb, src, dst, 0, 0, off.cast_unsigned()),
+        Instr::Str { off, wb, src, dst } => bytes(18, wb, src, dst, 0, 0, off.cast_unsigned()),
     }
+}
+
+// The offset in a number's two highest bytes.
+fn offset(n: u64) -> i16
+    ensures { result ≡ offset_in n }
+{
+    let [.., low, high] = n.to_le_bytes();
+    i16::from_le_bytes([low, high])
 }
 
 // Formats 0 to 3.
 fn up_to_3(n: u64) -> Instr
     ensures { result ≡ up_to3_of n }
 {
-    let format = n % 256;
-    if format < 1 {
-        return Instr::Illegal;
-    }
-    let off = from_twos((n / 0x1000000000000 % 0x10000) as u16);
-    if format < 2 {
-        return Instr::Bl { off };
-    }
-    let a = (n / 0x100 % 256) as u8;
-    if format < 3 {
-        return Instr::Branch { cond: a, off };
-    }
-    Instr::Alu {
-        op: a,
-        rc: (n / 0x10000 % 256) as u8,
-        wb: (n / 0x1000000 % 256) as u8,
-        src: (n / 0x100000000 % 256) as u8,
-        dst: (n / 0x10000000000 % 256) as u8,
+    let [format, op, rc, wb, src, dst, ..] = n.to_le_bytes();
+    match format {
+        0 => Instr::Illegal,
+        1 => Instr::Bl { off: offset(n) },
+        2 => Instr::Branch {
+            cond: op,
+            off: offset(n),
+        },
+        _ => Instr::Alu {
+            op,
+            rc,
+            wb,
+            src,
+            dst,
+        },
     }
 }
 
@@ -122,28 +101,23 @@ fn up_to_3(n: u64) -> Instr
 fn up_to_6(n: u64) -> Instr
     ensures { result ≡ up_to6_of n }
 {
-    let format = n % 256;
-    let a = (n / 0x100 % 256) as u8;
-    let b = (n / 0x10000 % 256) as u8;
-    let c = (n / 0x1000000 % 256) as u8;
-    if format < 5 {
-        return Instr::Mov {
+    let [format, a, b, c, ..] = n.to_le_bytes();
+    match format {
+        ..=4 => Instr::Mov {
             wb: a,
             src: b,
             dst: c,
-        };
-    }
-    if format < 6 {
-        return Instr::Swap {
+        },
+        5 => Instr::Swap {
             src: a,
             dst: b,
             ignored: c,
-        };
-    }
-    Instr::Unary {
-        op: a,
-        wb: b,
-        dst: c,
+        },
+        _ => Instr::Unary {
+            op: a,
+            wb: b,
+            dst: c,
+        },
     }
 }
 
@@ -151,62 +125,44 @@ fn up_to_6(n: u64) -> Instr
 fn up_to_12(n: u64) -> Instr
     ensures { result ≡ up_to12_of n }
 {
-    let format = n % 256;
-    let a = (n / 0x100 % 256) as u8;
-    let b = (n / 0x10000 % 256) as u8;
-    if format < 8 {
-        return Instr::Swpb { dst: a, ignored: b };
+    let [format, a, b, ..] = n.to_le_bytes();
+    match format {
+        ..=7 => Instr::Swpb { dst: a, ignored: b },
+        8 => Instr::Sxt { dst: a, ignored: b },
+        9 => Instr::SetPri { level: a },
+        10 => Instr::Svc { vector: a },
+        11 => Instr::SetCc { flags: a },
+        _ => Instr::ClrCc { flags: a },
     }
-    if format < 9 {
-        return Instr::Sxt { dst: a, ignored: b };
-    }
-    if format < 10 {
-        return Instr::SetPri { level: a };
-    }
-    if format < 11 {
-        return Instr::Svc { vector: a };
-    }
-    if format < 12 {
-        return Instr::SetCc { flags: a };
-    }
-    Instr::ClrCc { flags: a }
 }
 
 // Formats 13 to 15.
 fn up_to_15(n: u64) -> Instr
     ensures { result ≡ up_to15_of n }
 {
-    let format = n % 256;
-    let a = (n / 0x100 % 256) as u8;
-    let b = (n / 0x10000 % 256) as u8;
-    let c = (n / 0x1000000 % 256) as u8;
-    if format < 14 {
-        return Instr::Cex {
+    let [format, a, b, c, wb, src, dst, _] = n.to_le_bytes();
+    match format {
+        ..=13 => Instr::Cex {
             cond: a,
             true_count: b,
             false_count: c,
-        };
-    }
-    let wb = (n / 0x100000000 % 256) as u8;
-    let src = (n / 0x10000000000 % 256) as u8;
-    let dst = (n / 0x1000000000000 % 256) as u8;
-    if format < 15 {
-        return Instr::Ld {
+        },
+        14 => Instr::Ld {
             prpo: a,
             dec: b,
             inc: c,
             wb,
             src,
             dst,
-        };
-    }
-    Instr::St {
-        prpo: a,
-        dec: b,
-        inc: c,
-        wb,
-        src,
-        dst,
+        },
+        _ => Instr::St {
+            prpo: a,
+            dec: b,
+            inc: c,
+            wb,
+            src,
+            dst,
+        },
     }
 }
 
@@ -214,31 +170,26 @@ fn up_to_15(n: u64) -> Instr
 fn up_to_18(n: u64) -> Instr
     ensures { result ≡ up_to18_of n }
 {
-    let format = n % 256;
-    let a = (n / 0x100 % 256) as u8;
-    let b = (n / 0x10000 % 256) as u8;
-    let dst = (n / 0x1000000 % 256) as u8;
-    if format < 17 {
-        return Instr::MovImm {
+    let [format, a, b, dst, ..] = n.to_le_bytes();
+    let off = offset(n);
+    match format {
+        ..=16 => Instr::MovImm {
             op: a,
             byte: b,
             dst,
-        };
-    }
-    let off = from_twos((n / 0x1000000000000 % 0x10000) as u16);
-    if format < 18 {
-        return Instr::Ldr {
+        },
+        17 => Instr::Ldr {
             off,
             wb: a,
             src: b,
             dst,
-        };
-    }
-    Instr::Str {
-        off,
-        wb: a,
-        src: b,
-        dst,
+        },
+        _ => Instr::Str {
+            off,
+            wb: a,
+            src: b,
+            dst,
+        },
     }
 }
 
@@ -246,21 +197,12 @@ fn up_to_18(n: u64) -> Instr
 pub fn from_number(n: u64) -> Instr
     ensures { result ≡ instr_of n }
 {
-    let format = n % 256;
-    if format < 4 {
-        return up_to_3(n);
+    match n % 256 {
+        0..=3 => up_to_3(n),
+        4..=6 => up_to_6(n),
+        7..=12 => up_to_12(n),
+        13..=15 => up_to_15(n),
+        16..=18 => up_to_18(n),
+        _ => Instr::Illegal,
     }
-    if format < 7 {
-        return up_to_6(n);
-    }
-    if format < 13 {
-        return up_to_12(n);
-    }
-    if format < 16 {
-        return up_to_15(n);
-    }
-    if format < 19 {
-        return up_to_18(n);
-    }
-    Instr::Illegal
 }

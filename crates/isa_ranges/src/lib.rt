@@ -1,6 +1,6 @@
 // The operation of an instruction, and where the longest unbroken range of words with one
 // operation begins and ends around a word.
-#![tactic(auto)]
+#![tactic(auto, unfolding(crate::specs::Operation::operation_number, crate::specs::Operation::operation_in))]
 
 ghost use Rattle.std.specs.Prelude.{◌≡◌, ◌<◌, ◌≤◌, ◌+◌, ◌*◌, ◌/◌};
 ghost use Rattle.isa_ranges.specs.Operation.{branch_operation, alu_operation};
@@ -155,50 +155,7 @@ pub fn operation_of(i: Instr) -> Operation
 pub fn operation_number(o: Operation) -> u8
     ensures { result ≡ operation_number o }
 {
-    match o {
-        Operation::Illegal => 0,
-        Operation::Bl => 1,
-        Operation::Beq => 2,
-        Operation::Bne => 3,
-        Operation::Bc => 4,
-        Operation::Bnc => 5,
-        Operation::Bn => 6,
-        Operation::Bge => 7,
-        Operation::Blt => 8,
-        Operation::Bra => 9,
-        Operation::Add => 10,
-        Operation::Addc => 11,
-        Operation::Sub => 12,
-        Operation::Subc => 13,
-        Operation::Dadd => 14,
-        Operation::Cmp => 15,
-        Operation::Xor => 16,
-        Operation::And => 17,
-        Operation::Or => 18,
-        Operation::Bit => 19,
-        Operation::Bic => 20,
-        Operation::Bis => 21,
-        Operation::Mov => 22,
-        Operation::Swap => 23,
-        Operation::Sra => 24,
-        Operation::Rrc => 25,
-        Operation::Comp => 26,
-        Operation::Swpb => 27,
-        Operation::Sxt => 28,
-        Operation::SetPri => 29,
-        Operation::Svc => 30,
-        Operation::SetCc => 31,
-        Operation::ClrCc => 32,
-        Operation::Cex => 33,
-        Operation::Ld => 34,
-        Operation::St => 35,
-        Operation::Movl => 36,
-        Operation::Movlz => 37,
-        Operation::Movls => 38,
-        Operation::Movh => 39,
-        Operation::Ldr => 40,
-        Operation::Str => 41,
-    }
+    o as u8
 }
 
 // The block of this size around a word: the words with the same leading bits.
@@ -232,60 +189,42 @@ fn one_ends(w: u16) -> Ends
 fn control_ends(w: u16) -> Ends
     ensures { result ≡ control_ends w }
 {
-    if w < 0x4D88 {
-        return block(w, 8);
-    }
-    if w < 0x4DA0 {
-        return Ends {
+    match w {
+        ..0x4D88 => block(w, 8),
+        0x4D88..0x4DA0 => Ends {
             first: 0x4D88,
             last: 0x4D9F,
-        };
+        },
+        0x4DA0..0x4DC0 => block(w, 0x10),
+        _ => block(w, 0x20),
     }
-    if w < 0x4DC0 {
-        return block(w, 0x10);
-    }
-    block(w, 0x20)
 }
 
 // 4C00 to 4FFF.
 fn misc_ends(w: u16) -> Ends
     ensures { result ≡ misc_ends w }
 {
-    if w < 0x4D00 {
-        return block(w, 0x80);
+    match w {
+        ..0x4D00 => block(w, 0x80),
+        0x4D00..0x4D80 => one_ends(w),
+        0x4D80..0x4E00 => control_ends(w),
+        _ => block(w, 0x200),
     }
-    if w < 0x4D80 {
-        return one_ends(w);
-    }
-    if w < 0x4E00 {
-        return control_ends(w);
-    }
-    block(w, 0x200)
 }
 
 // The ends of the range around a word, by its leading bits.
 fn bits_ends(w: u16) -> Ends
     ensures { result ≡ bits_ends w }
 {
-    if w < 0x2000 {
-        return block(w, 0x2000);
+    match w {
+        ..0x2000 => block(w, 0x2000),
+        0x2000..0x4000 => block(w, 0x400),
+        0x4000..0x4C00 => block(w, 0x100),
+        0x4C00..0x5000 => misc_ends(w),
+        0x5000..0x6000 => block(w, 0x400),
+        0x6000..0x8000 => block(w, 0x800),
+        _ => block(w, 0x4000),
     }
-    if w < 0x4000 {
-        return block(w, 0x400);
-    }
-    if w < 0x4C00 {
-        return block(w, 0x100);
-    }
-    if w < 0x5000 {
-        return misc_ends(w);
-    }
-    if w < 0x6000 {
-        return block(w, 0x400);
-    }
-    if w < 0x8000 {
-        return block(w, 0x800);
-    }
-    block(w, 0x4000)
 }
 
 // The ends of the longest unbroken range around a word whose words all have its operation.

@@ -1,8 +1,8 @@
 -- The two calls on a journal, on their raw buffers and numbers: reply and all that they leave (document 02, §8).
 -- Assumes nothing.
-use Rattle.std.specs.Prelude.{ℕ, cond, not, List, [], ◌∷◌, ◌++◌, eqb, ltb, length}
-use Rattle.machine.specs.declared.Verdict.{Verdict}
-use Rattle.machine.specs.declared.Verdict.TheVariants.{MemoryLength, RecordLength, JournalFit, StepsKept}
+use Rattle.std.specs.Prelude.{ℕ, cond, not, List, [], ◌∷◌, ◌++◌, eqb, ltb, length, Result}
+use Rattle.machine.specs.declared.Refusal.{Refusal}
+use Rattle.machine.specs.declared.Refusal.TheVariants.{MemoryLength, RecordLength, JournalFit, StepsKept}
 use Rattle.machine.specs.Events.{events_of}
 use Rattle.machine.specs.Record.{state_in}
 use Rattle.machine.specs.Refusal.{Rule, rule, call_rules, first_broken, refusal_number, accepted?}
@@ -16,7 +16,7 @@ abbrev pub journal_rules : (memory r events log : List ℕ) → Journal → (n :
 journal_rules memory r events log j n =
     call_rules memory r events log n ++ (rule (not (journal_fits j)) JournalFit ∷ [])
 
-unfoldable pub journal_verdict : (memory r events log : List ℕ) → Journal → (n : ℕ) → Verdict
+unfoldable pub journal_verdict : (memory r events log : List ℕ) → Journal → (n : ℕ) → Result (Unit {0}) Refusal
 journal_verdict memory r events log j n = first_broken (journal_rules memory r events log j n)
 
 -- what a run with a journal gives: all that the run call gives, and the journal
@@ -51,7 +51,7 @@ back_rules k x =
     ∷ rule (ltb x.journal.kept k) StepsKept
     ∷ []
 
-unfoldable pub back_verdict : (k : ℕ) → Lent → Verdict
+unfoldable pub back_verdict : (k : ℕ) → Lent → Result (Unit {0}) Refusal
 back_verdict k x = first_broken (back_rules k x)
 
 -- the reply of going back, its refusal alone, and what it leaves. [02 §8]

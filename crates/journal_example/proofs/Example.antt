@@ -5,8 +5,8 @@ use mathlib.Core.List.{List, [], ◌∷◌}
 use mathlib.Core.Path.{◌≡◌, refl, ap}
 use lib.Dec.{lit<}
 use lib.ListN.{take, drop, get_or, replicate}
-use Rattle.machine.specs.declared.Verdict.{Verdict}
-use Rattle.machine.specs.declared.Verdict.TheVariants.{Accepted}
+use Rattle.std.specs.Prelude.{Result, Ok}
+use Rattle.machine.specs.declared.Refusal.{Refusal}
 use Rattle.machine.specs.Memory.{byte_at, write, commit}
 use Rattle.machine.specs.Record.{two_at, state_in, record_of}
 use Rattle.machine.specs.Events.{events_from}
@@ -54,13 +54,13 @@ pub record Left : Type 0 where
   pub second-sp : two_at (record_at y.journal.bytes 0) 12 ≡ 0xFFFC
   pub second-count : two_at (record_at y.journal.bytes 0) 22 ≡ 1
   -- going back 2 is accepted; then nothing is kept and the place is 1 again
-  pub accepted : back_verdict 2 y ≡ Accepted
+  pub accepted : back_verdict 2 y ≡ Ok tt
   pub back-kept : z.journal.kept ≡ 0
   pub back-place : z.journal.place ≡ 1
 
 -- all of it at once, so that the run is worked out once: numbers, bytes, and the verdict of going back
 abbrev Told : Type 0
-Told = List ℕ × List (List ℕ) × Verdict
+Told = List ℕ × List (List ℕ) × Result (Unit {0}) Refusal
 
 abbrev told : Lent → Told
 told v =
@@ -77,7 +77,7 @@ told v =
 worked : told y ≡ (
   2 ∷ 1 ∷ 1 ∷ 2 ∷ 0xFFFC ∷ 0 ∷ 0xFFFC ∷ 1 ∷ 0 ∷ 1 ∷ [],
   (0 ∷ 7 ∷ 0 ∷ 0 ∷ 0 ∷ 9 ∷ 0 ∷ 0 ∷ []) ∷ (0 ∷ 0 ∷ 0 ∷ 0 ∷ []) ∷ (0 ∷ 0 ∷ 1 ∷ 0 ∷ []) ∷ [],
-  Accepted,
+  Ok tt,
 )
 unfolding lent_after run_journal_of journal_verdict record_fits events_fit_below in_order_below twins_below events_from journal_fits
     run_logged

@@ -2,25 +2,22 @@
 -- zero bits that rule 4 asks for, and the count is the state's. Assumes nothing.
 use Prim.Native.Nat.{ℕ, ◌+◌, ◌/◌, ◌%◌, ◌<◌, ◌≤◌}
 use native.Mathlib.Omega.{arith}
-use mathlib.Core.Bool.{true, false, cond, not}
-use mathlib.Core.List.{List, [], ◌∷◌}
+use mathlib.Core.Bool.{true, not}
+use mathlib.Core.List.{List}
 use mathlib.Core.Path.{◌≡◌, refl, sym, ap, ◌∙◌}
 use mir.Val.{bool_byte}
 use lib.ListN.{length}
+use Rattle.std.specs.Prelude.{Ok}
 use Rattle.word.proofs.Laws.{bit_le}
-use Rattle.machine.specs.declared.Verdict.TheVariants.{Accepted}
 use Rattle.machine.specs.State.{State}
 use Rattle.machine.specs.Memory.{byte_at}
 use Rattle.machine.specs.Record.{two_at, four_at, state_in, record_of}
-use Rattle.machine.specs.Refusal.{Rule, rules_of, first_broken, record_fits, verdict_of}
-use Rattle.machine_laws.specs.Bounds.{Each, Tidy}
+use Rattle.machine.specs.Refusal.{rules_of, record_fits, verdict_of}
+use Rattle.machine_laws.specs.Bounds.{Tidy}
 use Rattle.machine_laws.proofs.Cases.{is_eq, is_lt, not-lt, and_both}
 use Rattle.machine_laws.proofs.Records.{record-read, start-count}
+use Rattle.run_laws.proofs.Verdicts.{none-broken}
 use Rattle.journal_laws.specs.On.{LawfulEvents}
-
-none-broken : (xs : List Rule) → Each (λ (x : Rule). x.broken ≡ false) xs → first_broken xs ≡ Accepted
-none-broken [] e = refl
-none-broken (x ∷ xs) e = ap (λ b. cond b x.verdict (first_broken xs)) e.0 ∙ none-broken xs e.1
 
 psw-in : (r memory : List ℕ) → (state_in r memory).core.psw ≡ two_at r 16
 unfolding state_in
@@ -65,7 +62,7 @@ module _ (s : State) (t : Tidy s) (fits : s.count ≤ 4294967295) where
       and_both (and_both (and_both (and_both (is_eq p) (is_lt c)) (is_eq zero_20)) (is_lt m)) (is_eq zeros_30)
 
   pub verdict-again : (events : List ℕ) (k : ℕ) → LawfulEvents events → k ≤ 1000000 → s.count + k ≤ 4294967295
-      → verdict_of s.mem (record_of s) events k ≡ Accepted
+      → verdict_of s.mem (record_of s) events k ≡ Ok tt
   unfolding verdict_of
   verdict-again events k e few h =
       let c = count-is in

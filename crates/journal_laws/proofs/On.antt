@@ -8,7 +8,7 @@ use mathlib.Core.Bool.{false, cond}
 use mathlib.Core.List.{List, [], ◌∷◌}
 use mathlib.Core.Path.{◌≡◌, refl, sym, ap, subst, ◌∙◌}
 use lib.ListN.{drop}
-use Rattle.machine.specs.declared.Verdict.TheVariants.{Accepted}
+use Rattle.std.specs.Prelude.{Ok}
 use Rattle.machine.specs.State.{State}
 use Rattle.machine.specs.Record.{state_in, record_of}
 use Rattle.machine.specs.Events.{Event, events_of}
@@ -17,8 +17,8 @@ use Rattle.machine.specs.Logged.{Logged}
 use Rattle.machine.specs.Refusal.{verdict_of, call_verdict, accepted?}
 use Rattle.machine.specs.Call.{Closing, room_of, run_on}
 use Rattle.machine_laws.specs.Bounds.{Each, Bytes, Tidy}
-use Rattle.machine_laws.proofs.Cases.{bool_cases, eq_of, neq-of}
-use Rattle.machine_laws.proofs.Records.{passed, record-written, record-read, record_bytes, is-accepted}
+use Rattle.machine_laws.proofs.Cases.{bool_cases}
+use Rattle.machine_laws.proofs.Records.{passed, record-written, record-read, record_bytes, not-zero, accepted-is}
 use Rattle.machine_laws.proofs.Runs.{run-zero}
 use Rattle.run_laws.proofs.Room.{logged-run, logged-le, records-enough, roomy-run}
 use Rattle.run_laws.proofs.Verdicts.{call-start, call-accepts}
@@ -49,7 +49,7 @@ record Same (z z' : Lent) : Type 0 where
   memory : z'.memory ≡ z.memory
   state : z'.state ≡ z.state
 
-ran-by : (w : Way) (events log : List ℕ) (n : ℕ) (z : Lent) → verdict_by w events log n z ≡ Accepted
+ran-by : (w : Way) (events log : List ℕ) (n : ℕ) (z : Lent) → verdict_by w events log n z ≡ Ok tt
     → Ran (left_by w events log n z) (run_on z.memory z.state events log n)
 ran-by plain events log n z a =
     let e = accepted-call z.memory z.state events log n a in
@@ -58,32 +58,32 @@ ran-by keeping events log n z a =
     let e = journal-answer z.memory z.state events log z.journal n a in
     record { memory = ap (λ (c : JournalClosing). c.closing.memory) e; state = ap (λ (c : JournalClosing). c.closing.state) e }
 
-call_by : (w : Way) (events log : List ℕ) (n : ℕ) (z : Lent) → verdict_by w events log n z ≡ Accepted
-    → call_verdict z.memory z.state events log n ≡ Accepted
+call_by : (w : Way) (events log : List ℕ) (n : ℕ) (z : Lent) → verdict_by w events log n z ≡ Ok tt
+    → call_verdict z.memory z.state events log n ≡ Ok tt
 call_by plain events log n z a = a
 call_by keeping events log n z a = journal-call z.memory z.state events log z.journal n a
 
 same_by : (w : Way) (events log : List ℕ) (n : ℕ) (z : Lent) → accepted? (verdict_by w events log n z) ≡ false
     → Same z (left_by w events log n z)
 same_by plain events log n z q =
-    let e = refused-call z.memory z.state events log n (neq-of q) in
+    let e = refused-call z.memory z.state events log n (not-zero (call_verdict z.memory z.state events log n) q) in
     record { memory = ap (λ (c : Closing). c.memory) e; state = ap (λ (c : Closing). c.state) e }
 same_by keeping events log n z q =
-    let e = journal-refused z.memory z.state events log z.journal n (neq-of q) in
+    let e = journal-refused z.memory z.state events log z.journal n q in
     record { memory = ap (λ (c : JournalClosing). c.closing.memory) e; state = ap (λ (c : JournalClosing). c.closing.state) e }
 
 -- its steps
 steps-refused : (a : Leg) (z : Lent) → accepted? (leg_verdict a z) ≡ false → leg_steps a z ≡ 0
 steps-refused a z q = ap (λ u. cond u (run_on z.memory z.state a.events a.log a.n).steps 0) q
 
-steps-accepted : (a : Leg) (z : Lent) → leg_verdict a z ≡ Accepted
+steps-accepted : (a : Leg) (z : Lent) → leg_verdict a z ≡ Ok tt
     → leg_steps a z ≡ (run_on z.memory z.state a.events a.log a.n).steps
 steps-accepted a z v = ap (λ u. cond (accepted? u) (run_on z.memory z.state a.events a.log a.n).steps 0) v
 
 steps-le : (a : Leg) (z : Lent) → leg_steps a z ≤ a.n
 steps-le a z =
     bool_cases (accepted? (leg_verdict a z))
-    (λ q. rw (steps-accepted a z (is-accepted (leg_verdict a z) (eq_of q)))
+    (λ q. rw (steps-accepted a z (accepted-is (leg_verdict a z) q))
     (logged-le (events_of a.events) (state_in z.state z.memory) (room_of a.log) a.n))
     (λ q. let e = steps-refused a z q in omega arith)
 
@@ -183,7 +183,7 @@ module _ (a : Leg) (k : ℕ) (y z : Lent) (h : List Past) (b : Bytes y.state) (w
   z-bytes = subst Bytes (sym f.state) (record-earlier k y.memory y.state h b)
 
   -- accepted: no step leaves all as it is, and d steps are d of those k
-  went : (d : ℕ) → X.steps ≡ d → leg_verdict a z ≡ Accepted → d ≤ k → SameDue ev (drop (k - d) h) d
+  went : (d : ℕ) → X.steps ≡ d → leg_verdict a z ≡ Ok tt → d ≤ k → SameDue ev (drop (k - d) h) d
       → Found (leg_left a z) (before (k - d) y h)
   went zero e v l due =
       let r = ran-by a.way a.events a.log a.n z v in
@@ -208,7 +208,7 @@ module _ (a : Leg) (k : ℕ) (y z : Lent) (h : List Past) (b : Bytes y.state) (w
   leg-goes : (d : ℕ) → leg_steps a z ≡ d → d ≤ k → SameDue ev (drop (k - d) h) d → Found (leg_left a z) (before (k - d) y h)
   leg-goes d e l due =
       bool_cases (accepted? (leg_verdict a z))
-      (λ q. let v = is-accepted (leg_verdict a z) (eq_of q) in went d (sym (steps-accepted a z v) ∙ e) v l due) (λ q.
+      (λ q. let v = accepted-is (leg_verdict a z) q in went d (sym (steps-accepted a z v) ∙ e) v l due) (λ q.
       let none = steps-refused a z q in
       let k-is : k ≡ k - d = omega arith in
       let same = same_by a.way a.events a.log a.n z q in
@@ -259,15 +259,15 @@ after-fits : (ev : List Event) (s : State) (j : Journal) (n : ℕ) → RingFits 
 after-fits ev s j zero f = subst RingFits (sym (after-zero ev s j)) f
 after-fits ev s j (suc n) f = subst RingFits (sym (after_next ev s j n)) (keep-fits (journal_after ev s j n) (after-fits ev s j n f) _)
 
-fits_by : (w : Way) (events log : List ℕ) (n : ℕ) (z : Lent) → verdict_by w events log n z ≡ Accepted → RingFits z.journal
+fits_by : (w : Way) (events log : List ℕ) (n : ℕ) (z : Lent) → verdict_by w events log n z ≡ Ok tt → RingFits z.journal
     → RingFits (left_by w events log n z).journal
 fits_by plain events log n z a f = f
 fits_by keeping events log n z a f =
     subst (λ (c : JournalClosing). RingFits c.journal) (sym (journal-answer z.memory z.state events log z.journal n a))
     (after-fits (events_of events) (state_in z.state z.memory) z.journal (run_on z.memory z.state events log n).steps f)
 
-accepts-by : (w : Way) (events log : List ℕ) (n : ℕ) (z : Lent) → call_verdict z.memory z.state events log n ≡ Accepted
-    → RingFits z.journal → verdict_by w events log n z ≡ Accepted
+accepts-by : (w : Way) (events log : List ℕ) (n : ℕ) (z : Lent) → call_verdict z.memory z.state events log n ≡ Ok tt
+    → RingFits z.journal → verdict_by w events log n z ≡ Ok tt
 accepts-by plain events log n z a f = a
 accepts-by keeping events log n z a f =
     journal-accepts z.memory z.state events log z.journal n a (fits-ring z.journal f)
@@ -276,7 +276,7 @@ accepts-by keeping events log n z a f =
 module _ (a : Leg) (k : ℕ) (y z : Lent) (h : List Past) (H : Holds y h k) (few : k ≤ 1000000) (f : Found z (before k y h))
     (ring : RingFits z.journal) (lawful : LawfulLeg a) (l : a.n ≤ k)
     (due : SameDue (events_of a.events) (drop (k - a.n) h) a.n) (roomy : LongEnough a.log a.events a.n z) where
-  leg-accepted : leg_verdict a z ≡ Accepted
+  leg-accepted : leg_verdict a z ≡ Ok tt
   leg-accepted =
       let s = H.state in
       let o = earlier s h k in
@@ -284,7 +284,7 @@ module _ (a : Leg) (k : ℕ) (y z : Lent) (h : List Past) (H : Holds y h k) (few
       let count = earlier-count k s y.journal h H.tidy H.count H.recalls in
       let most = H.count in
       let start = verdict-again o tidy low a.events a.n lawful (omega arith) (omega arith) in
-      let here : verdict_of z.memory z.state a.events a.n ≡ Accepted =
+      let here : verdict_of z.memory z.state a.events a.n ≡ Ok tt =
       (λ i. verdict_of ((f.memory ∙ before-memory k y h H k) i) ((f.state ∙ before-state k y h H k) i) a.events a.n) ∙ start in
       accepts-by a.way a.events a.log a.n z
       (call-accepts z.memory z.state a.events a.log a.n here roomy.whole) ring
@@ -326,7 +326,7 @@ legs-idle (a ∷ legs) z l =
     λ i. part (events_of a.events) (e i) ∷ legs-idle legs (leg_left a z) (omega arith) i
 
 -- the journal that going back leaves is one that a call takes
-back_fits : (k : ℕ) (y : Lent) → back_verdict k y ≡ Accepted → RingFits (back_of k y).journal
+back_fits : (k : ℕ) (y : Lent) → back_verdict k y ≡ Ok tt → RingFits (back_of k y).journal
 back_fits k y a =
     let ac = back-passed k y a in
     let f = ac.ring in
@@ -338,7 +338,7 @@ back_fits k y a =
     subst RingFits (sym n) (record { small = f.small; whole = f.whole; kept = omega arith; place = lower })
 
 -- by either way the runs do what they are asked for
-legs-done : (x : Lent) (cs : List Call) → Began x cs → (k : ℕ) → back_verdict k (lent_after cs x) ≡ Accepted
+legs-done : (x : Lent) (cs : List Call) → Began x cs → (k : ℕ) → back_verdict k (lent_after cs x) ≡ Ok tt
     → (legs : List Leg) → Each LawfulLeg legs → total (asked legs) ≤ k → DueAgain (asked legs) (course_from cs x).steps k
     → LogsEnough legs (back_call_of k (lent_after cs x)).lent
     → (0 < k → AllAccepted legs (back_call_of k (lent_after cs x)).lent) × (did legs (back_call_of k (lent_after cs x)).lent ≡ asked legs)

@@ -7,7 +7,7 @@ use mathlib.Core.Bool.{Bool, true, false, cond}
 use mathlib.Core.List.{List, [], ◌∷◌}
 use mathlib.Core.Path.{◌≡◌, refl, sym, ap, subst, ◌∙◌}
 use lib.ListN.{drop}
-use Rattle.machine.specs.declared.Verdict.TheVariants.{Accepted}
+use Rattle.std.specs.Prelude.{Ok}
 use Rattle.machine.specs.State.{State}
 use Rattle.machine.specs.Record.{state_in, record_of}
 use Rattle.machine.specs.Events.{Event, events_of}
@@ -17,8 +17,8 @@ use Rattle.machine.specs.Refusal.{call_verdict}
 use Rattle.machine.specs.Call.{room_of, run_on}
 use Rattle.machine_laws.specs.Bounds.{Each, Bytes}
 use Rattle.machine_laws.specs.Passed.{Passed}
-use Rattle.machine_laws.proofs.Cases.{bool_cases, eq_of, neq-of}
-use Rattle.machine_laws.proofs.Records.{passed, start-tidy, start-count, events-fit, record-written, record_bytes, is-accepted}
+use Rattle.machine_laws.proofs.Cases.{bool_cases}
+use Rattle.machine_laws.proofs.Records.{passed, start-tidy, start-count, events-fit, record-written, record_bytes, accepted-is}
 use Rattle.machine_laws.proofs.Steps.{run-tidy}
 use Rattle.run_laws.proofs.Room.{logged-run, logged-le}
 use Rattle.run_laws.proofs.Verdicts.{call-start}
@@ -47,7 +47,7 @@ memory-in r memory = refl
 
 -- an accepted run call
 module _ (events log : List ℕ) (n : ℕ) (x : Lent) (h : List Past) (be : Bytes events) (t : Told x (course_of x.memory x.state h))
-    (ok : journal_verdict x.memory x.state events log x.journal n ≡ Accepted) where
+    (ok : journal_verdict x.memory x.state events log x.journal n ≡ Ok tt) where
   abbrev ev : List Event
   ev = events_of events
 
@@ -57,7 +57,7 @@ module _ (events log : List ℕ) (n : ℕ) (x : Lent) (h : List Past) (be : Byte
   abbrev X : Logged
   X = run_on x.memory x.state events log n
 
-  call_ok : call_verdict x.memory x.state events log n ≡ Accepted
+  call_ok : call_verdict x.memory x.state events log n ≡ Ok tt
   call_ok = journal-call x.memory x.state events log x.journal n ok
 
   P : Passed x.memory x.state events n
@@ -125,7 +125,7 @@ pub split-kept : (k : ℕ) (x : Lent) (h : List Past) → k ≤ x.journal.kept �
     → Recalls x h (k + (x.journal.kept - k))
 split-kept k x h l w = let e : x.journal.kept ≡ k + (x.journal.kept - k) = omega arith in subst (Recalls x h) e w
 
-told_back : (k : ℕ) (x : Lent) (h : List Past) → Told x (course_of x.memory x.state h) → back_verdict k x ≡ Accepted
+told_back : (k : ℕ) (x : Lent) (h : List Past) → Told x (course_of x.memory x.state h) → back_verdict k x ≡ Ok tt
     → Told (back_of k x) (course_after (backs k) (course_of x.memory x.state h))
 told_back k x h t e =
     let ac = back-passed k x e in
@@ -147,17 +147,17 @@ told_back k x h t e =
 told-accepted : (a : Call) (x : Lent) (h : List Past) → CallBytes a → Told x (course_of x.memory x.state h) → taken? a x ≡ true
     → Told (left a x) (course_after a (course_of x.memory x.state h))
 told-accepted (runs events log n) x h b t q =
-    told-run events log n x h b t (is-accepted (journal_verdict x.memory x.state events log x.journal n) (eq_of q))
+    told-run events log n x h b t (accepted-is (journal_verdict x.memory x.state events log x.journal n) q)
 told-accepted (backs k) x h b t q =
-    let a = is-accepted (back_verdict k x) (eq_of q) in
+    let a = accepted-is (back_verdict k x) q in
     subst (λ (z : BackClosing). Told z.lent (course_after (backs k) (course_of x.memory x.state h))) (sym (back-answer k x a))
     (told_back k x h t a)
 
 left-refused : (a : Call) (x : Lent) → taken? a x ≡ false → left a x ≡ x
 left-refused (runs events log n) x q =
     ap (λ (y : JournalClosing). lent_of y.closing.memory y.closing.state y.journal)
-    (journal-refused x.memory x.state events log x.journal n (neq-of q))
-left-refused (backs k) x q = ap (λ (z : BackClosing). z.lent) (back-refused k x (neq-of q))
+    (journal-refused x.memory x.state events log x.journal n q)
+left-refused (backs k) x q = ap (λ (z : BackClosing). z.lent) (back-refused k x q)
 
 -- the course has what is lent
 pub course-lent : (x : Lent) (c : Course) → Found x c → course_of x.memory x.state c.steps ≡ c

@@ -1,9 +1,8 @@
 -- Running on again after going back (document 02, §8): by any runs, each with its own event list, log and number of
 -- steps, from what the one before it left, by the run call or by the run with a journal. "Each step's due events the
 -- same" compares them with the session's course, step by step. The proofs are proofs/On.antt. Assumes nothing.
-use Rattle.std.specs.Prelude.{ℕ, ◌+◌, ◌-◌, ◌%◌, ◌<◌, ◌≤◌, true, false, cond, List, [], ◌∷◌, ◌≡◌, length, drop}
-use Rattle.machine.specs.declared.Verdict.{Verdict}
-use Rattle.machine.specs.declared.Verdict.TheVariants.{Accepted}
+use Rattle.std.specs.Prelude.{ℕ, ◌+◌, ◌-◌, ◌%◌, ◌<◌, ◌≤◌, true, false, cond, List, [], ◌∷◌, ◌≡◌, length, drop, Result, Ok}
+use Rattle.machine.specs.declared.Refusal.{Refusal}
 use Rattle.machine.specs.Events.{Event, events_of, event_count}
 use Rattle.machine.specs.Record.{state_in}
 use Rattle.machine.specs.Refusal.{events_fit, events_fit_below, in_order_below, twins_below, call_verdict, accepted?}
@@ -31,7 +30,7 @@ abbrev pub leg : Way → (events log : List ℕ) (n : ℕ) → Leg
 leg w events log n = record { way = w; events = events; log = log; n = n }
 
 -- its verdict on what is lent, and what it leaves; the run call leaves the journal alone. [01 Who can be turned back]
-abbrev pub verdict_by : Way → (events log : List ℕ) (n : ℕ) → Lent → Verdict
+abbrev pub verdict_by : Way → (events log : List ℕ) (n : ℕ) → Lent → Result (Unit {0}) Refusal
 verdict_by plain events log n z = call_verdict z.memory z.state events log n
 verdict_by keeping events log n z = journal_verdict z.memory z.state events log z.journal n
 
@@ -41,7 +40,7 @@ left_by plain events log n z =
     lent_of y.memory y.state z.journal
 left_by keeping events log n z = left (runs events log n) z
 
-abbrev pub leg_verdict : Leg → Lent → Verdict
+abbrev pub leg_verdict : Leg → Lent → Result (Unit {0}) Refusal
 leg_verdict a z = verdict_by a.way a.events a.log a.n z
 
 abbrev pub leg_left : Leg → Lent → Lent
@@ -100,7 +99,7 @@ pub record Again (k j : ℕ) (c : Course) (y z : Lent) : Type 0 where
 abbrev pub RunsOn : Type 0
 RunsOn =
     (x : Lent) (cs : List Call) → Began x cs →
-    (k : ℕ) → back_verdict k (lent_after cs x) ≡ Accepted →
+    (k : ℕ) → back_verdict k (lent_after cs x) ≡ Ok tt →
     (legs : List Leg) →
     let z = (back_call_of k (lent_after cs x)).lent in
     total (did legs z) ≤ k →
@@ -129,7 +128,7 @@ LogsEnough (a ∷ legs) z = LongEnough a.log a.events a.n z × LogsEnough legs (
 
 abbrev pub AllAccepted : List Leg → Lent → Type 0
 AllAccepted [] z = Unit {0}
-AllAccepted (a ∷ legs) z = (leg_verdict a z ≡ Accepted) × AllAccepted legs (leg_left a z)
+AllAccepted (a ∷ legs) z = (leg_verdict a z ≡ Ok tt) × AllAccepted legs (leg_left a z)
 
 -- Runs that are accepted and do what they are asked for. (Runs of no steps after going back 0 may be refused, as at a
 -- state record that no run has accepted yet; they leave the same state and memory all the same.) [02 §8]
@@ -144,7 +143,7 @@ pub record RanOn (k : ℕ) (legs : List Leg) (c : Course) (y z : Lent) : Type 0 
 abbrev pub RunsOnAgain : Type 0
 RunsOnAgain =
     (x : Lent) (cs : List Call) → Began x cs →
-    (k : ℕ) → back_verdict k (lent_after cs x) ≡ Accepted →
+    (k : ℕ) → back_verdict k (lent_after cs x) ≡ Ok tt →
     (legs : List Leg) → Each LawfulLeg legs → total (asked legs) ≤ k →
     DueAgain (asked legs) (course_from cs x).steps k →
     LogsEnough legs (back_call_of k (lent_after cs x)).lent →

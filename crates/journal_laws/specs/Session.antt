@@ -2,8 +2,7 @@
 -- caller knows of it, the journal's bytes left out (document 02, §8). The promise of going back is stated here, of the
 -- raw buffers and numbers, and that of running on in On.antt; the proofs are proofs/Session.antt and proofs/On.antt.
 -- Assumes nothing.
-use Rattle.std.specs.Prelude.{ℕ, zero, suc, ◌≤◌, Bool, cond, List, [], ◌∷◌, ◌≡◌, length}
-use Rattle.machine.specs.declared.Verdict.TheVariants.{Accepted}
+use Rattle.std.specs.Prelude.{ℕ, zero, suc, ◌≤◌, Bool, cond, List, [], ◌∷◌, ◌≡◌, length, Ok}
 use Rattle.machine.specs.Events.{events_of}
 use Rattle.machine.specs.Record.{state_in, record_of}
 use Rattle.machine.specs.Refusal.{accepted?}
@@ -109,5 +108,5 @@ pub record WentBack (k : ℕ) (c : Course) (z : Lent) : Type 0 where
 abbrev pub GoesBack : Type 0
 GoesBack =
     (x : Lent) (cs : List Call) → Began x cs →
-    (k : ℕ) → back_verdict k (lent_after cs x) ≡ Accepted →
+    (k : ℕ) → back_verdict k (lent_after cs x) ≡ Ok tt →
     WentBack k (course_from cs x) (back_call_of k (lent_after cs x)).lent

@@ -6,8 +6,8 @@ use mathlib.Core.List.{[]}
 use mathlib.Core.Path.{◌≡◌, refl, subst}
 use lib.Dec.{lit<, lit≤}
 use lib.ListN.{replicate}
+use Rattle.std.specs.Prelude.{Ok}
 use Rattle.isa.specs.Decode.{decode_of}
-use Rattle.machine.specs.declared.Verdict.TheVariants.{Accepted}
 use Rattle.machine.specs.Memory.{byte_at, commit}
 use Rattle.machine.specs.Record.{two_at, state_in, record_of}
 use Rattle.machine.specs.Events.{event_at, events_from}
@@ -65,7 +65,7 @@ unfolding lent_after run_journal_of journal_verdict record_fits event_fits event
     advanced granted decode_of effect_of perform commit state_in record_of journal_after keep journal_record address_of fields_of bytes_from
 numbers = (refl, refl, refl, refl)
 
-pub accepted : back_verdict 3 y ≡ Accepted
+pub accepted : back_verdict 3 y ≡ Ok tt
 unfolding lent_after run_journal_of journal_verdict record_fits event_fits events_fit_below in_order in_order_below twins_below
     event_below event_at
     events_from journal_fits run_logged logged_next shown_on log_bytes run_of step_of event_on deliver_at plan_of interrupt_of best_from

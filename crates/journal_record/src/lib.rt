@@ -27,7 +27,7 @@ fn word_at(a: ByteAddr) -> u16
 fn frame_at(stack: u16) -> u16
     ensures { result ≡ even (down stack 8) }
 {
-    word_at(ByteAddr(std::num::wrapping_sub_u16(stack, 8)))
+    word_at(ByteAddr(stack.wrapping_sub(8)))
 }
 
 // The first byte of a store where it is outside the device bytes, else 0.
@@ -56,8 +56,7 @@ fn address_of(a: Act, stack: u16) -> u16
 }
 
 // The byte at an address before the events.
-fn byte_before(devices: &[u8; 16], mem: &[u8], a: u16) -> u8
-    requires { length mem.now ≡ 65536 }
+fn byte_before(devices: &[u8; 16], mem: &[u8; 65536], a: u16) -> u8
     ensures { (m : List ℕ) → Before m devices.now mem.now
         → result ≡ byte_at m a }
 {
@@ -69,8 +68,9 @@ fn byte_before(devices: &[u8; 16], mem: &[u8], a: u16) -> u8
 }
 
 // The eight bytes from an address on that meets no device byte and does not wrap.
-fn eight_at(mem: &[u8], a: u16) -> [u8; 8]
-    requires { (length mem.now ≡ 65536) × (16 ≤ a) × (a ≤ 65528) }
+// Kept: eight reads in a row, of which the compiler makes one.
+fn eight_at(mem: &[u8; 65536], a: u16) -> [u8; 8]
+    requires { (16 ≤ a) × (a ≤ 65528) }
     ensures { (m : List ℕ) (d : List ℕ) → Before m d mem.now
         → result ≡ bytes_from m a 8 }
 {
@@ -99,8 +99,7 @@ fn first_eight(devices: &[u8; 16]) -> [u8; 8]
 }
 
 // The eight bytes from any address on before the events, addresses wrapping.
-fn eight_before(devices: &[u8; 16], mem: &[u8], a: u16) -> [u8; 8]
-    requires { length mem.now ≡ 65536 }
+fn eight_before(devices: &[u8; 16], mem: &[u8; 65536], a: u16) -> [u8; 8]
     ensures { (m : List ℕ) → Before m devices.now mem.now
         → result ≡ bytes_from m a 8 }
 {
@@ -112,13 +111,13 @@ fn eight_before(devices: &[u8; 16], mem: &[u8], a: u16) -> [u8; 8]
     }
     [
         byte_before(devices, mem, a),
-        byte_before(devices, mem, std::num::wrapping_add_u16(a, 1)),
-        byte_before(devices, mem, std::num::wrapping_add_u16(a, 2)),
-        byte_before(devices, mem, std::num::wrapping_add_u16(a, 3)),
-        byte_before(devices, mem, std::num::wrapping_add_u16(a, 4)),
-        byte_before(devices, mem, std::num::wrapping_add_u16(a, 5)),
-        byte_before(devices, mem, std::num::wrapping_add_u16(a, 6)),
-        byte_before(devices, mem, std::num::wrapping_add_u16(a, 7)),
+        byte_before(devices, mem, a.wrapping_add(1)),
+        byte_before(devices, mem, a.wrapping_add(2)),
+        byte_before(devices, mem, a.wrapping_add(3)),
+        byte_before(devices, mem, a.wrapping_add(4)),
+        byte_before(devices, mem, a.wrapping_add(5)),
+        byte_before(devices, mem, a.wrapping_add(6)),
+        byte_before(devices, mem, a.wrapping_add(7)),
     ]
 }
 
@@ -127,32 +126,36 @@ fn put_bytes(e: &mut [u8], at: usize, v: &[u8])
     requires { at + length v.now ≤ length e.old }
     ensures { e.new ≡ sets e.old at v.now }
 {
-    let mut i: usize = 0;
-    while i < v.len() {
+    for i in 0..v.len() {
         e[at + i] = v[i];
-        i += 1;
     }
 }
 
 // All 64 bytes of a record.
-fn fill(e: &mut [u8], m: Machine, devices: &[u8; 16], mem: &[u8], a: u16)
-    requires { (length e.old ≡ 64) × (length mem.now ≡ 65536) }
+fn fill(e: &mut [u8], m: Machine, devices: &[u8; 16], mem: &[u8; 65536], a: u16)
+    requires { length e.old ≡ 64 }
     ensures { (b : List ℕ) → Before b devices.now mem.now
         → e.new
         ≡ fields_of (record_of (state_of m b)) (bytes_from b 0 16) a (bytes_from b a 8) }
 {
     let eight = eight_before(devices, mem, a);
-    let zeros: [u8; 6] = [0; 6];
     state_record::write_record(&mut e[..32], m);
     put_bytes(e, 32, devices);
     little_endian::put_two(e, 48, a);
     put_bytes(e, 50, &eight);
-    put_bytes(e, 58, &zeros);
+    put_bytes(e, 58, &[0; 6]);
 }
 
 // The record at place p of the journal.
-fn put_record(journal: &mut [u8], p: usize, m: Machine, devices: &[u8; 16], mem: &[u8], a: u16)
-    requires { (64 * p + 64 ≤ length journal.old) × (length mem.now ≡ 65536) }
+fn put_record(
+    journal: &mut [u8],
+    p: usize,
+    m: Machine,
+    devices: &[u8; 16],
+    mem: &[u8; 65536],
+    a: u16,
+)
+    requires { 64 * p + 64 ≤ length journal.old }
     ensures { (b : List ℕ) → Before b devices.now mem.now
         → journal.new ≡ sets journal.old (64 * p)
         (fields_of (record_of (state_of m b)) (bytes_from b 0 16) a (bytes_from b a 8)) }
@@ -198,11 +201,11 @@ pub fn keep_step(
     r: Ring,
     m: Machine,
     devices: &[u8; 16],
-    mem: &[u8],
+    mem: &[u8; 65536],
     a: Act,
     stack: u16,
 ) -> Ring
-    requires { (length mem.now ≡ 65536) × Lends journal.old r }
+    requires { Lends journal.old r }
     ensures kept { (b : List ℕ) (c : Core) → Before b devices.now
         mem.now → sp c ≡ stack
         → journal_with journal.new result

@@ -6,7 +6,7 @@ ghost use Rattle.journal.specs.Ring.{journal_of, journal_fits};
 ghost use Rattle.journal.specs.Back.{lent_of};
 ghost use Rattle.journal.specs.Call.{back_verdict};
 
-use machine::Verdict;
+use machine::{Refusal, Verdict};
 
 // Rule 14: is the journal one that a call may work with, by its length, the number kept and the
 // next place?
@@ -43,16 +43,16 @@ pub fn back_verdict(
 {
     let fits = journal_fits(journal, kept, place);
     if memory.len() != 65536 {
-        return Verdict::MemoryLength;
+        return Err(Refusal::MemoryLength);
     }
     if state.len() != 32 {
-        return Verdict::RecordLength;
+        return Err(Refusal::RecordLength);
     }
     if !fits {
-        return Verdict::JournalFit;
+        return Err(Refusal::JournalFit);
     }
     if (kept as u64) < k {
-        return Verdict::StepsKept;
+        return Err(Refusal::StepsKept);
     }
-    Verdict::Accepted
+    Ok(())
 }

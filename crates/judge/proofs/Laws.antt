@@ -5,56 +5,39 @@ use mathlib.Core.List.{List}
 use mathlib.Core.Path.{◌≡◌, refl, sym, ap, ◌∙◌}
 use lib.Dec.{eqb}
 use lib.ListN.{length}
-use Rattle.machine.specs.declared.Act.{Act}
-use Rattle.machine.specs.declared.Act.TheVariants as acts
 use Rattle.machine.specs.State.{State, core_of}
 use Rattle.machine.specs.Step.{Plan, plan_of, perform, closed, finished}
 use Rattle.step_plan.specs.declared.Planned.{Planned}
-use Rattle.step_plan.specs.Planned.{plan_with, Within}
+use Rattle.step_plan.specs.Planned.{plan_with}
 use Rattle.soundness.specs.Findings.{applications?}
 use Rattle.soundness.specs.Watch.{Watch, Held, seen_by, watch_after, owns_after, devices_after, oldest_after, marked, writer_of, no_device?}
-use Rattle.writers.specs.First.{TrapsWithin}
-use Rattle.open_frames.specs.declared.Open.{Open}
-use Rattle.open_frames.specs.Open.{handler_of, held_rows}
+use Rattle.open_frames.specs.declared.Frames.{Frames}
+use Rattle.open_frames.specs.Open.{handler_of, devices_of}
 use Rattle.open_frames.proofs.Laws.{none-held, held-length}
 use Rattle.judge_step.specs.Look.{Begins}
 use Rattle.judge.specs.Taken.{watch_with}
 
-pub within-traps : (a : Act) → Within a → TrapsWithin a
-within-traps acts.Stopped h = tt
-within-traps acts.Pull h = tt
-within-traps (acts.Chain d) h = tt
-within-traps (acts.Accept d) h = tt
-within-traps acts.Sleep h = tt
-within-traps (acts.Fault v) h = tt
-within-traps acts.Halt h = tt
-within-traps acts.Skip h = tt
-within-traps (acts.Trap v) h = h
-within-traps acts.Plain h = tt
-within-traps (acts.Loads byte a d) h = tt
-within-traps (acts.Stores byte a v) h = tt
-
 module _
-    (b : State) (k : ℕ) (o : Open) (before regs mem kept opened vectors writers : List ℕ) (p : Planned) (lines count : ℕ)
+    (b : State) (k : ℕ) (f : Frames) (before regs mem writers : List ℕ) (p : Planned) (lines count : ℕ)
     (er : b.core.regs ≡ before) (em : b.mem ≡ mem) (el : b.lines ≡ lines) (ec : b.count ≡ count)
     (ep : plan_with regs p ≡ plan_of b) (t : State) where
   abbrev w : Watch
-  w = watch_with o kept opened vectors writers
+  w = watch_with f writers
 
   abbrev hs : List Held
-  hs = held_rows kept opened vectors o.held
+  hs = devices_of f
 
   act-is : p.act ≡ (plan_of b).act
   act-is = ap (λ (q : Plan). q.act) ep
 
-  pub begins-law : Begins p.act before mem kept opened vectors writers o.owns o.held (seen_by (plan_of b).act b t w)
+  pub begins-law : Begins p.act before mem f writers (seen_by (plan_of b).act b t w)
   begins-law =
       record {
         does = sym act-is;
         registers = er;
         memory = em;
-        none = ap (λ n. eqb (o.owns + n) 0) (held-length kept opened vectors o.held);
-        own = none-held kept opened vectors o.held;
+        none = ap (λ n. eqb (f.open.owns + n) 0) (held-length f.places f.open.held);
+        own = none-held f.places f.open.held;
         changed = refl;
         by = refl;
         marks = refl;
@@ -63,21 +46,22 @@ module _
   pub leaves-law : t ≡ closed (perform p.act (core_of regs p.psw p.cex) lines mem) count mem → t ≡ finished b
   leaves-law e = e ∙ (λ i. closed (perform (ep i).act (ep i).core (sym el i) (sym em i)) (sym ec i) (sym em i))
 
-  pub watched-law : (o' : Open) (kept' opened' vectors' writers' : List ℕ) (mine : Bool) (who : ℕ)
-      → o'.owns ≡ owns_after p.act o.owns hs
-      → held_rows kept' opened' vectors' o'.held ≡ devices_after p.act k t o.owns hs
-      → handler_of o'.oldest ≡ oldest_after p.act k (o.owns + o.held) (eqb o.held 0) (handler_of o.oldest)
+  pub watched-law : (f' : Frames) (writers' : List ℕ) (mine : Bool) (who : ℕ)
+      → f'.open.owns ≡ owns_after p.act f.open.owns hs
+      → devices_of f' ≡ devices_after p.act k t f.open.owns hs
+      → handler_of f'.open.oldest ≡ oldest_after p.act k (f.open.owns + f.open.held) (eqb f.open.held 0) (handler_of f.open.oldest)
       → mine ≡ applications? (seen_by (plan_of b).act b t w) → who ≡ cond mine 1 2
       → writers' ≡ marked who (perform p.act (core_of regs p.psw p.cex) lines mem).writes writers
-      → watch_with o' kept' opened' vectors' writers' ≡ watch_after (plan_of b).act k b t w
-  watched-law o' kept' opened' vectors' writers' mine who e1 e2 e3 em' ew e4 =
+      → watch_with f' writers' ≡ watch_after (plan_of b).act k b t w
+  watched-law f' writers' mine who e1 e2 e3 em' ew e4 =
       let a = act-is in
-      let n = held-length kept opened vectors o.held in
-      let own = none-held kept opened vectors o.held in
-      let f1 : o'.owns ≡ owns_after (plan_of b).act o.owns hs = e1 ∙ ap (λ x. owns_after x o.owns hs) a in
-      let f2 : held_rows kept' opened' vectors' o'.held ≡ devices_after (plan_of b).act k t o.owns hs =
+      let o = f.open in
+      let n = held-length f.places o.held in
+      let own = none-held f.places o.held in
+      let f1 : f'.open.owns ≡ owns_after (plan_of b).act o.owns hs = e1 ∙ ap (λ x. owns_after x o.owns hs) a in
+      let f2 : devices_of f' ≡ devices_after (plan_of b).act k t o.owns hs =
       e2 ∙ ap (λ x. devices_after x k t o.owns hs) a in
-      let f3 : handler_of o'.oldest ≡ oldest_after (plan_of b).act k (o.owns + length hs) (no_device? hs) (handler_of o.oldest) =
+      let f3 : handler_of f'.open.oldest ≡ oldest_after (plan_of b).act k (o.owns + length hs) (no_device? hs) (handler_of o.oldest) =
       e3 ∙ (λ i. oldest_after (a i) k (o.owns + sym n i) (sym own i) (handler_of o.oldest)) in
       let f4 : writers'
       ≡ marked (writer_of (plan_of b).act hs) (perform (plan_of b).act (plan_of b).core b.lines b.mem).writes writers =

@@ -18,19 +18,19 @@ use Rattle.machine.specs.declared.Rest.{Rest}
 use Rattle.soundness.specs.Findings.{handler, find_after}
 use Rattle.soundness.specs.Watch.{Watch, unwatched, open_in, seen_by, watch_after}
 use Rattle.soundness.specs.Judge.{Judging, begun, holds?, too_deep?, over?, onward, judged_run, findings_bytes}
-use Rattle.open_frames.specs.declared.Open.{Open}
-use Rattle.open_frames.specs.Open.{handler_of, held_rows}
+use Rattle.open_frames.specs.declared.Frames.{Frames}
+use Rattle.open_frames.specs.Open.{handler_of, held_rows, devices_of}
 use Rattle.open_frames.proofs.Laws.{none-held, held-length}
 use Rattle.judge.specs.Taken.{watch_with, TakenIs}
 use Rattle.judge.specs.Reached.{told_by, Reaches, JudgedIs}
 
 -- the test for depth, as code has it
-pub deep-law : (o : Open) (l p v w : List ℕ) (a : Act)
-    → (eqb o.held 256 && holds? a o.owns (eqb o.held 0)) ≡ too_deep? a (watch_with o l p v w)
-deep-law o l p v w a =
-    let n = held-length l p v o.held in
-    let own = none-held l p v o.held in
-    sym (λ i. eqb (n i) 256 && holds? a o.owns (own i))
+pub deep-law : (f : Frames) (w : List ℕ) (a : Act)
+    → (eqb f.open.held 256 && holds? a f.open.owns (eqb f.open.held 0)) ≡ too_deep? a (watch_with f w)
+deep-law f w a =
+    let n = held-length f.places f.open.held in
+    let own = none-held f.places f.open.held in
+    sym (λ i. eqb (n i) 256 && holds? a f.open.owns (own i))
 
 -- nothing more happens to a run that is over
 over-stays : (ev : List Event) (x : Judging) → over? x ≡ true → onward ev x ≡ x
@@ -135,10 +135,10 @@ module _ (ev : List Event) (s₀ : State) where
         let same : done ≡ n = eq_of (sym (ap (λ (x : Bool). x || eqb done n) q) ∙ e) in
         subst (λ k. Reaches s₀ c (judged_run ev s₀ k) s done w l false) same h)
 
-pub deep_is : (o : Open) (l p v w : List ℕ) (a a' : Act) → a ≡ a' → (r : Bool)
-    → r ≡ (eqb o.held 256 && holds? a o.owns (eqb o.held 0)) → too_deep? a' (watch_with o l p v w) ≡ r
-deep_is o l p v w a a' e r h =
-    sym (deep-law o l p v w a') ∙ ap (λ x. eqb o.held 256 && holds? x o.owns (eqb o.held 0)) (sym e) ∙ sym h
+pub deep_is : (f : Frames) (w : List ℕ) (a a' : Act) → a ≡ a' → (r : Bool)
+    → r ≡ (eqb f.open.held 256 && holds? a f.open.owns (eqb f.open.held 0)) → too_deep? a' (watch_with f w) ≡ r
+deep_is f w a a' e r h =
+    sym (deep-law f w a') ∙ ap (λ x. eqb f.open.held 256 && holds? x f.open.owns (eqb f.open.held 0)) (sym e) ∙ sym h
 
 -- the same where what is held is equal part by part
 pub carried : {s₀ : State} {c : ℕ} {x : Judging} {regs regs' m m' l : List ℕ} {t : Rest} {d : ℕ} {w : Watch} {b b' : Bool}
@@ -153,26 +153,26 @@ carried {t = t} em er eb h =
     }
 
 -- before the first step
-pub start-law : (ev : List Event) (s : State) (c : ℕ) (o : Open) (l p v w f : List ℕ)
-    → (o.owns ≡ 0) × (o.held ≡ 0) × (handler_of o.oldest ≡ handler 0 16 16) → w ≡ replicate 65536 0
+pub start-law : (ev : List Event) (s : State) (c : ℕ) (o : Frames) (w f : List ℕ)
+    → (o.open.owns ≡ 0) × (o.open.held ≡ 0) × (handler_of o.open.oldest ≡ handler 0 16 16) → w ≡ replicate 65536 0
     → f ≡ findings_bytes c (told_by s (begun s))
-    → Reaches s c (judged_run ev s 0) s 0 (watch_with o l p v w) f false
-start-law ev s c o l p v w f eo ew ef =
-    let rows : held_rows l p v o.held ≡ [] = ap (held_rows l p v) eo.1 in
-    let carries : watch_with o l p v w ≡ unwatched =
+    → Reaches s c (judged_run ev s 0) s 0 (watch_with o w) f false
+start-law ev s c o w f eo ew ef =
+    let rows : devices_of o ≡ [] = ap (held_rows o.places) eo.1 in
+    let carries : watch_with o w ≡ unwatched =
     λ i. record { owns = eo.0 i; devices = rows i; oldest = eo.2 i; writers = ew i } in
-    reaches-start ev s c (watch_with o l p v w) f
+    reaches-start ev s c (watch_with o w) f
     (record { state = refl; steps = refl; watch = carries; told = ef; stopped = refl })
 
 -- what is told at the end
-pub end-law : (ev : List Event) (s₀ : State) (n c : ℕ) (s : State) (done : ℕ) (o : Open) (l p v w f : List ℕ) (deep : Bool)
-    → Reaches s₀ c (judged_run ev s₀ n) s done (watch_with o l p v w) f deep
-    → JudgedIs s₀ c (judged_run ev s₀ n) s done o deep w f
-end-law ev s₀ n c s done o l p v w f deep h =
+pub end-law : (ev : List Event) (s₀ : State) (n c : ℕ) (s : State) (done : ℕ) (o : Frames) (w f : List ℕ) (deep : Bool)
+    → Reaches s₀ c (judged_run ev s₀ n) s done (watch_with o w) f deep
+    → JudgedIs s₀ c (judged_run ev s₀ n) s done o.open deep w f
+end-law ev s₀ n c s done o w f deep h =
     record {
       state = h.state;
       steps = h.steps;
-      none = sym (ap (λ k. eqb (o.owns + k) 0) (held-length l p v o.held)) ∙ ap (λ x. eqb (open_in x) 0) h.watch;
+      none = sym (ap (λ k. eqb (o.open.owns + k) 0) (held-length o.places o.open.held)) ∙ ap (λ x. eqb (open_in x) 0) h.watch;
       oldest = ap (λ (x : Watch). x.oldest) h.watch;
       stopped = h.stopped;
       marks = ap (λ (x : Watch). x.writers) h.watch;

@@ -9,29 +9,18 @@ ghost use Rattle.machine.specs.Step.{plan_of};
 ghost use Rattle.step_plan.specs.Planned.{plan_with, Within};
 ghost use Rattle.devices.specs.Cursor.{Ordered};
 ghost use Rattle.soundness.specs.Judge.{holds?, begun, judged_run, findings_bytes};
-ghost use Rattle.open_frames.specs.Open.{Places};
 ghost use Rattle.judge.specs.Taken.{watch_with, TakenIs};
 ghost use Rattle.judge.specs.Reached.{told_by, JudgedIs};
 
 use machine::{Act, Lines, Machine, Rest};
-use open_frames::Open;
+use open_frames::{Frames, Open};
 use step_plan::Planned;
 
 // Who writes in a step: 1 the application, 2 a handler or an entry.
 fn writer(mine: bool) -> u8
     ensures { result ≡ cond mine 1 2 }
 {
-    if mine {
-        return 1;
-    }
-    2
-}
-
-// What a step leaves beside its buffers.
-#[derive(Clone, Copy)]
-struct Taken {
-    rest: Rest,
-    frames: Open,
+    if mine { 1 } else { 2 }
 }
 
 // Step `done` of a judged run, planned from the registers `before`, taken: looked at, marked, done,
@@ -39,56 +28,46 @@ struct Taken {
 fn take(
     regs: &mut [u16; 8],
     before: &[u16; 8],
-    memory: &mut [u8],
-    kept: &mut [u16],
-    opened: &mut [u32],
-    vectors: &mut [u8],
+    memory: &mut [u8; 65536],
+    frames: &mut Frames,
     writers: &mut [u8],
     findings: &mut [u8],
-    o: Open,
     lines: Lines,
     count: u32,
     start: u32,
     done: u32,
     p: Planned,
-) -> Taken
-    requires { (length memory.old ≡ 65536) × Places kept.old opened.old vectors.old
-        × (length writers.old ≡ 65536) × (length findings.old ≡ 144)
-        × (o.held ≤ 256) × (o.owns ≤ 4000000000) × (count < 4294967295)
-        × Within p.act
-        × ((eqb o.held 256 && holds? p.act o.owns (eqb o.held 0)) ≡ false) }
+) -> Rest
+    requires { (length writers.old ≡ 65536) × (length findings.old ≡ 144)
+        × (frames.old.open.held ≤ 256) × (frames.old.open.owns ≤ 4000000000)
+        × (count < 4294967295) × Within p.act
+        × ((eqb frames.old.open.held 256 && holds? p.act frames.old.open.owns (eqb
+        frames.old.open.held 0)) ≡ false) }
     ensures step { (b : State) → b.core.regs ≡ before.now
         → b.mem ≡ memory.old → b.lines ≡ lines → b.count ≡ count
         → plan_with regs.old p ≡ plan_of b
-        → TakenIs b (state_with regs.new result.rest memory.new) done start
-        (watch_with o kept.old opened.old vectors.old
-        writers.old)
-        (watch_with result.frames kept.new opened.new vectors.new
-        writers.new)
+        → TakenIs b (state_with regs.new result memory.new) done start
+        (watch_with frames.old writers.old) (watch_with frames.new writers.new)
         findings.old findings.new }
-    ensures bounds { (result.frames.held ≤ 256) × (result.frames.owns ≤ o.owns + 1) }
+    ensures bounds { (frames.new.open.held ≤ 256)
+        × (frames.new.open.owns ≤ frames.old.open.owns + 1) }
 {
     let act = p.act;
-    let held = o.held;
-    let h = open_frames::runs(opened, vectors, held);
-    let l = judge_step::looked(kept, writers, held, act, before, memory);
+    let h = open_frames::runs(frames);
+    let l = judge_step::looked(frames, writers, act, before, memory);
     writers::mark_writes(writers, memory, act, regs[6], writer(l.mine));
     let t = step::perform(regs, memory, lines, count, p);
-    let x = judge_step::shown(l, act, o.owns, held, t.psw, before[7]);
+    let x = judge_step::shown(l, act, frames, t.psw, before[7]);
     findings::tell_step(findings, x, start, done, h);
-    let f = open_frames::watch_after(kept, opened, vectors, o, act, done, regs, memory);
-    Taken { rest: t, frames: f }
+    open_frames::watch_after(frames, act, done, regs, memory);
+    t
 }
 
 // Would the act make one device's frame more than there are places for?
 fn too_deep(act: Act, o: Open) -> bool
     ensures { result ≡ (eqb o.held 256 && holds? act o.owns (eqb o.held 0)) }
 {
-    let n = o.held;
-    if n == 256 {
-        return held_frames::holds(act, o.owns, n == 0);
-    }
-    false
+    o.held == 256 && held_frames::holds(act, o.owns, o.held == 0)
 }
 
 // What a judged run leaves beside its buffers: the machine, the frames open, whether a step was
@@ -106,17 +85,17 @@ pub struct Judged {
 // changed and the device bytes that its events changed.
 pub fn judge_run(
     m: Machine,
-    memory: &mut [u8],
+    memory: &mut [u8; 65536],
     events: &[u8],
     writers: &mut [u8],
     findings: &mut [u8],
     n: u32,
 ) -> Judged
-    requires { (length memory.old ≡ 65536) × (m.rest.count + n ≤ 4294967295) × Ordered events.now
+    requires { (m.rest.count + n ≤ 4294967295) × Ordered events.now
         × (events_fit_below events.now (event_count events.now) ≡ true) × (n ≤ 1000000)
         × (writers.old ≡ replicate 65536 0) × (length findings.old ≡ 144)
-        × (findings.old ≡ findings_bytes m.rest.count
-        (told_by (state_of m memory.old) (begun (state_of m memory.old)))) }
+        × (findings.old ≡ findings_bytes m.rest.count (told_by (state_of m memory.old) (begun
+        (state_of m memory.old)))) }
     ensures { JudgedIs (state_of m memory.old) m.rest.count
         (judged_run (events_of events.now) (state_of m memory.old) n)
         (state_of result.machine memory.new) result.steps result.frames result.deep
@@ -126,50 +105,42 @@ pub fn judge_run(
     let mut regs = m.regs;
     let mut t = m.rest;
     let mut devices: [u8; 16] = [0; 16];
-    let mut kept: [u16; 3584] = [0; 3584];
-    let mut opened: [u32; 256] = [0; 256];
-    let mut vectors: [u8; 512] = [0; 512];
-    let mut o = open_frames::none_open();
+    let mut frames = open_frames::no_frames();
     let mut at = turn::awaiting(events, 0);
     let mut done: u32 = 0;
     let mut deep = false;
+    // Kept: a run ends where it halts too, so that the steps are no range; d.at is carried on.
     while (done < n) & !t.halted {
         let before = regs;
-        let full = o.held == 256;
+        let full = frames.open.held == 256;
         output_log::keep(memory, full, &mut devices);
         let d = turn::deliver_due(memory, events, at, t.count, t.lines);
         let p = step_plan::plan(&mut regs, memory, t, d.lines);
-        let act = p.act;
-        if too_deep(act, o) {
+        if too_deep(p.act, frames.open) {
             regs = before;
             output_log::put_back(memory, full, &devices);
             deep = true;
             break;
         }
-        let x = take(
+        t = take(
             &mut regs,
             &before,
             memory,
-            &mut kept,
-            &mut opened,
-            &mut vectors,
+            &mut frames,
             writers,
             findings,
-            o,
             d.lines,
             t.count,
             start,
             done,
             p,
         );
-        t = x.rest;
-        o = x.frames;
         at = d.at;
         done += 1;
     }
     Judged {
         machine: Machine { regs, rest: t },
-        frames: o,
+        frames: frames.open,
         deep,
         steps: done,
     }

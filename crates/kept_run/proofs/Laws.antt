@@ -25,6 +25,7 @@ use Rattle.machine_laws.specs.Bounds.{Each}
 use Rattle.machine_laws.proofs.Cases.{bool_cases, gt-of, ge-of}
 use Rattle.run_laws.proofs.Turns.{OfDevice, given_back}
 use Rattle.run_laws.proofs.Depth.{depth-next, open-le}
+use Rattle.std.specs.Prelude.{Option}
 use Rattle.output_log.specs.declared.Showing.{Showing}
 use Rattle.output_log.specs.Showing.{listed}
 use Rattle.devices.specs.Cursor.{Ordered, state_from}
@@ -55,7 +56,7 @@ module _
     (h : Reached (run_logged ev s₀ k done) lent (state_with regs t mem) done added log false) (live : t.halted ≡ false) (l : ℕ) (m : List ℕ)
     (delivered : (c : Core) (b : Bool) → state_from c l b t.count m ≡ deliver_at t.count ev (state_from c t.lines b t.count mem))
     (q : Plan) (planned : q ≡ plan_of (state_from (core_with regs t) l t.halted t.count m))
-    (x : Showing) (shows : (s : State) → s.mem ≡ m → listed s.count x ≡ logged_of q.act s)
+    (x : Option Showing) (shows : (s : State) → s.mem ≡ m → listed s.count x ≡ logged_of q.act s)
     (lacks : Bool) (test : (n : ℕ) → lacks ≡ ltb k (added + length (listed n x))) where
   abbrev begun : State
   begun = state_from (core_with regs t) l t.halted t.count m
@@ -135,7 +136,7 @@ module _
     (l : ℕ) (m : List ℕ) (delivered : (c : Core) (g : Bool)
     → state_from c l g t.count m ≡ deliver_at t.count (events_of b) (state_from c t.lines g t.count mem))
     (q : Plan) (planned : q ≡ plan_of (state_from (core_with regs t) l t.halted t.count m))
-    (x : Showing) (shows : (s : State) → s.mem ≡ m → listed s.count x ≡ logged_of q.act s)
+    (x : Option Showing) (shows : (s : State) → s.mem ≡ m → listed s.count x ≡ logged_of q.act s)
     (lacks : Bool) (test : (n : ℕ) → lacks ≡ ltb k (added + length (listed n x))) (up : lacks ≡ true)
     (next due : ℕ) (awaits : Awaits b next due t.count) (ordered : Ordered b) (fits : events_fit_below b (event_count b) ≡ true)
     (size : 16 ≤ length mem) (here wanted : Bool) (wants : wanted ≡ here || (eqb added k && leb due t.count))
@@ -152,7 +153,7 @@ module _
       )
 
 -- what is shown has room
-pub room_for : (n : ℕ) (x : Showing) (added : ℕ) (lent log : List ℕ) (lacks : Bool)
+pub room_for : (n : ℕ) (x : Option Showing) (added : ℕ) (lent log : List ℕ) (lacks : Bool)
     → lacks ≡ ltb (length lent / 8) (added + length (listed n x)) → lacks ≡ false → length log ≡ length lent
     → 8 * (added + length (listed n x)) ≤ length log
 room_for n x added lent log lacks e b size =

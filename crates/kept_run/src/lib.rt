@@ -22,13 +22,7 @@ use stretch::Progress;
 fn wants(lent: bool, full: bool, due: u64, count: u32) -> bool
     ensures { result ≡ lent || (full && leb due count) }
 {
-    if lent {
-        return true;
-    }
-    if full {
-        return due <= count as u64;
-    }
-    false
+    lent | (full & (due <= count as u64))
 }
 
 // What a free run leaves beside registers, memory and log: the rest of the machine, how deep it is,
@@ -44,15 +38,14 @@ struct Gone {
 // The free run of a turn, u steps at most.
 fn go_free(
     regs: &mut [u16; 8],
-    memory: &mut [u8],
+    memory: &mut [u8; 65536],
     log: &mut [u8],
     t: Rest,
     depth: Depth,
     added: usize,
     u: u32,
 ) -> Gone
-    requires { (length memory.old ≡ 65536) × (t.count + u ≤ 4294967295)
-        × (depth.opened + u ≤ 4294967295) × (added ≤ length log.old / 8) }
+    requires { (t.count + u ≤ 4294967295) × (depth.opened + u ≤ 4294967295) × (added ≤ length log.old / 8) }
     ensures goes { Goes u
         (running regs.old t.psw t.cex t.lines t.count memory.old)
         depth added log.old
@@ -92,7 +85,7 @@ fn go_free(
 // registers that its plan changed and the device bytes that its events changed.
 pub fn run_kept(
     m: Machine,
-    memory: &mut [u8],
+    memory: &mut [u8; 65536],
     events: &[u8],
     from: usize,
     log: &mut [u8],
@@ -101,7 +94,7 @@ pub fn run_kept(
     begins: Ring,
     n: u32,
 ) -> Ran
-    requires { (length memory.old ≡ 65536) × (m.rest.count + n ≤ 4294967295) × Ordered events.now
+    requires { (m.rest.count + n ≤ 4294967295) × Ordered events.now
         × (events_fit_below events.now (event_count events.now) ≡ true)
         × Behind events.now from m.rest.count × (begun.opened + n ≤ 4294967295)
         × Lends journal.old begins }
@@ -122,6 +115,7 @@ pub fn run_kept(
     let mut added: usize = 0;
     let mut depth = begun;
     let mut ring = begins;
+    // Kept: no count over a range, since a turn's free run does many steps.
     while (done < n) & !t.halted {
         let held = Machine { regs, rest: t };
         let wanted = wants(lent, added == room, at.due, t.count);

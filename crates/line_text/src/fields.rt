@@ -1,7 +1,7 @@
 // Fields of the line, put into a buffer: each function writes from `at` on, returns the place after
 // the last byte written, and leaves what stands before `at` and from that place on.
-ghost use Rattle.std.specs.Prelude.{◌≡◌, ◌++◌, ◌+◌, ◌≤◌, ◌<◌, length, take, drop};
-ghost use Rattle.text.specs.Text.{hex_of, decimal_of};
+ghost use Rattle.std.specs.Prelude.{◌≡◌, ◌+◌, ◌≤◌, ◌<◌, length};
+ghost use Rattle.text.specs.Text.{hex_of, decimal_of, Puts};
 ghost use Rattle.line_text.specs.Line.{spaced};
 ghost use Rattle.line_text.specs.Parts.{words_text};
 
@@ -10,8 +10,7 @@ use text::{put, put_decimal, put_hex};
 // A field of k digits in base sixteen after a space.
 pub fn put_field(out: &mut [u8], at: usize, k: usize, n: u32) -> usize
     requires { at + k < length out.old }
-    ensures { (take result out.new ≡ take at out.old ++ spaced (hex_of k n))
-        × (result ≡ at + k + 1) × (drop result out.new ≡ drop result out.old) }
+    ensures { Puts out.old at (spaced (hex_of k n)) result out.new × (result ≡ at + k + 1) }
 {
     let next = put(out, at, b' ');
     put_hex(out, next, k, n)
@@ -20,18 +19,18 @@ pub fn put_field(out: &mut [u8], at: usize, k: usize, n: u32) -> usize
 // A number in base ten after a space.
 pub fn put_number(out: &mut [u8], at: usize, n: u32) -> usize
     requires { at + 8 ≤ length out.old }
-    ensures { (take result out.new ≡ take at out.old ++ spaced (decimal_of 6 n))
-        × (result ≤ at + 8) × (at < result) × (drop result out.new ≡ drop result out.old) }
+    ensures { Puts out.old at (spaced (decimal_of 6 n)) result out.new
+        × (result ≤ at + 8) × (at < result) }
 {
     let next = put(out, at, b' ');
     put_decimal(out, next, 6, n)
 }
 
 // Four words, each after a space.
+// Kept: four names, as `words_text` has them; an array would name them again at each call.
 pub fn put_words(out: &mut [u8], at: usize, a: u16, b: u16, c: u16, d: u16) -> usize
     requires { at + 20 ≤ length out.old }
-    ensures { (take result out.new ≡ take at out.old ++ words_text a b c d)
-        × (result ≡ at + 20) × (drop result out.new ≡ drop result out.old) }
+    ensures { Puts out.old at (words_text a b c d) result out.new × (result ≡ at + 20) }
 {
     let second = put_field(out, at, 4, a as u32);
     let third = put_field(out, second, 4, b as u32);

@@ -3,9 +3,10 @@
 
 mod fields;
 
-ghost use Rattle.std.specs.Prelude.{◌≡◌, List, ◌++◌, ℕ, ◌+◌, ◌≤◌, length, take, drop};
+ghost use Rattle.std.specs.Prelude.{◌≡◌, List, ℕ, ◌+◌, ◌≤◌, length, take, drop};
 ghost use Rattle.machine.specs.State.{state_of};
 ghost use Rattle.machine.specs.Run.{ran};
+ghost use Rattle.text.specs.Text.{Puts};
 ghost use Rattle.line_text.specs.Line.{line_of, refused_line};
 ghost use Rattle.line_text.specs.Parts.{machine_text};
 
@@ -16,8 +17,7 @@ use text::{put, put_decimal};
 // From R0 to the lines' counts.
 fn put_machine(out: &mut [u8], at: usize, m: Machine) -> usize
     requires { at + 57 ≤ length out.old }
-    ensures { (take result out.new ≡ take at out.old ++ machine_text m)
-        × (result ≡ at + 57) × (drop result out.new ≡ drop result out.old) }
+    ensures { Puts out.old at (machine_text m) result out.new × (result ≡ at + 57) }
 {
     let regs = m.regs;
     let r4 = put_words(out, at, regs[0], regs[1], regs[2], regs[3]);

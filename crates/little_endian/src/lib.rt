@@ -10,7 +10,7 @@ pub fn two_at(b: &[u8], i: usize) -> u16
     requires { i + 1 < length b.now }
     ensures { result ≡ two_at b.now i }
 {
-    b[i] as u16 + 256 * b[i + 1] as u16
+    u16::from_le_bytes([b[i], b[i + 1]])
 }
 
 pub fn four_at(b: &[u8], i: usize) -> u32
@@ -25,8 +25,9 @@ pub fn put_two(b: &mut [u8], i: usize, v: u16)
     requires { i + 1 < length b.old }
     ensures { b.new ≡ two_put b.old i v }
 {
-    b[i] = (v % 256) as u8;
-    b[i + 1] = (v / 256) as u8;
+    let [low, high] = v.to_le_bytes();
+    b[i] = low;
+    b[i + 1] = high;
 }
 
 pub fn put_four(b: &mut [u8], i: usize, v: u32)

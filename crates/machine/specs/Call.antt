@@ -1,9 +1,9 @@
 -- The whole answer of one run call: its reply, and the memory, the state record and the log that it leaves, for every
 -- length, content and number (document 01, "Who can be turned back", "One step, in order"; document 02, §1).
 -- Assumes nothing.
-use Rattle.std.specs.Prelude.{ℕ, ◌+◌, ◌*◌, ◌/◌, cond, List, length}
+use Rattle.std.specs.Prelude.{ℕ, ◌+◌, ◌*◌, ◌/◌, cond, List, length, Result}
 use Rattle.std.proofs.lemmas.List.Edits.{sets}
-use Rattle.machine.specs.declared.Verdict.{Verdict}
+use Rattle.machine.specs.declared.Refusal.{Refusal}
 use Rattle.machine.specs.Events.{events_of}
 use Rattle.machine.specs.Record.{state_in, record_of}
 use Rattle.machine.specs.Run.{reason_number}
@@ -32,7 +32,7 @@ log_after log x = sets log 0 (log_bytes x.records)
 
 -- Turned back: "its number, no steps, and memory, state record and every other lent buffer as handed over".
 -- [01 Who can be turned back]
-abbrev pub turned_back : Verdict → (memory r log : List ℕ) → Closing
+abbrev pub turned_back : Result (Unit {0}) Refusal → (memory r log : List ℕ) → Closing
 turned_back v memory r log =
     record { reply = reply_number (refusal_number v) 0 0 0; memory = memory; state = r; log = log }
 
@@ -46,7 +46,7 @@ closing log x =
     record { reply = run_reply x; memory = x.state.mem; state = record_of x.state; log = log_after log x }
 
 -- the closing that a verdict gives
-abbrev pub closing_of : Verdict → (memory r log : List ℕ) → Logged → Closing
+abbrev pub closing_of : Result (Unit {0}) Refusal → (memory r log : List ℕ) → Logged → Closing
 closing_of v memory r log x = cond (accepted? v) (closing log x) (turned_back v memory r log)
 
 -- the run of a call, from its raw buffers. [02 §1]

@@ -1,12 +1,10 @@
 -- Which runs are turned back (document 01, "Who can be turned back"; document 02, §1, §3): a definition over the raw
 -- buffers and numbers. Assumes nothing.
-use Rattle.std.specs.Prelude.{ℕ, zero, suc, ◌+◌, ◌*◌, ◌/◌, ◌%◌, Bool, true, false, cond, not, ◌&&◌, ◌||◌, List, [], ◌∷◌, ◌++◌, eqb, ltb, leb, length}
-use Rattle.machine.specs.declared.Verdict.{Verdict}
-use Rattle.machine.specs.declared.Verdict.TheVariants.{Accepted, MemoryLength}
-use Rattle.machine.specs.declared.Verdict.TheVariants.{StepCount, RecordLength, RecordBits}
-use Rattle.machine.specs.declared.Verdict.TheVariants.{EventsLength, EventFields}
-use Rattle.machine.specs.declared.Verdict.TheVariants.{EventOrder, EventTwins, LogLength}
-use Rattle.machine.specs.declared.Verdict.TheVariants.{JournalFit, StepsKept}
+use Rattle.std.specs.Prelude.{ℕ, zero, suc, ◌+◌, ◌*◌, ◌/◌, ◌%◌, Bool, true, false, cond, not, ◌&&◌, ◌||◌, List, [], ◌∷◌, ◌++◌, eqb, ltb, leb, length, Result, Ok, Err, is_ok}
+use Rattle.machine.specs.declared.Refusal.{Refusal}
+use Rattle.machine.specs.declared.Refusal.TheVariants.{MemoryLength, StepCount, RecordLength, RecordBits}
+use Rattle.machine.specs.declared.Refusal.TheVariants.{EventsLength, EventFields, EventOrder, EventTwins}
+use Rattle.machine.specs.declared.Refusal.TheVariants.{LogLength, JournalFit, StepsKept}
 use Rattle.machine.specs.Memory.{byte_at}
 use Rattle.machine.specs.Record.{two_at, four_at}
 use Rattle.machine.specs.Events.{event_at, event_count}
@@ -54,13 +52,13 @@ unfoldable pub twins_below : List ℕ → ℕ → Bool
 twins_below b zero = false
 twins_below b (suc n) = twins_below b n || event_below b (event_at b n).step (event_at b n).device n
 
--- A rule: whether it is broken, and the verdict then. [01 Who can be turned back]
+-- A rule: whether it is broken, and the refusal then. [01 Who can be turned back]
 pub record Rule : Type 0 where
   pub broken : Bool
-  pub verdict : Verdict
+  pub refusal : Refusal
 
-abbrev pub rule : Bool → Verdict → Rule
-rule t v = record { broken = t; verdict = v }
+abbrev pub rule : Bool → Refusal → Rule
+rule t v = record { broken = t; refusal = v }
 
 -- The rules of a start in the order in which they are tested. The sum of 2 is compared once 3 has passed; 13 comes
 -- "after 7 and before 9". [01 Who can be turned back; 02 §3]
@@ -82,31 +80,31 @@ abbrev pub call_rules : (memory r events log : List ℕ) (n : ℕ) → List Rule
 call_rules memory r events log n =
     rules_of memory r events n ++ (rule (not (eqb (length log % 8) 0)) LogLength ∷ [])
 
-abbrev pub first_broken : List Rule → Verdict
-first_broken [] = Accepted
-first_broken (x ∷ xs) = cond x.broken x.verdict (first_broken xs)
+abbrev pub first_broken : List Rule → Result (Unit {0}) Refusal
+first_broken [] = Ok tt
+first_broken (x ∷ xs) = cond x.broken (Err x.refusal) (first_broken xs)
 
 -- The first rule that is broken: of a start, and of a run call. [01 Who can be turned back]
-unfoldable pub verdict_of : (memory r events : List ℕ) (n : ℕ) → Verdict
+unfoldable pub verdict_of : (memory r events : List ℕ) (n : ℕ) → Result (Unit {0}) Refusal
 verdict_of memory r events n = first_broken (rules_of memory r events n)
 
-unfoldable pub call_verdict : (memory r events log : List ℕ) (n : ℕ) → Verdict
+unfoldable pub call_verdict : (memory r events log : List ℕ) (n : ℕ) → Result (Unit {0}) Refusal
 call_verdict memory r events log n = first_broken (call_rules memory r events log n)
 
--- The papers' number of each case; 0 stands for none. [01 Who can be turned back; 02 §1; 02 §3; 02 §8]
-abbrev pub refusal_number : Verdict → ℕ
-refusal_number Accepted = 0
-refusal_number MemoryLength = 1
-refusal_number StepCount = 2
-refusal_number RecordLength = 3
-refusal_number RecordBits = 4
-refusal_number EventsLength = 5
-refusal_number EventFields = 6
-refusal_number EventOrder = 7
-refusal_number EventTwins = 13
-refusal_number LogLength = 9
-refusal_number JournalFit = 14
-refusal_number StepsKept = 15
+-- The papers' number of each refusal; 0 stands for none. [01 Who can be turned back; 02 §1; 02 §3; 02 §8]
+abbrev pub refusal_number : Result (Unit {0}) Refusal → ℕ
+refusal_number (Ok _) = 0
+refusal_number (Err MemoryLength) = 1
+refusal_number (Err StepCount) = 2
+refusal_number (Err RecordLength) = 3
+refusal_number (Err RecordBits) = 4
+refusal_number (Err EventsLength) = 5
+refusal_number (Err EventFields) = 6
+refusal_number (Err EventOrder) = 7
+refusal_number (Err EventTwins) = 13
+refusal_number (Err LogLength) = 9
+refusal_number (Err JournalFit) = 14
+refusal_number (Err StepsKept) = 15
 
-abbrev pub accepted? : Verdict → Bool
-accepted? v = eqb (refusal_number v) 0
+abbrev pub accepted? : Result (Unit {0}) Refusal → Bool
+accepted? v = is_ok v

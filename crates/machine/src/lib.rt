@@ -67,23 +67,25 @@ pub struct Depth {
     pub deepest: u32,
 }
 
-// Whether the buffers and numbers of a call are accepted, or the first rule that they break: of a
-// run, and of a run with a journal or of going back.
+// The rule that the buffers and numbers of a call break first: of a run, and of a run with a journal
+// or of going back; each with the papers' number.
 #[derive(Clone, Copy)]
-pub enum Verdict {
-    Accepted,
-    MemoryLength,
-    StepCount,
-    RecordLength,
-    RecordBits,
-    EventsLength,
-    EventFields,
-    EventOrder,
-    EventTwins,
-    LogLength,
-    JournalFit,
-    StepsKept,
+pub enum Refusal {
+    MemoryLength = 1,
+    StepCount = 2,
+    RecordLength = 3,
+    RecordBits = 4,
+    EventsLength = 5,
+    EventFields = 6,
+    EventOrder = 7,
+    EventTwins = 13,
+    LogLength = 9,
+    JournalFit = 14,
+    StepsKept = 15,
 }
+
+// Whether they are accepted, or the rule that they break.
+pub type Verdict = Result<(), Refusal>;
 
 // What a step does. A halted machine takes none. A line or a vector is named by its number; a load
 // and a store carry their address, a store its value.

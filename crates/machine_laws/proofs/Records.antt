@@ -11,17 +11,18 @@ use lib.Dec.{eqb, ltb, leb, lit<}
 use lib.ListN.{length, get_or, drop}
 use lib.Seq.{drop-cons, drop-length}
 use borrow.Author.Tests.{not-false}
+use Rattle.std.specs.Prelude.{Result, Ok, Err}
 use Rattle.word.proofs.Laws.{bit-read, bit-back}
-use Rattle.machine.specs.declared.Verdict.{Verdict}
-use Rattle.machine.specs.declared.Verdict.TheVariants.{Accepted, MemoryLength, StepCount, RecordLength, RecordBits, EventsLength}
-use Rattle.machine.specs.declared.Verdict.TheVariants.{EventFields, EventOrder, EventTwins, LogLength, JournalFit, StepsKept}
+use Rattle.machine.specs.declared.Refusal.{Refusal}
+use Rattle.machine.specs.declared.Refusal.TheVariants.{MemoryLength, StepCount, RecordLength, RecordBits, EventsLength}
+use Rattle.machine.specs.declared.Refusal.TheVariants.{EventFields, EventOrder, EventTwins, LogLength, JournalFit, StepsKept}
 use Rattle.machine.specs.State.{Core, State, reg}
 use Rattle.machine.specs.Memory.{byte_at, low_byte, high_byte}
 use Rattle.machine.specs.Record.{two_at, four_at, state_in, record_of, count_byte}
 use Rattle.machine.specs.Events.{event_at, events_from, events_of, event_count}
 use Rattle.machine.specs.Run.{run_of}
 use Rattle.machine.specs.Refusal.{record_fits, events_fit, event_fits, events_fit_below, in_order, in_order_below, twins_below}
-use Rattle.machine.specs.Refusal.{verdict_of, refusal_number}
+use Rattle.machine.specs.Refusal.{verdict_of, refusal_number, accepted?}
 use Rattle.machine_laws.specs.Bounds.{Each, Bytes, Tidy, EventFits}
 use Rattle.machine_laws.specs.Passed.{Passed}
 use Rattle.machine_laws.specs.Twins.{Twins}
@@ -190,24 +191,45 @@ module _ (memory r events : List ℕ) (n : ℕ) (P : Passed memory r events n) (
 -- ---- what an accepted run has settled
 
 -- a test that would have refused was not met
-pub not-met : (t : Bool) (x y : Verdict) → refusal_number x ≢ 0 → cond t x y ≡ Accepted → (t ≡ false) × (y ≡ Accepted)
-not-met true x y h e = absurd (h (ap refusal_number e))
-not-met false x y h e = (refl, e)
+pub not-met : (t : Bool) (x : Refusal) (y : Result (Unit {0}) Refusal) → cond t (Err x) y ≡ Ok tt → (t ≡ false) × (y ≡ Ok tt)
+not-met true x y e = absurd (cc e)
+not-met false x y e = (refl, e)
+
+-- a refusal has a number from 1 up, below 256
+pub refused-number : (x : Refusal) → (0 < refusal_number (Err x)) × (refusal_number (Err x) < 256)
+refused-number MemoryLength = (omega arith, omega arith)
+refused-number StepCount = (omega arith, omega arith)
+refused-number RecordLength = (omega arith, omega arith)
+refused-number RecordBits = (omega arith, omega arith)
+refused-number EventsLength = (omega arith, omega arith)
+refused-number EventFields = (omega arith, omega arith)
+refused-number EventOrder = (omega arith, omega arith)
+refused-number EventTwins = (omega arith, omega arith)
+refused-number LogLength = (omega arith, omega arith)
+refused-number JournalFit = (omega arith, omega arith)
+refused-number StepsKept = (omega arith, omega arith)
+
+pub number-small : (v : Result (Unit {0}) Refusal) → refusal_number v < 256
+number-small (Ok x) = omega arith
+number-small (Err x) = (refused-number x).1
 
 -- only an acceptance has the number 0
-pub is-accepted : (v : Verdict) → refusal_number v ≡ 0 → v ≡ Accepted
-is-accepted Accepted e = refl
-is-accepted MemoryLength e = absurd (omega arith)
-is-accepted StepCount e = absurd (omega arith)
-is-accepted RecordLength e = absurd (omega arith)
-is-accepted RecordBits e = absurd (omega arith)
-is-accepted EventsLength e = absurd (omega arith)
-is-accepted EventFields e = absurd (omega arith)
-is-accepted EventOrder e = absurd (omega arith)
-is-accepted EventTwins e = absurd (omega arith)
-is-accepted LogLength e = absurd (omega arith)
-is-accepted JournalFit e = absurd (omega arith)
-is-accepted StepsKept e = absurd (omega arith)
+pub is-accepted : (v : Result (Unit {0}) Refusal) → refusal_number v ≡ 0 → v ≡ Ok tt
+is-accepted (Ok x) e = refl
+is-accepted (Err x) e = absurd (omega (arith, e, (refused-number x).0))
+
+pub is-refused : (v : Result (Unit {0}) Refusal) → refusal_number v ≢ 0 → accepted? v ≡ false
+is-refused (Ok x) h = absurd (h refl)
+is-refused (Err x) h = refl
+
+pub not-zero : (v : Result (Unit {0}) Refusal) → accepted? v ≡ false → refusal_number v ≢ 0
+not-zero (Ok x) e = absurd (cc e)
+not-zero (Err x) e = λ q. absurd (omega (arith, q, (refused-number x).0))
+
+-- only an acceptance is accepted
+pub accepted-is : (v : Result (Unit {0}) Refusal) → accepted? v ≡ true → v ≡ Ok tt
+accepted-is (Ok x) e = refl
+accepted-is (Err x) e = absurd (cc e)
 
 fit-below : (b : List ℕ) (n : ℕ) → events_fit_below b n ≡ true → (k : ℕ) → k < n → event_fits b k ≡ true
 unfolding events_fit_below
@@ -275,18 +297,18 @@ event-zero : (b : List ℕ) (k : ℕ) → event_fits b k ≡ true → two_at b (
 unfolding event_fits
 event-zero b k e = eq_of (and_right (ltb (byte_at b (8 * k + 4)) 8) (eqb (two_at b (8 * k + 6)) 0) e)
 
-pub passed : (memory r events : List ℕ) (n : ℕ) → verdict_of memory r events n ≡ Accepted → Passed memory r events n
+pub passed : (memory r events : List ℕ) (n : ℕ) → verdict_of memory r events n ≡ Ok tt → Passed memory r events n
 unfolding verdict_of
 passed memory r events n e =
-    let p1 = not-met (not (eqb (length memory) 65536)) MemoryLength _ (omega arith) e in
-    let p2 = not-met (ltb 1000000 n) StepCount _ (omega arith) p1.1 in
-    let p3 = not-met (not (eqb (length r) 32)) RecordLength _ (omega arith) p2.1 in
-    let p4 = not-met (ltb 4294967295 (four_at r 22 + n)) StepCount _ (omega arith) p3.1 in
-    let p5 = not-met (not (record_fits r)) RecordBits _ (omega arith) p4.1 in
-    let p6 = not-met (not (events_fit (length events))) EventsLength _ (omega arith) p5.1 in
-    let p7 = not-met (not (events_fit_below events (event_count events))) EventFields _ (omega arith) p6.1 in
-    let p8 = not-met (not (in_order_below events (event_count events))) EventOrder _ (omega arith) p7.1 in
-    let p9 = not-met (twins_below events (event_count events)) EventTwins _ (omega arith) p8.1 in
+    let p1 = not-met (not (eqb (length memory) 65536)) MemoryLength _ e in
+    let p2 = not-met (ltb 1000000 n) StepCount _ p1.1 in
+    let p3 = not-met (not (eqb (length r) 32)) RecordLength _ p2.1 in
+    let p4 = not-met (ltb 4294967295 (four_at r 22 + n)) StepCount _ p3.1 in
+    let p5 = not-met (not (record_fits r)) RecordBits _ p4.1 in
+    let p6 = not-met (not (events_fit (length events))) EventsLength _ p5.1 in
+    let p7 = not-met (not (events_fit_below events (event_count events))) EventFields _ p6.1 in
+    let p8 = not-met (not (in_order_below events (event_count events))) EventOrder _ p7.1 in
+    let p9 = not-met (twins_below events (event_count events)) EventTwins _ p8.1 in
     let facts = record-facts r (not-false (record_fits r) p5.0) in
     let lengths = not-false (events_fit (length events)) p6.0 in
     let fits = not-false (events_fit_below events (event_count events)) p7.0 in

@@ -28,8 +28,7 @@ pub fn byte_of(w: WordAddr) -> ByteAddr
 }
 
 // The byte at an address.
-pub fn read_byte(mem: &[u8], a: ByteAddr) -> u8
-    requires { length mem.now ≡ 65536 }
+pub fn read_byte(mem: &[u8; 65536], a: ByteAddr) -> u8
     ensures { result ≡ byte_at mem.now a.0 }
 {
     let i = a.0 as usize;
@@ -37,38 +36,37 @@ pub fn read_byte(mem: &[u8], a: ByteAddr) -> u8
 }
 
 // The word at a word address.
-pub fn read_word(mem: &[u8], w: WordAddr) -> u16
-    requires { (length mem.now ≡ 65536) × (w.0 < 32768) }
+pub fn read_word(mem: &[u8; 65536], w: WordAddr) -> u16
+    requires { w.0 < 32768 }
     ensures { result ≡ byte_at mem.now (first_byte w.0)
         + 256 * byte_at mem.now (first_byte w.0 + 1) }
 {
     let i = byte_of(w).0 as usize;
-    mem[i] as u16 + 256 * mem[i + 1] as u16
+    u16::from_le_bytes([mem[i], mem[i + 1]])
 }
 
 // A byte and a word written, devices or not.
-pub fn write_byte(mem: &mut [u8], a: ByteAddr, v: u8)
-    requires { length mem.old ≡ 65536 }
+pub fn write_byte(mem: &mut [u8; 65536], a: ByteAddr, v: u8)
     ensures { mem.new ≡ set mem.old a.0 v }
 {
     let i = a.0 as usize;
     mem[i] = v;
 }
 
-pub fn write_word(mem: &mut [u8], w: WordAddr, v: u16)
-    requires { (length mem.old ≡ 65536) × (w.0 < 32768) }
+pub fn write_word(mem: &mut [u8; 65536], w: WordAddr, v: u16)
+    requires { w.0 < 32768 }
     ensures { mem.new
         ≡ set (set mem.old (first_byte w.0) (low_byte v))
         (first_byte w.0 + 1) (high_byte v) }
 {
     let i = byte_of(w).0 as usize;
-    mem[i] = (v % 256) as u8;
-    mem[i + 1] = (v / 256 % 256) as u8;
+    let [low, high] = v.to_le_bytes();
+    mem[i] = low;
+    mem[i + 1] = high;
 }
 
 // What a load from a does to memory: a status byte loses DBA and OF.
-fn touch(mem: &mut [u8], a: ByteAddr)
-    requires { length mem.old ≡ 65536 }
+fn touch(mem: &mut [u8; 65536], a: ByteAddr)
     ensures { mem.new
         ≡ commit (cond (status? a.0)
         (write a.0 (cleared_status (byte_at mem.old a.0)) ∷ []) [])
@@ -104,8 +102,7 @@ fn stored_status(t: u8, v: u8) -> u8
 }
 
 // A load by an instruction: the byte, or the word that the byte lies in.
-pub fn load(mem: &mut [u8], byte: bool, a: ByteAddr) -> u16
-    requires { length mem.old ≡ 65536 }
+pub fn load(mem: &mut [u8; 65536], byte: bool, a: ByteAddr) -> u16
     ensures value { result ≡ value_at byte mem.old a.0 }
     ensures memory { mem.new
         ≡ commit (load_writes byte mem.old a.0) mem.old }
@@ -122,8 +119,8 @@ pub fn load(mem: &mut [u8], byte: bool, a: ByteAddr) -> u16
 }
 
 // A byte stored to a device register, below 16.
-fn store_device(mem: &mut [u8], a: ByteAddr, v: u8)
-    requires { (length mem.old ≡ 65536) × (a.0 < 16) }
+fn store_device(mem: &mut [u8; 65536], a: ByteAddr, v: u8)
+    requires { a.0 < 16 }
     ensures { mem.new
         ≡ commit (byte_writes mem.old a.0 v) mem.old }
 {
@@ -140,8 +137,7 @@ fn store_device(mem: &mut [u8], a: ByteAddr, v: u8)
 }
 
 // A byte stored by an instruction.
-pub fn store_byte(mem: &mut [u8], a: ByteAddr, v: u8)
-    requires { length mem.old ≡ 65536 }
+pub fn store_byte(mem: &mut [u8; 65536], a: ByteAddr, v: u8)
     ensures { mem.new
         ≡ commit (byte_writes mem.old a.0 v) mem.old }
 {
@@ -153,8 +149,8 @@ pub fn store_byte(mem: &mut [u8], a: ByteAddr, v: u8)
 }
 
 // A word stored by an instruction, low byte first.
-fn store_word(mem: &mut [u8], w: WordAddr, v: u16)
-    requires { (length mem.old ≡ 65536) × (w.0 < 32768) }
+fn store_word(mem: &mut [u8; 65536], w: WordAddr, v: u16)
+    requires { w.0 < 32768 }
     ensures { mem.new
         ≡ commit (store_writes false mem.old (first_byte w.0) v) mem.old }
 {
@@ -163,13 +159,13 @@ fn store_word(mem: &mut [u8], w: WordAddr, v: u16)
         return;
     }
     let a = byte_of(w).0;
-    store_byte(mem, ByteAddr(a), (v % 256) as u8);
-    store_byte(mem, ByteAddr(a + 1), (v / 256 % 256) as u8);
+    let [low, high] = v.to_le_bytes();
+    store_byte(mem, ByteAddr(a), low);
+    store_byte(mem, ByteAddr(a + 1), high);
 }
 
 // A store by an instruction: the low byte of v, or all of it to the word that the byte lies in.
-pub fn store(mem: &mut [u8], byte: bool, a: ByteAddr, v: u16)
-    requires { length mem.old ≡ 65536 }
+pub fn store(mem: &mut [u8; 65536], byte: bool, a: ByteAddr, v: u16)
     ensures { mem.new
         ≡ commit (store_writes byte mem.old a.0 v) mem.old }
 {

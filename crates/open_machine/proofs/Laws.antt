@@ -1,87 +1,69 @@
--- An advance from its parts: turned back, or run. The number tested is that of the verdict, so it is 0 exactly where the definition
--- runs, from the machine's own state. Assumes nothing.
+-- An advance from its parts: turned back, or run from the machine's own state. Assumes nothing.
 use Prim.Native.Nat.{ℕ, suc, ◌+◌, ◌*◌, ◌≤◌}
 use mathlib.Core.Bool.{Bool, true, false, cond, not}
 use mathlib.Core.List.{List}
-use mathlib.Core.Logic.{◌≢◌}
 use mathlib.Core.Path.{◌≡◌, refl, sym, ap, ◌∙◌}
 use native.Mathlib.Omega.{arith}
 use mir.Val.{bool_byte}
 use lib.ListN.{length}
+use Rattle.std.specs.Prelude.{Result, Ok, Err}
 use Rattle.machine.specs.declared.Depth.{Depth}
 use Rattle.machine.specs.declared.Reason.{Reason}
 use Rattle.machine.specs.declared.Reason.TheVariants.{Done, Halted}
-use Rattle.machine.specs.declared.Verdict.{Verdict}
+use Rattle.machine.specs.declared.Refusal.{Refusal}
 use Rattle.machine.specs.State.{State}
 use Rattle.machine.specs.Record.{record_of}
 use Rattle.machine.specs.Events.{events_of}
 use Rattle.machine.specs.Step.{step_of}
-use Rattle.machine.specs.Refusal.{verdict_of, call_verdict, refusal_number}
-use Rattle.machine.specs.Run.{ran, run_of, reason_of, reason_number}
+use Rattle.machine.specs.Refusal.{verdict_of, call_verdict, refusal_number, accepted?}
+use Rattle.machine.specs.Run.{Run, ran, run_of, reason_of, reason_number}
 use Rattle.machine.specs.Logged.{Logged, run_logged, reason_logged}
 use Rattle.machine.specs.Call.{reply_number, room_of, log_after}
 use Rattle.machine.specs.Depth.{depth, depth_from, deepest_from}
-use Rattle.machine_laws.specs.Passed.{Passed}
-use Rattle.machine_laws.proofs.Cases.{bool_cases, is_eq, not-eq}
-use Rattle.machine_laws.proofs.Records.{passed, is-accepted}
+use Rattle.machine_laws.proofs.Cases.{bool_cases}
 use Rattle.machine_laws.proofs.Runs.{step-halted, run-zero, run-next, run-halted}
 use Rattle.run_laws.proofs.Room.{logged-le, records-le}
 use Rattle.run_answer.proofs.Calls.{call-passed}
-use Rattle.open_machine.specs.Advance.{Advance, left_alone, advanced_by, advance_for, advance_of, advance_deepest}
+use Rattle.open_machine.specs.Advance.{Advance, advance_for, advance_of, advance_deepest}
 use Rattle.open_machine.specs.Advance.{Taken, step_for, step_advance}
 
--- ---- the advance of a verdict
+-- ---- the advance
 
 abbrev reached : ℕ → State → List ℕ → Advance
 reached k s log = record { reply = k; state = s; log = log }
 
-refused : (v : Verdict) (s : State) (log : List ℕ) (x : Logged) → refusal_number v ≢ 0
-    → advance_for v s log x ≡ reached (refusal_number v) s log
-refused v s log x h =
-    let reply : reply_number (refusal_number v) 0 0 0 ≡ refusal_number v = omega arith in
-    ap (λ t. cond t (advanced_by log x) (left_alone v s log)) (not-eq h) ∙ ap (λ k. reached k s log) reply
+module _ (s : State) (events log : List ℕ) (n : ℕ) where
+  abbrev verdict : Result (Unit {0}) Refusal
+  verdict = call_verdict s.mem (record_of s) events log n
 
-accepted : (v : Verdict) (s : State) (log : List ℕ) (x : Logged) → refusal_number v ≡ 0 → advance_for v s log x ≡ advanced_by log x
-accepted v s log x e = ap (λ t. cond t (advanced_by log x) (left_alone v s log)) (is_eq e)
+  abbrev gone : Logged
+  gone = run_logged (events_of events) s (room_of log) n
 
-module _
-    (s : State) (events log : List ℕ) (n k : ℕ) (v : Verdict) (e : v ≡ call_verdict s.mem (record_of s) events log n)
-    (f : k ≡ refusal_number v) where
-  pub advance-refused : k ≢ 0 → reached k s log ≡ advance_of s events log n
+  abbrev figure : ℕ → Result (Unit {0}) Refusal → ℕ
+  figure number v = cond (accepted? v) (deepest_from (events_of events) s gone.steps) number
+
+  pub advance-refused : (x : Refusal) (k : ℕ) → verdict ≡ Err x → k ≡ refusal_number (Err x) → reached k s log ≡ advance_of s events log n
   unfolding advance_of
-  advance-refused h =
-      let x = run_logged (events_of events) s (room_of log) n in
-      ap (λ j. reached j s log) f ∙ sym (refused v s log x (λ q. h (f ∙ q))) ∙ ap (λ u. advance_for u s log x) e
+  advance-refused x k e f =
+      let reply : k ≡ reply_number (refusal_number (Err x)) 0 0 0 = omega (arith, f) in
+      ap (λ j. reached j s log) reply ∙ sym (ap (λ v. advance_for v s log gone) e)
 
   -- the number lent for the figure
-  number_is : k ≡ refusal_number (call_verdict s.mem (record_of s) events log n)
-  number_is = f ∙ ap refusal_number e
+  pub figure-kept : (x : Refusal) → verdict ≡ Err x → (number : ℕ) → number ≡ advance_deepest s events log n number
+  unfolding advance_deepest
+  figure-kept x e number = sym (ap (figure number) e)
 
-  figure : ℕ
-  figure = deepest_from (events_of events) s (run_logged (events_of events) s (room_of log) n).steps
-
-  pub figure-kept : k ≢ 0 → (number : ℕ) → number ≡ advance_deepest s events log n number
-  unfolding advance_deepest figure
-  figure-kept h number =
-      sym (ap (λ b. cond b figure number)
-      (not-eq (λ (q : refusal_number (call_verdict s.mem (record_of s) events log n) ≡ 0). h (number_is ∙ q))))
-
-  pub figure-ran : k ≡ 0 → (d : Depth) (number : ℕ)
-      → d ≡ depth_from (events_of events) s (depth 0 0) (run_logged (events_of events) s (room_of log) n).steps
-      → d.deepest ≡ advance_deepest s events log n number
-  unfolding advance_deepest figure
-  figure-ran h d number q =
-      ap (λ (x : Depth). x.deepest) q ∙ sym (ap (λ b. cond b figure number) (is_eq (sym number_is ∙ h)))
-
-  module _ (h : k ≡ 0) where
-    abbrev gone : Logged
-    gone = run_logged (events_of events) s (room_of log) n
+  module _ (ok : verdict ≡ Ok tt) where
+    pub figure-ran : (d : Depth) (number : ℕ) → d ≡ depth_from (events_of events) s (depth 0 0) gone.steps
+        → d.deepest ≡ advance_deepest s events log n number
+    unfolding advance_deepest
+    figure-ran d number q = ap (λ (x : Depth). x.deepest) q ∙ sym (ap (figure number) ok)
 
     -- few steps and few records, so that each has its bits
     pub few_steps : (j : ℕ) → j ≡ gone.steps → j ≤ 1000000
     few_steps j q =
         let l = logged-le (events_of events) s (room_of log) n in
-        let p = (call-passed s.mem (record_of s) events log n k v e f h).few_steps in
+        let p = (call-passed s.mem (record_of s) events log n ok).few_steps in
         omega arith
 
     pub few-records : (j : ℕ) → j ≡ length gone.records → j ≤ 1000000
@@ -98,8 +80,7 @@ module _
     unfolding advance_of
     advance-ran t log' a steps added reply es ea en ek el sum =
         (λ i. reached ((sum ∙ (λ j. reply_number 0 (reason_number (ea j)) (en j) (ek j))) i) (es i) (el i))
-        ∙ sym (accepted v s log gone (sym f ∙ h))
-        ∙ ap (λ u. advance_for u s log gone) e
+        ∙ sym (ap (λ v. advance_for v s log gone) ok)
 
 -- ---- one step
 
@@ -111,35 +92,28 @@ mark : (h : Bool) → bool_byte h ≡ reason_number (cond h Halted Done)
 mark true = refl
 mark false = refl
 
-module _
-    (s : State) (events : List ℕ) (k : ℕ) (v : Verdict) (e : v ≡ verdict_of s.mem (record_of s) events 1) (f : k ≡ refusal_number v) where
-  pub step-passed : k ≡ 0 → Passed s.mem (record_of s) events 1
-  step-passed h = passed s.mem (record_of s) events 1 (sym e ∙ is-accepted v (sym f ∙ h))
+module _ (s : State) (events : List ℕ) where
+  abbrev one : Run
+  one = run_of (events_of events) s 1
 
-  pub step-refused : k ≢ 0 → took k s ≡ step_advance s events
+  pub step-refused : (x : Refusal) (k : ℕ) → verdict_of s.mem (record_of s) events 1 ≡ Err x → k ≡ refusal_number (Err x)
+      → took k s ≡ step_advance s events
   unfolding step_advance
-  step-refused h =
-      let x = run_of (events_of events) s 1 in
-      let reply : reply_number (refusal_number v) 0 0 0 ≡ refusal_number v = omega arith in
-      ap (λ j. took j s) (f ∙ sym reply)
-      ∙ sym (ap (λ t. cond t (took (reply_number 0 (reason_number (reason_of x)) x.steps 0) x.state)
-      (took (reply_number (refusal_number v) 0 0 0) s)) (not-eq (λ q. h (f ∙ q))))
-      ∙ ap (λ u. step_for u s x) e
+  step-refused x k e f =
+      let reply : k ≡ reply_number (refusal_number (Err x)) 0 0 0 = omega (arith, f) in
+      ap (λ j. took j s) reply ∙ sym (ap (λ v. step_for v s one) e)
 
   pub step-ran :
-      (t : State) (steps : ℕ) → k ≡ 0 → ran t steps ≡ run_of (events_of events) s 1 →
+      (t : State) (steps : ℕ) → verdict_of s.mem (record_of s) events 1 ≡ Ok tt → ran t steps ≡ one →
       took (256 * bool_byte t.halted + 65536 * steps) t ≡ step_advance s events
   unfolding step_advance
-  step-ran t steps h went =
-      let x = run_of (events_of events) s 1 in
+  step-ran t steps ok went =
       let j = mark t.halted in
       let q : 256 * bool_byte t.halted + 65536 * steps ≡ reply_number 0 (reason_number (reason_of (ran t steps))) steps 0 =
       rw (← j) (omega arith) in
       ap (λ i. took i t) q
       ∙ ap (λ z. took (reply_number 0 (reason_number (reason_of z)) z.steps 0) z.state) went
-      ∙ sym (ap (λ b. cond b (took (reply_number 0 (reason_number (reason_of x)) x.steps 0) x.state)
-      (took (reply_number (refusal_number v) 0 0 0) s)) (is_eq (sym f ∙ h)))
-      ∙ ap (λ u. step_for u s x) e
+      ∙ sym (ap (λ v. step_for v s one) ok)
 
 -- a run of 1 is the step, counted where it is taken
 pub run-one : (s : State) (b : List ℕ) (t : State) → t ≡ step_of (events_of b) s

@@ -1,8 +1,8 @@
 -- A machine held open and advanced by one call (document 01, "State and memory"; document 02, §1): its reply, and the
 -- machine, the memory and the log that it leaves. It is turned back as the run call is on the machine's own record.
 -- Assumes nothing.
-use Rattle.std.specs.Prelude.{ℕ, cond, List, ◌≡◌}
-use Rattle.machine.specs.declared.Verdict.{Verdict}
+use Rattle.std.specs.Prelude.{ℕ, cond, List, ◌≡◌, Result}
+use Rattle.machine.specs.declared.Refusal.{Refusal}
 use Rattle.machine.specs.State.{State}
 use Rattle.machine.specs.Record.{record_of}
 use Rattle.machine.specs.Events.{events_of}
@@ -19,7 +19,7 @@ pub record Advance : Type 0 where
   pub log : List ℕ
 
 -- Turned back: the number, no steps, machine, memory and log as handed over. [01 Who can be turned back]
-abbrev pub left_alone : Verdict → State → List ℕ → Advance
+abbrev pub left_alone : Result (Unit {0}) Refusal → State → List ℕ → Advance
 left_alone v s log = record { reply = reply_number (refusal_number v) 0 0 0; state = s; log = log }
 
 -- Accepted: reason, steps done, records added, and the state and the log that the run leaves.
@@ -28,7 +28,7 @@ abbrev pub advanced_by : List ℕ → Logged → Advance
 advanced_by log x = record { reply = run_reply x; state = x.state; log = log_after log x }
 
 -- the advance that a verdict gives. [01 Who can be turned back]
-abbrev pub advance_for : Verdict → State → List ℕ → Logged → Advance
+abbrev pub advance_for : Result (Unit {0}) Refusal → State → List ℕ → Logged → Advance
 advance_for v s log x = cond (accepted? v) (advanced_by log x) (left_alone v s log)
 
 -- an open machine advanced by n steps; its verdict is the run call's on the machine's own record.
@@ -58,7 +58,7 @@ pub record Taken : Type 0 where
   pub reply : ℕ
   pub state : State
 
-abbrev pub step_for : Verdict → State → Run → Taken
+abbrev pub step_for : Result (Unit {0}) Refusal → State → Run → Taken
 step_for v s x =
     cond (accepted? v)
     (record { reply = reply_number 0 (reason_number (reason_of x)) x.steps 0; state = x.state })

@@ -31,19 +31,18 @@ pub fn advance_by_value(
         log.old n deepest.old result.reply
         (state_of result.machine memory.new) log.new deepest.new }
 {
-    let verdict = refusal::fields::advance_verdict(m, memory, events, log, n);
-    let refused = refusal::refusal_number(verdict);
-    if refused != 0 {
+    if let Err(refused) = refusal::fields::advance_verdict(m, memory, events, log, n) {
         return Advanced {
             machine: m,
-            reply: refused,
+            reply: refusal::refusal_number(refused),
         };
     }
     let none = Depth {
         opened: 0,
         deepest: 0,
     };
-    let r = xm23_run::run(m, memory, events, 0, log, none, n as u32);
+    let whole = memory.as_mut_array().unwrap();
+    let r = xm23_run::run(m, whole, events, 0, log, none, n as u32);
     *deepest = r.depth.deepest;
     let machine = r.machine;
     let reply = run_answer::reply_of(r);
@@ -57,14 +56,14 @@ pub fn step_by_value(m: Machine, memory: &mut [u8], events: &[u8]) -> Advanced
         × (state_of result.machine memory.new
         ≡ (step_advance (state_of m memory.old) events.now).state) }
 {
-    let turned = refusal::refusal_number(refusal::fields::start_verdict(m, memory, events, 1));
-    if turned != 0 {
+    if let Err(refused) = refusal::fields::start_verdict(m, memory, events, 1) {
         return Advanced {
             machine: m,
-            reply: turned,
+            reply: refusal::refusal_number(refused),
         };
     }
-    let x = step::step(m, memory, events, 0);
+    let whole = memory.as_mut_array().unwrap();
+    let x = step::step(m, whole, events, 0);
     let after = x.machine;
     let taken = !m.rest.halted;
     let reply = 256 * after.rest.halted as u64 + 65536 * taken as u64;

@@ -17,8 +17,7 @@ pub fn get(regs: &[u16; 8], i: u8) -> u16
     requires { i < 8 }
     ensures { result ≡ slice_index regs.now i }
 {
-    let k = i as usize;
-    regs[k]
+    regs[i as usize]
 }
 
 // A register written by an instruction: the CEX state after it, which a write to R7 clears.
@@ -26,8 +25,7 @@ pub fn put(regs: &mut [u16; 8], cex: u16, i: u8, v: u16) -> u16
     requires { i < 8 }
     ensures { (regs.new ≡ slice_set regs.old i v) × (result ≡ (if nat_eq i 7 then 0 else cex)) }
 {
-    let k = i as usize;
-    regs[k] = v;
+    regs[i as usize] = v;
     if i == 7 {
         return 0;
     }
@@ -38,11 +36,7 @@ pub fn put(regs: &mut [u16; 8], cex: u16, i: u8, v: u16) -> u16
 pub fn offset_from(a: u16, off: i16) -> u16
     ensures { result ≡ moved a off }
 {
-    let m = word::magnitude(off);
-    if off < 0 {
-        return std::num::wrapping_sub_u16(std::num::wrapping_sub_u16(a, m), 1);
-    }
-    std::num::wrapping_add_u16(a, m)
+    a.wrapping_add_signed(off)
 }
 
 // The target of a branch: its signed word offset doubled and added to PC.
@@ -58,9 +52,7 @@ pub fn constant(k: u8) -> u16
     requires { k < 8 }
     ensures { result ≡ constant_of k }
 {
-    let table: [u16; 8] = [0, 1, 2, 4, 8, 16, 32, 0xFFFF];
-    let i = k as usize;
-    table[i]
+    [0, 1, 2, 4, 8, 16, 32, 0xFFFF][k as usize]
 }
 
 // A source: a register, or with rc the constant that its field names.
@@ -75,6 +67,7 @@ pub fn operand(regs: &[u16; 8], rc: u8, src: u8) -> u16
 }
 
 // The operation with two operands of this number.
+// Kept: the numbers are the fields of instruction words, as the definitions and C have them.
 pub fn binary(op: u8) -> Op
     ensures { result ≡ binary_op op }
 {
@@ -95,6 +88,7 @@ pub fn binary(op: u8) -> Op
 }
 
 // The operation with one operand of this number.
+// Kept: the numbers are the fields of instruction words, as the definitions and C have them.
 pub fn unary(op: u8) -> Op
     ensures { result ≡ unary_op op }
 {
@@ -113,6 +107,7 @@ pub fn at_least(psw: u16) -> bool
 }
 
 // Is a branch of this number taken?
+// Kept: the numbers are the fields of instruction words, as the definitions and C have them.
 pub fn taken(n: u8, psw: u16) -> bool
     ensures { result ≡ taken_of n psw }
 {
@@ -129,6 +124,7 @@ pub fn taken(n: u8, psw: u16) -> bool
 }
 
 // Does the condition of number 2 * k hold?
+// Kept: the numbers are the fields of instruction words, as the definitions and C have them.
 fn even_condition(k: u8, psw: u16) -> bool
     ensures { result ≡ condition_of (2 * k) psw }
 {
@@ -192,9 +188,9 @@ pub fn adjusted_by(a: u16, dec: u8, inc: u8, wb: u8) -> u16
     }
     let size = step_size(wb);
     if inc == 1 {
-        return std::num::wrapping_add_u16(a, size);
+        return a.wrapping_add(size);
     }
-    std::num::wrapping_sub_u16(a, size)
+    a.wrapping_sub(size)
 }
 
 // The address of LD and ST: a, or with prpo the adjusted b.

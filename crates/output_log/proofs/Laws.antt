@@ -22,7 +22,9 @@ use Rattle.machine.specs.Log.{shown, shown_on, logged_of, shown_bytes}
 use Rattle.machine_laws.proofs.Cases.{bool_cases, is_lt, not-lt, eq_of, neq-of}
 use Rattle.run_laws.proofs.LogBytes.{sets-append}
 use Rattle.little_endian.specs.Bytes.{four_put}
-use Rattle.output_log.specs.Showing.{stored_of}
+use Rattle.std.specs.Prelude.{Option, None, Some, is_some}
+use Rattle.output_log.specs.declared.Showing.{Showing}
+use Rattle.output_log.specs.Showing.{stored_of, listed}
 
 -- ---- what is shown
 
@@ -81,6 +83,14 @@ full_is added room h =
     let n : added ≢ room = neq-of q in
     let l : added + 1 ≤ room = omega (arith, n) in
     q ∙ sym (not-lt l))
+
+-- what is shown finds no room exactly where something is shown and the room is full
+pub lacks_is : (x : Option Showing) (added room n : ℕ) → added ≤ room
+    → is_some x && eqb added room ≡ ltb room (added + length (listed n x))
+lacks_is None added room n h =
+    let k : added + 0 ≤ room = omega arith in
+    sym (not-lt k)
+lacks_is (Some x) added room n h = full_is added room h
 
 -- ---- the bytes of a record
 

@@ -2,49 +2,21 @@
 -- Assumes nothing.
 use Prim.Native.Nat.{ℕ, zero, suc, ◌+◌, ◌*◌, ◌%◌, ◌<◌, ◌≤◌}
 use native.Mathlib.Omega.{arith}
-use mathlib.Core.Bool.{true, false, cond, not, true≢false}
-use mathlib.Core.List.{List, [], ◌∷◌}
+use mathlib.Core.Bool.{true, false, not}
+use mathlib.Core.List.{List}
 use mathlib.Core.Path.{◌≡◌, refl, sym, ap, subst, ◌∙◌}
 use lib.ListN.{length, length-drop}
-use Rattle.machine.specs.declared.Verdict.TheVariants.{Accepted}
 use Rattle.machine.specs.Memory.{byte_at}
 use Rattle.machine.specs.Events.{Event, event_at, event_count}
-use Rattle.machine.specs.Refusal.{
-  Rule,
-  call_rules,
-  first_broken,
-  events_fit,
-  event_fits,
-  events_fit_below,
-  in_order,
-  in_order_below,
-  twins_below,
-}
-use Rattle.machine.specs.Refusal.{call_verdict, accepted?}
-use Rattle.machine_laws.specs.Bounds.{Each}
+use Rattle.machine.specs.Refusal.{call_rules, events_fit, event_fits, events_fit_below, in_order, in_order_below, twins_below}
+use Rattle.machine.specs.Refusal.{call_verdict}
 use Rattle.machine_laws.specs.Passed.{Passed}
 use Rattle.machine_laws.proofs.Cases.{bool_cases, is_eq, is_lt, is_le, and_both}
 use Rattle.machine_laws.proofs.Records.{passed}
 use Rattle.machine_laws.proofs.Twins.{twins-found}
-use Rattle.run_laws.proofs.Verdicts.{call-start, call-refuse}
+use Rattle.run_laws.proofs.Verdicts.{none-broken, broken-none, call-start}
 use Rattle.passed_over.specs.PassedOver.{less_first, ShorterAccepted}
 use Rattle.passed_over.proofs.Shorter.{byte-less, zeros-less, event-less, count_less}
-
--- ---- rules
-
-none-broken : (xs : List Rule) → Each (λ (x : Rule). x.broken ≡ false) xs → first_broken xs ≡ Accepted
-none-broken [] e = refl
-none-broken (x ∷ xs) e = ap (λ b. cond b x.verdict (first_broken xs)) e.0 ∙ none-broken xs e.1
-
-broken-none : (xs : List Rule) → Each (λ (x : Rule). accepted? x.verdict ≡ false) xs → first_broken xs ≡ Accepted
-    → Each (λ (x : Rule). x.broken ≡ false) xs
-broken-none [] r e = tt
-broken-none (x ∷ xs) r e =
-    bool_cases x.broken
-    (λ q.
-    let is : x.verdict ≡ Accepted = sym (ap (λ b. cond b x.verdict (first_broken xs)) q) ∙ e in
-    absurd (true≢false (sym (ap accepted? is) ∙ r.0)))
-    (λ q. (q, broken-none xs r.1 (sym (ap (λ b. cond b x.verdict (first_broken xs)) q) ∙ e)))
 
 -- ---- the tests of a list, from each of its records
 
@@ -121,7 +93,7 @@ unfolding call_verdict
 shorter-accepted memory r events log n k h ok =
     let P = passed memory r events n (call-start memory r events log n ok) in
     let (e1, (e2, (e3, (e4, (e5, (e6, (e7, (e8, (e9, (e10, _)))))))))) =
-    broken-none (call_rules memory r events log n) (call-refuse memory r events log n) ok in
+    broken-none (call_rules memory r events log n) ok in
     let whole = ap not (whole-left memory r events n k h P) in
     let fits = ap not (fits-left memory r events n k h P) in
     let order = ap not (order-left memory r events n k h P) in

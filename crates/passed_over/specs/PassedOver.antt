@@ -2,8 +2,7 @@
 -- to come, reply and leave the same (document 01, "One step, in order", "Who can be turned back"). So a host that runs
 -- a machine in slices hands over, at each, the records of its list that are not of an earlier step.
 -- Assumes nothing.
-use Rattle.std.specs.Prelude.{ℕ, ◌*◌, ◌<◌, ◌≤◌, List, ◌≡◌, drop}
-use Rattle.machine.specs.declared.Verdict.TheVariants.{Accepted}
+use Rattle.std.specs.Prelude.{ℕ, ◌*◌, ◌<◌, ◌≤◌, List, ◌≡◌, drop, Ok}
 use Rattle.machine.specs.State.{State}
 use Rattle.machine.specs.Record.{four_at}
 use Rattle.machine.specs.Events.{Event, event_at, event_count}
@@ -27,7 +26,7 @@ less_first k events = drop (8 * k) events
 -- A call with the list and a call with the list less its first k records. [01 One step, in order; 02 §1; 02 §10]
 pub record SameCall (memory r events log : List ℕ) (n number k : ℕ) : Type 0 where
   -- the shorter list refuses nothing either
-  pub accepted : call_verdict memory r (less_first k events) log n ≡ Accepted
+  pub accepted : call_verdict memory r (less_first k events) log n ≡ Ok tt
   -- reply, memory, state record and log
   pub call : run_call_of memory r (less_first k events) log n ≡ run_call_of memory r events log n
   -- the deepest count left in the number lent for it
@@ -36,7 +35,7 @@ pub record SameCall (memory r events log : List ℕ) (n number k : ℕ) : Type 0
 -- The law, of every accepted call. [01 One step, in order, 1]
 abbrev pub PassedOverDoNothing : Type 0
 PassedOverDoNothing =
-    (memory r events log : List ℕ) (n number k : ℕ) → call_verdict memory r events log n ≡ Accepted
+    (memory r events log : List ℕ) (n number k : ℕ) → call_verdict memory r events log n ≡ Ok tt
     → PassedOver r events k
     → SameCall memory r events log n number k
 
@@ -44,8 +43,8 @@ PassedOverDoNothing =
 -- [01 Who can be turned back]
 abbrev pub ShorterAccepted : Type 0
 ShorterAccepted =
-    (memory r events log : List ℕ) (n k : ℕ) → k ≤ event_count events → call_verdict memory r events log n ≡ Accepted
-    → call_verdict memory r (less_first k events) log n ≡ Accepted
+    (memory r events log : List ℕ) (n k : ℕ) → k ≤ event_count events → call_verdict memory r events log n ≡ Ok tt
+    → call_verdict memory r (less_first k events) log n ≡ Ok tt
 
 -- Two lists whose due events do the same from the step count c on.
 abbrev pub SameFrom : (c : ℕ) → (ev ev' : List Event) → Type 0

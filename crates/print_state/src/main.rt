@@ -13,11 +13,11 @@ fn read_full(stdin: &mut Stdin, input: &mut [u8]) -> usize
     ensures { result ≤ length input.new }
 {
     let mut done = 0;
+    // Kept: no method of std fills a slice and tells how far the input went.
     while done < input.len() {
         match stdin.read(&mut input[done..]) {
-            Ok(0) => break,
+            Ok(0) | Err(_) => break,
             Ok(n) => done += n,
-            Err(_) => break,
         }
     }
     done
@@ -26,10 +26,7 @@ fn read_full(stdin: &mut Stdin, input: &mut [u8]) -> usize
 // Whether standard input has ended. Where a read failed it has not, and no line may be printed.
 fn ended(stdin: &mut Stdin) -> bool {
     let mut next = [0u8; 1];
-    match stdin.read(&mut next) {
-        Ok(n) => n == 0,
-        Err(_) => false,
-    }
+    matches!(stdin.read(&mut next), Ok(0))
 }
 
 // Tells standard error; where that fails there is nobody left to tell.

@@ -4,15 +4,15 @@ use Prim.Native.Nat.{ℕ, ◌+◌, ◌-◌, ◌≤◌}
 use mathlib.Core.Path.{◌≡◌, sym, ap, ◌∙◌}
 use mathlib.Core.Bool.{true, cond}
 use mathlib.Core.List.{List}
-use mathlib.Core.Logic.{◌≢◌}
 use native.Mathlib.Omega.{arith}
 use lib.Dec.{ltb}
 use lib.ListN.{length, take, drop, length-drop}
 use lib.Seq.{take_all}
+use Rattle.std.specs.Prelude.{Result, Ok, Err}
 use Rattle.machine.specs.declared.Depth.{Depth}
 use Rattle.machine.specs.declared.Machine.{Machine}
-use Rattle.machine.specs.declared.Verdict.{Verdict}
-use Rattle.machine.specs.declared.Verdict.TheVariants.{Accepted, MemoryLength, RecordLength}
+use Rattle.machine.specs.declared.Refusal.{Refusal}
+use Rattle.machine.specs.declared.Refusal.TheVariants.{MemoryLength, RecordLength}
 use Rattle.machine.specs.State.{state_of}
 use Rattle.machine.specs.Record.{state_in}
 use Rattle.machine.specs.Events.{event_count, events_of}
@@ -20,8 +20,8 @@ use Rattle.machine.specs.Run.{Run, ran, run_of}
 use Rattle.machine.specs.Refusal.{events_fit_below, in_order_below, verdict_of, refusal_number, accepted?}
 use Rattle.machine.specs.Depth.{deepest_from}
 use Rattle.machine_laws.specs.Passed.{Passed}
-use Rattle.machine_laws.proofs.Cases.{not-eq, not-lt, ge-of}
-use Rattle.machine_laws.proofs.Records.{passed, not-met, is-accepted}
+use Rattle.machine_laws.proofs.Cases.{not-lt, ge-of}
+use Rattle.machine_laws.proofs.Records.{passed, not-met}
 use Rattle.turn.proofs.Laws.{events-fit, events-ordered, count_fits}
 use Rattle.resume.specs.Deepest.{deepest_of}
 use Rattle.resume.proofs.Deepest.{depth-carried}
@@ -34,7 +34,7 @@ rest : (b : List ℕ) (k : ℕ) → take (length b - k) (drop k b) ≡ drop k b
 rest b k = take_all (length b - k) (drop k b) (simp length-drop (omega arith))
 
 -- the verdict on an input of at least 65,572 bytes, from its parts
-pub verdict-of-parts : (b : List ℕ) {m r e : List ℕ} {n : ℕ} {v : Verdict} → 65572 ≤ length b
+pub verdict-of-parts : (b : List ℕ) {m r e : List ℕ} {n : ℕ} {v : Result (Unit {0}) Refusal} → 65572 ≤ length b
     → n ≡ steps_in b
     → r ≡ record_in b
     → m ≡ memory_in b
@@ -74,12 +74,12 @@ pub record Ready (b : List ℕ) : Type 0 where
   pub size : 65572 ≤ length b
   pub rules : Passed (memory_in b) (record_in b) (events_in b) (steps_in b)
 
-pub ready : (b : List ℕ) → input_verdict b ≡ Accepted → Ready b
+pub ready : (b : List ℕ) → input_verdict b ≡ Ok tt → Ready b
 unfolding input_verdict
 ready b e =
     let whole = verdict_of (memory_in b) (record_in b) (events_in b) (steps_in b) in
-    let p = not-met (ltb (length b) 36) RecordLength (cond (ltb (length b) 65572) MemoryLength whole) (omega arith) e in
-    let q = not-met (ltb (length b) 65572) MemoryLength whole (omega arith) p.1 in
+    let p = not-met (ltb (length b) 36) RecordLength (cond (ltb (length b) 65572) (Err MemoryLength) whole) e in
+    let q = not-met (ltb (length b) 65572) MemoryLength whole p.1 in
     record { size = ge-of q.0; rules = passed (memory_in b) (record_in b) (events_in b) (steps_in b) q.1 }
 
 -- ---- the needs of a run
@@ -100,33 +100,23 @@ run-ready b m rb en er es ee =
 
 -- ---- the line of an input, and the memory lent for its run
 
--- an input whose verdict has the number 0 is accepted
-pub accepted-of : (b : List ℕ) {v : Verdict} {k : ℕ} → v ≡ input_verdict b → k ≡ refusal_number v → k ≡ 0 → input_verdict b ≡ Accepted
-accepted-of b {v} ev ek h = sym ev ∙ is-accepted v (sym ek ∙ h)
-
-pub sheet-accepted : (b : List ℕ) → input_verdict b ≡ Accepted → sheet_of b ≡ line_of (run_in b) (deepest_in b)
+pub sheet-accepted : (b : List ℕ) → input_verdict b ≡ Ok tt → sheet_of b ≡ line_of (run_in b) (deepest_in b)
 unfolding sheet_of
-sheet-accepted b e = ap (λ (v : Verdict). answered v (run_in b) (deepest_in b)) e
+sheet-accepted b e = ap (λ (v : Result (Unit {0}) Refusal). answered v (run_in b) (deepest_in b)) e
 
-pub sheet-refused : (b : List ℕ) {v : Verdict} {k : ℕ} → v ≡ input_verdict b → k ≡ refusal_number v → k ≢ 0 → refused_line k ≡ sheet_of b
+pub sheet-refused : (b : List ℕ) (x : Refusal) {k : ℕ} → input_verdict b ≡ Err x → k ≡ refusal_number (Err x)
+    → refused_line k ≡ sheet_of b
 unfolding sheet_of
-sheet-refused b {v} {k} ev ek h =
-    let x = run_in b in
-    ap refused_line ek
-    ∙ sym (ap (λ t. cond t (line_of x (deepest_in b)) (refused_line (refusal_number v)))
-    (not-eq (λ (q : refusal_number v ≡ 0). h (ek ∙ q))))
-    ∙ ap (λ (w : Verdict). answered w x (deepest_in b)) ev
+sheet-refused b x e ek =
+    ap refused_line ek ∙ sym (ap (λ (v : Result (Unit {0}) Refusal). answered v (run_in b) (deepest_in b)) e)
 
-abbrev left : Verdict → (b memory : List ℕ) → List ℕ
+abbrev left : Result (Unit {0}) Refusal → (b memory : List ℕ) → List ℕ
 left v b memory = cond (accepted? v) (run_in b).state.mem memory
 
-pub memory-accepted : (b memory : List ℕ) → input_verdict b ≡ Accepted → memory_after b memory ≡ (run_in b).state.mem
+pub memory-accepted : (b memory : List ℕ) → input_verdict b ≡ Ok tt → memory_after b memory ≡ (run_in b).state.mem
 unfolding memory_after
-memory-accepted b memory e = ap (λ (v : Verdict). left v b memory) e
+memory-accepted b memory e = ap (λ (v : Result (Unit {0}) Refusal). left v b memory) e
 
-pub memory-refused : (b memory : List ℕ) {v : Verdict} {k : ℕ} → v ≡ input_verdict b → k ≡ refusal_number v → k ≢ 0
-    → memory ≡ memory_after b memory
+pub memory-refused : (b memory : List ℕ) (x : Refusal) → input_verdict b ≡ Err x → memory ≡ memory_after b memory
 unfolding memory_after
-memory-refused b memory {v} {k} ev ek h =
-    sym (ap (λ t. cond t (run_in b).state.mem memory) (not-eq (λ (q : refusal_number v ≡ 0). h (ek ∙ q))))
-    ∙ ap (λ (w : Verdict). left w b memory) ev
+memory-refused b memory x e = sym (ap (λ (v : Result (Unit {0}) Refusal). left v b memory) e)

@@ -8,8 +8,9 @@ use native.Mathlib.Omega.{arith}
 use lib.Dec.{eqb, ltb}
 use lib.ListN.{length, take, drop, length-drop}
 use lib.Seq.{take_all, take-nil, get_or-take, take-take, length-take-le}
-use Rattle.machine.specs.declared.Verdict.{Verdict}
-use Rattle.machine.specs.declared.Verdict.TheVariants.{MemoryLength, StepCount, RecordLength, RecordBits, EventsLength}
+use Rattle.std.specs.Prelude.{Result, Err}
+use Rattle.machine.specs.declared.Refusal.{Refusal}
+use Rattle.machine.specs.declared.Refusal.TheVariants.{MemoryLength, StepCount, RecordLength, RecordBits, EventsLength}
 use Rattle.machine.specs.Record.{four_at}
 use Rattle.machine.specs.Run.{Run}
 use Rattle.machine.specs.Refusal.{record_fits, events_fit, verdict_of}
@@ -33,12 +34,13 @@ steps-take k b h =
     )
 
 -- the first of five tests that is met, of those before rule 6
-abbrev first_met : (a b c d e : Bool) → Verdict
+abbrev first_met : (a b c d e : Bool) → Result (Unit {0}) Refusal
 first_met a b c d e =
-    cond a MemoryLength (cond b StepCount (cond c RecordLength (cond d StepCount (cond e RecordBits EventsLength))))
+    cond a (Err MemoryLength)
+    (cond b (Err StepCount) (cond c (Err RecordLength) (cond d (Err StepCount) (cond e (Err RecordBits) (Err EventsLength)))))
 
 -- the verdict on a list of events that is too long
-long_verdict : (memory r : List ℕ) (n : ℕ) → Verdict
+long_verdict : (memory r : List ℕ) (n : ℕ) → Result (Unit {0}) Refusal
 long_verdict memory r n =
     first_met (not (eqb (length memory) 65536)) (ltb 1000000 n) (not (eqb (length r) 32))
     (ltb 4294967295 (four_at r 22 + n)) (not (record_fits r))
@@ -91,7 +93,7 @@ cut_off k b h =
     let short : input_verdict (take k b) ≡ long_verdict (memory_in b) (record_in b) (steps_in b) =
     input-long (take k b) (omega arith) ∙ long-take k b h in
     let long : input_verdict b ≡ long_verdict (memory_in b) (record_in b) (steps_in b) = input-long b (omega arith) in
-    ap (λ (v : Verdict). answered v (run_in (take k b)) (deepest_in (take k b))) short
+    ap (λ (v : Result (Unit {0}) Refusal). answered v (run_in (take k b)) (deepest_in (take k b))) short
     ∙ long-fixed (memory_in b) (record_in b) (steps_in b) (run_in (take k b)) (run_in b) (deepest_in (take k b)) (deepest_in b)
-    ∙ sym (ap (λ (v : Verdict). answered v (run_in b) (deepest_in b)) long))
+    ∙ sym (ap (λ (v : Result (Unit {0}) Refusal). answered v (run_in b) (deepest_in b)) long))
     (λ q. ap sheet_of (take_all k b (ge-of q)))

@@ -1,8 +1,8 @@
 -- The program's input and which line is printed for it (document 01, "Sheet for the markers").
 -- Assumes nothing.
-use Rattle.std.specs.Prelude.{ℕ, cond, List, ltb, length, take, drop}
-use Rattle.machine.specs.declared.Verdict.{Verdict}
-use Rattle.machine.specs.declared.Verdict.TheVariants.{MemoryLength, RecordLength}
+use Rattle.std.specs.Prelude.{ℕ, cond, List, ltb, length, take, drop, Result, Err}
+use Rattle.machine.specs.declared.Refusal.{Refusal}
+use Rattle.machine.specs.declared.Refusal.TheVariants.{MemoryLength, RecordLength}
 use Rattle.machine.specs.Record.{four_at, state_in}
 use Rattle.machine.specs.Events.{events_of}
 use Rattle.machine.specs.Run.{Run, run_of}
@@ -24,10 +24,10 @@ abbrev pub events_in : List ℕ → List ℕ
 events_in b = drop 65572 b
 
 -- "Under 36 bytes is 3; short memory is 1"; then the run call's own order. [01 Sheet for the markers]
-unfoldable pub input_verdict : List ℕ → Verdict
+unfoldable pub input_verdict : List ℕ → Result (Unit {0}) Refusal
 input_verdict b =
-    cond (ltb (length b) 36) RecordLength
-    (cond (ltb (length b) 65572) MemoryLength
+    cond (ltb (length b) 36) (Err RecordLength)
+    (cond (ltb (length b) 65572) (Err MemoryLength)
     (verdict_of (memory_in b) (record_in b) (events_in b) (steps_in b)))
 
 -- the run that an accepted input asks for. [01 Sheet for the markers]
@@ -38,7 +38,7 @@ run_in b = run_of (events_of (events_in b)) (state_in (record_in b) (memory_in b
 abbrev pub deepest_in : List ℕ → ℕ
 deepest_in b = deepest_of (events_of (events_in b)) (state_in (record_in b) (memory_in b)) (run_in b).steps
 
-abbrev pub answered : Verdict → Run → (deepest : ℕ) → List ℕ
+abbrev pub answered : Result (Unit {0}) Refusal → Run → (deepest : ℕ) → List ℕ
 answered v x deepest = cond (accepted? v) (line_of x deepest) (refused_line (refusal_number v))
 
 -- the line printed for an input. [01 Sheet for the markers]

@@ -2,7 +2,7 @@
 ghost use Rattle.std.specs.Prelude.{◌≡◌, ◌-◌, ◌≤◌, length, take, drop};
 ghost use Rattle.printed_line.specs.Sheet.{input_verdict};
 
-use machine::Verdict;
+use machine::{Refusal, Verdict};
 
 // The bytes from place `from` up to place `to`.
 pub fn part(input: &[u8], from: usize, to: usize) -> &[u8]
@@ -12,27 +12,15 @@ pub fn part(input: &[u8], from: usize, to: usize) -> &[u8]
     &input[from..to]
 }
 
-// One buffer copied into another of its length.
-pub fn copy(src: &[u8], dst: &mut [u8])
-    requires { length src.now ≡ length dst.old }
-    ensures { dst.new ≡ src.now }
-{
-    let mut i = 0;
-    while i < dst.len() {
-        dst[i] = src[i];
-        i += 1;
-    }
-}
-
 // Whether an input is accepted: its length, then what the run call tests.
 pub fn verdict(input: &[u8]) -> Verdict
     ensures { result ≡ input_verdict input.now }
 {
     if input.len() < 36 {
-        return Verdict::RecordLength;
+        return Err(Refusal::RecordLength);
     }
     if input.len() < 65572 {
-        return Verdict::MemoryLength;
+        return Err(Refusal::MemoryLength);
     }
     let n = little_endian::four_at(input, 0) as u64;
     let state = part(input, 4, 36);

@@ -5,21 +5,19 @@ mod cut;
 mod slices;
 
 ghost use Rattle.std.specs.Prelude.{◌≡◌, ◌≤◌, length, take, drop};
-ghost use Rattle.machine.specs.declared.Verdict.TheVariants.{Accepted};
 ghost use Rattle.line_text.specs.Line.{line_of};
 ghost use Rattle.printed_line.specs.Sheet.{input_verdict, run_in, deepest_in, sheet_of, memory_after};
 
 // The line of an accepted input, whose memory is copied out and run on.
-fn put_run(input: &[u8], memory: &mut [u8], out: &mut [u8]) -> usize
-    requires { (input_verdict input.now ≡ Accepted) × (length memory.old ≡ 65536)
-        × (length out.old ≡ 80) }
+fn put_run(input: &[u8], memory: &mut [u8; 65536], out: &mut [u8; 80]) -> usize
+    requires { input_verdict input.now ≡ Ok tt }
     ensures line { take result out.new
         ≡ line_of (run_in input.now) (deepest_in input.now) }
     ensures memory { memory.new ≡ (run_in input.now).state.mem }
     ensures kept { drop result out.new ≡ drop result out.old }
     ensures fits { result ≤ 80 }
 {
-    cut::copy(cut::part(input, 36, 65572), memory);
+    memory.copy_from_slice(cut::part(input, 36, 65572));
     let n = little_endian::four_at(input, 0);
     let m = state_record::read_record(cut::part(input, 4, 36));
     let events = cut::part(input, 65572, input.len());
@@ -36,9 +34,8 @@ pub fn sheet(input: &[u8], memory: &mut [u8; 65536], out: &mut [u8; 80]) -> usiz
     ensures kept { drop result out.new ≡ drop result out.old }
     ensures fits { (result ≤ 80) × (length out.new ≡ 80) }
 {
-    let refused = refusal::refusal_number(cut::verdict(input));
-    if refused != 0 {
-        return line_text::put_refusal(out, refused);
+    if let Err(refused) = cut::verdict(input) {
+        return line_text::put_refusal(out, refusal::refusal_number(refused));
     }
     put_run(input, memory, out)
 }

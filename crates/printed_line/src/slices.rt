@@ -23,17 +23,13 @@ pub struct Whole {
 fn out_of_room(x: Reason) -> bool
     ensures { result ≡ out_of_room x }
 {
-    match x {
-        Reason::Done => false,
-        Reason::Halted => false,
-        Reason::NoRoom => true,
-    }
+    matches!(x, Reason::NoRoom)
 }
 
 // A run of n steps, fewer if the machine halts. Each slice goes on at the event record that the one
 // before it had reached, and as deep as it was.
-pub fn run_whole(m: Machine, memory: &mut [u8], events: &[u8], n: u32) -> Whole
-    requires { (length memory.old ≡ 65536) × (m.rest.count + n ≤ 4294967295) × Ordered events.now
+pub fn run_whole(m: Machine, memory: &mut [u8; 65536], events: &[u8], n: u32) -> Whole
+    requires { (m.rest.count + n ≤ 4294967295) × Ordered events.now
         × (events_fit_below events.now (event_count events.now) ≡ true) }
     ensures run { ran (state_of result.machine memory.new) result.steps
         ≡ run_of (events_of events.now) (state_of m memory.old) n }
@@ -48,14 +44,14 @@ pub fn run_whole(m: Machine, memory: &mut [u8], events: &[u8], n: u32) -> Whole
         deepest: 0,
     };
     let mut done: u32 = 0;
+    // Kept: a slice does as many steps as its log has room for, so no range counts them.
     while done < n {
         let r = xm23_run::run(machine, memory, events, next, &mut log, depth, n - done);
         machine = r.machine;
         next = r.next;
         depth = r.depth;
         done += r.steps;
-        let reason = r.reason;
-        if !out_of_room(reason) {
+        if !out_of_room(r.reason) {
             break;
         }
     }

@@ -11,6 +11,7 @@ use lib.ListN.{length, drop}
 use borrow.Author.Tests.{lt-ltb}
 use denote.Laws.{Is}
 use denote.Struct.Laws as LL
+use Rattle.std.specs.Prelude.{Result, Err}
 use Rattle.word.proofs.Laws.{bit_le}
 use Rattle.machine.specs.contracts.Machine as T
 use Rattle.machine.proofs.Machine.TheLaws as T'
@@ -18,8 +19,8 @@ use Rattle.machine.specs.contracts.Rest as R
 use Rattle.machine.proofs.Rest.TheLaws as R'
 use Rattle.machine.specs.declared.Machine.{Machine}
 use Rattle.machine.specs.declared.Rest.{Rest}
-use Rattle.machine.specs.declared.Verdict.{Verdict}
-use Rattle.machine.specs.declared.Verdict.TheVariants.{MemoryLength, StepCount, RecordBits}
+use Rattle.machine.specs.declared.Refusal.{Refusal}
+use Rattle.machine.specs.declared.Refusal.TheVariants.{MemoryLength, StepCount, RecordBits}
 use Rattle.machine.specs.State.{State, state_of}
 use Rattle.machine.specs.Record.{four_at, record_of}
 use Rattle.machine.specs.Refusal.{record_fits, Rule, rule, rules_of, first_broken, verdict_of}
@@ -66,7 +67,7 @@ field_rules t memory events n =
     ∷ rule (not (ltb t.cex 128)) RecordBits
     ∷ drop 5 (rules_of [] [] events 0)
 
-two-tests : (t u : Bool) (v w : Verdict) → cond (not (t && u)) v w ≡ cond (not t) v (cond (not u) v w)
+two-tests : (t u : Bool) (v w : Result (Unit {0}) Refusal) → cond (not (t && u)) v w ≡ cond (not t) v (cond (not u) v w)
 two-tests true u v w = refl
 two-tests false u v w = refl
 
@@ -80,7 +81,7 @@ fields-verdict m vs is memory events n =
       record_size s,
       record-count s b.count,
       record-fits s b.psw b.cex,
-      two-tests (eqb (m.rest.psw / 512 % 16) 0) (ltb m.rest.cex 128) RecordBits (first_broken (drop 5 (rules_of [] [] events 0))),
+      two-tests (eqb (m.rest.psw / 512 % 16) 0) (ltb m.rest.cex 128) (Err RecordBits) (first_broken (drop 5 (rules_of [] [] events 0))),
     )
 
 pub count_fits : (m : Machine) (vs : List Val) → Is T.the_row m vs → (memory events : List ℕ) (n : ℕ)

@@ -4,7 +4,7 @@ ghost use Rattle.machine.specs.State.{state_of};
 ghost use Rattle.machine.specs.Record.{record_of};
 ghost use Rattle.machine.specs.Refusal.{verdict_of, call_verdict};
 
-use machine::{Machine, Verdict};
+use machine::{Machine, Refusal, Verdict};
 
 // The first rule of a start from a machine's own record that is broken. The record is not written:
 // of its length and of its bytes that are no field no rule can be broken.
@@ -13,19 +13,19 @@ pub fn start_verdict(m: Machine, memory: &[u8], events: &[u8], n: u64) -> Verdic
         events.now n }
 {
     if memory.len() != 65536 {
-        return Verdict::MemoryLength;
+        return Err(Refusal::MemoryLength);
     }
     if 1000000 < n {
-        return Verdict::StepCount;
+        return Err(Refusal::StepCount);
     }
     if 4294967295 < m.rest.count as u64 + n {
-        return Verdict::StepCount;
+        return Err(Refusal::StepCount);
     }
     if m.rest.psw / 512 % 16 != 0 {
-        return Verdict::RecordBits;
+        return Err(Refusal::RecordBits);
     }
     if 128 <= m.rest.cex {
-        return Verdict::RecordBits;
+        return Err(Refusal::RecordBits);
     }
     event_rules::events_verdict(events)
 }
@@ -35,12 +35,9 @@ pub fn advance_verdict(m: Machine, memory: &[u8], events: &[u8], log: &[u8], n: 
     ensures { result ≡ call_verdict memory.now
         (record_of (state_of m memory.now)) events.now log.now n }
 {
-    let start = start_verdict(m, memory, events, n);
-    if crate::refusal_number(start) != 0 {
-        return start;
-    }
+    start_verdict(m, memory, events, n)?;
     if log.len() % 8 != 0 {
-        return Verdict::LogLength;
+        return Err(Refusal::LogLength);
     }
-    Verdict::Accepted
+    Ok(())
 }

@@ -7,7 +7,7 @@ ghost use Rattle.machine.specs.Record.{four_at};
 ghost use Rattle.machine.specs.Refusal.{record_fits, verdict_of, call_verdict, refusal_number};
 
 use little_endian::{four_at, two_at};
-use machine::Verdict;
+use machine::{Refusal, Verdict};
 
 pub mod fields;
 
@@ -36,10 +36,7 @@ fn record_fits(r: &[u8]) -> bool
 fn count_of(r: &[u8]) -> u32
     ensures { result ≡ cond (ltb (length r.now) 26) 0 (four_at r.now 22) }
 {
-    if r.len() < 26 {
-        return 0;
-    }
-    four_at(r, 22)
+    if r.len() < 26 { 0 } else { four_at(r, 22) }
 }
 
 // The first rule of a start that is broken, in the order in which they are tested.
@@ -48,42 +45,29 @@ pub fn verdict(memory: &[u8], state: &[u8], events: &[u8], n: u64) -> Verdict
         ≡ verdict_of memory.now state.now events.now n }
 {
     if memory.len() != 65536 {
-        return Verdict::MemoryLength;
+        return Err(Refusal::MemoryLength);
     }
     if 1000000 < n {
-        return Verdict::StepCount;
+        return Err(Refusal::StepCount);
     }
     let sum = count_of(state) as u64 + n;
     if state.len() != 32 {
-        return Verdict::RecordLength;
+        return Err(Refusal::RecordLength);
     }
     if 4294967295 < sum {
-        return Verdict::StepCount; // the sum of 2, compared once 3 has passed
+        return Err(Refusal::StepCount); // the sum of 2, compared once 3 has passed
     }
     if !record_fits(state) {
-        return Verdict::RecordBits;
+        return Err(Refusal::RecordBits);
     }
     event_rules::events_verdict(events)
 }
 
-// The papers' number of a verdict; 0 stands for none.
-pub fn refusal_number(v: Verdict) -> u64
-    ensures { (result ≡ refusal_number v) × (result ≤ 255) }
+// The papers' number of a refusal.
+pub fn refusal_number(refused: Refusal) -> u64
+    ensures { (result ≡ refusal_number (Err refused)) × (result ≤ 255) }
 {
-    match v {
-        Verdict::Accepted => 0,
-        Verdict::MemoryLength => 1,
-        Verdict::StepCount => 2,
-        Verdict::RecordLength => 3,
-        Verdict::RecordBits => 4,
-        Verdict::EventsLength => 5,
-        Verdict::EventFields => 6,
-        Verdict::EventOrder => 7,
-        Verdict::EventTwins => 13,
-        Verdict::LogLength => 9,
-        Verdict::JournalFit => 14,
-        Verdict::StepsKept => 15,
-    }
+    refused as u64
 }
 
 // The first rule of a run call that is broken: those of its start, and then that of its log.
@@ -91,12 +75,9 @@ pub fn call_verdict(memory: &[u8], state: &[u8], events: &[u8], log: &[u8], n: u
     ensures { result ≡ call_verdict memory.now state.now
         events.now log.now n }
 {
-    let start = verdict(memory, state, events, n);
-    if refusal_number(start) != 0 {
-        return start;
-    }
+    verdict(memory, state, events, n)?;
     if log.len() % 8 != 0 {
-        return Verdict::LogLength;
+        return Err(Refusal::LogLength);
     }
-    Verdict::Accepted
+    Ok(())
 }

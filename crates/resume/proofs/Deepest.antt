@@ -8,9 +8,9 @@ use mathlib.Core.Logic.{◌≢◌}
 use mathlib.Core.Path.{◌≡◌, refl, sym, ap, subst, ◌∙◌}
 use lib.Dec.{ltb}
 use lib.ListN.{length}
+use Rattle.std.specs.Prelude.{Ok}
 use Rattle.machine.specs.declared.Act.{Act}
 use Rattle.machine.specs.declared.Act.TheVariants as acts
-use Rattle.machine.specs.declared.Verdict.TheVariants.{Accepted}
 use Rattle.machine.specs.State.{State}
 use Rattle.machine.specs.Record.{state_in}
 use Rattle.machine.specs.Events.{Event, events_of}
@@ -18,8 +18,8 @@ use Rattle.machine.specs.Refusal.{call_verdict, refusal_number, accepted?}
 use Rattle.machine.specs.Logged.{run_logged}
 use Rattle.machine.specs.Call.{run_on, room_of}
 use Rattle.machine.specs.Depth.{greater, depth, depth_after, depth_from, call_deepest}
-use Rattle.machine_laws.proofs.Cases.{bool_cases, lt_of, ge-of, not-lt, not-eq}
-use Rattle.machine_laws.proofs.Records.{passed}
+use Rattle.machine_laws.proofs.Cases.{bool_cases, lt_of, ge-of, not-lt}
+use Rattle.machine_laws.proofs.Records.{passed, is-refused}
 use Rattle.run_laws.proofs.Room.{logged-le}
 use Rattle.run_laws.proofs.Verdicts.{call-start}
 use Rattle.run_laws.proofs.Depth.{depth-append, depth-slices, open-le}
@@ -187,9 +187,10 @@ module _ (memory r events log : List ℕ) (n number : ℕ) where
   pub refused-number : refusal_number (call_verdict memory r events log n) ≢ 0 → deepest_left memory r events log n number ≡ number
   unfolding deepest_left
   refused-number h =
-      ap (λ b. cond b (deepest_of (events_of events) (state_in r memory) (run_on memory r events log n).steps) number) (not-eq h)
+      ap (λ b. cond b (deepest_of (events_of events) (state_in r memory) (run_on memory r events log n).steps) number)
+      (is-refused (call_verdict memory r events log n) h)
 
-  module _ (ok : call_verdict memory r events log n ≡ Accepted) where
+  module _ (ok : call_verdict memory r events log n ≡ Ok tt) where
     pub accepted-figure : deepest_left memory r events log n number
         ≡ deepest_of (events_of events) (state_in r memory) (run_on memory r events log n).steps
     unfolding deepest_left

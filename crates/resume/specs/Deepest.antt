@@ -1,8 +1,7 @@
 -- How deep a run went (document 02, §10): the greatest number of frames open together, of the frames that "Depth" and
 -- "Resumption" of document 01 speak of; and the bound that "Depth" gives for it. The proofs are proofs/Deepest.antt.
 -- Assumes nothing.
-use Rattle.std.specs.Prelude.{ℕ, zero, suc, ◌-◌, ◌≤◌, cond, List, ◌≡◌, length}
-use Rattle.machine.specs.declared.Verdict.TheVariants.{Accepted}
+use Rattle.std.specs.Prelude.{ℕ, zero, suc, ◌-◌, ◌≤◌, cond, List, ◌≡◌, length, Ok}
 use Rattle.machine.specs.State.{State}
 use Rattle.machine.specs.Record.{state_in}
 use Rattle.machine.specs.Events.{Event, events_of}
@@ -48,7 +47,7 @@ Bounded =
 
 abbrev pub CallBounded : Type 0
 CallBounded =
-    (memory r events log : List ℕ) (n number : ℕ) → call_verdict memory r events log n ≡ Accepted
+    (memory r events log : List ℕ) (n number : ℕ) → call_verdict memory r events log n ≡ Ok tt
     → DepthPremises memory r events (run_on memory r events log n).steps
     → deepest_left memory r events log n number
     ≤ 7 - lowest (events_of events) (state_in r memory) (run_on memory r events log n).steps

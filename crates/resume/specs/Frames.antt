@@ -3,8 +3,7 @@
 -- that reads the run itself: nothing is carried beside it. What a step does is the act that drives it; what it writes
 -- is the list of writes that its memory comes from.
 -- Assumes nothing.
-use Rattle.std.specs.Prelude.{ℕ, zero, suc, ◌+◌, ◌*◌, ◌<◌, Bool, true, false, cond, not, ◌&&◌, List, [], ◌∷◌, ◌++◌, ◌≡◌}
-use Rattle.machine.specs.declared.Verdict.TheVariants.{Accepted}
+use Rattle.std.specs.Prelude.{ℕ, zero, suc, ◌+◌, ◌*◌, ◌<◌, Bool, true, false, cond, not, ◌&&◌, List, [], ◌∷◌, ◌++◌, ◌≡◌, Ok}
 use Rattle.machine.specs.State.{Core, State, sp, pc, wrap}
 use Rattle.machine.specs.Memory.{writes?, even, span}
 use Rattle.machine.specs.Events.{Event}
@@ -23,7 +22,7 @@ pub record Start (memory r events : List ℕ) (n : ℕ) : Type 0 where
   pub memory_bytes : Bytes memory
   pub record_bytes : Bytes r
   pub event_bytes : Bytes events
-  pub accepted : verdict_of memory r events n ≡ Accepted
+  pub accepted : verdict_of memory r events n ≡ Ok tt
 
 -- A frame holds the state that its entry left: "As entry left them: after that entry's step." It says whether it is the
 -- application's: "SVC frames opened while no device frame is open .. count as the application's"; any other is a

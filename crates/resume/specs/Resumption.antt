@@ -1,14 +1,13 @@
 -- Demand 3, across the application's own traps, at one run call: of the buffers that the call was handed, and of the
 -- memory and the state record that it leaves (document 01, "Resumption"; document 02, §1, §13).
 -- Assumes nothing.
-use Rattle.std.specs.Prelude.{ℕ, suc, ◌<◌, true, false, List, [], ◌≡◌}
+use Rattle.std.specs.Prelude.{ℕ, suc, ◌<◌, true, false, List, [], ◌≡◌, Ok}
 use Rattle.machine.specs.Memory.{byte_at}
 use Rattle.machine.specs.Record.{state_in}
 use Rattle.machine.specs.Events.{events_of}
 use Rattle.machine.specs.Devices.{device?}
 use Rattle.machine.specs.Refusal.{call_verdict}
 use Rattle.machine.specs.Call.{run_on}
-use Rattle.machine.specs.declared.Verdict.TheVariants.{Accepted}
 use Rattle.machine.specs.declared.Act.TheVariants as acts
 use Rattle.resume.specs.Frames.{NoChain, act, application?, application_steps, foreign?}
 use Rattle.resume.specs.Resume.{Premises, alone, Agree, ReadAfterPull}
@@ -45,6 +44,6 @@ module _ (memory r events : List ℕ) (n : ℕ) (memory' r' : List ℕ) where
 -- is the one with no limit, "lent a log long enough". [01 Resumption; 02 §1; 02 §13]
 abbrev pub Resumption : (memory r events log : List ℕ) (n : ℕ) (memory' r' : List ℕ) → Type 0
 Resumption memory r events log n memory' r' =
-    call_verdict memory r events log n ≡ Accepted →
+    call_verdict memory r events log n ≡ Ok tt →
     Premises memory r events (run_on memory r events log n).steps →
     CallResumes memory r events (run_on memory r events log n).steps memory' r'

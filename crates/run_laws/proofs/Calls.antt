@@ -9,7 +9,7 @@ use mathlib.Core.Logic.{◌≢◌}
 use mathlib.Core.Path.{◌≡◌, sym, ap, ◌∙◌}
 use lib.ListN.{length, take, drop, length-append, length-take, take-append-drop}
 use lib.Seq.{sets, length-sets, take_all, take-append_seam}
-use Rattle.machine.specs.declared.Verdict.TheVariants.{Accepted}
+use Rattle.std.specs.Prelude.{Ok}
 use Rattle.machine.specs.State.{State}
 use Rattle.machine.specs.Memory.{byte_at}
 use Rattle.machine.specs.Record.{state_in, record_of}
@@ -20,15 +20,15 @@ use Rattle.machine.specs.Logged.{Logged, joined, run_logged, reason_logged}
 use Rattle.machine.specs.Refusal.{verdict_of, call_verdict, refusal_number}
 use Rattle.machine.specs.Call.{reply_number, run_reply, room_of, turned_back, closing, closing_of, run_on, run_call_of}
 use Rattle.machine_laws.specs.Bounds.{Bytes}
-use Rattle.machine_laws.proofs.Cases.{bool_cases, not-eq}
-use Rattle.machine_laws.proofs.Records.{passed, closing-read}
+use Rattle.machine_laws.proofs.Cases.{bool_cases}
+use Rattle.machine_laws.proofs.Records.{passed, closing-read, is-refused}
 use Rattle.run_laws.proofs.Room.{logged-run, records-fit, records-le, logged-le, short-fills, room-enough, logged-slices}
 use Rattle.stores.proofs.Laws.{sets-before, sets-joined}
 use Rattle.run_laws.proofs.LogBytes.{log-length, log-append, log-tail}
 use Rattle.run_laws.proofs.Verdicts.{call-start, call-whole, call-accepts, verdict-fewer}
 
 -- an accepted call's answer is its run's; a refused one leaves memory, record and log as handed over
-pub accepted-call : (memory r events log : List ℕ) (n : ℕ) → call_verdict memory r events log n ≡ Accepted
+pub accepted-call : (memory r events log : List ℕ) (n : ℕ) → call_verdict memory r events log n ≡ Ok tt
     → run_call_of memory r events log n ≡ closing log (run_on memory r events log n)
 unfolding run_call_of
 accepted-call memory r events log n e = ap (λ v. closing_of v memory r log (run_on memory r events log n)) e
@@ -37,7 +37,8 @@ pub refused-call : (memory r events log : List ℕ) (n : ℕ) → refusal_number
     → run_call_of memory r events log n ≡ turned_back (call_verdict memory r events log n) memory r log
 unfolding run_call_of
 refused-call memory r events log n h =
-    ap (λ b. cond b (closing log (run_on memory r events log n)) (turned_back (call_verdict memory r events log n) memory r log)) (not-eq h)
+    ap (λ b. cond b (closing log (run_on memory r events log n)) (turned_back (call_verdict memory r events log n) memory r log))
+    (is-refused (call_verdict memory r events log n) h)
 
 -- the parts of a reply
 pub record Parts (reply refusal reason steps added : ℕ) : Type 0 where
@@ -57,7 +58,7 @@ reason-small x =
     bool_cases x.short
     (λ q. rw q (omega arith)) (λ q. bool_cases x.state.halted (λ p. rw (q, p) (omega arith)) (λ p. rw (q, p) (omega arith)))
 
-module _ (memory r events log : List ℕ) (n : ℕ) (ok : call_verdict memory r events log n ≡ Accepted) where
+module _ (memory r events log : List ℕ) (n : ℕ) (ok : call_verdict memory r events log n ≡ Ok tt) where
   abbrev ev : List Event
   ev = events_of events
 
@@ -96,7 +97,7 @@ module _ (memory r events log : List ℕ) (n : ℕ) (ok : call_verdict memory r 
   eight-enough h = room-enough ev s room n (omega arith)
 
   -- the steps done are those of a start that is accepted too
-  pub done-accepted : verdict_of memory r events x.steps ≡ Accepted
+  pub done-accepted : verdict_of memory r events x.steps ≡ Ok tt
   done-accepted = verdict-fewer memory r events n x.steps (logged-le ev s room n) (call-start memory r events log n ok)
 
   -- memory and record are those of the run's state at the steps done
@@ -132,9 +133,9 @@ written-part log vs k e h =
 -- second call, its events still due.
 module _
     (memory r events log log' : List ℕ) (n N : ℕ) (bm : Bytes memory) (br : Bytes r) (be : Bytes events)
-    (first : call_verdict memory r events log n ≡ Accepted) (within : (run_on memory r events log n).steps ≤ N)
+    (first : call_verdict memory r events log n ≡ Ok tt) (within : (run_on memory r events log n).steps ≤ N)
     (second : call_verdict (run_call_of memory r events log n).memory (run_call_of memory r events log n).state events log'
-    (N - (run_on memory r events log n).steps) ≡ Accepted) (start : verdict_of memory r events N ≡ Accepted) where
+    (N - (run_on memory r events log n).steps) ≡ Ok tt) (start : verdict_of memory r events N ≡ Ok tt) where
   abbrev run : Logged
   run = run_on memory r events log n
 
@@ -160,7 +161,7 @@ module _
   part_length = length-take used log ∙ min-eq_left used-fits
 
   -- the one call refuses nothing
-  pub whole-accepted : call_verdict memory r events whole N ≡ Accepted
+  pub whole-accepted : call_verdict memory r events whole N ≡ Ok tt
   whole-accepted =
       let b = call-whole memory' r' events log' more second in
       let l = length-append (take used log) log' in

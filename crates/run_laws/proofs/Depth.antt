@@ -4,25 +4,23 @@ use Prim.Native.Nat.{ℕ, zero, suc, ◌+◌, ◌-◌, ◌≤◌}
 use native.Mathlib.Nat.{add-suc, add-zero}
 use native.Mathlib.Numerals.{add-one}
 use native.Mathlib.Omega.{arith}
-use mathlib.Core.Bool.{true, cond, true≢false}
+use mathlib.Core.Bool.{true, false, cond, true≢false}
 use mathlib.Core.List.{List, [], ◌∷◌}
-use mathlib.Core.Logic.{◌≢◌}
 use mathlib.Core.Path.{◌≡◌, refl, sym, ap, ◌∙◌}
 use lib.ListN.{length}
+use Rattle.std.specs.Prelude.{Ok}
 use Rattle.machine.specs.declared.Act.{Act}
 use Rattle.machine.specs.declared.Act.TheVariants as act
 use Rattle.machine.specs.declared.Depth.{Depth}
-use Rattle.machine.specs.declared.Verdict.TheVariants.{Accepted}
 use Rattle.machine.specs.State.{State}
 use Rattle.machine.specs.Record.{state_in}
 use Rattle.machine.specs.Events.{Event, events_of}
 use Rattle.machine.specs.Run.{ran, run_of}
 use Rattle.machine.specs.Logged.{run_logged}
 use Rattle.machine.specs.Uneventful.{uneventful?, next_act, Uneventful}
-use Rattle.machine.specs.Refusal.{call_verdict, refusal_number, accepted?}
+use Rattle.machine.specs.Refusal.{call_verdict, accepted?}
 use Rattle.machine.specs.Call.{run_on}
 use Rattle.machine.specs.Depth.{depth, depth_after, depth_from, deepest_from, call_deepest}
-use Rattle.machine_laws.proofs.Cases.{not-eq}
 use Rattle.machine_laws.proofs.Runs.{run-append}
 use Rattle.run_laws.proofs.Room.{logged-run, logged-slices}
 
@@ -128,18 +126,18 @@ module _ (ev : List Event) (s : State) (p : Depth) where
 
 -- ---- the run call
 
-pub accepted-deepest : (memory r events log : List ℕ) (n number : ℕ) → call_verdict memory r events log n ≡ Accepted
+pub accepted-deepest : (memory r events log : List ℕ) (n number : ℕ) → call_verdict memory r events log n ≡ Ok tt
     → call_deepest memory r events log n number
     ≡ deepest_from (events_of events) (state_in r memory) (run_on memory r events log n).steps
 unfolding call_deepest
 accepted-deepest memory r events log n number e =
     ap (λ v. cond (accepted? v) (deepest_from (events_of events) (state_in r memory) (run_on memory r events log n).steps) number) e
 
-pub refused-deepest : (memory r events log : List ℕ) (n number : ℕ) → refusal_number (call_verdict memory r events log n) ≢ 0
+pub refused-deepest : (memory r events log : List ℕ) (n number : ℕ) → accepted? (call_verdict memory r events log n) ≡ false
     → call_deepest memory r events log n number ≡ number
 unfolding call_deepest
 refused-deepest memory r events log n number h =
-    ap (λ b. cond b (deepest_from (events_of events) (state_in r memory) (run_on memory r events log n).steps) number) (not-eq h)
+    ap (λ b. cond b (deepest_from (events_of events) (state_in r memory) (run_on memory r events log n).steps) number) h
 
 -- ---- examples
 

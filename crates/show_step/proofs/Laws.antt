@@ -10,6 +10,7 @@ use Rattle.std.proofs.Common.{
   ◌<◌,
   ◌≤◌,
   Bool,
+  Option,
   false,
   cond,
   not,
@@ -65,7 +66,7 @@ pub fits : (log : List ℕ) (added l : ℕ) → ltb (length log / 8) (added + l)
 fits log added l h = let k = room_for log added l h in omega arith
 
 pub stored :
-    (byte : Bool) (at v n added : ℕ) (m log : List ℕ) (x : Showing) {m' log' : List ℕ} {added' : ℕ} →
+    (byte : Bool) (at v n added : ℕ) (m log : List ℕ) (x : Option Showing) {m' log' : List ℕ} {added' : ℕ} →
     leb 16 at || (not byte && eqb (at % 2) 1) ≡ false →
     ((s : State) → s.mem ≡ m → listed s.count x ≡ logged_of (storing byte at v) s) →
     ltb (length log / 8) (added + length (listed n x)) ≡ false → added' ≡ added + length (listed n x) →

@@ -20,5 +20,5 @@ Steps regs m log n added regs' m' log' added' =
     Took (length log / 8) (running regs psw cex 0 n m) d added log (running regs' psw cex 0 (n + 1) m') d added' log'
 
 -- Nothing has changed.
-abbrev pub Same : (regs m log : List ℕ) (added : ℕ) (regs' m' log' : List ℕ) (added' : ℕ) → Type 0
-Same regs m log added regs' m' log' added' = (regs' ≡ regs) × (m' ≡ m) × (log' ≡ log) × (added' ≡ added)
+abbrev pub Same : (regs m log regs' m' log' : List ℕ) → Type 0
+Same regs m log regs' m' log' = (regs' ≡ regs) × (m' ≡ m) × (log' ≡ log)

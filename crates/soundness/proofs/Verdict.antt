@@ -7,11 +7,9 @@ use mathlib.Core.Logic.{◌≢◌}
 use mathlib.Core.Path.{◌≡◌, refl, sym, ap, subst, ◌∙◌}
 use lib.Dec.{eqb}
 use lib.ListN.{length}
+use Rattle.std.specs.Prelude.{Ok}
 use Rattle.word.specs.Width.{bit}
 use Rattle.word.proofs.Laws.{bit_le}
-use Rattle.machine.specs.declared.Verdict.{Verdict}
-use Rattle.machine.specs.declared.Verdict.TheVariants.{Accepted, MemoryLength, StepCount, RecordLength, RecordBits, EventsLength}
-use Rattle.machine.specs.declared.Verdict.TheVariants.{EventFields, EventOrder, EventTwins, LogLength, JournalFit, StepsKept}
 use Rattle.machine.specs.State.{State}
 use Rattle.machine.specs.Memory.{byte_at}
 use Rattle.machine.specs.Record.{four_at, state_in, record_of}
@@ -21,7 +19,7 @@ use Rattle.machine.specs.Refusal.{verdict_of, refusal_number}
 use Rattle.machine.specs.Call.{reply_number}
 use Rattle.machine_laws.specs.Bounds.{Bytes}
 use Rattle.machine_laws.proofs.Cases.{bool_cases, eq_of, neq-of, not-eq, and_left, and_right}
-use Rattle.machine_laws.proofs.Records.{passed, is-accepted, closing-read}
+use Rattle.machine_laws.proofs.Records.{passed, number-small, is-accepted, closing-read}
 use Rattle.run_laws.proofs.Verdicts.{verdict-fewer}
 use Rattle.run_laws.proofs.Calls.{Parts, reply-parts}
 use Rattle.resume.specs.Frames.{Start}
@@ -72,20 +70,6 @@ number_lt v b h =
     last true = omega arith
     last false = omega arith
 
-refusal-lt : (v : Verdict) → refusal_number v < 256
-refusal-lt Accepted = omega arith
-refusal-lt MemoryLength = omega arith
-refusal-lt StepCount = omega arith
-refusal-lt RecordLength = omega arith
-refusal-lt RecordBits = omega arith
-refusal-lt EventsLength = omega arith
-refusal-lt EventFields = omega arith
-refusal-lt EventOrder = omega arith
-refusal-lt EventTwins = omega arith
-refusal-lt LogLength = omega arith
-refusal-lt JournalFit = omega arith
-refusal-lt StepsKept = omega arith
-
 module _ (memory r events writers findings : List ℕ) (n : ℕ) where
   abbrev refusal : ℕ
   refusal = judge_refusal memory r events writers findings n
@@ -109,7 +93,7 @@ module _ (memory r events writers findings : List ℕ) (n : ℕ) where
       ap (λ b. cond b (judge_accepted start ran) (judge_refused refusal memory r writers findings)) (not-eq h)
 
   -- what a call has settled that refuses nothing
-  pub judge-start : refusal ≡ 0 → verdict_of memory r events n ≡ Accepted
+  pub judge-start : refusal ≡ 0 → verdict_of memory r events n ≡ Ok tt
   judge-start e =
       is-accepted (verdict_of memory r events n)
       (number-none (refusal_number (verdict_of memory r events n)) (eqb (length writers) 65536 && eqb (length findings) 144) e).0
@@ -131,7 +115,7 @@ module _ (memory r events writers findings : List ℕ) (n : ℕ) where
       (λ q. eq_of q)
       (λ q.
       let l = number_lt (refusal_number (verdict_of memory r events n)) (eqb (length writers) 65536 && eqb (length findings) 144)
-      (refusal-lt (verdict_of memory r events n)) in
+      (number-small (verdict_of memory r events n)) in
       let k = ap (λ (c : JudgeClosing). c.reply % 256) (judge-refused (neq-of q)) in
       let low : reply_number refusal 0 0 0 % 256 ≡ 0 = sym k ∙ e in
       let same : reply_number refusal 0 0 0 % 256 ≡ refusal = omega (arith, l) in
@@ -175,7 +159,7 @@ fails-within memory r events foreign n k F = let w = F.within in omega (arith, w
 
 module _
     (memory r events : List ℕ) (n : ℕ) (bm : Bytes memory) (br : Bytes r) (be : Bytes events)
-    (ok : verdict_of memory r events n ≡ Accepted) where
+    (ok : verdict_of memory r events n ≡ Ok tt) where
   abbrev ev : List Event
   ev = events_of events
 
@@ -194,7 +178,7 @@ module _
       let p = (passed memory r events n ok).few_steps in
       omega (arith, (run-follows ev s n).within, p)
 
-  fewer : verdict_of memory r events x.steps ≡ Accepted
+  fewer : verdict_of memory r events x.steps ≡ Ok tt
   fewer = verdict-fewer memory r events n x.steps (run-follows ev s n).within ok
 
   begins : Start memory r events n

@@ -2,8 +2,9 @@
 use Prim.Native.Nat.{ℕ}
 use mathlib.Core.Path.{◌≡◌, refl}
 use mathlib.Core.List.{List, [], ◌∷◌, ◌++◌}
+use Rattle.std.specs.Prelude.{Ok}
 use Rattle.text_lines.specs.Lines.{lines_of}
-use Rattle.srec.specs.declared.Refusal.TheVariants.{Accepted, Form}
+use Rattle.srec.specs.declared.Refusal.TheVariants.{Form}
 use Rattle.srec.specs.Load.{verdict, verdict_of, verdict_from, stored_of, memory_after}
 use Rattle.srec.specs.Digits.{digits_of, is_digit, digit_of, all_digits, pairs_of, sum_of}
 use Rattle.srec.specs.Record.{bytes_of, shaped_of, fault_of}
@@ -24,7 +25,7 @@ unfolding first second line_of data_lines digits_of sum_of Rattle.text_lines.spe
 text-of-three = refl
 
 -- CR LF, and no ending of the last line
-accepted : verdict_of (first ++ (13 ∷ 10 ∷ second)) ≡ verdict Accepted 0
+accepted : verdict_of (first ++ (13 ∷ 10 ∷ second)) ≡ Ok tt
 unfolding first second lines_of verdict_from fault_of shaped_of bytes_of pairs_of digit_of is_digit all_digits sum_of
 accepted = refl
 

@@ -14,9 +14,10 @@ use borrow.Author.Tests.{eqb-true, ltb-false, leb-true, eq-eqb, ne_eqb}
 use Rattle.word.proofs.Laws.{bool_cases}
 use Rattle.text_lines.specs.Lines.{text_of, none}
 use Rattle.srec.specs.Digits.{digits_of, digit_of, all_digits, pairs_of, sum_of}
-use Rattle.srec.specs.declared.Refusal.TheVariants.{Accepted, Form, Checksum, Room}
+use Rattle.std.specs.Prelude.{⊤, Result, Ok, Err}
+use Rattle.srec.specs.declared.Refusal.{Refusal}
+use Rattle.srec.specs.declared.Refusal.TheVariants.{Form, Checksum, Room}
 use Rattle.srec.specs.Record.{
-  is_accepted,
   bytes_of,
   kind_of,
   count_of,
@@ -29,7 +30,8 @@ use Rattle.srec.specs.Record.{
   Loadable,
 }
 use Rattle.srec.specs.Write.{sealed, line_of, data_lines, span_text, span_length}
-use Rattle.srec.specs.Load.{verdict, verdict_from, Sound}
+use Rattle.srec.specs.declared.Refused.{Refused}
+use Rattle.srec.specs.Load.{verdict, first_fault, verdict_from, Sound}
 
 -- ---- the last line
 
@@ -82,11 +84,15 @@ sum-end l i h = rw (drop_of_length-le l {i = i} h)
 
 -- ---- what an accepted line is
 
-clean : (a b c : Bool) → is_accepted (cond a (cond b (cond c Room Accepted) Checksum) Form) ≡ true → (a ≡ true) × (b ≡ true) × (c ≡ false)
+-- the refusal of a line by its three tests
+abbrev tried : (a b c : Bool) → Result ⊤ Refusal
+tried a b c = cond a (cond b (cond c (Err Room) (Ok tt)) (Err Checksum)) (Err Form)
+
+clean : (a b c : Bool) → tried a b c ≡ Ok tt → (a ≡ true) × (b ≡ true) × (c ≡ false)
 clean true true false e = (refl, refl, refl)
-clean true true true e = absurd (false≢true e)
-clean true false c e = absurd (false≢true e)
-clean false b c e = absurd (false≢true e)
+clean true true true e = cc
+clean true false c e = cc
+clean false b c e = cc
 
 seven : (a b c d e f g : Bool) → a && (b && (c && (d && (e && (f && g))))) ≡ true
     → (a ≡ true) × (b ≡ true) × (c ≡ true) × (d ≡ true) × (e ≡ true) × (f ≡ true) × (g ≡ true)
@@ -115,7 +121,7 @@ shaped-facts last l h =
 passes-not : (l : List ℕ) → passes_of l ≡ false → kind_of l ≡ 49 → address_of l + (count_of l - 3) ≤ 65536
 passes-not l h e = ltb-false _ _ (sym (ap (λ (x : Bool). x && ltb 65536 (address_of l + (count_of l - 3))) (eq-eqb (kind_of l) 49 e)) ∙ h)
 
-pub fault-none : (last : Bool) (l : List ℕ) → is_accepted (fault_of last l) ≡ true → Loadable l
+pub fault-none : (last : Bool) (l : List ℕ) → fault_of last l ≡ Ok tt → Loadable l
 unfolding fault_of
 fault-none last l h =
     let c = clean (shaped_of last l) (summed_of l) (passes_of l) h in
@@ -128,7 +134,7 @@ ends_last true true last q e = e
 ends_last true false last q e = absurd (false≢true e)
 ends_last false three last q e = absurd (false≢true q)
 
-pub fault-end : (last : Bool) (l : List ℕ) → is_accepted (fault_of last l) ≡ true → kind_of l ≡ 57 → last ≡ true
+pub fault-end : (last : Bool) (l : List ℕ) → fault_of last l ≡ Ok tt → kind_of l ≡ 57 → last ≡ true
 unfolding fault_of
 fault-end last l h k =
     let c = clean (shaped_of last l) (summed_of l) (passes_of l) h in
@@ -137,17 +143,17 @@ fault-end last l h k =
 
 -- ---- the verdict, line by line
 
-pub verdict-fault : (k : ℕ) (l : List ℕ) (ls : List (List ℕ)) → is_accepted (fault_of (none ls) l) ≡ false
-    → verdict (fault_of (none ls) l) k ≡ verdict_from k (l ∷ ls)
+pub verdict-fault : (k : ℕ) (l : List ℕ) (ls : List (List ℕ)) (r : Refusal) → fault_of (none ls) l ≡ Err r
+    → verdict r k ≡ verdict_from k (l ∷ ls)
 unfolding verdict_from
-verdict-fault k l ls h = rw h
+verdict-fault k l ls r h = rw h
 
-pub verdict-end : (k : ℕ) (l : List ℕ) (ls : List (List ℕ)) → is_accepted (fault_of (none ls) l) ≡ true → kind_of l ≡ 57
-    → verdict Accepted 0 ≡ verdict_from k (l ∷ ls)
+pub verdict-end : (k : ℕ) (l : List ℕ) (ls : List (List ℕ)) → fault_of (none ls) l ≡ Ok tt → kind_of l ≡ 57
+    → Ok tt ≡ verdict_from k (l ∷ ls)
 unfolding verdict_from
 verdict-end k l ls h e = rw (h, eq-eqb (kind_of l) 57 e)
 
-pub verdict-more : (k : ℕ) (l : List ℕ) (ls : List (List ℕ)) → is_accepted (fault_of (none ls) l) ≡ true → (kind_of l ≡ 57 → ⊥)
+pub verdict-more : (k : ℕ) (l : List ℕ) (ls : List (List ℕ)) → fault_of (none ls) l ≡ Ok tt → (kind_of l ≡ 57 → ⊥)
     → verdict_from k (l ∷ ls) ≡ verdict_from (k + 1) ls
 unfolding verdict_from
 verdict-more k l ls h e = rw (h, ne_eqb (kind_of l) 57 e)
@@ -156,23 +162,24 @@ pub verdict-missing : (k : ℕ) → verdict Form k ≡ verdict_from k []
 unfolding verdict_from
 verdict-missing k = refl
 
+-- a text is accepted where its first line has no fault and is the last, or the lines after it are accepted
+passed : (k : ℕ) (f : Result ⊤ Refusal) (e : Bool) (rest : Result ⊤ Refused) → first_fault k f (cond e (Ok tt) rest) ≡ Ok tt
+    → (f ≡ Ok tt) × (e ≡ false → rest ≡ Ok tt)
+passed k (Ok x) true rest h = (refl, λ q. cc)
+passed k (Ok x) false rest h = (refl, λ q. h)
+passed k (Err r) e rest h = absurd cc
+
 -- every line of an accepted text can be loaded
-pub verdict-sound : (k : ℕ) (ls : List (List ℕ)) → is_accepted (verdict_from k ls).refusal ≡ true → Sound ls
+pub verdict-sound : (k : ℕ) (ls : List (List ℕ)) → verdict_from k ls ≡ Ok tt → Sound ls
 unfolding verdict_from
 verdict-sound k [] h = tt
 verdict-sound k (l ∷ ls) h =
-    bool_cases (is_accepted (fault_of (none ls) l))
-    (λ p.
-    bool_cases (eqb (kind_of l) 57)
-    (λ q. (fault-none (none ls) l p, subst Sound (sym (none-nil ls (fault-end (none ls) l p (eqb-true _ _ q)))) tt))
-    (λ q. (fault-none (none ls) l p, verdict-sound (k + 1) ls (rest p q h)))) (λ p. let z : ⊥ = bad p h in absurd z)
-  where
-    rest : is_accepted (fault_of (none ls) l) ≡ true → eqb (kind_of l) 57 ≡ false → is_accepted (verdict_from k (l ∷ ls)).refusal ≡ true
-        → is_accepted (verdict_from (k + 1) ls).refusal ≡ true
-    rest p q e = rw (p, q) at e
-
-    bad : is_accepted (fault_of (none ls) l) ≡ false → is_accepted (verdict_from k (l ∷ ls)).refusal ≡ true → ⊥
-    bad p e = false≢true (sym p ∙ rw p at e)
+    let p = passed k (fault_of (none ls) l) (eqb (kind_of l) 57) (verdict_from (k + 1) ls) h in (
+      fault-none (none ls) l p.0,
+      bool_cases (eqb (kind_of l) 57)
+          (λ q. subst Sound (sym (none-nil ls (fault-end (none ls) l p.0 (eqb-true _ _ q)))) tt)
+          (λ q. verdict-sound (k + 1) ls (p.1 q)),
+    )
 
 -- ---- lengths of what is written
 

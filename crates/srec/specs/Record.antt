@@ -4,26 +4,18 @@
 --
 -- Count is the number of bytes after it: two of address, the data, one of checksum.
 -- Assumes nothing.
-use Rattle.std.specs.Prelude.{ℕ, ◌+◌, ◌-◌, ◌*◌, ◌%◌, ◌≤◌, ◌≡◌, Bool, true, false, cond, ◌&&◌, List, eqb, ltb, leb, length, get_or, take, drop}
+use Rattle.std.specs.Prelude.{ℕ, ◌+◌, ◌-◌, ◌*◌, ◌%◌, ◌≤◌, ◌≡◌, ⊤, Bool, true, false, cond, ◌&&◌, Result, Ok, Err}
+use Rattle.std.specs.Prelude.{List, eqb, ltb, leb, length, get_or, take, drop}
 use Rattle.srec.specs.declared.Refusal.{Refusal}
-use Rattle.srec.specs.declared.Refusal.TheVariants.{Accepted, MemoryLength, Form, Checksum, Room}
+use Rattle.srec.specs.declared.Refusal.TheVariants.{MemoryLength, Form, Checksum, Room}
 use Rattle.srec.specs.Digits.{all_digits, pairs_of, sum_of}
 
--- the paper's number of a refusal, 0 for none. [02 §2; 01 Who can be turned back]
+-- the paper's number of a refusal. [02 §2; 01 Who can be turned back]
 abbrev pub refusal_number : Refusal → ℕ
-refusal_number Accepted = 0
 refusal_number MemoryLength = 1
 refusal_number Form = 10
 refusal_number Checksum = 11
 refusal_number Room = 12
-
--- whether nothing is refused
-abbrev pub is_accepted : Refusal → Bool
-is_accepted Accepted = true
-is_accepted MemoryLength = false
-is_accepted Form = false
-is_accepted Checksum = false
-is_accepted Room = false
 
 -- count, address, data and checksum of a line, byte by byte. [02 §2]
 unfoldable pub bytes_of : List ℕ → List ℕ
@@ -70,8 +62,9 @@ abbrev pub passes_of : List ℕ → Bool
 passes_of l = eqb (kind_of l) 49 && ltb 65536 (address_of l + (count_of l - 3))
 
 -- a line's refusal: "each line is tried for 10, 11, 12 in turn". `last` says that no line follows. [02 §2]
-unfoldable pub fault_of : Bool → List ℕ → Refusal
-fault_of last l = cond (shaped_of last l) (cond (summed_of l) (cond (passes_of l) Room Accepted) Checksum) Form
+unfoldable pub fault_of : Bool → List ℕ → Result ⊤ Refusal
+fault_of last l =
+    cond (shaped_of last l) (cond (summed_of l) (cond (passes_of l) (Err Room) (Ok tt)) (Err Checksum)) (Err Form)
 
 -- a line that can be loaded: what loading asks of each line of an accepted text
 pub record Loadable (l : List ℕ) : Type 0 where

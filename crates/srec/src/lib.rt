@@ -3,47 +3,28 @@
 #![tactic(auto)]
 
 ghost use Rattle.std.specs.Prelude.{◌≡◌};
-ghost use Rattle.srec.specs.Record.{is_accepted, refusal_number};
+ghost use Rattle.srec.specs.Record.{refusal_number};
 
-// Why a line, a text or a call is refused.
+// Why a line, a text or a call is refused, by the paper's numbers.
 #[derive(Clone, Copy)]
 pub enum Refusal {
-    Accepted,
-    MemoryLength,
-    Form,
-    Checksum,
-    Room,
+    MemoryLength = 1,
+    Form = 10,
+    Checksum = 11,
+    Room = 12,
+}
+
+impl From<Refusal> for u8 {
+    ghost from_gives = { λ r n. n ≡ refusal_number r };
+
+    fn from(r: Refusal) -> u8 {
+        r as u8
+    }
 }
 
 // The refusal of a text, and the number of the line at fault.
 #[derive(Clone, Copy)]
-pub struct Verdict {
+pub struct Refused {
     pub refusal: Refusal,
     pub line: u64,
-}
-
-// Whether nothing is refused.
-pub fn is_accepted(r: Refusal) -> bool
-    ensures { result ≡ is_accepted r }
-{
-    match r {
-        Refusal::Accepted => true,
-        Refusal::MemoryLength => false,
-        Refusal::Form => false,
-        Refusal::Checksum => false,
-        Refusal::Room => false,
-    }
-}
-
-// The paper's number of a refusal, 0 for none.
-pub fn number(r: Refusal) -> u8
-    ensures { result ≡ refusal_number r }
-{
-    match r {
-        Refusal::Accepted => 0,
-        Refusal::MemoryLength => 1,
-        Refusal::Form => 10,
-        Refusal::Checksum => 11,
-        Refusal::Room => 12,
-    }
 }

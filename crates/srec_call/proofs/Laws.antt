@@ -1,15 +1,15 @@
 -- The calls from their parts. Assumes nothing.
 use Prim.Native.Nat.{ℕ, ◌+◌, ◌*◌, ◌≤◌, ◌<◌}
-use mathlib.Core.Path.{◌≡◌, sym, ap, ◌∙◌}
-use mathlib.Core.Bool.{true, false}
+use mathlib.Core.Path.{◌≡◌, sym}
 use mathlib.Core.List.{List}
 use native.Mathlib.Omega.{arith}
 use lib.ListN.{length}
 use lib.Seq.{sets}
 use borrow.Author.Tests.{eq-eqb, ne_eqb, lt-ltb, le-ltb}
 use Rattle.text_lines.specs.Lines.{lines_of}
-use Rattle.srec.specs.declared.Verdict.{Verdict}
-use Rattle.srec.specs.Record.{is_accepted, refusal_number}
+use Rattle.std.specs.Prelude.{Ok, Err}
+use Rattle.srec.specs.declared.Refused.{Refused}
+use Rattle.srec.specs.Record.{refusal_number}
 use Rattle.srec.specs.Load.{verdict_of, memory_after, pc_after, Sound}
 use Rattle.srec.specs.Write.{span_text, span_length}
 use Rattle.srec.proofs.Laws.{verdict-sound, span-length}
@@ -21,18 +21,18 @@ pub load-short : (m t : List ℕ) (pc : ℕ) → (length m ≡ 65536 → ⊥) �
 unfolding load_call_of load_verdict
 load-short m t pc h = rw (ne_eqb (length m) 65536 h)
 
-pub load-refused : (m t : List ℕ) (pc : ℕ) (v : Verdict) → length m ≡ 65536 → v ≡ verdict_of t → is_accepted v.refusal ≡ false
+pub load-refused : (m t : List ℕ) (pc : ℕ) (v : Refused) → length m ≡ 65536 → Err v ≡ verdict_of t
     → loaded (load_reply (refusal_number v.refusal) pc v.line) m ≡ load_call_of m t pc
 unfolding load_call_of load_verdict
-load-refused m t pc v h e n = rw (eq-eqb (length m) 65536 h, ← e, n)
+load-refused m t pc v h e = rw (eq-eqb (length m) 65536 h, ← e)
 
-pub load-done : (m t : List ℕ) (pc : ℕ) (v : Verdict) → length m ≡ 65536 → v ≡ verdict_of t → is_accepted v.refusal ≡ true
+pub load-done : (m t : List ℕ) (pc : ℕ) → length m ≡ 65536 → Ok tt ≡ verdict_of t
     → loaded (load_reply 0 (pc_after (lines_of t) pc) 0) (memory_after (lines_of t) m) ≡ load_call_of m t pc
 unfolding load_call_of load_verdict
-load-done m t pc v h e n = rw (eq-eqb (length m) 65536 h, ← e, n)
+load-done m t pc h e = rw (eq-eqb (length m) 65536 h, ← e)
 
-pub load-sound : (t : List ℕ) (v : Verdict) → v ≡ verdict_of t → is_accepted v.refusal ≡ true → Sound (lines_of t)
-load-sound t v e n = verdict-sound 1 (lines_of t) (sym (ap (λ (x : Verdict). is_accepted x.refusal) e) ∙ n)
+pub load-sound : (t : List ℕ) → Ok tt ≡ verdict_of t → Sound (lines_of t)
+load-sound t e = verdict-sound 1 (lines_of t) (sym e)
 
 -- ---- write
 

@@ -2,7 +2,7 @@
 -- cuts off the text, and the text of a span loads back into the span (srec_trip). Assumes nothing.
 use Prim.Native.Nat.{ℕ, suc, ◌+◌, ◌*◌, ◌/◌, ◌%◌, ◌≤◌, ◌<◌}
 use mathlib.Core.Path.{◌≡◌, refl, sym, ap, ◌∙◌, subst}
-use mathlib.Core.Bool.{Bool, true, false, cond, false≢true}
+use mathlib.Core.Bool.{Bool, true, false, cond}
 use mathlib.Core.List.{List, [], ◌∷◌, ◌++◌}
 use native.Mathlib.Omega.{arith}
 use lib.Dec.{eqb, ltb}
@@ -10,14 +10,14 @@ use lib.ListN.{length, get_or, take, drop}
 use lib.Seq.{sets, sets-eq, take_at, drop_at}
 use borrow.Author.Tests.{eqb-true, ltb-false}
 use Rattle.text_lines.specs.Lines.{lines_of}
+use Rattle.std.specs.Prelude.{⊤, Result, Ok, Err}
 use Rattle.srec.specs.declared.Refusal.{Refusal}
-use Rattle.srec.specs.declared.Refusal.TheVariants.{Accepted, MemoryLength, Form, Checksum, Room}
-use Rattle.srec.specs.Record.{is_accepted, refusal_number}
-use Rattle.srec.specs.Load.{verdict, memory_after}
+use Rattle.srec.specs.declared.Refusal.TheVariants.{MemoryLength, Form, Checksum, Room}
+use Rattle.srec.specs.Load.{memory_after}
 use Rattle.srec.specs.Write.{span_text}
 use Rattle.srec_trip.specs.Trip.{Bytes, Restored}
 use Rattle.srec_trip.proofs.Trip.{span-accepted, span-pc, span-restored}
-use Rattle.srec_call.specs.Call.{Loaded, loaded, load_reply, load_call_of, Written, written, write_refusal, write_call_of}
+use Rattle.srec_call.specs.Call.{Loaded, loaded, load_reply, load_call_of, Written, written, write_refusal, write_answer, write_call_of}
 use Rattle.srec_call.specs.Trip.{LoadsBack, Restores}
 use Rattle.srec_call.proofs.Laws.{load-done}
 
@@ -29,37 +29,37 @@ record Fitting (m : List ℕ) (a n pc : ℕ) (t : List ℕ) : Type 0 where
   inside : a + n ≤ 65536
   room : length (span_text m a n pc) ≤ length t
 
-three : (x y z : Bool) → is_accepted (cond x (cond y Room (cond z Room Accepted)) MemoryLength) ≡ true
-    → (x ≡ true) × (y ≡ false) × (z ≡ false)
-three true false false e = (refl, refl, refl)
-three true false true e = absurd (false≢true e)
-three true true z e = absurd (false≢true e)
-three false y z e = absurd (false≢true e)
+-- the refusal of a call by its three tests
+abbrev tried : (x y z : Bool) → Result ⊤ Refusal
+tried x y z = cond x (cond y (Err Room) (cond z (Err Room) (Ok tt))) (Err MemoryLength)
 
-fitting : (m : List ℕ) (a n pc : ℕ) (t : List ℕ) → is_accepted (write_refusal m a n pc t) ≡ true → Fitting m a n pc t
+three : (x y z : Bool) → tried x y z ≡ Ok tt → (x ≡ true) × (y ≡ false) × (z ≡ false)
+three true false false e = (refl, refl, refl)
+three true false true e = cc
+three true true z e = cc
+three false y z e = cc
+
+fitting : (m : List ℕ) (a n pc : ℕ) (t : List ℕ) → write_refusal m a n pc t ≡ Ok tt → Fitting m a n pc t
 unfolding write_refusal
 fitting m a n pc t h =
     let f = three (eqb (length m) 65536) (ltb 65536 (a + n)) (ltb (length t) (length (span_text m a n pc))) h in
     record { whole = eqb-true _ _ f.0; inside = ltb-false _ _ f.1; room = ltb-false _ _ f.2 }
 
 -- the low byte of a reply is 0 where nothing is refused, and there alone
-accepted-of : (f : Refusal) (k : ℕ) (t u : List ℕ)
-    → (cond (is_accepted f) (written (256 * k) u) (written (refusal_number f) t)).reply % 256 ≡ 0 → is_accepted f ≡ true
-accepted-of Accepted k t u e = refl
-accepted-of MemoryLength k t u e = let z : ⊥ = omega arith in absurd z
-accepted-of Form k t u e = let z : ⊥ = omega arith in absurd z
-accepted-of Checksum k t u e = let z : ⊥ = omega arith in absurd z
-accepted-of Room k t u e = let z : ⊥ = omega arith in absurd z
+accepted-of : (f : Result ⊤ Refusal) (s t : List ℕ) → (write_answer f s t).reply % 256 ≡ 0 → f ≡ Ok tt
+accepted-of (Ok x) s t e = refl
+accepted-of (Err MemoryLength) s t e = absurd (omega arith)
+accepted-of (Err Form) s t e = absurd (omega arith)
+accepted-of (Err Checksum) s t e = absurd (omega arith)
+accepted-of (Err Room) s t e = absurd (omega arith)
 
-reply-accepted : (m : List ℕ) (a n pc : ℕ) (t : List ℕ) → (write_call_of m a n pc t).reply % 256 ≡ 0
-    → is_accepted (write_refusal m a n pc t) ≡ true
+reply-accepted : (m : List ℕ) (a n pc : ℕ) (t : List ℕ) → (write_call_of m a n pc t).reply % 256 ≡ 0 → write_refusal m a n pc t ≡ Ok tt
 unfolding write_call_of
-reply-accepted m a n pc t e =
-    accepted-of (write_refusal m a n pc t) (length (span_text m a n pc)) t (sets t 0 (span_text m a n pc)) e
+reply-accepted m a n pc t e = accepted-of (write_refusal m a n pc t) (span_text m a n pc) t e
 
 -- ---- the text that it left
 
-module _ (m : List ℕ) (a n pc : ℕ) (t : List ℕ) (ok : is_accepted (write_refusal m a n pc t) ≡ true) where
+module _ (m : List ℕ) (a n pc : ℕ) (t : List ℕ) (ok : write_refusal m a n pc t ≡ Ok tt) where
   abbrev text : List ℕ
   text = span_text m a n pc
 
@@ -105,7 +105,7 @@ module _ (m : List ℕ) (a n pc : ℕ) (t : List ℕ) (ok : is_accepted (write_r
     answer =
         let f = fitting m a n pc t ok in
         let v = span-accepted m f.whole bytes a n pc f.inside low in
-        sym (load-done m' text pc' (verdict Accepted 0) size (sym v) refl)
+        sym (load-done m' text pc' size (sym v))
         ∙ ap (λ (x : ℕ). loaded (load_reply 0 x 0) (memory_after (lines_of text) m'))
         (span-pc m f.whole bytes a n pc f.inside low pc')
 

@@ -2,33 +2,21 @@
 -- the lines that are left make of what is held is, turn by turn, what all lines make of what was lent. Assumes nothing.
 use Prim.Native.Nat.{ℕ, zero, suc, ◌+◌, ◌-◌, ◌*◌, ◌≤◌, ◌<◌}
 use mathlib.Core.Path.{◌≡◌, refl, sym, ap, ◌∙◌, subst}
-use mathlib.Core.Bool.{Bool, true, false, ◌&&◌}
+use mathlib.Core.Bool.{Bool}
 use mathlib.Core.List.{List, [], ◌∷◌}
-use native.Mathlib.Numerals.{add-one}
 use native.Mathlib.Omega.{arith}
 use lib.Dec.{eqb, ltb, leb}
 use lib.ListN.{length, get_or, take, drop, set, length-drop, drop_of_length-le}
-use lib.Seq.{sets, drop-cons, get_or-drop, get_or-take, length-take-le}
+use lib.Seq.{sets, get_or-drop, get_or-take, length-take-le}
 use borrow.Author.Tests.{eq-eqb, ne_eqb}
 use Rattle.text_lines.specs.Lines.{lines_of, none, LineAt}
 use Rattle.text_lines.proofs.Laws.{lines_end, lines_none}
-use Rattle.srec.specs.Digits.{is_digit, all_digits}
+use Rattle.std.specs.Prelude.{⊤, Result, Ok, Err}
 use Rattle.srec.specs.declared.Refusal.{Refusal}
-use Rattle.srec.specs.declared.Refusal.TheVariants.{Accepted}
-use Rattle.srec.specs.Record.{is_accepted, bytes_of, kind_of, count_of, address_of, fault_of, Loadable}
+use Rattle.srec.specs.Record.{bytes_of, kind_of, count_of, address_of, fault_of, Loadable}
 use Rattle.srec.specs.Load.{verdict, verdict_from, stored_of, memory_after, pc_at, pc_after, Sound}
 use Rattle.stores.proofs.Laws.{sets_more}
 use Rattle.srec.proofs.Laws.{verdict-fault, verdict-end, verdict-more, bytes-length}
-
--- ---- digits
-
-pub digits-here : (l : List ℕ) (i : ℕ) → i < length l → all_digits (drop i l) ≡ is_digit (get_or l i 0) && all_digits (drop (i + 1) l)
-unfolding all_digits
-digits-here l i h = rw (drop-cons l i 0 h, add-one)
-
-pub digits-end : (l : List ℕ) (i : ℕ) → length l ≤ i → all_digits (drop i l) ≡ true
-unfolding all_digits
-digits-end l i h = rw (drop_of_length-le l {i = i} h)
 
 -- ---- a line's data
 
@@ -78,27 +66,26 @@ module _ (t : List ℕ) (at stop next : ℕ) (here : LineAt t at stop next) wher
   last_line = none-drop t next here.within ∙ sym (lines_none (drop next t))
 
   -- the fault as the code works it out
-  fault-here : (f : Refusal) → f ≡ fault_of (eqb next (length t)) (line_from t at stop)
-      → f ≡ fault_of (none (lines_of (drop next t))) (line_from t at stop)
-  fault-here f e = e ∙ ap (λ (x : Bool). fault_of x (line_from t at stop)) last_line
+  fault-here : (f : Result ⊤ Refusal) → f ≡ fault_of (eqb next (length t)) (line_from t at stop)
+      → fault_of (none (lines_of (drop next t))) (line_from t at stop) ≡ f
+  fault-here f e = sym (e ∙ ap (λ (x : Bool). fault_of x (line_from t at stop)) last_line)
 
-  pub judge-fault : (k : ℕ) (f : Refusal) → f ≡ fault_of (eqb next (length t)) (line_from t at stop) → is_accepted f ≡ false
-      → verdict f k ≡ verdict_from k (lines_of (drop at t))
-  judge-fault k f e h =
-      let g = fault-here f e in
-      ap (λ (x : Refusal). verdict x k) g ∙ verdict-fault k (line_from t at stop) (lines_of (drop next t)) (ap is_accepted (sym g) ∙ h)
+  pub judge-fault : (k : ℕ) (r : Refusal) → Err r ≡ fault_of (eqb next (length t)) (line_from t at stop)
+      → verdict r k ≡ verdict_from k (lines_of (drop at t))
+  judge-fault k r e =
+      verdict-fault k (line_from t at stop) (lines_of (drop next t)) r (fault-here (Err r) e)
       ∙ ap (verdict_from k) (sym here.split)
 
-  pub judge-end : (k : ℕ) (f : Refusal) → f ≡ fault_of (eqb next (length t)) (line_from t at stop) → is_accepted f ≡ true
-      → kind_of (line_from t at stop) ≡ 57 → verdict Accepted 0 ≡ verdict_from k (lines_of (drop at t))
-  judge-end k f e z h =
-      verdict-end k (line_from t at stop) (lines_of (drop next t)) (ap is_accepted (sym (fault-here f e)) ∙ z) h
+  pub judge-end : (k : ℕ) → Ok tt ≡ fault_of (eqb next (length t)) (line_from t at stop)
+      → kind_of (line_from t at stop) ≡ 57 → Ok tt ≡ verdict_from k (lines_of (drop at t))
+  judge-end k e h =
+      verdict-end k (line_from t at stop) (lines_of (drop next t)) (fault-here (Ok tt) e) h
       ∙ ap (verdict_from k) (sym here.split)
 
-  pub judge-more : (k : ℕ) (f : Refusal) → f ≡ fault_of (eqb next (length t)) (line_from t at stop) → is_accepted f ≡ true
+  pub judge-more : (k : ℕ) → Ok tt ≡ fault_of (eqb next (length t)) (line_from t at stop)
       → (kind_of (line_from t at stop) ≡ 57 → ⊥) → verdict_from (k + 1) (lines_of (drop next t)) ≡ verdict_from k (lines_of (drop at t))
-  judge-more k f e z h =
-      sym (verdict-more k (line_from t at stop) (lines_of (drop next t)) (ap is_accepted (sym (fault-here f e)) ∙ z) h)
+  judge-more k e h =
+      sym (verdict-more k (line_from t at stop) (lines_of (drop next t)) (fault-here (Ok tt) e) h)
       ∙ ap (verdict_from k) (sym here.split)
 
   pub sound-here : Sound (lines_of (drop at t)) → Loadable (line_from t at stop) × Sound (lines_of (drop next t))

@@ -8,39 +8,34 @@ ghost use Rattle.std.specs.Prelude.{◌≡◌, length};
 ghost use Rattle.text_lines.specs.Lines.{lines_of};
 ghost use Rattle.srec.specs.Load.{verdict_of, memory_after, pc_after, Sound};
 
-use srec::{Refusal, Verdict};
+use srec::{Refusal, Refused};
 
 // The verdict on a text: the first fault of the first line at fault.
-pub fn judge(text: &[u8]) -> Verdict
+pub fn judge(text: &[u8]) -> Result<(), Refused>
     ensures { result ≡ verdict_of text.now }
 {
     let mut at = 0;
     let mut number: u64 = 1;
     while at < text.len() {
         let l = text_lines::line_at(text, at);
-        let stop = l.stop;
-        let next = l.next;
-        let part = &text[at..stop];
-        let refusal = line::fault(part, next == text.len());
-        if !srec::is_accepted(refusal) {
-            return Verdict {
-                refusal: refusal,
+        let part = &text[at..l.stop];
+        let last = l.next == text.len();
+        if let Err(refusal) = line::fault(part, last) {
+            return Err(Refused {
+                refusal,
                 line: number,
-            };
+            });
         }
-        if line::kind(part) == 57 {
-            return Verdict {
-                refusal: Refusal::Accepted,
-                line: 0,
-            };
+        if line::kind(part) == b'9' {
+            return Ok(());
         }
-        at = next;
+        at = l.next;
         number += 1;
     }
-    Verdict {
+    Err(Refused {
         refusal: Refusal::Form,
         line: number,
-    }
+    })
 }
 
 // Memory and PC after a text whose lines can all be loaded; the result is the PC.
@@ -54,12 +49,10 @@ pub fn load(memory: &mut [u8], text: &[u8], pc: u16) -> u16
     let mut last = pc;
     while at < text.len() {
         let l = text_lines::line_at(text, at);
-        let stop = l.stop;
-        let next = l.next;
-        let part = &text[at..stop];
+        let part = &text[at..l.stop];
         line::store(memory, part);
         last = line::pc(part, last);
-        at = next;
+        at = l.next;
     }
     last
 }

@@ -1,5 +1,6 @@
 // One line: its digits, its fields, its fault, what it stores.
-ghost use Rattle.std.specs.Prelude.{◌≡◌, ◌+◌, ◌*◌, ◌<◌, ◌≤◌, length, get_or, take, drop};
+ghost use Rattle.std.specs.Prelude.{◌≡◌, ◌+◌, ◌*◌, ◌<◌, ◌≤◌, cond, Some, None, IfSome};
+ghost use Rattle.std.specs.Prelude.{length, get_or, take, drop};
 ghost use Rattle.std.proofs.lemmas.List.Edits.{sets};
 ghost use Rattle.srec.specs.Digits.{is_digit, digit_of, all_digits, sum_of};
 ghost use Rattle.srec.specs.Record.{bytes_of, kind_of, count_of, address_of};
@@ -8,54 +9,18 @@ ghost use Rattle.srec.specs.Load.{stored_of, pc_at};
 
 use srec::Refusal;
 
-// A digit's value, 0 for what is none.
-fn digit(b: u8) -> u8
-    ensures { (result ≡ digit_of b) × (result < 16) }
+// A digit's value, of either case.
+#[tactic(auto, using(std::proofs::lemmas::Bool::Decides::nat_tests), unfolding(srec::specs::Digits::digit_of, srec::specs::Digits::is_digit))]
+fn digit(b: u8) -> Option<u8>
+    ensures value { result ≡ cond (is_digit b) (Some (digit_of b)) None }
+    ensures low { IfSome result (λ d. d < 16) }
 {
-    if b < 48 {
-        return 0;
+    match b {
+        b'0'..=b'9' => Some(b - b'0'),
+        b'A'..=b'F' => Some(b - b'A' + 10),
+        b'a'..=b'f' => Some(b - b'a' + 10),
+        _ => None,
     }
-    if b < 58 {
-        return b - 48;
-    }
-    if b < 65 {
-        return 0;
-    }
-    if b < 71 {
-        return b - 55;
-    }
-    if b < 97 {
-        return 0;
-    }
-    if b < 103 {
-        return b - 87;
-    }
-    0
-}
-
-// Whether a byte is a digit.
-fn is_digit(b: u8) -> bool
-    ensures { result ≡ is_digit b }
-{
-    if b < 48 {
-        return false;
-    }
-    if b < 58 {
-        return true;
-    }
-    if b < 65 {
-        return false;
-    }
-    if b < 71 {
-        return true;
-    }
-    if b < 97 {
-        return false;
-    }
-    if b < 103 {
-        return true;
-    }
-    false
 }
 
 // Whether all but the first two characters are digits.
@@ -63,14 +28,7 @@ fn all_digits(line: &[u8]) -> bool
     requires { 3 < length line.now }
     ensures { result ≡ all_digits (drop 2 line.now) }
 {
-    let mut i = 2;
-    while i < line.len() {
-        if !is_digit(line[i]) {
-            return false;
-        }
-        i += 1;
-    }
-    true
+    line[2..].iter().all(|b| digit(*b).is_some())
 }
 
 // Byte k of a line, the count being byte 0.
@@ -78,8 +36,8 @@ fn byte(line: &[u8], k: usize) -> u8
     requires { 2 * k + 3 < length line.now }
     ensures { result ≡ get_or (bytes_of line.now) k 0 }
 {
-    let high = digit(line[2 * k + 2]);
-    let low = digit(line[2 * k + 3]);
+    let high = digit(line[2 * k + 2]).unwrap_or(0);
+    let low = digit(line[2 * k + 3]).unwrap_or(0);
     16 * high + low
 }
 
@@ -112,16 +70,11 @@ fn address(line: &[u8]) -> usize
 fn is_known(kind: u8) -> bool
     ensures { result ≡ known kind }
 {
-    if kind == 48 {
-        return true;
-    }
-    if kind == 49 {
-        return true;
-    }
-    kind == 57
+    matches!(kind, b'0' | b'1' | b'9')
 }
 
 // Whether a line has the shape of a record; `last` says that no line follows.
+#[tactic(auto, using(std::proofs::lemmas::Bool::Decides::nat_tests), unfolding(srec::specs::Record::shaped_of))]
 fn shaped(line: &[u8], last: bool) -> bool
     ensures { result ≡ shaped_of last line.now }
 {
@@ -145,13 +98,7 @@ fn shaped(line: &[u8], last: bool) -> bool
     if n < 3 {
         return false;
     }
-    if k != 57 {
-        return true;
-    }
-    if n != 3 {
-        return false;
-    }
-    last
+    k != b'9' || n == 3 && last
 }
 
 // The sum of count, address, data and checksum.
@@ -159,33 +106,27 @@ fn sum(line: &[u8]) -> u32
     requires { length line.now ≡ 4 + 2 * count_of line.now }
     ensures { result ≡ sum_of (bytes_of line.now) }
 {
-    let n = count(line);
     let mut s: u32 = 0;
-    let mut k: usize = 0;
-    while k <= n {
+    for k in 0..count(line) + 1 {
         s += byte(line, k) as u32;
-        k += 1;
     }
     s
 }
 
 // A line's refusal.
-pub fn fault(line: &[u8], last: bool) -> Refusal
+pub fn fault(line: &[u8], last: bool) -> Result<(), Refusal>
     ensures { result ≡ fault_of last line.now }
 {
     if !shaped(line, last) {
-        return Refusal::Form;
+        return Err(Refusal::Form);
     }
     if sum(line) % 256 != 255 {
-        return Refusal::Checksum;
+        return Err(Refusal::Checksum);
     }
-    if kind(line) != 49 {
-        return Refusal::Accepted;
+    if kind(line) == b'1' && 65536 < address(line) + (count(line) - 3) {
+        return Err(Refusal::Room);
     }
-    if 65536 < address(line) + (count(line) - 3) {
-        return Refusal::Room;
-    }
-    Refusal::Accepted
+    Ok(())
 }
 
 // Memory with the n data bytes of a line from place a on.
@@ -194,10 +135,8 @@ fn store_data(memory: &mut [u8], line: &[u8], a: usize, n: usize)
     ensures { memory.new
         ≡ sets memory.old a (take n (drop 3 (bytes_of line.now))) }
 {
-    let mut k = 0;
-    while k < n {
+    for k in 0..n {
         memory[a + k] = byte(line, 3 + k);
-        k += 1;
     }
 }
 
@@ -206,7 +145,7 @@ pub fn store(memory: &mut [u8], line: &[u8])
     requires { (length memory.old ≡ 65536) × Loadable line.now }
     ensures { memory.new ≡ stored_of line.now memory.old }
 {
-    if kind(line) != 49 {
+    if kind(line) != b'1' {
         return;
     }
     let a = address(line);
@@ -219,7 +158,7 @@ pub fn pc(line: &[u8], before: u16) -> u16
     requires { Loadable line.now }
     ensures { result ≡ pc_at line.now before }
 {
-    if kind(line) != 57 {
+    if kind(line) != b'9' {
         return before;
     }
     address(line) as u16

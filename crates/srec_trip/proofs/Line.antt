@@ -11,7 +11,7 @@ use lib.Seq.{take_at}
 use borrow.Author.Tests.{le-ltb, le-leb, eq-eqb}
 use Rattle.text_lines.proofs.Laws.{Plain}
 use Rattle.srec.specs.Digits.{all_digits, sum_of}
-use Rattle.srec.specs.declared.Refusal.TheVariants.{Accepted}
+use Rattle.std.specs.Prelude.{Ok}
 use Rattle.srec.specs.Record.{bytes_of, kind_of, count_of, address_of, data_of, known, shaped_of, summed_of, fault_of}
 use Rattle.srec.specs.Load.{stored_of}
 use Rattle.srec.specs.Write.{sealed, line_of}
@@ -74,7 +74,7 @@ module _ (kind a : ℕ) (ds : List ℕ) (high : a < 65536) (short : length ds �
 
   -- the line has no fault, where its type asks no more of it
   line_clean : (last : Bool) → known kind ≡ true → cond (eqb kind 57) (eqb (length ds + 3) 3 && last) true ≡ true
-      → (eqb kind 49 && ltb 65536 (a + (length ds + 3 - 3))) ≡ false → fault_of last (line_of kind a ds) ≡ Accepted
+      → (eqb kind 49 && ltb 65536 (a + (length ds + 3 - 3))) ≡ false → fault_of last (line_of kind a ds) ≡ Ok tt
   unfolding fault_of shaped_of
   line_clean last k e p =
       let long : leb 4 (4 + 2 * (length ds + 3)) ≡ true = le-leb 4 (4 + 2 * (length ds + 3)) (omega arith) in
@@ -84,11 +84,11 @@ module _ (kind a : ℕ) (ds : List ℕ) (high : a < 65536) (short : length ds �
       rw (line-summed, line-address, line-digits, line-count, line-length, line-kind, line_first, long, k, counted, room, e, p) refl
 
 pub data-clean : (a : ℕ) (ds : List ℕ) → a < 65536 → length ds ≤ 252 → Bytes ds → a + length ds ≤ 65536
-    → (last : Bool) → fault_of last (line_of 49 a ds) ≡ Accepted
+    → (last : Bool) → fault_of last (line_of 49 a ds) ≡ Ok tt
 data-clean a ds h s b p last =
     line_clean 49 a ds h s b last refl refl (le-ltb 65536 (a + (length ds + 3 - 3)) (omega arith))
 
-pub end_clean : (a : ℕ) → a < 65536 → fault_of true (line_of 57 a []) ≡ Accepted
+pub end_clean : (a : ℕ) → a < 65536 → fault_of true (line_of 57 a []) ≡ Ok tt
 end_clean a h = line_clean 57 a [] h (omega arith) tt true refl refl refl
 
 pub data-stored : (a : ℕ) (ds m : List ℕ) → a < 65536 → length ds ≤ 252 → Bytes ds

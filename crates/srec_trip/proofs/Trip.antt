@@ -11,9 +11,8 @@ use borrow.Author.Tests.{ltb-true, ltb-false}
 use Rattle.word.proofs.Laws.{bool_cases}
 use Rattle.text_lines.specs.Lines.{lines_of, none}
 use Rattle.text_lines.proofs.Laws.{AllPlain, lines-text}
-use Rattle.srec.specs.declared.Refusal.TheVariants.{Accepted}
-use Rattle.srec.specs.Record.{is_accepted}
-use Rattle.srec.specs.Load.{verdict, verdict_from, verdict_of, stored_of, memory_after, pc_at, pc_after}
+use Rattle.std.specs.Prelude.{Ok}
+use Rattle.srec.specs.Load.{verdict_from, verdict_of, stored_of, memory_after, pc_at, pc_after}
 use Rattle.srec.specs.Write.{line_of, data_lines, span_lines, span_text}
 use Rattle.stores.proofs.Laws.{sets-append, sets_below, sets-above, sets-in}
 use Rattle.srec.proofs.Laws.{verdict-end, verdict-more}
@@ -94,7 +93,7 @@ module _ (m : List ℕ) (long : length m ≡ 65536) (bytes : Bytes m) where
       let f = first k a n h in
       let ls = data_lines k m (a + 16) (n - 16) ++ rest in
       verdict-more j (line_of 49 a (chunk m a n)) ls
-      (ap is_accepted (data-clean a (chunk m a n) f.high f.short f.ok f.ends (none ls))) (λ (e : 49 ≡ 57). omega arith)
+      (data-clean a (chunk m a n) f.high f.short f.ok f.ends (none ls)) (λ (e : 49 ≡ 57). omega arith)
       ∙ verdict-data k (a + 16) (n - 16) (j + 1) rest (fit_next k a n h)
       ∙ ap (λ (x : ℕ). verdict_from x rest) (omega arith)
 
@@ -123,12 +122,12 @@ module _ (m : List ℕ) (long : length m ≡ 65536) (bytes : Bytes m) where
         lines-text (span_lines m a n pc)
         (plain-data ((n + 15) / 16) a n (line_of 57 pc [] ∷ []) fit (line_plain 57 pc [] low (omega arith) tt (omega arith), tt))
 
-    pub span-accepted : verdict_of (span_text m a n pc) ≡ verdict Accepted 0
+    pub span-accepted : verdict_of (span_text m a n pc) ≡ Ok tt
     unfolding line_of
     span-accepted =
         ap (verdict_from 1) span_lines_lem
         ∙ verdict-data ((n + 15) / 16) a n 1 (line_of 57 pc [] ∷ []) fit
-        ∙ sym (verdict-end (1 + (n + 15) / 16) (line_of 57 pc []) [] (ap is_accepted (end_clean pc low)) refl)
+        ∙ sym (verdict-end (1 + (n + 15) / 16) (line_of 57 pc []) [] (end_clean pc low) refl)
 
     pub span-memory : (m' : List ℕ) → memory_after (lines_of (span_text m a n pc)) m' ≡ sets m' a (take n (drop a m))
     unfolding memory_after stored_of line_of

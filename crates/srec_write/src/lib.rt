@@ -2,19 +2,12 @@
 // all other bytes, and returns the place after what it wrote.
 #![tactic(auto)]
 
-ghost use Rattle.std.specs.Prelude.{◌≡◌, [], ◌∷◌, ◌++◌, ◌+◌, ◌*◌, ◌≤◌, ◌<◌, min, length};
+ghost use Rattle.std.specs.Prelude.{◌≡◌, [], ◌∷◌, ◌++◌, ◌+◌, ◌*◌, ◌≤◌, ◌<◌, length};
 ghost use Rattle.std.proofs.lemmas.List.Edits.{sets};
 ghost use Rattle.srec.specs.Digits.{digits_of, sum_of};
 ghost use Rattle.srec.specs.Write.{line_of, span_text, span_length};
 
 use text::digit;
-
-// The smaller of a number and 16.
-fn at_most_16(n: usize) -> usize
-    ensures { result ≡ min n 16 }
-{
-    if n < 16 { n } else { 16 }
-}
 
 // The sum of bytes, few enough that it fits.
 fn sum(bytes: &[u8]) -> u32
@@ -22,10 +15,8 @@ fn sum(bytes: &[u8]) -> u32
     ensures { (result ≡ sum_of bytes.now) × (result ≤ 255 * length bytes.now) }
 {
     let mut s: u32 = 0;
-    let mut i = 0;
-    while i < bytes.len() {
-        s += bytes[i] as u32;
-        i += 1;
+    for b in bytes {
+        s += *b as u32;
     }
     s
 }
@@ -38,35 +29,22 @@ fn put_bytes(text: &mut [u8], at: usize, bytes: &[u8]) -> usize
         × (result ≡ at + 2 * length bytes.now) }
 {
     let mut next = at;
-    let mut i = 0;
-    while i < bytes.len() {
-        let b = bytes[i];
-        text[next] = digit((b / 16) as u32);
-        text[next + 1] = digit((b % 16) as u32);
+    for b in bytes {
+        text[next] = digit((*b / 16) as u32);
+        text[next + 1] = digit((*b % 16) as u32);
         next += 2;
-        i += 1;
     }
     next
 }
 
-// Two characters.
-fn put_two(text: &mut [u8], at: usize, first: u8, second: u8) -> usize
-    requires { at + 2 ≤ length text.old }
-    ensures { (text.new ≡ sets text.old at (first ∷ second ∷ []))
-        × (result ≡ at + 2) }
+// Characters as they are.
+fn put(text: &mut [u8], at: usize, chars: &[u8]) -> usize
+    requires { at + length chars.now ≤ length text.old }
+    ensures { (text.new ≡ sets text.old at chars.now) × (result ≡ at + length chars.now) }
 {
-    text[at] = first;
-    text[at + 1] = second;
-    at + 2
-}
-
-// LF.
-fn put_lf(text: &mut [u8], at: usize) -> usize
-    requires { at < length text.old }
-    ensures { (text.new ≡ sets text.old at (10 ∷ [])) × (result ≡ at + 1) }
-{
-    text[at] = 10;
-    at + 1
+    let next = at + chars.len();
+    text[at..next].copy_from_slice(chars);
+    next
 }
 
 // A record's line with its LF.
@@ -80,11 +58,11 @@ fn put_line(text: &mut [u8], at: usize, kind: u8, a: usize, bytes: &[u8]) -> usi
     let head = [(bytes.len() + 3) as u8, (a / 256) as u8, (a % 256) as u8];
     let total = sum(&head) + sum(bytes);
     let check = [(255 - total % 256) as u8];
-    let one = put_two(text, at, b'S', kind);
+    let one = put(text, at, &[b'S', kind]);
     let two = put_bytes(text, one, &head);
     let three = put_bytes(text, two, bytes);
     let four = put_bytes(text, three, &check);
-    put_lf(text, four)
+    put(text, four, b"\n")
 }
 
 // The text of n bytes from place `start` on, with the PC, at the start of `text`.
@@ -99,13 +77,10 @@ pub fn write(memory: &[u8], start: usize, n: usize, pc: usize, text: &mut [u8]) 
     let mut a = start;
     let mut left = n;
     while 0 < left {
-        let size = at_most_16(left);
-        let stop = a + size;
-        let part = &memory[a..stop];
-        at = put_line(text, at, b'1', a, part);
-        a = stop;
+        let size = left.min(16);
+        at = put_line(text, at, b'1', a, &memory[a..a + size]);
+        a += size;
         left -= size;
     }
-    let none = &memory[0..0];
-    put_line(text, at, b'9', pc, none)
+    put_line(text, at, b'9', pc, &[])
 }

@@ -17,100 +17,74 @@ fn chosen(devices: u8, d: usize) -> bool
     (devices >> d) % 2 == 1
 }
 
+// The handlers of the eight devices: their vectors, the devices chosen, what each uses of the stack.
+#[derive(Clone, Copy)]
+struct Handlers<'a> {
+    vectors: &'a [u8],
+    devices: u8,
+    uses: &'a [u8],
+    ghost vectors_len: { length vectors.now ≡ 64 },
+    ghost uses_len: { length uses.now ≡ 16 },
+}
+
 // The priority of device d's vector.
-fn level_of(vectors: &[u8], d: usize) -> u32
-    requires vectors_len { length vectors.now ≡ 64 }
-    requires d_bound { d < 8 }
-    ensures { result ≡ level_of vectors.now d }
+#[tactic(auto, unfolding(stack_need::specs::Need::level_of))]
+fn level_of(h: Handlers, d: usize) -> u32
+    requires { d < 8 }
+    ensures { result ≡ level_of h.entry.vectors.now d }
 {
-    two_at(vectors, 4 * d) as u32 / 32 % 8
+    two_at(h.vectors, 4 * d) as u32 / 32 % 8
 }
 
 // What device d's handler takes: its frame of 8 bytes, and its own use.
-fn cost_of(uses: &[u8], d: usize) -> u32
-    requires uses_len { length uses.now ≡ 16 }
-    requires d_bound { d < 8 }
-    ensures { result ≡ cost_of uses.now d }
+#[tactic(auto, unfolding(stack_need::specs::Need::use_of))]
+fn cost_of(h: Handlers, d: usize) -> u32
+    requires { d < 8 }
+    ensures { result ≡ cost_of h.entry.uses.now d }
 {
-    8 + two_at(uses, 2 * d) as u32
+    8 + two_at(h.uses, 2 * d) as u32
 }
 
-// Is device d chosen, and of this priority?
-fn counts(vectors: &[u8], devices: u8, d: usize, level: u32) -> bool
-    requires vectors_len { length vectors.now ≡ 64 }
-    requires d_bound { d < 8 }
-    ensures { result ≡ given? devices d && eqb (level_of vectors.now d) level }
+// The most so far, device d looked at: it counts where it is chosen and of this priority.
+fn with_device(h: Handlers, level: u32, d: usize, most: u32) -> u32
+    requires { d < 8 }
+    ensures { result ≡ cond (given? h.entry.devices d && eqb (level_of h.entry.vectors.now d) level)
+        (greater most (cost_of h.entry.uses.now d)) most }
 {
-    if !chosen(devices, d) {
-        return false;
+    if chosen(h.devices, d) && level_of(h, d) == level {
+        most.max(cost_of(h, d))
+    } else {
+        most
     }
-    level_of(vectors, d) == level
-}
-
-// The greater of two numbers.
-fn greater_of(a: u32, b: u32) -> u32
-    ensures { result ≡ greater a b }
-{
-    if a < b {
-        return b;
-    }
-    a
-}
-
-// The most so far, device d looked at.
-fn with_device(vectors: &[u8], devices: u8, uses: &[u8], level: u32, d: usize, most: u32) -> u32
-    requires vectors_len { length vectors.now ≡ 64 }
-    requires uses_len { length uses.now ≡ 16 }
-    requires d_bound { d < 8 }
-    ensures { result ≡ cond (given? devices d && eqb (level_of vectors.now d) level)
-        (greater most (cost_of uses.now d)) most }
-{
-    if !counts(vectors, devices, d, level) {
-        return most;
-    }
-    greater_of(most, cost_of(uses, d))
 }
 
 // What the dearest of the chosen devices of this priority takes, 0 where there is none.
-fn dearest_of(vectors: &[u8], devices: u8, uses: &[u8], level: u32) -> u32
-    requires vectors_len { length vectors.now ≡ 64 }
-    requires uses_len { length uses.now ≡ 16 }
-    ensures { result ≡ dearest vectors.now devices uses.now 8 level }
+fn dearest_of(h: Handlers, level: u32) -> u32
+    ensures { result ≡ dearest h.entry.vectors.now h.entry.devices h.entry.uses.now 8 level }
 {
-    let mut d: usize = 0;
-    let mut most: u32 = 0;
-    while d < 8 {
-        most = with_device(vectors, devices, uses, level, d, most);
-        d += 1;
+    let mut most = 0;
+    for d in 0..8 {
+        most = with_device(h, level, d, most);
     }
     most
 }
 
 // What this priority adds: nothing where it is not above p.
-fn level_need(vectors: &[u8], devices: u8, uses: &[u8], p: u32, level: u32) -> u32
-    requires vectors_len { length vectors.now ≡ 64 }
-    requires uses_len { length uses.now ≡ 16 }
+fn level_need(h: Handlers, p: u32, level: u32) -> u32
     ensures { result ≡ cond (ltb p level)
-        (dearest vectors.now devices uses.now 8 level) 0 }
+        (dearest h.entry.vectors.now h.entry.devices h.entry.uses.now 8 level) 0 }
 {
-    if level <= p {
-        return 0;
-    }
-    dearest_of(vectors, devices, uses, level)
+    if level <= p { 0 } else { dearest_of(h, level) }
 }
 
 // The sum over the priorities above p.
-fn sum_above(vectors: &[u8], devices: u8, uses: &[u8], p: u32) -> u32
-    requires vectors_len { length vectors.now ≡ 64 }
-    requires uses_len { length uses.now ≡ 16 }
-    requires uses_value { uses_fit uses.now 8 ≡ true }
-    ensures { result ≡ sum_above vectors.now devices uses.now 7 p }
+fn sum_above(h: Handlers, p: u32) -> u32
+    requires { uses_fit h.uses.now 8 ≡ true }
+    ensures { result ≡ sum_above h.entry.vectors.now h.entry.devices h.entry.uses.now 7 p }
 {
-    let mut level: u32 = 0;
-    let mut sum: u32 = 0;
-    while level < 7 {
-        level += 1;
-        sum += level_need(vectors, devices, uses, p, level);
+    let mut sum = 0;
+    for level in 1..8 {
+        sum += level_need(h, p, level);
     }
     sum
 }
@@ -120,12 +94,10 @@ fn uses_fit(uses: &[u8]) -> bool
     requires { length uses.now ≡ 16 }
     ensures { result ≡ uses_fit uses.now 8 }
 {
-    let mut d: usize = 0;
-    while d < 8 {
+    for d in 0..8 {
         if 1024 < two_at(uses, 2 * d) {
             return false;
         }
-        d += 1;
     }
     true
 }
@@ -154,5 +126,10 @@ pub fn stack_call(vectors: &[u8], devices: u8, uses: &[u8], p: u32) -> u32
     if refused(vectors, uses, p) {
         return 16;
     }
-    sum_above(vectors, devices, uses, p) * 256
+    let h = Handlers {
+        vectors,
+        devices,
+        uses,
+    };
+    sum_above(h, p) * 256
 }

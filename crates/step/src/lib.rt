@@ -18,8 +18,15 @@ use step_plan::Planned;
 
 // A load into register dst: the value is written last, and a byte keeps the high byte. The CEX
 // state after it.
-fn load(regs: &mut [u16; 8], mem: &mut [u8], cex: u16, byte: bool, at: ByteAddr, dst: u8) -> u16
-    requires { (length mem.old ≡ 65536) × (dst < 8) }
+fn load(
+    regs: &mut [u16; 8],
+    mem: &mut [u8; 65536],
+    cex: u16,
+    byte: bool,
+    at: ByteAddr,
+    dst: u8,
+) -> u16
+    requires { dst < 8 }
     ensures core { (psw : ℕ) → core_of regs.new psw result ≡
         loaded (core_of regs.old psw cex) byte dst
         (value_at byte mem.old at.0) }
@@ -52,8 +59,14 @@ fn after(psw: u16, cex: u16, lines: Lines, halted: bool, count: u32) -> Rest
 }
 
 // The act of a plan done: what the step leaves. `lines` and `count` are from before the act.
-pub fn perform(regs: &mut [u16; 8], mem: &mut [u8], lines: Lines, count: u32, p: Planned) -> Rest
-    requires { (length mem.old ≡ 65536) × (count < 4294967295) × Within p.act }
+pub fn perform(
+    regs: &mut [u16; 8],
+    mem: &mut [u8; 65536],
+    lines: Lines,
+    count: u32,
+    p: Planned,
+) -> Rest
+    requires { (count < 4294967295) × Within p.act }
     ensures { state_with regs.new result mem.new ≡
         closed (perform p.act (core_of regs.old p.psw p.cex) lines
         mem.old) count mem.old }
@@ -101,10 +114,9 @@ pub struct Stepped {
 }
 
 // One step of a machine by value, with its event list.
-pub fn step(m: Machine, memory: &mut [u8], events: &[u8], next: usize) -> Stepped
-    requires { (length memory.old ≡ 65536) × (m.rest.count < 4294967295) ×
-        (Behind events.now next m.rest.count) × (Ordered events.now) ×
-        (events_fit_below events.now (event_count events.now) ≡ true) }
+pub fn step(m: Machine, memory: &mut [u8; 65536], events: &[u8], next: usize) -> Stepped
+    requires { (m.rest.count < 4294967295) × (Behind events.now next m.rest.count)
+        × (Ordered events.now) × (events_fit_below events.now (event_count events.now) ≡ true) }
     ensures state { state_of result.machine memory.new ≡
         step_of (events_of events.now) (state_of m memory.old) }
     ensures behind { Behind events.now result.next (m.rest.count + 1) }

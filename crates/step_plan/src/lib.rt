@@ -51,18 +51,22 @@ fn odd(a: Access) -> bool
     ensures { result ≡ odd? a }
 {
     match a {
-        Access::Nothing => false,
-        Access::Load { byte, at, .. } => !byte & (at.0 % 2 == 1),
-        Access::Store { byte, at, .. } => !byte & (at.0 % 2 == 1),
-        Access::Fault(..) => false,
-        Access::Trap(..) => false,
+        Access::Load { byte, at, .. } | Access::Store { byte, at, .. } => !byte & (at.0 % 2 == 1),
+        _ => false,
     }
 }
 
 // What an instruction asked for, which is no odd word, granted. `psw`, `cex` and `pc` are from
 // before the step, `d` and the registers are as the instruction left them.
-fn grant(regs: &mut [u16; 8], mem: &[u8], psw: u16, cex: u16, pc: u16, d: Executed) -> Planned
-    requires { (length mem.now ≡ 65536) × Asked d.access }
+fn grant(
+    regs: &mut [u16; 8],
+    mem: &[u8; 65536],
+    psw: u16,
+    cex: u16,
+    pc: u16,
+    d: Executed,
+) -> Planned
+    requires { Asked d.access }
     ensures { (b : Core) → b.psw ≡ psw → b.cex ≡ cex → slice_index b.regs 7 ≡ pc →
         (Quits d.access → core_of regs.old d.psw d.cex ≡ advanced b) →
         plan_with regs.new result ≡
@@ -127,8 +131,7 @@ fn lower(cex: u16) -> u16
 
 // Points 4 to 7: asleep, an odd PC, a CEX block that skips, else fetch, decode, execute. An odd
 // word access takes back what the instruction did to the registers.
-fn instruction(regs: &mut [u16; 8], mem: &[u8], psw: u16, cex: u16) -> Planned
-    requires { length mem.now ≡ 65536 }
+fn instruction(regs: &mut [u16; 8], mem: &[u8; 65536], psw: u16, cex: u16) -> Planned
     ensures { plan_with regs.new result ≡
         instruction_of (core_of regs.old psw cex) mem.now }
 {
@@ -145,7 +148,7 @@ fn instruction(regs: &mut [u16; 8], mem: &[u8], psw: u16, cex: u16) -> Planned
         return faulted(regs, psw, cex, pc, cex, 9);
     }
     let before = *regs;
-    let next = std::num::wrapping_add_u16(pc, 2);
+    let next = pc.wrapping_add(2);
     regs[7] = next;
     if skips(cex) {
         return Planned {
@@ -167,15 +170,13 @@ fn instruction(regs: &mut [u16; 8], mem: &[u8], psw: u16, cex: u16) -> Planned
 
 // Point 2, a return: a line above the previous priority is chained, else the frame is pulled. No
 // vector is read where no line waits.
-fn leave(mem: &[u8], lines: Lines, psw: u16, cex: u16) -> Planned
-    requires { length mem.now ≡ 65536 }
+fn leave(mem: &[u8; 65536], lines: Lines, psw: u16, cex: u16) -> Planned
     ensures plan { (regs : List ℕ) (p : Plan) → plan_with regs result ≡
         chosen (leaving (core_of regs psw cex) lines mem.now) (core_of regs psw cex) p }
     ensures within { Within result.act }
 {
     if lines != 0 {
-        let d = entry::best_above(mem, lines, word::previous_priority(psw));
-        if d < 8 {
+        if let Some(d) = entry::best_above(mem, lines, word::previous_priority(psw)) {
             return Planned {
                 psw,
                 cex,
@@ -193,8 +194,8 @@ fn leave(mem: &[u8], lines: Lines, psw: u16, cex: u16) -> Planned
 // Points 2 to 7 of a machine that is not halted, its due events applied, with the lines that they
 // leave: what its step does. Memory is only read; the registers become those that the act starts
 // from.
-pub fn plan(regs: &mut [u16; 8], mem: &[u8], t: Rest, lines: Lines) -> Planned
-    requires { (length mem.now ≡ 65536) × (t.halted ≡ false) }
+pub fn plan(regs: &mut [u16; 8], mem: &[u8; 65536], t: Rest, lines: Lines) -> Planned
+    requires { t.halted ≡ false }
     ensures plan { plan_with regs.new result ≡
         plan_of (state_from (core_with regs.old t) lines t.halted t.count
         mem.now) }
@@ -203,8 +204,7 @@ pub fn plan(regs: &mut [u16; 8], mem: &[u8], t: Rest, lines: Lines) -> Planned
     if !word::asleep(t.psw) & (regs[7] == 0xFFFF) {
         return leave(mem, lines, t.psw, t.cex);
     }
-    let d = entry::line_above(mem, lines, word::current_priority(t.psw));
-    if d < 8 {
+    if let Some(d) = entry::line_above(mem, lines, word::current_priority(t.psw)) {
         return Planned {
             psw: t.psw,
             cex: t.cex,

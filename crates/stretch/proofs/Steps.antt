@@ -1,49 +1,8 @@
 -- One step and a stretch of them. Where PC is even, SLP clear and no line above the priority, a step is its instruction's step or a
 -- skipped one; asleep with no line above the priority, nothing changes but the count. Assumes nothing.
-use Rattle.std.proofs.Common.{
-  ◌≡◌,
-  ℕ,
-  zero,
-  suc,
-  ◌+◌,
-  ◌-◌,
-  ◌*◌,
-  ◌/◌,
-  ◌%◌,
-  ◌<◌,
-  ◌≤◌,
-  Bool,
-  true,
-  false,
-  not,
-  ltb,
-  leb,
-  ◌⊎◌,
-  List,
-  [],
-  ◌∷◌,
-  length,
-  get_or,
-  set,
-  sym,
-  refl,
-  ap,
-  ◌∙◌,
-  subst,
-  inl,
-  inr,
-  ⊎_elim,
-  mod-eq_of_lt,
-  add-one,
-  arith,
-  length-set,
-  get_or-set_same,
-  set-set,
-  ltb-false,
-  ltb-true,
-  le-ltb,
-  lt-ltb,
-}
+use Rattle.std.proofs.Common.{◌≡◌, ℕ, zero, suc, ◌+◌, ◌-◌, ◌*◌, ◌/◌, ◌%◌, ◌<◌, ◌≤◌, Bool, true, false, not, ltb, leb, ◌⊎◌, List, length}
+use Rattle.std.proofs.Common.{get_or, set, sym, refl, ap, ◌∙◌, subst, inl, inr, ⊎_elim, mod-eq_of_lt, add-one, arith, length-set}
+use Rattle.std.proofs.Common.{get_or-set_same, set-set, le-ltb, lt-ltb}
 use mathlib.Core.Bool.{false≢true}
 use lib.Seq.{set-get_or}
 use Rattle.word.specs.Psw.{asleep?, current}
@@ -54,7 +13,7 @@ use Rattle.isa.specs.Decode.{decode_of}
 use Rattle.machine.specs.declared.Access.{Access}
 use Rattle.machine.specs.declared.Access.TheVariants as asks
 use Rattle.machine.specs.declared.Act.TheVariants as act
-use Rattle.machine.specs.State.{Core, State, core_of, pc, wrap}
+use Rattle.machine.specs.State.{Core, State, core_of, wrap}
 use Rattle.machine.specs.Memory.{byte_at, word_number, first_byte, word_at, commit}
 use Rattle.machine.specs.Cex.{skips?, lowered, loaded_cex}
 use Rattle.machine.specs.Events.{Event}
@@ -323,11 +282,8 @@ module _ (free : Bool) (regs₀ m₀ : List ℕ) (psw₀ x₀ : ℕ) where
       shut : 0 < j → cex % 64 ≡ 0
       shut h = ⊎_elim (λ z. z) (λ z. absurd (omega arith)) b
 
-  pub walked_start : (regs : List ℕ) (pc : ℕ) → regs ≡ regs₀ → pc ≡ get_or regs₀ 7 0 → pc < 65536 →
-      Walked free regs₀ psw₀ x₀ m₀ (set regs 7 (pc % 65536)) psw₀ x₀ m₀ 0
-  walked_start regs pc e f lt =
-      let k : pc % 65536 ≡ get_or regs₀ 7 0 = mod-eq_of_lt lt ∙ f in
-      inl (refl, ((λ i. set (e i) 7 (k i)) ∙ set-get_or regs₀ 7 0, refl, refl, refl))
+  pub walked_start : get_or regs₀ 7 0 < 65536 → Walked free regs₀ psw₀ x₀ m₀ (set regs₀ 7 (get_or regs₀ 7 0 % 65536)) psw₀ x₀ m₀ 0
+  walked_start lt = inl (refl, (ap (set regs₀ 7) (mod-eq_of_lt lt) ∙ set-get_or regs₀ 7 0, refl, refl, refl))
 
 -- a register file stays as long
 pub long-set : (regs : List ℕ) (v : ℕ) → 7 < length regs → 7 < length (set regs 7 v)
@@ -370,26 +326,25 @@ module _ (free : Bool) (regs₀ m₀ : List ℕ) (psw₀ x₀ : ℕ) (regs m reg
 
   -- or ends at a word that was left alone
   pub walked-back :
-      (regs₂ : List ℕ) (u v : ℕ) → r ≡ left_alone → u ≡ get_or regs₁ 7 0 → v ≡ (u + 65534) % 65536 → regs₂ ≡ set regs₁ 7 v →
+      r ≡ left_alone →
+      let regs₂ = set regs₁ 7 ((get_or regs₁ 7 0 + 65534) % 65536) in
       Walked free regs₀ psw₀ x₀ m₀ regs₂ psw₁ cex₁ m₁ j × Awake regs₂ psw₁
-  walked-back regs₂ u v here eu ev er =
+  walked-back here =
       ⊎_elim
       (λ t.
-      let e : regs₂ ≡ set regs 7 (p % 65536) =
-      er ∙ ap (set regs₁ 7) (ev ∙ ap (λ (k : ℕ). (k + 65534) % 65536) eu)
-      ∙ ap (λ (q : List ℕ). set q 7 ((get_or q 7 0 + 65534) % 65536)) t.1.0 ∙ back regs p a.1 in
+      let e : set regs₁ 7 ((get_or regs₁ 7 0 + 65534) % 65536) ≡ set regs 7 (p % 65536) =
+      ap (λ (q : List ℕ). set q 7 ((get_or q 7 0 + 65534) % 65536)) t.1.0 ∙ back regs p a.1 in
       rw (e, t.1.1, t.1.2, t.1.3) (f, awake-set regs psw (p % 65536) a))
       (λ t. absurd (t.0 here))
       g
 
   -- or after one that was the last
   pub walked-last :
-      (regs₂ : List ℕ) → (r ≡ left_alone → ⊥) → regs₂ ≡ set regs₁ 7 (r % 65536) →
-      Walked free regs₀ psw₀ x₀ m₀ regs₂ psw₁ cex₁ m₁ (j + 1) × Awake regs₂ psw₁
-  walked-last regs₂ taken er =
+      (r ≡ left_alone → ⊥) →
+      Walked free regs₀ psw₀ x₀ m₀ (set regs₁ 7 (r % 65536)) psw₁ cex₁ m₁ (j + 1) × Awake (set regs₁ 7 (r % 65536)) psw₁
+  walked-last taken =
       ⊎_elim
-      (λ t. absurd (taken t.0)) (λ t.
-      rw er (
+      (λ t. absurd (taken t.0)) (λ t. (
         walked_next free regs₀ m₀ psw₀ x₀ regs m regs₁ m₁ psw cex psw₁ cex₁ p r j n f b lt t.1,
         awake-set regs₁ psw₁ (r % 65536) t.1.2,
       ))
@@ -542,14 +497,3 @@ module _ (ev : List Event) (regs m : List ℕ) (psw cex l k n : ℕ) where
       reached =
           let z : 0 + j ≡ j = omega arith in
           subst (Reaches l regs psw cex m regs₁ psw₁ cex₁ m₁) z (f regs psw cex m 0 (reaches-start l regs m psw cex))
-
--- R7 is there where it is not 0
-get_d_past : (l : List ℕ) (k : ℕ) → length l ≤ k → get_or l k 0 ≡ 0
-get_d_past [] k h = refl
-get_d_past (x ∷ l) zero h = absurd (omega arith)
-get_d_past (x ∷ l) (suc k) h = get_d_past l k (omega arith)
-
-pub there : (l : List ℕ) (v : ℕ) → v ≡ get_or l 7 0 → (v ≡ 0 → ⊥) → 7 < length l
-there l v e n =
-    bool_cases (ltb 7 (length l))
-    (λ b. ltb-true 7 (length l) b) (λ b. absurd (n (e ∙ get_d_past l 7 (ltb-false 7 (length l) b))))

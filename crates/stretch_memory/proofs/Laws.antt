@@ -212,14 +212,9 @@ decode-store w row h lo hi =
 -- ---- LDR and STR
 
 -- an offset that counts from -64 is added and 64 is subtracted
-pub relative-address : (a n : ℕ) {s r : ℕ} → a < 65536 → n < 128 → r < 65536 → s ≡ (a + (n + 64) % 128) % 65536 → (r + 64) % 65536 ≡ s →
-    r ≡ moved a (signed_of 64 n)
-relative-address a n {s} {r} ha hn hr es er =
-    undone s r hr er ∙ ap (λ (k : ℕ). (k + 65472) % 65536) es ∙ joined a ((n + 64) % 128) ∙ from
+pub relative-address : (a n : ℕ) → n < 128 → ((a + (n + 64) % 128) % 65536 + 65472) % 65536 ≡ moved a (signed_of 64 n)
+relative-address a n hn = joined a ((n + 64) % 128) ∙ from
   where
-    undone : (s r : ℕ) → r < 65536 → (r + 64) % 65536 ≡ s → r ≡ (s + 65472) % 65536
-    undone s r h e = omega arith
-
     joined : (a k : ℕ) → ((a + k) % 65536 + 65472) % 65536 ≡ (a + k + 65472) % 65536
     joined a k = omega arith
 

@@ -16,7 +16,7 @@ ghost use Rattle.stretch_memory.specs.Ordinary.{aligned?, inside?, storable?};
 ghost use Rattle.stretch_memory.specs.Served.{Taken};
 
 use machine::ByteAddr;
-use stretch_registers::{LEFT_ALONE, reg, set_reg};
+use stretch_registers::LEFT_ALONE;
 
 // Is an access of this width at this address aligned: any byte, or a word at an even address?
 fn aligned(byte: bool, at: u16) -> bool
@@ -33,8 +33,7 @@ fn inside(at: u16) -> bool
 }
 
 // A store, if it is one that a stretch takes; else memory is as it was.
-fn store(mem: &mut [u8], byte: bool, at: u16, v: u16) -> bool
-    requires { length mem.old ≡ 65536 }
+fn store(mem: &mut [u8; 65536], byte: bool, at: u16, v: u16) -> bool
     ensures declined { result ≡ false → mem.new ≡ mem.old }
     ensures stored { result ≡ true → (storable? byte at ≡ true) × (mem.new ≡
         commit (store_writes byte mem.old at v) mem.old) }
@@ -47,8 +46,8 @@ fn store(mem: &mut [u8], byte: bool, at: u16, v: u16) -> bool
 }
 
 // A load into a register that is not R7.
-fn load(regs: &mut [u16; 8], mem: &mut [u8], byte: bool, at: u16, dst: usize)
-    requires { (length mem.old ≡ 65536) × (dst < 7) }
+fn load(regs: &mut [u16; 8], mem: &mut [u8; 65536], byte: bool, at: u16, dst: usize)
+    requires { dst < 7 }
     ensures core { (psw cex : ℕ) → core_of regs.new psw cex ≡ loaded
         (core_of regs.old psw cex) byte dst (value_at byte mem.old at) }
     ensures memory { mem.new ≡
@@ -56,8 +55,8 @@ fn load(regs: &mut [u16; 8], mem: &mut [u8], byte: bool, at: u16, dst: usize)
     ensures pc { slice_index regs.new 7 ≡ slice_index regs.old 7 }
 {
     let v = memory::load(mem, byte, ByteAddr(at));
-    let w = word::with_low(byte, reg(regs, dst), v);
-    set_reg(regs, dst, w);
+    let w = word::with_low(byte, regs[dst], v);
+    regs[dst] = w;
 }
 
 // The adjustment of LD and ST, written where it moves.
@@ -69,13 +68,18 @@ fn adjust(regs: &mut [u16; 8], i: usize, dec: u8, inc: u8, to: u16)
     if dec == inc {
         return;
     }
-    set_reg(regs, i, to);
+    regs[i] = to;
 }
 
 // 5800 to 5BFF: LD. `row` is w / 64: PRPO, DEC, INC and the width are its last four bits.
-pub fn load_indexed(regs: &mut [u16; 8], mem: &mut [u8], pc: usize, w: usize, row: usize) -> usize
-    requires { (length mem.old ≡ 65536) × Past pc regs.old × (w / 64 ≡ row)
-        × (0x160 ≤ row) × (row < 0x170) }
+pub fn load_indexed(
+    regs: &mut [u16; 8],
+    mem: &mut [u8; 65536],
+    pc: usize,
+    w: usize,
+    row: usize,
+) -> usize
+    requires { Past pc regs.old × (w / 64 ≡ row) × (0x160 ≤ row) × (row < 0x170) }
     ensures { (free : Bool) (psw cex : ℕ) → Taken free (decode_of w)
         regs.old psw cex mem.old
         regs.new psw cex mem.new result }
@@ -91,7 +95,7 @@ pub fn load_indexed(regs: &mut [u16; 8], mem: &mut [u8], pc: usize, w: usize, ro
     if (dec != inc) & (src == 7) {
         return LEFT_ALONE;
     }
-    let a = reg(regs, src);
+    let a = regs[src];
     let b = operands::adjusted_by(a, dec, inc, wb);
     let at = operands::address((row / 8 % 2) as u8, a, b);
     if !aligned(wb == 1, at) {
@@ -103,9 +107,14 @@ pub fn load_indexed(regs: &mut [u16; 8], mem: &mut [u8], pc: usize, w: usize, ro
 }
 
 // 5C00 to 5FFF: ST, in the same way.
-pub fn store_indexed(regs: &mut [u16; 8], mem: &mut [u8], pc: usize, w: usize, row: usize) -> usize
-    requires { (length mem.old ≡ 65536) × Past pc regs.old × (w / 64 ≡ row)
-        × (0x170 ≤ row) × (row < 0x180) }
+pub fn store_indexed(
+    regs: &mut [u16; 8],
+    mem: &mut [u8; 65536],
+    pc: usize,
+    w: usize,
+    row: usize,
+) -> usize
+    requires { Past pc regs.old × (w / 64 ≡ row) × (0x170 ≤ row) × (row < 0x180) }
     ensures { (free : Bool) (psw cex : ℕ) → Taken free (decode_of w)
         regs.old psw cex mem.old
         regs.new psw cex mem.new result }
@@ -117,8 +126,8 @@ pub fn store_indexed(regs: &mut [u16; 8], mem: &mut [u8], pc: usize, w: usize, r
     if (dec != inc) & (dst == 7) {
         return LEFT_ALONE;
     }
-    let value = reg(regs, w / 8 % 8);
-    let a = reg(regs, dst);
+    let value = regs[w / 8 % 8];
+    let a = regs[dst];
     let b = operands::adjusted_by(a, dec, inc, wb);
     let at = operands::address((row / 8 % 2) as u8, a, b);
     if !store(mem, wb == 1, at, value) {
@@ -133,12 +142,18 @@ fn relative(base: u16, w: usize) -> u16
     ensures { result ≡ moved base (signed_of 64 (w / 128 % 128)) }
 {
     let off = ((w / 128 % 128 + 64) % 128) as u16;
-    std::num::wrapping_sub_u16(std::num::wrapping_add_u16(base, off), 64)
+    base.wrapping_add(off).wrapping_sub(64)
 }
 
 // 8000 to BFFF: LDR, its width known.
-pub fn load_relative(regs: &mut [u16; 8], mem: &mut [u8], pc: usize, w: usize, wb: u8) -> usize
-    requires { (length mem.old ≡ 65536) × Past pc regs.old }
+pub fn load_relative(
+    regs: &mut [u16; 8],
+    mem: &mut [u8; 65536],
+    pc: usize,
+    w: usize,
+    wb: u8,
+) -> usize
+    requires { Past pc regs.old }
     ensures { (free : Bool) (psw cex : ℕ) → Taken free
         (Instr.Ldr (signed_of 64 (w / 128 % 128)) wb (w / 8 % 8) (w % 8))
         regs.old psw cex mem.old
@@ -148,7 +163,7 @@ pub fn load_relative(regs: &mut [u16; 8], mem: &mut [u8], pc: usize, w: usize, w
     if dst == 7 {
         return LEFT_ALONE;
     }
-    let base = reg(regs, w / 8 % 8);
+    let base = regs[w / 8 % 8];
     let from = relative(base, w);
     if !aligned(wb == 1, from) {
         return LEFT_ALONE;
@@ -158,15 +173,15 @@ pub fn load_relative(regs: &mut [u16; 8], mem: &mut [u8], pc: usize, w: usize, w
 }
 
 // C000 to FFFF: STR, its width known.
-pub fn store_relative(regs: &[u16; 8], mem: &mut [u8], pc: usize, w: usize, wb: u8) -> usize
-    requires { (length mem.old ≡ 65536) × Past pc regs.now }
+pub fn store_relative(regs: &[u16; 8], mem: &mut [u8; 65536], pc: usize, w: usize, wb: u8) -> usize
+    requires { Past pc regs.now }
     ensures { (free : Bool) (psw cex : ℕ) → Taken free
         (Instr.Str (signed_of 64 (w / 128 % 128)) wb (w / 8 % 8) (w % 8))
         regs.now psw cex mem.old
         regs.now psw cex mem.new result }
 {
-    let at = relative(reg(regs, w % 8), w);
-    let v = reg(regs, w / 8 % 8);
+    let at = relative(regs[w % 8], w);
+    let v = regs[w / 8 % 8];
     if !store(mem, wb == 1, at, v) {
         return LEFT_ALONE;
     }

@@ -92,56 +92,48 @@ either-width : (v n : ℕ) → n < 8 → (v % 16 ≡ n) ⊎ (v % 16 ≡ n + 8) �
 either-width v n h = ⊎_elim (λ e. omega arith) (λ e. omega arith)
 
 module _ (l : List ℕ) (p x pc : ℕ) (h : Past pc l) where
-  pub writes-done :
-      (n : Instr) (k : List ℕ) (d v : ℕ) → effect_of (core_of l p x) n ≡ plainly (put (core_of l p x) d v) → d < 7 → k ≡ set l d v →
-      Done n l p x k p x pc
-  writes-done n k d v e f g =
-      plain_done n l p x pc h k p (e ∙ ap plainly (put-below l p x d v f) ∙ ap (λ (j : List ℕ). plainly (core_of j p x)) (sym g))
-      (ap (λ (j : List ℕ). get_or j 7 0) g ∙ pc-set l d v f) (refl, refl)
+  writes-done :
+      (n : Instr) (d v : ℕ) → effect_of (core_of l p x) n ≡ plainly (put (core_of l p x) d v) → d < 7 → Done n l p x (set l d v) p x pc
+  writes-done n d v e f =
+      plain_done n l p x pc h (set l d v) p (e ∙ ap plainly (put-below l p x d v f)) (pc-set l d v f) (refl, refl)
 
   pub moves-byte :
-      (op b d : ℕ) {k : List ℕ} {v y : ℕ} → d < 7 → y ≡ get_or l d 0 → v ≡ immediate_of op b y → k ≡ set l d v →
-      Done (i.MovImm op b d) l p x k p x pc
+      (op b d : ℕ) {v : ℕ} → d < 7 → v ≡ immediate_of op b (get_or l d 0) → Done (i.MovImm op b d) l p x (set l d v) p x pc
   unfolding effect_of
-  moves-byte op b d {k} {v} {y} f ey ev g =
-      writes-done (i.MovImm op b d) k d (immediate_of op b (get_or l d 0)) refl f
-      (g ∙ ap (set l d) (ev ∙ ap (immediate_of op b) ey))
+  moves-byte op b d f e = rw e (writes-done (i.MovImm op b d) d (immediate_of op b (get_or l d 0)) refl f)
 
   pub moves :
-      (byte : Bool) (wb src d : ℕ) {k : List ℕ} {v y u z : ℕ} → byte ≡ eqb wb 1 → d < 7 → v ≡ get_or l src 0 → y ≡ get_or l d 0 →
-      u ≡ low (width_of byte) v → z ≡ with_low (width_of byte) y u → k ≡ set l d z → Done (i.Mov wb src d) l p x k p x pc
+      (byte : Bool) (wb src d : ℕ) {u z : ℕ} → byte ≡ eqb wb 1 → d < 7 → u ≡ low (width_of byte) (get_or l src 0) →
+      z ≡ with_low (width_of byte) (get_or l d 0) u → Done (i.Mov wb src d) l p x (set l d z) p x pc
   unfolding effect_of
-  moves byte wb src d {k} {v} {y} {u} {z} eb f ev ey eu ez g =
+  moves byte wb src d eb f eu ez =
       let w = width_of (eqb wb 1) in
-      let e : z ≡ with_low w (get_or l d 0) (low w (get_or l src 0)) = rw (ez, eu, ev, ey, eb) refl in
-      writes-done (i.Mov wb src d) k d (with_low w (get_or l d 0) (low w (get_or l src 0))) refl f (g ∙ ap (set l d) e)
+      rw (ez, eu, eb) (writes-done (i.Mov wb src d) d (with_low w (get_or l d 0) (low w (get_or l src 0))) refl f)
 
   pub swaps :
-      (src d b : ℕ) {k k' : List ℕ} {s t : ℕ} → src < 7 → d < 7 → s ≡ get_or l src 0 → t ≡ get_or l d 0 → k ≡ set l src t →
-      k' ≡ set k d s → Done (i.Swap src d b) l p x k' p x pc
+      (src d b : ℕ) → src < 7 → d < 7 →
+      Done (i.Swap src d b) l p x (set (set l src (get_or l d 0)) d (get_or l src 0)) p x pc
   unfolding effect_of
-  swaps src d b {k} {k'} {s} {t} f f' es et e e' =
-      let g : k' ≡ set (set l src (get_or l d 0)) d (get_or l src 0) =
-      e' ∙ ap (λ (j : List ℕ). set j d s) (e ∙ ap (set l src) et) ∙ ap (set (set l src (get_or l d 0)) d) es in
-      plain_done (i.Swap src d b) l p x pc h k' p
+  swaps src d b f f' =
+      let k = set l src (get_or l d 0) in
+      plain_done (i.Swap src d b) l p x pc h (set k d (get_or l src 0)) p
       (ap (λ (c : Core). plainly (put c d (get_or l src 0))) (put-below l p x src (get_or l d 0) f)
-      ∙ ap plainly (put-below (set l src (get_or l d 0)) p x d (get_or l src 0) f')
-      ∙ ap (λ (j : List ℕ). plainly (core_of j p x)) (sym g))
-      (ap (λ (j : List ℕ). get_or j 7 0) g ∙ pc-set (set l src (get_or l d 0)) d (get_or l src 0) f' ∙ pc-set l src (get_or l d 0) f)
-      (refl, refl)
+      ∙ ap plainly (put-below k p x d (get_or l src 0) f'))
+      (pc-set k d (get_or l src 0) f' ∙ pc-set l src (get_or l d 0) f) (refl, refl)
 
   -- R7 written by MOV of a word
   pub moves-to-pc :
-      (wb src d : ℕ) {v r y : ℕ} → false ≡ eqb wb 1 → d ≡ 7 → v < 65536 → v ≡ get_or l src 0 →
-      (r % 65536 ≡ v) × (r ≡ left_alone → ⊥) × (r < left_alone → r % 2 ≡ 0) × (r < 2 * odd) × (y ≡ 0) →
+      (wb src d : ℕ) {r y : ℕ} → false ≡ eqb wb 1 → d ≡ 7 → get_or l src 0 < 65536 →
+      (r % 65536 ≡ get_or l src 0) × (r ≡ left_alone → ⊥) × (r < left_alone → r % 2 ≡ 0) × (r < 2 * odd) × (y ≡ 0) →
       Done (i.Mov wb src d) l p x l p y r
   unfolding effect_of width_of
-  moves-to-pc wb src d {v} {r} {y} eb ed hv ev q =
+  moves-to-pc wb src d {r} {y} eb ed hv q =
       let a = get_or l 7 0 in
+      let v = get_or l src 0 in
       let past = h.0 in
       let e : with_low 16 a (low 16 v) ≡ v = omega arith in (
         q.1,
-        rw (sym eb, ed, sym ev, e, q.0, q.4) refl,
+        rw (sym eb, ed, e, q.0, q.4) refl,
         q.2,
         (refl, refl),
         q.3,
@@ -262,11 +254,11 @@ module _ (l : List ℕ) (p x pc : ℕ) (h : Past pc l) where
     unfolding effect_of
     jumps n t = ((λ q. omega arith), rw (t, aimed, ey) refl, (λ q. even), (refl, refl), omega arith, (λ q. rw ey refl))
 
-    pub links : {k : List ℕ} → k ≡ set l 5 (pc % 65536) → Done (i.Bl z) l p x k p y r
+    pub links : Done (i.Bl z) l p x (set l 5 (pc % 65536)) p y r
     unfolding effect_of
-    links {k} ek =
+    links =
         let f : get_or (set l 5 (get_or l 7 0)) 7 0 ≡ get_or l 7 0 = pc-set l 5 (get_or l 7 0) (omega arith) in
-        ((λ q. omega arith), rw (f, ek, h.0, aimed, ey) refl, (λ q. even), (refl, refl), omega arith, (λ q. rw ey refl))
+        ((λ q. omega arith), rw (f, h.0, aimed, ey) refl, (λ q. even), (refl, refl), omega arith, (λ q. rw ey refl))
 
   pub stays : (z : ℤ) (n : ℕ) → taken_of n p ≡ false → Done (i.Branch n z) l p x l p x pc
   unfolding effect_of

@@ -2,50 +2,35 @@
 // PC being past it (`pc`, as it stands in R7 but not yet wrapped), and answers the next PC, or
 // LEFT_ALONE and has left all alone: then the step is done in the general way. A MOV of an odd
 // number to PC answers ODD more than that number. The flags are kept as what they come from (crate
-// flags): the PSW is `psw` with those of `last`, `sum` and `over`. R7 is written by BL, branches
-// and MOV alone; SLP stays, and so does the priority but for SETPRI, which is done where `free`
-// says that no line waits.
+// flags): the PSW is `psw` with those of `kept`. R7 is written by BL, branches and MOV alone; SLP
+// stays, and so does the priority but for SETPRI, which is done where `free` says that no line
+// waits.
 #![tactic(auto)]
 
-ghost use Rattle.std.specs.Prelude.{true, false, List, ◌≡◌, ℕ, ◌+◌, ◌*◌, ◌/◌, ◌%◌, ◌<◌, ◌≤◌, eqb, get_or, set};
+ghost use Rattle.std.specs.Prelude.{true, false, List, ◌≡◌, ℕ, ◌+◌, ◌*◌, ◌/◌, ◌%◌, ◌<◌, ◌≤◌, eqb};
 ghost use Rattle.std.specs.Int.Signed.{mag};
 ghost use Rattle.isa.specs.declared.Instr.TheVariants as Instr;
 ghost use Rattle.isa.specs.Decode.{unary_of, control_of};
 ghost use Rattle.machine.specs.State.{moved, doubled};
 ghost use Rattle.word.specs.Offset.{signed_of};
-ghost use Rattle.flags.specs.Kept.{held};
+ghost use Rattle.flags.specs.Kept.{held_in};
 ghost use Rattle.stretch_registers.specs.Effected.{left_alone, odd, Past, Done, Tried};
 ghost use Rattle.stretch_registers.specs.Effected.{Computes, Lowers};
 
 use alu::Op;
+use flags::Kept;
 
 // What is no PC, and says that a word was left alone; and how far above a PC its answer is where it
 // may be odd.
+// Kept: an enum by value costs six host instructions a step (docs/DECISIONS.md, "Stretches").
 pub const LEFT_ALONE: usize = 1048576;
 
 const ODD: usize = 2097152;
 
-// A register's value, and a register written.
-pub fn reg(regs: &[u16; 8], i: usize) -> u16
-    requires { i < 8 }
-    ensures { result ≡ get_or regs.now i 0 }
-{
-    regs[i]
-}
-
-pub fn set_reg(regs: &mut [u16; 8], i: usize, v: u16)
-    requires { i < 8 }
-    ensures { regs.new ≡ set regs.old i v }
-{
-    regs[i] = v;
-}
-
 // An operation whose result is written, to any register but R7.
 pub fn compute(
     regs: &mut [u16; 8],
-    last: &mut u32,
-    sum: &mut u32,
-    over: &mut u32,
+    kept: &mut Kept,
     pc: usize,
     w: usize,
     op: Op,
@@ -54,16 +39,16 @@ pub fn compute(
 ) -> usize
     ensures { (psw : ℕ) → Computes op byte s w pc
         regs.old
-        (held psw last.old sum.old over.old)
+        (held_in psw kept.old)
         regs.new
-        (held psw last.new sum.new over.new) result }
+        (held_in psw kept.new) result }
 {
     let dst = w % 8;
     if dst == 7 {
         return LEFT_ALONE;
     }
-    let v = flags_work::work(op, byte, reg(regs, dst), s, last, sum, over);
-    set_reg(regs, dst, v);
+    let v = flags_work::work(op, byte, regs[dst], s, kept);
+    regs[dst] = v;
     pc
 }
 
@@ -85,7 +70,7 @@ pub fn move_word(regs: &mut [u16; 8], cex: &mut u16, pc: usize, w: usize, byte: 
     ensures { (psw wb : ℕ) → byte ≡ eqb wb 1 → Tried (Instr.Mov wb (w / 8 % 8) (w % 8))
         regs.old psw cex.old regs.new psw cex.new result }
 {
-    let v = reg(regs, w / 8 % 8);
+    let v = regs[w / 8 % 8];
     let dst = w % 8;
     if dst == 7 {
         if byte {
@@ -93,8 +78,8 @@ pub fn move_word(regs: &mut [u16; 8], cex: &mut u16, pc: usize, w: usize, byte: 
         }
         return move_to_pc(cex, v);
     }
-    let r = word::with_low(byte, reg(regs, dst), word::low_bits(byte, v));
-    set_reg(regs, dst, r);
+    let r = word::with_low(byte, regs[dst], word::low_bits(byte, v));
+    regs[dst] = r;
     pc
 }
 
@@ -109,58 +94,52 @@ pub fn swap_word(regs: &mut [u16; 8], pc: usize, w: usize) -> usize
     if (src == 7) | (dst == 7) {
         return LEFT_ALONE;
     }
-    let s = reg(regs, src);
-    let d = reg(regs, dst);
-    set_reg(regs, src, d);
-    set_reg(regs, dst, s);
+    let s = regs[src];
+    let d = regs[dst];
+    regs[src] = d;
+    regs[dst] = s;
     pc
 }
 
 // 4D00 to 4D7F: SRA, RRC, COMP, SWPB, SXT, by bits 6 to 3. Those of no instruction are left alone.
-pub fn single_word(
-    regs: &mut [u16; 8],
-    last: &mut u32,
-    sum: &mut u32,
-    over: &mut u32,
-    pc: usize,
-    w: usize,
-) -> usize
+// Kept: an arm for each, so that operation and width are known where it is compiled (docs/SPEED.md).
+pub fn single_word(regs: &mut [u16; 8], kept: &mut Kept, pc: usize, w: usize) -> usize
     requires { Past pc regs.old }
     ensures { (psw cex : ℕ) → Tried (unary_of w)
         regs.old
-        (held psw last.old sum.old over.old) cex
+        (held_in psw kept.old) cex
         regs.new
-        (held psw last.new sum.new over.new) cex result }
+        (held_in psw kept.new) cex result }
 {
     match w / 8 % 16 {
-        0 => compute(regs, last, sum, over, pc, w, Op::Sra, false, 0),
-        1 => compute(regs, last, sum, over, pc, w, Op::Rrc, false, 0),
-        2 => compute(regs, last, sum, over, pc, w, Op::Comp, false, 0),
-        3 | 11 => compute(regs, last, sum, over, pc, w, Op::Swpb, false, 0),
-        4 | 12 => compute(regs, last, sum, over, pc, w, Op::Sxt, false, 0),
-        8 => compute(regs, last, sum, over, pc, w, Op::Sra, true, 0),
-        9 => compute(regs, last, sum, over, pc, w, Op::Rrc, true, 0),
-        10 => compute(regs, last, sum, over, pc, w, Op::Comp, true, 0),
+        0 => compute(regs, kept, pc, w, Op::Sra, false, 0),
+        1 => compute(regs, kept, pc, w, Op::Rrc, false, 0),
+        2 => compute(regs, kept, pc, w, Op::Comp, false, 0),
+        3 | 11 => compute(regs, kept, pc, w, Op::Swpb, false, 0),
+        4 | 12 => compute(regs, kept, pc, w, Op::Sxt, false, 0),
+        8 => compute(regs, kept, pc, w, Op::Sra, true, 0),
+        9 => compute(regs, kept, pc, w, Op::Rrc, true, 0),
+        10 => compute(regs, kept, pc, w, Op::Comp, true, 0),
         _ => LEFT_ALONE,
     }
 }
 
 // 4DC0 to 4DFF: SETCC and CLRCC of other flags than SLP.
-pub fn flags_word(last: &mut u32, sum: &mut u32, over: &mut u32, pc: usize, w: usize) -> usize
+pub fn flags_word(kept: &mut Kept, pc: usize, w: usize) -> usize
     requires { (0x4DC0 ≤ w) × (w < 0x4E00) }
     ensures { (regs : List ℕ) (psw cex : ℕ) → Past pc regs → Tried (control_of w)
-        regs (held psw last.old sum.old over.old) cex
-        regs (held psw last.new sum.new over.new) cex result }
+        regs (held_in psw kept.old) cex
+        regs (held_in psw kept.new) cex result }
 {
     if w / 8 % 2 == 1 {
         return LEFT_ALONE;
     }
     let f = (w % 32) as u16;
     if w < 0x4DE0 {
-        flags::set(f, last, sum, over);
+        kept.set(f);
         return pc;
     }
-    flags::clear(f, last, sum, over);
+    kept.clear(f);
     pc
 }
 
@@ -187,8 +166,8 @@ pub fn immediate_word(regs: &mut [u16; 8], pc: usize, w: usize) -> usize
         return LEFT_ALONE;
     }
     let op = (w / 2048 % 4) as u8;
-    let v = operands::immediate(op, (w / 8 % 256) as u8, reg(regs, dst));
-    set_reg(regs, dst, v);
+    let v = operands::immediate(op, (w / 8 % 256) as u8, regs[dst]);
+    regs[dst] = v;
     pc
 }
 
@@ -217,7 +196,7 @@ pub fn link_word(regs: &mut [u16; 8], cex: &mut u16, pc: usize, w: usize) -> usi
     ensures { (psw : ℕ) → Done (Instr.Bl (signed_of 4096 (w % 8192)))
         regs.old psw cex.old regs.new psw cex.new result }
 {
-    set_reg(regs, 5, (pc % 65536) as u16);
+    regs[5] = (pc % 65536) as u16;
     *cex = 0;
     target(pc, word::signed(4096, (w % 8192) as u16))
 }

@@ -13,7 +13,8 @@ use Rattle.isa.specs.declared.Instr.TheVariants as i
 use Rattle.isa.specs.Decode.{control_of, decode_of}
 use Rattle.machine.specs.State.{core_of}
 use Rattle.machine.specs.Effect.{effect_of, plainly, put_current}
-use Rattle.flags.specs.Kept.{held}
+use Rattle.flags.specs.declared.Kept.{Kept}
+use Rattle.flags.specs.Kept.{held_in}
 use Rattle.flags.proofs.Laws.{held-current, held-put-current}
 use Rattle.stretch_registers.specs.Effected.{Past, Lowers}
 use Rattle.stretch_registers.proofs.Laws.{pc-back, priority-asleep}
@@ -68,16 +69,16 @@ decode-priority w h = decode-control w (omega arith) (omega arith) ∙ first
     first : control_of w ≡ i.SetPri (w % 8)
     first = rw (lt-ltb w 0x4D88 (omega arith)) refl
 
-module _ (w : ℕ) (l m : List ℕ) (p last sum over x : ℕ) where
+module _ (w : ℕ) (l m : List ℕ) (p : ℕ) (flags : Kept) (x : ℕ) where
   -- the PSW n with the flags that are kept
   abbrev kept : ℕ → ℕ
-  kept n = held n last sum over
+  kept n = held_in n flags
 
   granted-level : w % 8 ≤ current p →
       effect_of (core_of l (kept p) x) (i.SetPri (w % 8)) ≡ plainly (core_of l (put_current (kept p) (w % 8)) x)
   unfolding effect_of
   granted-level h =
-      let own : w % 8 ≤ current (kept p) = subst (λ (n : ℕ). w % 8 ≤ n) (sym (held-current p last sum over)) h in
+      let own : w % 8 ≤ current (kept p) = subst (λ (n : ℕ). w % 8 ≤ n) (sym (held-current p flags.last flags.sum flags.over)) h in
       rw (le-ltb (current (kept p)) (w % 8) own) refl
 
   -- the priority lowered, or left, while no line waits
@@ -86,7 +87,7 @@ module _ (w : ℕ) (l m : List ℕ) (p last sum over x : ℕ) where
       ⊎_elim (λ h. inl (h.0, (refl, ap kept h.1, refl, refl)))
       (λ h.
       let (none, e, level, er, eq) = h in
-      let put : put_current (kept p) (w % 8) ≡ kept q = held-put-current p last sum over (w % 8) ∙ ap kept (sym eq) in
+      let put : put_current (kept p) (w % 8) ≡ kept q = held-put-current p flags.last flags.sum flags.over (w % 8) ∙ ap kept (sym eq) in
       let asleep : asleep? (kept q) ≡ asleep? (kept p) = ap asleep? (sym put) ∙ priority-asleep (kept p) (w % 8) in
       rw (decode-priority w e, er)
       (inr

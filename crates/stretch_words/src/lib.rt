@@ -1,32 +1,31 @@
 // Words by their leading bits: each is done by the function of its format (crate stretch_formats),
 // or left alone. `k` has the constants that a source field can name; the PSW is `psw` with the
-// flags that `last`, `sum` and `over` keep (crate flags); `free` says that no line waits. take_word
-// has the first rows; a word with none goes on to move_word, and so on up the file. A row is the
-// word's leading bits as a number, and hands that number on: what it says of operation, operand and
-// width is then known where the row is compiled, and all rows together become one table, of which
-// the test in either_operand becomes a part.
+// flags that `kept` has (crate flags); `free` says that no line waits. take_word has the first rows;
+// a word with none goes on to move_word, and so on up the file. A row is the word's leading bits as
+// a number, and hands that number on: what it says of operation, operand and width is then known
+// where the row is compiled, and all rows together become one table, of which the test in
+// either_operand becomes a part.
 #![tactic(auto)]
 
 ghost use Rattle.std.specs.Prelude.{Bool, List, ◌⊎◌, ◌≡◌, ℕ, ◌+◌, ◌/◌, ◌%◌, ◌<◌, ◌≤◌};
 ghost use Rattle.isa.specs.Decode.{decode_of};
-ghost use Rattle.flags.specs.Kept.{held};
+ghost use Rattle.flags.specs.Kept.{held_in};
 ghost use Rattle.stretch_registers.specs.Effected.{Past};
 ghost use Rattle.stretch_memory.specs.Served.{Taken};
 ghost use Rattle.stretch_formats.specs.Ready.{Ready, constants};
 
+use flags::Kept;
 use stretch_formats::{far_word, operation};
 use stretch_memory::{load_indexed, store_indexed};
 
 // MOV, SETPRI, SETCC and CLRCC; LD and ST by their last four leading bits.
 fn move_word(
     regs: &mut [u16; 8],
-    mem: &mut [u8],
+    mem: &mut [u8; 65536],
     k: &[u16; 8],
     psw: &mut u16,
     free: bool,
-    last: &mut u32,
-    sum: &mut u32,
-    over: &mut u32,
+    kept: &mut Kept,
     cex: &mut u16,
     pc: usize,
     w: usize,
@@ -34,17 +33,17 @@ fn move_word(
     requires { Ready pc w regs.old mem.old k.now }
     ensures { Taken free (decode_of w)
         regs.old
-        (held psw.old last.old sum.old over.old)
+        (held_in psw.old kept.old)
         cex.old mem.old
         regs.new
-        (held psw.new last.new sum.new over.new)
+        (held_in psw.new kept.new)
         cex.new mem.new result }
 {
     match w / 64 {
         0x130 => stretch_registers::move_word(regs, cex, pc, w, false),
         0x131 => stretch_registers::move_word(regs, cex, pc, w, true),
         0x136 => stretch_registers::priority_word(psw, free, pc, w),
-        0x137 => stretch_registers::flags_word(last, sum, over, pc, w),
+        0x137 => stretch_registers::flags_word(kept, pc, w),
         0x160 => load_indexed(regs, mem, pc, w, 0x160),
         0x161 => load_indexed(regs, mem, pc, w, 0x161),
         0x162 => load_indexed(regs, mem, pc, w, 0x162),
@@ -65,7 +64,7 @@ fn move_word(
         0x17B => store_indexed(regs, mem, pc, w, 0x17B),
         0x17C => store_indexed(regs, mem, pc, w, 0x17C),
         0x17D => store_indexed(regs, mem, pc, w, 0x17D),
-        _ => far_word(regs, mem, k, last, sum, over, cex, pc, w),
+        _ => far_word(regs, mem, k, kept, cex, pc, w),
     }
 }
 
@@ -74,9 +73,7 @@ fn move_word(
 fn either_operand(
     regs: &mut [u16; 8],
     k: &[u16; 8],
-    last: &mut u32,
-    sum: &mut u32,
-    over: &mut u32,
+    kept: &mut Kept,
     pc: usize,
     w: usize,
     row: usize,
@@ -86,26 +83,24 @@ fn either_operand(
         × (0x100 ≤ row) × (row < 0x12E) × (row / 2 % 2 ≡ 0) }
     ensures { (free : Bool) (m : List ℕ) (psw cex : ℕ) → Taken free (decode_of w)
         regs.old
-        (held psw last.old sum.old over.old) cex m
+        (held_in psw kept.old) cex m
         regs.new
-        (held psw last.new sum.new over.new) cex m result }
+        (held_in psw kept.new) cex m result }
 {
     if w / 64 == row {
-        return operation(regs, k, last, sum, over, pc, w, row, false);
+        return operation(regs, k, kept, pc, w, row, false);
     }
-    operation(regs, k, last, sum, over, pc, w, row + 2, true)
+    operation(regs, k, kept, pc, w, row + 2, true)
 }
 
 // Any word; ADD to BIS by operand and width.
 pub fn take_word(
     regs: &mut [u16; 8],
-    mem: &mut [u8],
+    mem: &mut [u8; 65536],
     k: &[u16; 8],
     psw: &mut u16,
     free: bool,
-    last: &mut u32,
-    sum: &mut u32,
-    over: &mut u32,
+    kept: &mut Kept,
     cex: &mut u16,
     pc: usize,
     w: usize,
@@ -113,37 +108,37 @@ pub fn take_word(
     requires { Ready pc w regs.old mem.old k.now }
     ensures { Taken free (decode_of w)
         regs.old
-        (held psw.old last.old sum.old over.old)
+        (held_in psw.old kept.old)
         cex.old mem.old
         regs.new
-        (held psw.new last.new sum.new over.new)
+        (held_in psw.new kept.new)
         cex.new mem.new result }
 {
     match w / 64 {
-        0x100 | 0x102 => either_operand(regs, k, last, sum, over, pc, w, 0x100),
-        0x101 | 0x103 => either_operand(regs, k, last, sum, over, pc, w, 0x101),
-        0x104 | 0x106 => either_operand(regs, k, last, sum, over, pc, w, 0x104),
-        0x105 | 0x107 => either_operand(regs, k, last, sum, over, pc, w, 0x105),
-        0x108 | 0x10A => either_operand(regs, k, last, sum, over, pc, w, 0x108),
-        0x109 | 0x10B => either_operand(regs, k, last, sum, over, pc, w, 0x109),
-        0x10C | 0x10E => either_operand(regs, k, last, sum, over, pc, w, 0x10C),
-        0x10D | 0x10F => either_operand(regs, k, last, sum, over, pc, w, 0x10D),
-        0x110 | 0x112 => either_operand(regs, k, last, sum, over, pc, w, 0x110),
-        0x111 | 0x113 => either_operand(regs, k, last, sum, over, pc, w, 0x111),
-        0x114 | 0x116 => either_operand(regs, k, last, sum, over, pc, w, 0x114),
-        0x115 | 0x117 => either_operand(regs, k, last, sum, over, pc, w, 0x115),
-        0x118 | 0x11A => either_operand(regs, k, last, sum, over, pc, w, 0x118),
-        0x119 | 0x11B => either_operand(regs, k, last, sum, over, pc, w, 0x119),
-        0x11C | 0x11E => either_operand(regs, k, last, sum, over, pc, w, 0x11C),
-        0x11D | 0x11F => either_operand(regs, k, last, sum, over, pc, w, 0x11D),
-        0x120 | 0x122 => either_operand(regs, k, last, sum, over, pc, w, 0x120),
-        0x121 | 0x123 => either_operand(regs, k, last, sum, over, pc, w, 0x121),
-        0x124 | 0x126 => either_operand(regs, k, last, sum, over, pc, w, 0x124),
-        0x125 | 0x127 => either_operand(regs, k, last, sum, over, pc, w, 0x125),
-        0x128 | 0x12A => either_operand(regs, k, last, sum, over, pc, w, 0x128),
-        0x129 | 0x12B => either_operand(regs, k, last, sum, over, pc, w, 0x129),
-        0x12C | 0x12E => either_operand(regs, k, last, sum, over, pc, w, 0x12C),
-        0x12D | 0x12F => either_operand(regs, k, last, sum, over, pc, w, 0x12D),
-        _ => move_word(regs, mem, k, psw, free, last, sum, over, cex, pc, w),
+        0x100 | 0x102 => either_operand(regs, k, kept, pc, w, 0x100),
+        0x101 | 0x103 => either_operand(regs, k, kept, pc, w, 0x101),
+        0x104 | 0x106 => either_operand(regs, k, kept, pc, w, 0x104),
+        0x105 | 0x107 => either_operand(regs, k, kept, pc, w, 0x105),
+        0x108 | 0x10A => either_operand(regs, k, kept, pc, w, 0x108),
+        0x109 | 0x10B => either_operand(regs, k, kept, pc, w, 0x109),
+        0x10C | 0x10E => either_operand(regs, k, kept, pc, w, 0x10C),
+        0x10D | 0x10F => either_operand(regs, k, kept, pc, w, 0x10D),
+        0x110 | 0x112 => either_operand(regs, k, kept, pc, w, 0x110),
+        0x111 | 0x113 => either_operand(regs, k, kept, pc, w, 0x111),
+        0x114 | 0x116 => either_operand(regs, k, kept, pc, w, 0x114),
+        0x115 | 0x117 => either_operand(regs, k, kept, pc, w, 0x115),
+        0x118 | 0x11A => either_operand(regs, k, kept, pc, w, 0x118),
+        0x119 | 0x11B => either_operand(regs, k, kept, pc, w, 0x119),
+        0x11C | 0x11E => either_operand(regs, k, kept, pc, w, 0x11C),
+        0x11D | 0x11F => either_operand(regs, k, kept, pc, w, 0x11D),
+        0x120 | 0x122 => either_operand(regs, k, kept, pc, w, 0x120),
+        0x121 | 0x123 => either_operand(regs, k, kept, pc, w, 0x121),
+        0x124 | 0x126 => either_operand(regs, k, kept, pc, w, 0x124),
+        0x125 | 0x127 => either_operand(regs, k, kept, pc, w, 0x125),
+        0x128 | 0x12A => either_operand(regs, k, kept, pc, w, 0x128),
+        0x129 | 0x12B => either_operand(regs, k, kept, pc, w, 0x129),
+        0x12C | 0x12E => either_operand(regs, k, kept, pc, w, 0x12C),
+        0x12D | 0x12F => either_operand(regs, k, kept, pc, w, 0x12D),
+        _ => move_word(regs, mem, k, psw, free, kept, cex, pc, w),
     }
 }

@@ -1,18 +1,19 @@
 -- Digits one by one; what writes one after the other leave. Assumes nothing.
 use Prim.Native.Nat.{ℕ, zero, suc, ◌+◌, ◌-◌, ◌/◌, ◌%◌, ◌<◌, ◌≤◌}
-use mathlib.Core.Path.{◌≡◌, refl, sym, ap, ◌∙◌}
-use mathlib.Core.List.{List, [], ◌∷◌, ◌++◌, append-nil}
+use mathlib.Core.Path.{◌≡◌, refl, sym, ap, subst, ◌∙◌}
+use mathlib.Core.List.{List, [], ◌∷◌, ◌++◌, append-nil, append_assoc}
 use native.Mathlib.Numerals.{unary_clauses}
 use native.Mathlib.Nat.{mod-eq_of_lt}
 use native.Mathlib.Omega.{arith}
-use lib.ListN.{drop}
+use lib.ListN.{take, drop}
 use lib.Seq.{drop-drop}
 use borrow.Author.Tests.{lt-ltb, le-ltb}
-use Rattle.text.specs.Text.{glyph, hex_of, decimal_of}
+use Rattle.text.specs.Text.{glyph, hex_of, decimal_of, Puts}
 
-pub hex-none : (p : List ℕ) (k n : ℕ) → k ≡ 0 → p ≡ p ++ hex_of k n
+-- no digits
+pub hex-none : (x : List ℕ) (at k n : ℕ) → k ≡ 0 → Puts x at (hex_of k n) at x
 unfolding hex_of
-hex-none p k n h = rw (h, append-nil)
+hex-none x at k n h = record { onward = omega arith; put = rw (h, append-nil); kept = refl }
 
 pub hex-more : (k n : ℕ) → (k ≡ 0 → ⊥) → hex_of k n ≡ hex_of (k - 1) (n / 16) ++ (glyph (n % 16) ∷ [])
 unfolding hex_of
@@ -43,6 +44,14 @@ later a b x y h e =
     ∙ drop-drop (b - a) a y
     ∙ ap (λ (n : ℕ). drop n y) q
 
--- a write up to a, then one up to b: from b on all is as before both
-pub kept-twice : (a b : ℕ) (x y z : List ℕ) → a ≤ b → drop a y ≡ drop a x → drop b z ≡ drop b y → drop b z ≡ drop b x
-kept-twice a b x y z h first second = second ∙ later a b y x h first
+-- one text behind another is one text
+pub puts-then : {x y z s t : List ℕ} {a b c : ℕ} → Puts x a s b y → Puts y b t c z → Puts x a (s ++ t) c z
+puts-then {x = x} {y = y} {z = z} {s = s} {t = t} {a = a} {b = b} {c = c} p q = record {
+  onward = (let h = p.onward in let k = q.onward in omega arith);
+  put = q.put ∙ ap (λ (l : List ℕ). l ++ t) p.put ∙ append_assoc (take a x) s t;
+  kept = q.kept ∙ later b c y x q.onward p.kept;
+}
+
+-- another spelling of the text
+pub puts-same : {x y s t : List ℕ} {a b : ℕ} → Puts x a s b y → s ≡ t → Puts x a t b y
+puts-same {x = x} {y = y} {a = a} {b = b} p e = subst (λ (l : List ℕ). Puts x a l b y) e p

@@ -1,6 +1,6 @@
 -- Numbers as text: ASCII codes, base ten and upper-case base sixteen (document 01, "Sheet for the markers").
 -- Assumes nothing.
-use Rattle.std.specs.Prelude.{ℕ, zero, suc, ◌+◌, ◌/◌, ◌%◌, cond, List, [], ◌∷◌, ◌++◌, ltb}
+use Rattle.std.specs.Prelude.{ℕ, zero, suc, ◌+◌, ◌/◌, ◌%◌, ◌≤◌, ◌≡◌, cond, List, [], ◌∷◌, ◌++◌, ltb, take, drop}
 
 -- the code of a digit below 16: `0` to `9`, then `A` to `F`. [01 Sheet for the markers]
 abbrev pub glyph : ℕ → ℕ
@@ -15,3 +15,9 @@ hex_of (suc k) n = hex_of k (n / 16) ++ (glyph (n % 16) ∷ [])
 unfoldable pub decimal_of : (k n : ℕ) → List ℕ
 decimal_of zero n = glyph (n % 10) ∷ []
 decimal_of (suc k) n = cond (ltb n 10) (glyph n ∷ []) (decimal_of k (n / 10) ++ (glyph (n % 10) ∷ []))
+
+-- a text put into a buffer from place `at` up to `next`: what stands before `at` and from `next` on is as it was
+pub record Puts (old : List ℕ) (at : ℕ) (text : List ℕ) (next : ℕ) (new : List ℕ) : Type 0 where
+  pub onward : at ≤ next
+  pub put : take next new ≡ take at old ++ text
+  pub kept : drop next new ≡ drop next old

@@ -10,20 +10,21 @@ use mathlib.Core.Path.{◌≡◌, refl, sym, ap, ◌∙◌}
 use lib.ListN.{length, set}
 use lib.Seq.{sets}
 use Rattle.word.specs.Psw.{bit_of}
+use Rattle.std.proofs.Common.{◌⊎◌, ⊎_elim}
 use Rattle.machine.specs.declared.Act.{Act}
-use Rattle.machine.specs.Memory.{low_byte, high_byte}
+use Rattle.machine.specs.declared.Act.TheVariants as act
 use Rattle.machine.specs.Record.{count_byte}
 use Rattle.stores.proofs.Laws.{sets_then}
-use Rattle.little_endian.specs.Bytes.{four_put}
+use Rattle.little_endian.specs.Bytes.{two_put, four_put}
 use Rattle.trace.specs.Trace.{Entry, entry_bytes, trace_bytes, kind_of}
 use Rattle.trace_record.specs.declared.Before.{Before}
 use Rattle.trace_record.specs.declared.Told.{Told}
-use Rattle.trace_record.specs.Written.{entry_with, head_bytes, tail_bytes, told_of, act_written}
+use Rattle.trace_record.specs.Written.{entry_with, head_bytes, tail_bytes, told, told_of, act_written}
 
 -- ---- bytes
 
 pub head_bytes_lem : (m : List ℕ) (i n k d a : ℕ)
-    → set (set (set (set (four_put m i n) (i + 4) k) (i + 5) d) (i + 6) (low_byte a)) (i + 7) (high_byte a) ≡ sets m i (head_bytes n k d a)
+    → two_put (set (set (four_put m i n) (i + 4) k) (i + 5) d) (i + 6) a ≡ sets m i (head_bytes n k d a)
 head_bytes_lem m i n k d a =
     let b0 : n % 65536 % 256 ≡ count_byte n 1 = omega arith in
     let b1 : n % 65536 / 256 % 256 ≡ count_byte n 0x100 = omega arith in
@@ -31,9 +32,7 @@ head_bytes_lem m i n k d a =
     rw (b0, b1, b3) (simp unary_clauses refl)
 
 pub tail-bytes : (m : List ℕ) (i v p s w : ℕ)
-    → set (set (set (set (set (set (set (set m i (low_byte v)) (i + 1) (high_byte v)) (i + 2) (low_byte p)) (i + 3) (high_byte p))
-    (i + 4) (low_byte s)) (i + 5) (high_byte s)) (i + 6) (low_byte w)) (i + 7) (high_byte w)
-    ≡ sets m i (tail_bytes v p s w)
+    → two_put (two_put (two_put (two_put m i v) (i + 2) p) (i + 4) s) (i + 6) w ≡ sets m i (tail_bytes v p s w)
 tail-bytes m i v p s w = simp unary_clauses refl
 
 pub whole-bytes : (m m' m'' : List ℕ) (i : ℕ) (b : Before) (k d a v : ℕ)
@@ -45,6 +44,20 @@ whole-bytes m m' m'' i b k d a v e f =
     ∙ sets_then m i (i + 8) (head_bytes b.step k d a) (tail_bytes v b.pc b.sp b.psw) refl
 
 -- ---- an act
+
+-- an entry's number is its device or its vector
+pub told-entry : (a : Act) (v x p w : ℕ) → (a ≡ act.Chain v) ⊎ ((a ≡ act.Accept v) ⊎ ((a ≡ act.Fault v) ⊎ (a ≡ act.Trap v)))
+    → told v p w ≡ told_of a x p w
+told-entry a v x p w h =
+    ⊎_elim
+    (λ (e : a ≡ act.Chain v). ap (λ k. told_of k x p w) (sym e))
+    (λ (i : (a ≡ act.Accept v) ⊎ ((a ≡ act.Fault v) ⊎ (a ≡ act.Trap v))).
+    ⊎_elim
+    (λ (e : a ≡ act.Accept v). ap (λ k. told_of k x p w) (sym e))
+    (λ (j : (a ≡ act.Fault v) ⊎ (a ≡ act.Trap v)).
+    ⊎_elim
+    (λ (e : a ≡ act.Fault v). ap (λ k. told_of k x p w) (sym e))
+    (λ (e : a ≡ act.Trap v). ap (λ k. told_of k x p w) (sym e)) j) i) h
 
 module _ (b : Before) (ks : ℕ) (a : Act) (x p w kind : ℕ) (k-is : kind ≡ kind_of a) (asks : Bool) (test : asks ≡ bit_of kind ks) where
   abbrev its : Entry

@@ -10,6 +10,7 @@ ghost use Rattle.trace.specs.Trace.{entry, entry_bytes, trace_bytes, kind_of, op
 ghost use Rattle.trace_record.specs.Written.{entry_with, seen_of, told, told_of};
 ghost use Rattle.trace_record.specs.Written.{head_bytes, tail_bytes, act_written};
 
+use little_endian::{put_four, put_two};
 use machine::{Act, ByteAddr, Machine};
 
 // What stood before a step: the step count, PC, SP and PSW.
@@ -21,7 +22,7 @@ pub struct Before {
     pub psw: u16,
 }
 
-// What an act's record has of its own.
+// What a record has of its own: a number, an address and a value.
 #[derive(Clone, Copy)]
 pub struct Told {
     pub number: u8,
@@ -52,6 +53,7 @@ pub fn asks(kinds: u32, kind: u8) -> bool
 }
 
 // The kind of an act.
+// Kept: the numbers are the record's byte, as C reads it.
 pub fn kind_of(a: Act) -> u8
     ensures { (result ≡ kind_of a) × (result < 32) }
 {
@@ -72,8 +74,7 @@ pub fn kind_of(a: Act) -> u8
 }
 
 // What stands at an address: a byte, or the word that it lies in.
-fn value_at(mem: &[u8], byte: bool, a: ByteAddr) -> u16
-    requires { length mem.now ≡ 65536 }
+fn value_at(mem: &[u8; 65536], byte: bool, a: ByteAddr) -> u16
     ensures { result ≡ value_at byte mem.now a.0 }
 {
     if byte {
@@ -83,8 +84,7 @@ fn value_at(mem: &[u8], byte: bool, a: ByteAddr) -> u16
 }
 
 // The value that an act is about to load.
-pub fn seen_by(mem: &[u8], a: Act) -> u16
-    requires { length mem.now ≡ 65536 }
+pub fn seen_by(mem: &[u8; 65536], a: Act) -> u16
     ensures { result ≡ seen_of a mem.now }
 {
     match a {
@@ -119,10 +119,7 @@ fn tell(a: Act, seen: u16, pc: u16, psw: u16) -> Told
 {
     match a {
         Act::Pull => telling(0, pc, psw),
-        Act::Chain(d) => telling(d, pc, psw),
-        Act::Accept(d) => telling(d, pc, psw),
-        Act::Fault(v) => telling(v, pc, psw),
-        Act::Trap(v) => telling(v, pc, psw),
+        Act::Chain(v) | Act::Accept(v) | Act::Fault(v) | Act::Trap(v) => telling(v, pc, psw),
         Act::Loads { byte, at, .. } => telling(byte as u8, at.0, seen),
         Act::Stores { byte, at, value } => telling(byte as u8, at.0, operand(byte, value)),
         _ => telling(0, 0, 0),
@@ -130,50 +127,37 @@ fn tell(a: Act, seen: u16, pc: u16, psw: u16) -> Told
 }
 
 // The first eight bytes of a record, and the last eight, at byte i; the other bytes stay.
-fn put_head(trace: &mut [u8], i: usize, step: u32, kind: u8, number: u8, address: u16)
+fn put_head(trace: &mut [u8], i: usize, step: u32, kind: u8, x: Told)
     requires { i + 8 ≤ length trace.old }
     ensures { trace.new
-        ≡ sets trace.old i (head_bytes step kind number address) }
+        ≡ sets trace.old i (head_bytes step kind x.number x.address) }
 {
-    little_endian::put_four(trace, i, step);
+    put_four(trace, i, step);
     trace[i + 4] = kind;
-    trace[i + 5] = number;
-    trace[i + 6] = (address % 256) as u8;
-    trace[i + 7] = (address / 256 % 256) as u8;
+    trace[i + 5] = x.number;
+    put_two(trace, i + 6, x.address);
 }
 
-fn put_tail(trace: &mut [u8], i: usize, value: u16, pc: u16, sp: u16, psw: u16)
+fn put_tail(trace: &mut [u8], i: usize, value: u16, b: Before)
     requires { i + 8 ≤ length trace.old }
     ensures { trace.new
-        ≡ sets trace.old i (tail_bytes value pc sp psw) }
+        ≡ sets trace.old i (tail_bytes value b.pc b.sp b.psw) }
 {
-    trace[i] = (value % 256) as u8;
-    trace[i + 1] = (value / 256 % 256) as u8;
-    trace[i + 2] = (pc % 256) as u8;
-    trace[i + 3] = (pc / 256 % 256) as u8;
-    trace[i + 4] = (sp % 256) as u8;
-    trace[i + 5] = (sp / 256 % 256) as u8;
-    trace[i + 6] = (psw % 256) as u8;
-    trace[i + 7] = (psw / 256 % 256) as u8;
+    put_two(trace, i, value);
+    put_two(trace, i + 2, b.pc);
+    put_two(trace, i + 4, b.sp);
+    put_two(trace, i + 6, b.psw);
 }
 
 // Record k of the trace written; the other bytes stay.
-pub fn put_record(
-    trace: &mut [u8],
-    k: usize,
-    b: Before,
-    kind: u8,
-    number: u8,
-    address: u16,
-    value: u16,
-)
+pub fn put_record(trace: &mut [u8], k: usize, b: Before, kind: u8, x: Told)
     requires { 16 * k + 16 ≤ length trace.old }
     ensures { trace.new
         ≡ sets trace.old (16 * k)
-        (entry_bytes (entry_with b kind number address value)) }
+        (entry_bytes (entry_with b kind x.number x.address x.value)) }
 {
-    put_head(trace, 16 * k, b.step, kind, number, address);
-    put_tail(trace, 16 * k + 8, value, b.pc, b.sp, b.psw);
+    put_head(trace, 16 * k, b.step, kind, x);
+    put_tail(trace, 16 * k + 8, x.value, b);
 }
 
 // The record of an act added after k records, if its kind is asked for; the records then there.
@@ -197,6 +181,6 @@ pub fn add_act(
         return k;
     }
     let x = tell(a, seen, pc, psw);
-    put_record(trace, k, b, kind, x.number, x.address, x.value);
+    put_record(trace, k, b, kind, x);
     k + 1
 }

@@ -44,37 +44,6 @@ lacks-is room added more h =
     (λ q. let l : room - added < more = lt_of q in let m : room < added + more = omega arith in q ∙ sym (is_lt m))
     (λ q. let l : more ≤ room - added = ge-of q in let m : added + more ≤ room = omega arith in q ∙ sym (not-lt m))
 
-here : (r x y : Bool) → r ≡ x → r ≡ true → x || y ≡ true
-here r x y e q = ap (λ z. z || y) (sym e ∙ q)
-
-after : (x y : Bool) → y ≡ true → x || y ≡ true
-after true y q = refl
-after false y q = q
-
-past : (r x y : Bool) → r ≡ x → r ≡ false → x || y ≡ y
-past r x y e q = ap (λ z. z || y) (sym e ∙ q)
-
--- the five tests in turn: one of them met, and none before the last
-module _ (ks : ℕ) where
-  pub met-4 : (r : Bool) → r ≡ bit_of 4 ks → r ≡ true → false ≡ sparse? ks
-  met-4 r e q = sym (ap not (here r (bit_of 4 ks) _ e q))
-
-  pub met-7 : (r : Bool) → r ≡ bit_of 7 ks → r ≡ true → false ≡ sparse? ks
-  met-7 r e q = sym (ap not (after (bit_of 4 ks) _ (here r (bit_of 7 ks) _ e q)))
-
-  pub met-9 : (r : Bool) → r ≡ bit_of 9 ks → r ≡ true → false ≡ sparse? ks
-  met-9 r e q = sym (ap not (after (bit_of 4 ks) _ (after (bit_of 7 ks) _ (here r (bit_of 9 ks) _ e q))))
-
-  pub met-10 : (r : Bool) → r ≡ bit_of 10 ks → r ≡ true → false ≡ sparse? ks
-  met-10 r e q = sym (ap not (after (bit_of 4 ks) _ (after (bit_of 7 ks) _ (after (bit_of 9 ks) _ (here r (bit_of 10 ks) _ e q)))))
-
-  pub none-met : (a b c d r : Bool) → a ≡ bit_of 4 ks → a ≡ false → b ≡ bit_of 7 ks → b ≡ false → c ≡ bit_of 9 ks → c ≡ false
-      → d ≡ bit_of 10 ks → d ≡ false → r ≡ bit_of 11 ks → not r ≡ sparse? ks
-  none-met a b c d r ea qa eb qb ec qc ed qd er =
-      ap not er
-      ∙ sym (ap not (past a (bit_of 4 ks) _ ea qa ∙ past b (bit_of 7 ks) _ eb qb ∙ past c (bit_of 9 ks) _ ec qc ∙ past d
-      (bit_of 10 ks) _ ed qd))
-
 pub sparse_of : (ks : ℕ) → sparse? ks ≡ true → Sparse ks
 sparse_of ks h =
     let p = neither (bit_of 4 ks) _ (not-true _ h) in

@@ -1,7 +1,7 @@
 // A run of n steps that is traced: one step with its records, a stretch, and the loop of both.
 #![tactic(auto)]
 
-ghost use Rattle.std.specs.Prelude.{◌≡◌, true, false, List, ℕ, ◌+◌, ◌*◌, ◌<◌, ◌≤◌, ltb, length};
+ghost use Rattle.std.specs.Prelude.{◌≡◌, true, false, List, ℕ, ◌+◌, ◌*◌, ◌<◌, ◌≤◌, ltb, length, MatchOption};
 ghost use Rattle.machine.specs.State.{state_of, state_with};
 ghost use Rattle.machine.specs.Events.{events_of, event_count};
 ghost use Rattle.machine.specs.Refusal.{events_fit_below};
@@ -22,19 +22,7 @@ use turn::Awaited;
 fn sparse(kinds: u32) -> bool
     ensures { result ≡ sparse? kinds }
 {
-    if asks(kinds, 4) {
-        return false;
-    }
-    if asks(kinds, 7) {
-        return false;
-    }
-    if asks(kinds, 9) {
-        return false;
-    }
-    if asks(kinds, 10) {
-        return false;
-    }
-    !asks(kinds, 11)
+    !(asks(kinds, 4) | asks(kinds, 7) | asks(kinds, 9) | asks(kinds, 10) | asks(kinds, 11))
 }
 
 // Would so many more records pass the room?
@@ -46,31 +34,30 @@ fn lacks(room: usize, added: usize, more: usize) -> bool
 }
 
 // What a step leaves besides the registers: the rest of the machine, the event record then awaited,
-// the records there, and whether the step was not taken for want of room.
+// the records there.
 #[derive(Clone, Copy)]
 pub struct Turned {
     pub rest: Rest,
     pub at: Awaited,
     pub added: usize,
-    pub short: bool,
 }
 
-// One step and its records, behind those that are there. A step that is not taken gives back the
-// device bytes that its events changed; the registers that its plan changed are the caller's.
+// One step and its records, behind those that are there, if there is room for them. A step that is
+// not taken gives back the device bytes that its events changed; the registers that its plan changed
+// are the caller's.
 fn step_traced(
     regs: &mut [u16; 8],
     t: Rest,
     b: Before,
-    memory: &mut [u8],
+    memory: &mut [u8; 65536],
     events: &[u8],
     at: Awaited,
     trace: &mut [u8],
     added: usize,
     room: usize,
     kinds: u32,
-) -> Turned
+) -> Option<Turned>
     requires { record {
-      size : length memory.old ≡ 65536;
       live : t.halted ≡ false;
       counts : t.count < 4294967295;
       starts : ((y : List ℕ) (k n a z : ℕ)
@@ -82,12 +69,14 @@ fn step_traced(
       within : added ≤ room;
       roomy : 16 * room ≤ length trace.old;
     } }
-    ensures turn { Turn kinds (events_of events.now) room
+    ensures { MatchOption result
+        (Turn kinds (events_of events.now) room
         (state_with regs.old t memory.old) added trace.old
-        (state_with regs.new result.rest memory.new) result.added
-        trace.new result.short }
-    ensures awaits { Awaits events.now result.at.next result.at.due
-        result.rest.count }
+        (state_with regs.new t memory.new) added trace.new true)
+        (λ x. (Turn kinds (events_of events.now) room
+        (state_with regs.old t memory.old) added trace.old
+        (state_with regs.new x.rest memory.new) x.added trace.new false)
+        × Awaits events.now x.at.next x.at.due x.rest.count) }
 {
     let mut bytes: [u8; 16] = [0; 16];
     let wanted = at.due <= t.count as u64;
@@ -98,12 +87,7 @@ fn step_traced(
     let more = trace_step::needed(kinds, wanted, events, at.next, t.count, act);
     if lacks(room, added, more) {
         output_log::put_back(memory, wanted, &bytes);
-        return Turned {
-            rest: t,
-            at,
-            added,
-            short: true,
-        };
+        return None;
     }
     let seen = trace_record::seen_by(memory, act);
     let u = step::perform(regs, memory, d.lines, t.count, p);
@@ -111,12 +95,11 @@ fn step_traced(
     let there = trace_step::add_step(
         trace, added, b, kinds, wanted, events, at.next, &bytes, t.lines, act, seen, regs[7], u.psw,
     );
-    Turned {
+    Some(Turned {
         rest: u,
         at: next,
         added: there,
-        short: false,
-    }
+    })
 }
 
 // The machine that a traced run leaves, why it ended, the steps done and the records added.
@@ -132,14 +115,13 @@ pub struct Ran {
 // Each turn is one step and then, where no kind asked for is one of a stretch's, a stretch.
 pub fn run_traced(
     m: Machine,
-    memory: &mut [u8],
+    memory: &mut [u8; 65536],
     events: &[u8],
     trace: &mut [u8],
     kinds: u32,
     n: u32,
 ) -> Ran
     requires { record {
-      size : length memory.old ≡ 65536;
       counts : m.rest.count + n ≤ 4294967295;
       ordered : Ordered events.now;
       fit : events_fit_below events.now (event_count events.now) ≡ true;
@@ -169,17 +151,17 @@ pub fn run_traced(
     let mut done: u32 = 0;
     let mut added: usize = 0;
     let mut short = false;
+    // Kept: no count over a range, since a turn's stretch does many steps.
     while (done < n) & !t.halted {
         let held = Machine { regs, rest: t };
         let b = trace_record::start_of(held);
-        let x = step_traced(
+        let Some(x) = step_traced(
             &mut regs, t, b, memory, events, at, trace, added, room, kinds,
-        );
-        if x.short {
+        ) else {
             regs = held.regs;
             short = true;
             break;
-        }
+        };
         t = x.rest;
         at = x.at;
         added = x.added;

@@ -10,8 +10,9 @@ use lib.Dec.{eqb}
 use lib.Seq.{sets}
 use Rattle.machine.specs.Memory.{byte_at}
 use Rattle.machine_laws.proofs.Cases.{is_eq, not-eq}
-use Rattle.machine.specs.Events.{event_at}
 use Rattle.machine.specs.Devices.{events_waiting}
+use Rattle.devices.specs.declared.Event.{Event}
+use Rattle.devices.specs.Cursor.{event_of}
 use Rattle.trace.specs.Trace.{entry_bytes, effect_bits, effect_on, event_entry}
 use Rattle.trace_record.specs.declared.Before.{Before}
 use Rattle.trace_record.specs.Written.{entry_with}
@@ -24,23 +25,21 @@ bits-off t w h =
     sym (ap (λ (b : Bool). cond b (1 + 2 * bool_byte (eqb (t / 4 % 2) 1) + 4 * bool_byte (eqb (t / 1 % 2) 1) + 8 * bool_byte (eqb w 15)) 0)
     (not-eq h))
 
-pub bits-on : (t w a b c : ℕ) → t / 16 % 2 ≡ 1 → a ≡ 2 * bool_byte (eqb (t / 4 % 2) 1) → b ≡ 4 * bool_byte (eqb (t % 2) 1)
-    → c ≡ 8 * bool_byte (eqb w 15) → 1 + a + b + c ≡ effect_bits t w
-bits-on t w a b c h ea eb ec =
+pub bits-on : (t w : ℕ) → t / 16 % 2 ≡ 1
+    → 1 + 2 * bool_byte (eqb (t / 4 % 2) 1) + 4 * bool_byte (eqb (t % 2) 1) + 8 * bool_byte (eqb w 15) ≡ effect_bits t w
+bits-on t w h =
     let e : t % 2 ≡ t / 1 % 2 = omega arith in
-    (λ i. 1 + ea i + (eb ∙ ap (λ x. 4 * bool_byte (eqb x 1)) e) i + ec i)
+    ap (λ x. 1 + 2 * bool_byte (eqb (t / 4 % 2) 1) + 4 * bool_byte (eqb x 1) + 8 * bool_byte (eqb w 15)) e
     ∙ sym (ap (λ (b : Bool). cond b (1 + 2 * bool_byte (eqb (t / 4 % 2) 1) + 4 * bool_byte (eqb (t / 1 % 2) 1) + 8 * bool_byte (eqb w 15))
     0)
     (is_eq h))
 
 -- ---- an event
 
-pub event-written : (b : Before) (m es : List ℕ) (l at i : ℕ) (t t' : List ℕ) (bits w v : ℕ)
-    → w ≡ events_waiting l (byte_at es (8 * at + 4)) → bits ≡ effect_bits (byte_at m (2 * byte_at es (8 * at + 4))) w → v ≡ byte_at es
-    (8 * at + 5)
-    → t' ≡ sets t i (entry_bytes (entry_with b 0 (byte_at es (8 * at + 4)) bits v))
-    → t' ≡ sets t i (entry_bytes (event_entry (as_seen b m l) (as_seen b m l) (event_at es at)))
-unfolding event_at effect_on
-event-written b m es l at i t t' bits w v ew eb ev f =
-    let d = byte_at es (8 * at + 4) in
-    f ∙ (λ j. sets t i (entry_bytes (entry_with b 0 d ((eb ∙ ap (effect_bits (byte_at m (2 * d))) ew) j) (ev j))))
+pub event-written : (b : Before) (m : List ℕ) (l i : ℕ) (e : Event) (t t' : List ℕ) (bits w : ℕ)
+    → w ≡ events_waiting l e.device → bits ≡ effect_bits (byte_at m (2 * e.device)) w
+    → t' ≡ sets t i (entry_bytes (entry_with b 0 e.device bits e.byte))
+    → t' ≡ sets t i (entry_bytes (event_entry (as_seen b m l) (as_seen b m l) (event_of e)))
+unfolding effect_on
+event-written b m l i e t t' bits w ew eb f =
+    f ∙ (λ j. sets t i (entry_bytes (entry_with b 0 e.device ((eb ∙ ap (effect_bits (byte_at m (2 * e.device))) ew) j) e.byte)))

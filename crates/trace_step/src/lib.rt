@@ -3,38 +3,19 @@
 #![tactic(auto)]
 
 ghost use Rattle.std.specs.Prelude.{◌≡◌, true, ℕ, ◌+◌, ◌*◌, ◌<◌, ◌≤◌, List, length};
-ghost use mir.Val.{bool_byte};
 ghost use Rattle.std.proofs.lemmas.List.Edits.{sets};
 ghost use Rattle.machine.specs.State.{State};
-ghost use Rattle.machine.specs.Events.{event_at, events_of, event_count};
-ghost use Rattle.machine.specs.Devices.{events_waiting};
+ghost use Rattle.machine.specs.Events.{events_of, event_count};
 ghost use Rattle.machine.specs.Refusal.{events_fit_below};
-ghost use Rattle.devices.specs.Cursor.{Behind, Ordered};
+ghost use Rattle.devices.specs.Cursor.{Behind, Ordered, event_of};
 ghost use Rattle.trace.specs.Trace.{entry_bytes, trace_bytes, effect_bits, event_entry};
 ghost use Rattle.trace.specs.Before.{events_before};
 ghost use Rattle.trace_record.specs.declared.Before.{Before};
 ghost use Rattle.trace_step.specs.Steps.{as_seen, step_written};
 
+use devices::{Event, event_at, events_waiting, step_at};
 use machine::{Act, Lines};
-use trace_record::{Before, add_act, asks, kind_of, put_record};
-
-// How many events of device d wait?
-fn events_waiting(lines: Lines, d: u8) -> Lines
-    requires { d < 8 }
-    ensures { result ≡ events_waiting lines d }
-{
-    (lines >> (4 * d)) % 16
-}
-
-// A flag that counts v where it is set.
-fn flag(b: bool, v: u16) -> u16
-    ensures { (result ≡ v * bool_byte b) × (result ≤ v) }
-{
-    if b {
-        return v;
-    }
-    0
-}
+use trace_record::{Before, Told, add_act, asks, kind_of, put_record};
 
 // What an event does to a device with this status byte, so many of its events waiting.
 fn event_bits(t: u8, waiting: Lines) -> u16
@@ -43,7 +24,7 @@ fn event_bits(t: u8, waiting: Lines) -> u16
     if t / 16 % 2 != 1 {
         return 0;
     }
-    1 + flag(t / 4 % 2 == 1, 2) + flag(t % 2 == 1, 4) + flag(waiting == 15, 8)
+    1 + 2 * (t / 4 % 2 == 1) as u16 + 4 * (t % 2 == 1) as u16 + 8 * (waiting == 15) as u16
 }
 
 // How many events are due at step `count`, from record `next` on; earlier ones are passed over.
@@ -54,49 +35,34 @@ pub fn count_due(events: &[u8], next: usize, count: u32) -> usize
         × (result ≤ length events.now) }
 {
     let n = events.len() / 8;
-    let mut at = next;
     let mut due: usize = 0;
-    while at < n {
-        let step = devices::step_at(events, at);
+    for at in next..n {
+        let step = step_at(events, at);
         if count < step {
-            break;
+            return due;
         }
         if step == count {
             due += 1;
         }
-        at += 1;
     }
     due
 }
 
-fn wide(x: u8) -> u16
-    ensures { result ≡ x }
-{
-    x as u16
-}
-
-// Record `at` of the event list written as record k of the trace, the device's bytes and count as
-// before the step; the other bytes stay.
-fn add_event(
-    trace: &mut [u8],
-    k: usize,
-    b: Before,
-    events: &[u8],
-    at: usize,
-    devices: &[u8],
-    lines: Lines,
-)
-    requires { (16 * k + 16 ≤ length trace.old) × (8 * at + 8 ≤ length events.now)
-        × ((event_at events.now at).device < 8) × (length devices.now ≡ 16) }
+// An event written as record k of the trace, the device's bytes and count as before the step; the
+// other bytes stay.
+fn add_event(trace: &mut [u8], k: usize, b: Before, e: Event, devices: &[u8; 16], lines: Lines)
+    requires { (16 * k + 16 ≤ length trace.old) × (e.device < 8) }
     ensures { trace.new ≡ sets trace.old (16 * k)
         (entry_bytes (event_entry (as_seen b devices.now lines)
-        (as_seen b devices.now lines) (event_at events.now at))) }
+        (as_seen b devices.now lines) (event_of e))) }
 {
-    let d = events[8 * at + 4];
-    let t = devices[2 * d as usize];
-    let bits = event_bits(t, events_waiting(lines, d));
-    let v = wide(events[8 * at + 5]);
-    put_record(trace, k, b, 0, d, bits, v);
+    let t = devices[2 * e.device as usize];
+    let told = Told {
+        number: e.device,
+        address: event_bits(t, events_waiting(lines, e.device)),
+        value: e.byte as u16,
+    };
+    put_record(trace, k, b, 0, told);
 }
 
 // The records of the events due at a step added after k records, from record `next` of the list
@@ -107,14 +73,13 @@ pub fn add_events(
     b: Before,
     events: &[u8],
     next: usize,
-    devices: &[u8],
+    devices: &[u8; 16],
     lines: Lines,
 ) -> usize
     requires { Behind events.now next b.step × Ordered events.now
         × (events_fit_below events.now (event_count events.now) ≡ true)
-        × (length devices.now ≡ 16)
-        × (16 * (k + length (events_before (as_seen b devices.now lines) b.step
-        (events_of events.now))) ≤ length trace.old) }
+        × (16 * (k + length (events_before (as_seen b devices.now lines) b.step (events_of
+        events.now))) ≤ length trace.old) }
     ensures added { result ≡ k + length (events_before (as_seen b devices.now lines)
         b.step (events_of events.now)) }
     ensures trace { trace.new ≡ sets trace.old (16 * k)
@@ -122,18 +87,16 @@ pub fn add_events(
         (events_of events.now))) }
 {
     let n = events.len() / 8;
-    let mut at = next;
     let mut added = k;
-    while at < n {
-        let step = devices::step_at(events, at);
-        if b.step < step {
-            break;
+    for at in next..n {
+        let e = event_at(events, at);
+        if b.step < e.step {
+            return added;
         }
-        if step == b.step {
-            add_event(trace, added, b, events, at, devices, lines);
+        if e.step == b.step {
+            add_event(trace, added, b, e, devices, lines);
             added += 1;
         }
-        at += 1;
     }
     added
 }
@@ -148,7 +111,7 @@ pub fn add_step(
     wanted: bool,
     events: &[u8],
     next: usize,
-    devices: &[u8],
+    devices: &[u8; 16],
     lines: Lines,
     a: Act,
     seen: u16,
@@ -157,9 +120,8 @@ pub fn add_step(
 ) -> usize
     requires { Behind events.now next b.step × Ordered events.now
         × (events_fit_below events.now (event_count events.now) ≡ true)
-        × (length devices.now ≡ 16)
-        × (16 * (k + length (step_written b kinds wanted devices.now lines (events_of events.now)
-        a seen pc psw)) ≤ length trace.old) }
+        × (16 * (k + length (step_written b kinds wanted devices.now lines (events_of events.now) a
+        seen pc psw)) ≤ length trace.old) }
     ensures added { result ≡ k + length (step_written b kinds wanted devices.now lines
         (events_of events.now) a seen pc psw) }
     ensures trace { trace.new ≡ sets trace.old (16 * k)

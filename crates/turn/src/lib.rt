@@ -16,6 +16,7 @@ use machine::{Lines, Reason, Rest};
 use stretch::Progress;
 
 // The step of record k, past every step where there is none.
+// Kept: a number past every step makes the test of each step one comparison; an Option makes it two.
 pub fn due_at(events: &[u8], k: usize) -> u64
     ensures { result ≡ due_of events.now k }
 {
@@ -51,14 +52,14 @@ pub fn awaiting(events: &[u8], k: usize) -> Awaited
 
 // Point 1 of step `count`: applies the events that are due; where none is, looks at no record.
 pub fn deliver_due(
-    memory: &mut [u8],
+    memory: &mut [u8; 65536],
     events: &[u8],
     at: Awaited,
     count: u32,
     lines: Lines,
 ) -> Delivery
-    requires { (length memory.old ≡ 65536) × Awaits events.now at.next at.due count
-        × Ordered events.now × (events_fit_below events.now (event_count events.now) ≡ true) }
+    requires { Awaits events.now at.next at.due count × Ordered events.now
+        × (events_fit_below events.now (event_count events.now) ≡ true) }
     ensures state { (c : Core) (h : Bool)
         → state_from c result.lines h count memory.new
         ≡ deliver_at count (events_of events.now)
@@ -125,6 +126,7 @@ pub fn reason_of(halted: bool, short: bool) -> Reason
 }
 
 // The number of a reason.
+// Kept: the numbers are those of the reply to C.
 pub fn reason_number(x: Reason) -> u64
     ensures { (result ≡ reason_number x) × (result ≤ 2) }
 {

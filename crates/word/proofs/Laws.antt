@@ -7,9 +7,9 @@ use Prim.Native.Nat.{ℕ, zero, suc, ◌+◌, ◌-◌, ◌*◌, ◌/◌, ◌%◌
 use native.Mathlib.Nat.{mod-lt, div-eq_of_lt, add-mul, mul_assoc, mul_comm, div-lt_iff_lt-mul, one-mul}
 use native.Mathlib.Decide.{dec_le}
 use native.Mathlib.Omega.{arith}
-use lib.Dec.{eqb}
-use lib.Bits.{bit_and, bit_or, and_mask, mask_lt, or_step, or_block, or_zero_r}
-use lib.Pow.{ones_sub-lt, pow_pos, pow-add, high, low as low_part, split, field, mod-mod-pow, shr-shr}
+use lib.Dec.{eqb, lit<}
+use lib.Bits.{bit_or, or_step, or_block, or_zero_r}
+use lib.Pow.{ones_sub-lt, pow_pos, pow-add, high, low as low_part, split, field, mod-mod-pow, shr-shr, shl_exact}
 use Rattle.word.specs.Width.{width_of, bit, low, with_low, turned}
 use Rattle.word.specs.Psw.{bit_of, put_bit}
 
@@ -57,13 +57,6 @@ fits_word false = omega arith
 
 pub two-halves : (byte : Bool) → 2 ^ (width_of byte - 1) + 2 ^ (width_of byte - 1) ≡ 2 ^ width_of byte
 two-halves byte = two-halves-at (width_of byte) (width-pos byte)
-
--- with the mask m of w ones, `x & m` is the low bits, and `m - (x & m)` those turned over
-pub mask_low : (w x : ℕ) {m : ℕ} → m ≡ 2 ^ w - 1 → (bit_and x m ≡ low w x) × (bit_and x m < 2 ^ w)
-mask_low w x e = rw e (and_mask x w, mask_lt x w)
-
-pub mask-turned : (w x : ℕ) {m : ℕ} → m ≡ 2 ^ w - 1 → (m - bit_and x m ≡ turned w x) × (m - bit_and x m < 2 ^ w)
-mask-turned w x e = rw (e, and_mask x w) (refl, ones_sub-lt w (low w x))
 
 -- two numbers with the same bits from k on have the same bits from any later place on
 pub same_above : (a b k j : ℕ) → k ≤ j → a / 2 ^ k ≡ b / 2 ^ k → a / 2 ^ j ≡ b / 2 ^ j
@@ -158,6 +151,17 @@ put_same k p b = ap (λ (x : ℕ). eqb x 1) (put-here k p b) ∙ bit-read b
 
 pub put_other : (j k p : ℕ) (b : Bool) → (j ≡ k → ⊥) → bit_of j (put_bit k p b) ≡ bit_of j p
 put_other j k p b h = ap (λ (x : ℕ). eqb x 1) (put-elsewhere k p b j h)
+
+-- as code computes it, by shifts
+module _ (k : ℕ) (h : k < 15) where
+  pub shifted_one : 1 * 2 ^ k % 65536 ≡ 2 ^ k
+  shifted_one = shl_exact 1 k 16 (lit< tt) (omega arith) ∙ one-mul (2 ^ k)
+
+  pub shifted_two : 2 * 2 ^ k % 65536 ≡ 2 ^ (k + 1)
+  shifted_two = shl_exact 2 k 16 (lit< tt) (omega arith) ∙ mul_comm 2 (2 ^ k) ∙ sym (pow-add 2 k 1)
+
+  pub put-fits : (p : ℕ) (b : Bool) → p < 65536 → p / 2 ^ (k + 1) * 2 ^ (k + 1) + bit b * 2 ^ k + p % 2 ^ k < 65536
+  put-fits p b l = put-lt k p b 16 (omega arith) l
 
 -- an or with one bit puts it in
 odd : (q : ℕ) → bit_or q 1 ≡ q / 2 * 2 + 1

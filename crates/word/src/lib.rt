@@ -1,6 +1,6 @@
 // Words of 8 and 16 bits, the bits of the PSW, and offsets with a sign: the leaves of the machine.
 // `byte` chooses the width: 8 bits, else 16.
-#![tactic(auto)]
+#![tactic(auto, unfolding(crate::specs::Width::width_of))]
 
 ghost use Rattle.std.specs.Prelude.{◌≡◌, ◌+◌, ◌-◌, ◌^◌, ◌<◌, ◌≤◌};
 ghost use Rattle.std.specs.Int.Signed.{mag};
@@ -52,6 +52,7 @@ pub fn with_low(byte: bool, x: u16, v: u16) -> u16
     if byte { x / 256 * 256 + v } else { v }
 }
 
+// Kept: SLP and FLT, and the two priorities, are one line each; one function of a place is no plainer.
 // Is SLP set?
 pub fn asleep(psw: u16) -> bool
     ensures { result ≡ asleep? psw }
@@ -79,32 +80,42 @@ pub fn previous_priority(psw: u16) -> u16
     psw / 8192 % 8
 }
 
+// A number with b for its bit K; its other bits stay.
+fn put_flag<const K: u32>(psw: u16, b: bool) -> u16
+    requires { K < 15 }
+    ensures { result ≡ put_bit K psw b }
+{
+    let weight = 1 << K;
+    let next = 2 << K;
+    psw / next * next + flag(b) * weight + psw % weight
+}
+
 // The PSW with b for C; its other bits stay.
 pub fn put_carry(psw: u16, b: bool) -> u16
     ensures { result ≡ put_bit 0 psw b }
 {
-    psw / 2 * 2 + flag(b)
+    put_flag::<0>(psw, b)
 }
 
 // The PSW with b for Z; its other bits stay.
 pub fn put_zero(psw: u16, b: bool) -> u16
     ensures { result ≡ put_bit 1 psw b }
 {
-    psw / 4 * 4 + flag(b) * 2 + psw % 2
+    put_flag::<1>(psw, b)
 }
 
 // The PSW with b for N; its other bits stay.
 pub fn put_negative(psw: u16, b: bool) -> u16
     ensures { result ≡ put_bit 2 psw b }
 {
-    psw / 8 * 8 + flag(b) * 4 + psw % 4
+    put_flag::<2>(psw, b)
 }
 
 // The PSW with b for V; its other bits stay.
 pub fn put_overflow(psw: u16, b: bool) -> u16
     ensures { result ≡ put_bit 4 psw b }
 {
-    psw / 32 * 32 + flag(b) * 16 + psw % 16
+    put_flag::<4>(psw, b)
 }
 
 // A number below 2 * half, read in two's complement.
@@ -119,6 +130,7 @@ pub fn signed(half: u16, n: u16) -> i16
 }
 
 // How far a number lies from zero: n for n and for -(n + 1).
+// Kept: asm_value and asm_fits have the like for wider numbers; a trait for two lines is no plainer.
 pub fn magnitude(z: i16) -> u16
     ensures { result ≡ mag z }
 {

@@ -10,8 +10,7 @@ ghost use Rattle.xm23.specs.Api.{load_call_of, write_call_of, Restores, need_rep
 ghost use Rattle.xm23.specs.Api.{journal_of, lent_of, back_call_of};
 ghost use Rattle.xm23.specs.Api.{assemble_call_of, places_call_of, text_call_of};
 
-use isa::Encoded;
-use isa_card::{Next, count_of, next_of};
+use isa_card::{count_of, next_of};
 use isa_decode::decode;
 use isa_encode::encode;
 use isa_number::{from_number, number};
@@ -43,8 +42,8 @@ pub extern "C" fn xm23_encode(instruction: u64) -> u32
         return 8;
     }
     match encode(i) {
-        Encoded::Word(w) => w as u32 * 65536,
-        Encoded::Refused => 8,
+        Some(w) => w as u32 * 65536,
+        None => 8,
     }
 }
 
@@ -74,8 +73,8 @@ pub extern "C" fn xm23_next(operation: u32, word: u32) -> u64
     ensures reply { result ≡ next_reply operation word }
 {
     match next_of(operation, word) {
-        Next::Found(v) => 0x100 + v as u64 * 0x10000,
-        Next::Nothing => 0,
+        Some(v) => 0x100 + v as u64 * 0x10000,
+        None => 0,
     }
 }
 

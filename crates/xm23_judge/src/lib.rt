@@ -3,8 +3,7 @@
 // it the compiler lays the general step into this one.
 #![tactic(auto)]
 
-ghost use Rattle.std.specs.Prelude.{◌≡◌, cond, List, ℕ, ◌+◌, ◌*◌, ◌≤◌, eqb, length, replicate};
-ghost use Rattle.word.specs.Width.{bit};
+ghost use Rattle.std.specs.Prelude.{◌≡◌, ◌≢◌, MatchResult, cond, List, ℕ, ◌+◌, ◌*◌, ◌≤◌, eqb, length, replicate};
 ghost use Rattle.machine.specs.State.{State, state_of};
 ghost use Rattle.soundness.specs.Findings.{start_faults};
 ghost use Rattle.machine.specs.Record.{state_in};
@@ -17,6 +16,7 @@ ghost use Rattle.open_frames.specs.Open.{handler_of};
 ghost use Rattle.judge.specs.Reached.{told_by};
 ghost use Rattle.xm23_judge.specs.Api.{Judgement};
 
+use findings::{Breach, Kind};
 use machine::Machine;
 use open_frames::Open;
 
@@ -24,10 +24,7 @@ use open_frames::Open;
 fn none(o: Open) -> bool
     ensures { result ≡ eqb (o.owns + o.held) 0 }
 {
-    if o.owns == 0 {
-        return o.held == 0;
-    }
-    false
+    o.owns == 0 && o.held == 0
 }
 
 // Frames left open told, of a run from s that x is.
@@ -43,17 +40,11 @@ fn tell_close(findings: &mut [u8], start: u32, o: Open)
         return;
     }
     let h = o.oldest;
-    findings::note(findings, 4, start, h.opened, 0, 0, h);
-}
-
-// One if so.
-fn flag(b: bool) -> u8
-    ensures { (result ≡ bit b) × (result ≤ 1) }
-{
-    if b {
-        return 1;
-    }
-    0
+    let nothing = Breach {
+        detail: 0,
+        address: 0,
+    };
+    findings::note(findings, Kind::Unclosed, start, h.opened, nothing, h);
 }
 
 // The start is asleep, halted, or has a line waiting: bits 0, 1 and 2.
@@ -61,7 +52,7 @@ fn start_faults(m: Machine) -> u8
     ensures { (mem : List ℕ) → result ≡ start_faults (state_of m mem) }
 {
     let t = m.rest;
-    flag(word::asleep(t.psw)) + 2 * flag(t.halted) + 4 * flag(t.lines != 0)
+    word::asleep(t.psw) as u8 + 2 * t.halted as u8 + 4 * (t.lines != 0) as u8
 }
 
 // The start told, in findings that are clear.
@@ -77,29 +68,18 @@ fn tell_start(findings: &mut [u8], m: Machine)
     let o = open_frames::none_open();
     let h = o.oldest;
     let regs = m.regs;
-    findings::note(findings, 0, m.rest.count, 0, x, regs[7], h);
-}
-
-// Every byte zero.
-fn clear(bytes: &mut [u8])
-    ensures { bytes.new ≡ replicate (length bytes.old) 0 }
-{
-    for i in 0..bytes.len() {
-        bytes[i] = 0;
-    }
+    let fault = Breach {
+        detail: x,
+        address: regs[7],
+    };
+    findings::note(findings, Kind::Started, m.rest.count, 0, fault, h);
 }
 
 // Why a judged run ended.
 fn reason(deep: bool, halted: bool) -> u64
     ensures { (result ≡ cond deep 2 (cond halted 1 0)) × (result ≤ 2) }
 {
-    if deep {
-        return 2;
-    }
-    if halted {
-        return 1;
-    }
-    0
+    if deep { 2 } else { halted as u64 }
 }
 
 // What a judged run replies: reason, steps and kinds, each in its bits.
@@ -136,11 +116,12 @@ fn judged(
         ≡ (judge_accepted (state_in state.old memory.old)
         (judged_on memory.old state.old events.now n)).findings }
 {
-    clear(writers);
-    clear(findings);
+    writers.fill(0);
+    findings.fill(0);
     let m = state_record::read_record(state);
     tell_start(findings, m);
-    let r = judge::judge_run(m, memory, events, writers, findings, n);
+    let whole = memory.as_mut_array().unwrap();
+    let r = judge::judge_run(m, whole, events, writers, findings, n);
     tell_close(findings, m.rest.count, r.frames);
     state_record::write_record(state, r.machine);
     reply_of(
@@ -151,7 +132,7 @@ fn judged(
     )
 }
 
-// The first rule that a call breaks, by its number; 0 if it breaks none.
+// The first rule that a call breaks, by its number.
 fn refusal_of(
     memory: &[u8],
     state: &[u8],
@@ -159,21 +140,22 @@ fn refusal_of(
     writers: &[u8],
     findings: &[u8],
     n: u64,
-) -> u64
-    ensures { result ≡ judge_refusal memory.now state.now
-        events.now writers.now findings.now n }
+) -> Result<(), u64>
+    ensures { MatchResult result
+        (λ _. judge_refusal memory.now state.now events.now writers.now findings.now n ≡ 0)
+        (λ k. (k ≡ judge_refusal memory.now state.now events.now writers.now findings.now n)
+        × (k ≢ 0)) }
 {
-    let refused = refusal::refusal_number(refusal::verdict(memory, state, events, n));
-    if refused != 0 {
-        return refused;
+    if let Err(refused) = refusal::verdict(memory, state, events, n) {
+        return Err(refusal::refusal_number(refused));
     }
     if writers.len() != 65536 {
-        return 20;
+        return Err(20);
     }
     if findings.len() != 144 {
-        return 20;
+        return Err(20);
     }
-    0
+    Ok(())
 }
 
 // The judge call: refused, it replies the refusal's number and leaves every buffer as it was; else
@@ -202,8 +184,7 @@ fn judge_call(
         state.old events.now writers.old
         findings.old n).findings }
 {
-    let refused = refusal_of(memory, state, events, writers, findings, n);
-    if refused != 0 {
+    if let Err(refused) = refusal_of(memory, state, events, writers, findings, n) {
         return refused;
     }
     judged(memory, state, events, writers, findings, n as u32)

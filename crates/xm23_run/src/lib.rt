@@ -17,14 +17,14 @@ use run_answer::Ran;
 // A run whose steps are not kept. A short one is a stretch alone.
 pub fn run(
     m: Machine,
-    memory: &mut [u8],
+    memory: &mut [u8; 65536],
     events: &[u8],
     from: usize,
     log: &mut [u8],
     begun: Depth,
     n: u32,
 ) -> Ran
-    requires { (length memory.old ≡ 65536) × (m.rest.count + n ≤ 4294967295) × Ordered events.now
+    requires { (m.rest.count + n ≤ 4294967295) × Ordered events.now
         × (events_fit_below events.now (event_count events.now) ≡ true)
         × Behind events.now from m.rest.count × (begun.opened + n ≤ 4294967295) }
     ensures { RunLeaves events.now (state_of m memory.old)
@@ -81,16 +81,16 @@ pub fn xm23_run(
     ensures resumption { Resumption memory.old state.old
         events.now log.old n memory.new state.new }
 {
-    let refused = refusal::refusal_number(refusal::call_verdict(memory, state, events, log, n));
-    if refused != 0 {
-        return refused;
+    if let Err(refused) = refusal::call_verdict(memory, state, events, log, n) {
+        return refusal::refusal_number(refused);
     }
     let m = state_record::read_record(state);
     let none = Depth {
         opened: 0,
         deepest: 0,
     };
-    let r = run(m, memory, events, 0, log, none, n as u32);
+    let whole = memory.as_mut_array().unwrap();
+    let r = run(m, whole, events, 0, log, none, n as u32);
     state_record::write_record(state, r.machine);
     *deepest = r.depth.deepest;
     run_answer::reply_of(r)

@@ -3,8 +3,8 @@ use Prim.Native.Nat.{ℕ}
 use mathlib.Core.Bool.{cond}
 use mathlib.Core.List.{List}
 use mathlib.Core.Path.{◌≡◌, sym, ap, ◌∙◌}
+use Rattle.std.specs.Prelude.{Ok}
 use Rattle.machine.specs.declared.Depth.{Depth}
-use Rattle.machine.specs.declared.Verdict.TheVariants.{Accepted}
 use Rattle.machine.specs.Record.{state_in}
 use Rattle.machine.specs.Events.{events_of}
 use Rattle.machine.specs.Refusal.{accepted?}
@@ -26,7 +26,7 @@ module _ (memory r events log : List ℕ) (j : Journal) (n : ℕ) where
       (carried (events_of events) (state_in r memory) (run_on memory r events log n).steps)
 
   -- accepted, it leaves what the run call leaves
-  same-closing : journal_verdict memory r events log j n ≡ Accepted
+  same-closing : journal_verdict memory r events log j n ≡ Ok tt
       → (run_journal_of memory r events log j n).closing ≡ run_call_of memory r events log n
   same-closing ok =
       ap (λ (x : JournalClosing). x.closing) (journal-answer memory r events log j n ok)

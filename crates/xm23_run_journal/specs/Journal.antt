@@ -1,7 +1,6 @@
 -- What the run with a journal promises as the run call does: the figure of its depth, and resumption (document 02, §8,
 -- §10, §13). Assumes nothing.
-use Rattle.std.specs.Prelude.{ℕ, cond, List, ◌≡◌}
-use Rattle.machine.specs.declared.Verdict.TheVariants.{Accepted}
+use Rattle.std.specs.Prelude.{ℕ, cond, List, ◌≡◌, Ok}
 use Rattle.machine.specs.Record.{state_in}
 use Rattle.machine.specs.Events.{events_of}
 use Rattle.machine.specs.Refusal.{accepted?}
@@ -22,6 +21,6 @@ journal_deepest_left memory r events log j n number =
 -- Demand 3, whole, of an accepted call. [01 Resumption; 02 §1; 02 §8; 02 §13]
 abbrev pub JournalResumption : (memory r events log : List ℕ) → Journal → (n : ℕ) (memory' r' : List ℕ) → Type 0
 JournalResumption memory r events log j n memory' r' =
-    journal_verdict memory r events log j n ≡ Accepted →
+    journal_verdict memory r events log j n ≡ Ok tt →
     Premises memory r events (run_on memory r events log n).steps →
     CallResumes memory r events (run_on memory r events log n).steps memory' r'

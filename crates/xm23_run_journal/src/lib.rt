@@ -8,7 +8,7 @@ ghost use Rattle.journal.specs.Call.{journal_verdict, run_journal_of};
 ghost use Rattle.xm23_run_journal.specs.Api.{journal_deepest_left, JournalResumption};
 
 use journal_record::Ring;
-use machine::{Depth, Verdict};
+use machine::{Depth, Refusal, Verdict};
 
 // The first rule that is broken: those of the run call, and then that of the journal.
 fn journal_verdict(
@@ -24,16 +24,11 @@ fn journal_verdict(
         events.now log.now
         (journal_of journal.now ring.kept ring.place) n }
 {
-    let call = refusal::call_verdict(memory, state, events, log, n);
-    let told = refusal::refusal_number(call);
-    let fits = journal_rules::journal_fits(journal, ring.kept, ring.place);
-    if told != 0 {
-        return call;
+    refusal::call_verdict(memory, state, events, log, n)?;
+    if !journal_rules::journal_fits(journal, ring.kept, ring.place) {
+        return Err(Refusal::JournalFit);
     }
-    if !fits {
-        return Verdict::JournalFit;
-    }
-    Verdict::Accepted
+    Ok(())
 }
 
 // The run of xm23_run with each of its steps kept in a journal of 64-byte records: the same reply.
@@ -94,17 +89,16 @@ pub extern "C" fn xm23_run_journal(
         kept: *kept,
         place: *place,
     };
-    let verdict = journal_verdict(memory, state, events, log, journal, begins, n);
-    let refused = refusal::refusal_number(verdict);
-    if refused != 0 {
-        return refused;
+    if let Err(refused) = journal_verdict(memory, state, events, log, journal, begins, n) {
+        return refusal::refusal_number(refused);
     }
     let m = state_record::read_record(state);
     let none = Depth {
         opened: 0,
         deepest: 0,
     };
-    let r = kept_run::run_kept(m, memory, events, 0, log, none, journal, begins, n as u32);
+    let whole = memory.as_mut_array().unwrap();
+    let r = kept_run::run_kept(m, whole, events, 0, log, none, journal, begins, n as u32);
     state_record::write_record(state, r.machine);
     *deepest = r.depth.deepest;
     *kept = r.ring.kept;

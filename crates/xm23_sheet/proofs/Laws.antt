@@ -1,19 +1,18 @@
 -- Bytes put at the start of a buffer, and the length of a line that was put. Assumes nothing.
-use mathlib.Core.Path.{◌≡◌, refl, ap, ◌∙◌}
-use mathlib.Core.List.{List}
-use Prim.Native.Nat.{ℕ, ◌+◌, ◌<◌, ◌≤◌}
-use native.Mathlib.Numerals.{add-one}
+use mathlib.Core.Path.{◌≡◌, sym, ap, ◌∙◌}
+use mathlib.Core.List.{List, ◌++◌}
+use Prim.Native.Nat.{ℕ, ◌+◌, ◌≤◌}
 use native.Mathlib.Nat.{min-eq_left}
-use lib.ListN.{length, get_or, set, take, drop, length-take, drop_of_length-le}
-use lib.Seq.{sets, drop-cons}
+use native.Mathlib.Omega.{arith}
+use lib.ListN.{length, take, drop, length-take}
+use lib.Seq.{sets}
+use Rattle.std.proofs.lemmas.List.Edits.{sets-eq}
 
--- ---- a run of stores, k of which are done
-pub put-more : (m d : List ℕ) (k : ℕ) → k < length d
-    → sets (set m k (get_or d k 0)) (k + 1) (drop (k + 1) d) ≡ sets m k (drop k d)
-put-more m d k h = rw (drop-cons d k 0 h, add-one) refl
-
-pub put-end : (m d : List ℕ) (k : ℕ) → length d ≤ k → sets m k (drop k d) ≡ m
-put-end m d k h = ap (sets m k) (drop_of_length-le d h)
+-- the bytes in the place of the first n
+pub put-first : (m d : List ℕ) (n : ℕ) → length d ≡ n → n ≤ length m → d ++ drop n m ≡ sets m 0 d
+put-first m d n e h =
+    let f : n ≡ 0 + length d = omega (arith, e) in
+    ap (λ k. d ++ drop k m) f ∙ sym (sets-eq d m 0 (omega (arith, e, h)))
 
 -- ---- the first bytes of a buffer
 pub first-length : (n : ℕ) (l : List ℕ) → n ≤ length l → length (take n l) ≡ n

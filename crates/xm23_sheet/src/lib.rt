@@ -2,21 +2,8 @@
 // object of its own in the archive, as each call that has a loop over steps.
 #![tactic(auto)]
 
-ghost use Rattle.std.specs.Prelude.{◌≡◌, ◌≤◌, length};
-ghost use Rattle.std.proofs.lemmas.List.Edits.{sets};
+ghost use Rattle.std.specs.Prelude.{◌≡◌};
 ghost use Rattle.xm23_sheet.specs.Call.{sheet_call_of};
-
-// Bytes at the start of a buffer.
-fn put_bytes(line: &mut [u8], bytes: &[u8])
-    requires { length bytes.now ≤ length line.old }
-    ensures { line.new ≡ sets line.old 0 bytes.now }
-{
-    let mut i: usize = 0;
-    while i < bytes.len() {
-        line[i] = bytes[i];
-        i += 1;
-    }
-}
 
 // The printed line of an input, at the start of `line`: refusal in bits 7-0, the line's length with
 // its LF in bits 31-8. Bytes past the line, and all of them where refused, stay as they were.
@@ -32,6 +19,6 @@ pub extern "C" fn xm23_sheet(input: &[u8], line: &mut [u8]) -> u32
     let mut memory = [0u8; 65536];
     let mut out = [0u8; 80];
     let n = printed_line::sheet(input, &mut memory, &mut out);
-    put_bytes(line, &out[..n]);
+    line[..n].copy_from_slice(&out[..n]);
     256 * (n as u32)
 }

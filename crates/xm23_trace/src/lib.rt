@@ -3,7 +3,7 @@
 // into this one.
 #![tactic(auto)]
 
-ghost use Rattle.std.specs.Prelude.{◌≡◌, ◌≤◌};
+ghost use Rattle.std.specs.Prelude.{◌≡◌, ◌≢◌, ◌≤◌, MatchResult};
 ghost use Rattle.machine.specs.Run.{reason_number};
 ghost use Rattle.machine.specs.Call.{reply_number};
 ghost use Rattle.trace.specs.Call.{refusal_of};
@@ -11,23 +11,30 @@ ghost use Rattle.xm23_trace.specs.Api.{trace_call_of};
 
 use trace_run::Ran;
 
-// The number of the first rule that is broken, 0 for none: those of a start, and then that of the
-// trace and the kinds.
-fn refusal_of(memory: &[u8], state: &[u8], events: &[u8], trace: &[u8], kinds: u32, n: u64) -> u64
-    ensures { result ≡ refusal_of memory.now state.now
-        events.now trace.now kinds n }
+// The first rule that is broken, by its number: those of a start, and then that of the trace and
+// the kinds.
+fn refusal_of(
+    memory: &[u8],
+    state: &[u8],
+    events: &[u8],
+    trace: &[u8],
+    kinds: u32,
+    n: u64,
+) -> Result<(), u64>
+    ensures { MatchResult result
+        (λ _. refusal_of memory.now state.now events.now trace.now kinds n ≡ 0)
+        (λ k. (k ≡ refusal_of memory.now state.now events.now trace.now kinds n) × (k ≢ 0)) }
 {
-    let start = refusal::refusal_number(refusal::verdict(memory, state, events, n));
-    if start != 0 {
-        return start;
+    if let Err(refused) = refusal::verdict(memory, state, events, n) {
+        return Err(refusal::refusal_number(refused));
     }
     if trace.len() % 16 != 0 {
-        return 21;
+        return Err(21);
     }
     if 4095 < kinds {
-        return 21;
+        return Err(21);
     }
-    0
+    Ok(())
 }
 
 // What a traced run replies: reason, steps and records, each in its bits.
@@ -60,12 +67,12 @@ pub extern "C" fn xm23_trace(
     ensures trace { trace.new ≡ (trace_call_of memory.old
         state.old events.now trace.old kinds n).trace }
 {
-    let refused = refusal_of(memory, state, events, trace, kinds, n);
-    if refused != 0 {
+    if let Err(refused) = refusal_of(memory, state, events, trace, kinds, n) {
         return refused;
     }
     let m = state_record::read_record(state);
-    let r = trace_run::run_traced(m, memory, events, trace, kinds, n as u32);
+    let whole = memory.as_mut_array().unwrap();
+    let r = trace_run::run_traced(m, whole, events, trace, kinds, n as u32);
     state_record::write_record(state, r.machine);
     reply_of(r)
 }

@@ -2,10 +2,11 @@
 -- definition by the tests on the way, and what is left is the callee's equation.
 use mathlib.Core.Bool.{true, false}
 use mathlib.Core.Path.{sym, ap, ◌∙◌}
+use Rattle.std.specs.Prelude.{Err}
 use Prim.Native.Nat.{◌+◌}
 use native.Mathlib.Omega.{arith}
-use Rattle.asm_value.specs.declared.Value.TheVariants.{Unknown}
-use Rattle.asm_text.specs.Text.{look_up_at}
+use Rattle.asm_value.specs.declared.Lack.TheVariants.{Unknown}
+use Rattle.asm_text.specs.Text.{values_in}
 use Rattle.asm_expr.specs.Meaning.{answer_of}
 use Rattle.asm_expr.proofs.Laws.{plain-name, plain-minus, plain-ten, plain-sixteen, plain-none, digits-any, byte-is-in}
 use Rattle.asm_expr.proofs.plain.Goals as goal
@@ -16,7 +17,7 @@ returns-then-is_letter c =
     let is-letter = c.is_letter in
     let byte-at = c.byte_at-b in
     let s = start.args.s.now in
-    let f = look_up_at start.args.source.now start.args.places.now start.args.keys.now start.args.values.now in
+    let f = values_in start.args.names.now in
     c.named.ensures
     ∙ ap (answer_of f) (sym (plain-name s start.args.at byte-at.result byte-at.ensures (sym is-letter.ensures
     ∙ c.if-is_letter.true)))
@@ -41,10 +42,10 @@ returns-then-byte_at-eq45 c =
     let if2 = c.if-b-eq35 in
     let if1 = c.if-is_letter in
     let s = start.args.s.now in
-    let f = look_up_at start.args.source.now start.args.places.now start.args.keys.now start.args.values.now in
+    let f = values_in start.args.names.now in
     let b = at-byte-at.byte_at-b.ensures in
     let n = sym at-is-letter.is_letter.ensures ∙ if1.false in
-    c.literal.ensures ∙ digits-any f (λ _. Unknown) true 10 s (start.args.at + 2)
+    c.literal.ensures ∙ digits-any f (λ _. Err Unknown) true 10 s (start.args.at + 2)
     ∙ ap (answer_of f) (sym (plain-minus s start.args.at at-byte-at.byte_at-b.result b byte-at2.result n if2.true
     byte-at2.ensures c.if-byte_at-eq45.true))
 
@@ -64,10 +65,10 @@ returns-then-b-eq35 c =
     let if2 = c.if-b-eq35 in
     let if1 = c.if-is_letter in
     let s = start.args.s.now in
-    let f = look_up_at start.args.source.now start.args.places.now start.args.keys.now start.args.values.now in
+    let f = values_in start.args.names.now in
     let b = at-byte-at.byte_at-b.ensures in
     let n = sym at-is-letter.is_letter.ensures ∙ if1.false in
-    c.literal-then-b-eq35.ensures ∙ digits-any f (λ _. Unknown) false 10 s (start.args.at + 1)
+    c.literal-then-b-eq35.ensures ∙ digits-any f (λ _. Err Unknown) false 10 s (start.args.at + 1)
     ∙ ap (answer_of f) (sym (plain-ten s start.args.at at-byte-at.byte_at-b.result b byte-at2.result n if2.true
     byte-at2.ensures c.if-byte_at-eq45.false))
 
@@ -85,10 +86,10 @@ returns-then-b-eq36 c =
     let if1 = c.if-is_letter in
     let is-letter = c.is_letter in
     let s = start.args.s.now in
-    let f = look_up_at start.args.source.now start.args.places.now start.args.keys.now start.args.values.now in
+    let f = values_in start.args.names.now in
     let b = at-byte-at.byte_at-b.ensures in
     let n = sym is-letter.ensures ∙ if1.false in
-    c.literal-then-b-eq36.ensures ∙ digits-any f (λ _. Unknown) false 16 s (start.args.at + 1)
+    c.literal-then-b-eq36.ensures ∙ digits-any f (λ _. Err Unknown) false 16 s (start.args.at + 1)
     ∙ ap (answer_of f) (sym (plain-sixteen s start.args.at at-byte-at.byte_at-b.result b n if2.false c.if-b-eq36.true))
 
 pub returns : goal.returns
@@ -99,7 +100,7 @@ returns c =
     let is-letter = c.is_letter in
     let byte-at = c.byte_at-b in
     let s = start.args.s.now in
-    let f = look_up_at start.args.source.now start.args.places.now start.args.keys.now start.args.values.now in
+    let f = values_in start.args.names.now in
     let b = byte-at.ensures in
     let n = sym is-letter.ensures ∙ if1.false in
     ap (answer_of f) (sym (plain-none s start.args.at byte-at.result b n c.if-b-eq35.false c.if-b-eq36.false))

@@ -1,40 +1,19 @@
 use mathlib.Core.Path.{sym, ◌∙◌}
 use Rattle.asm_line.specs.Statement.{move}
-use borrow.Author.Rules.{rules}
 use Rattle.asm_line.proofs.read_move.Goals as goal
 
-pub returns-in_default : goal.returns-in_default
+pub returns-in_err-w : goal.returns-in_err-w
 unfolding move
-returns-in_default c = rw (sym c.read_width-w.ensures ∙ c.in_default.is)
+returns-in_err-w c = c.from_residual.ensures ∙ rw (sym c.in_err-w.ensures)
 
-pub returns-in_default-a : goal.returns-in_default-a
+pub returns-in_err-s : goal.returns-in_err-s
 unfolding move
-returns-in_default-a c =
-    let w = c in
-    rw (
-      sym w.read_width-w.ensures ∙ w.in-At.is,
-      sym c.read_register-a.ensures ∙ c.in_default-a.is,
-    )
+returns-in_err-s c = c.from_residual-in_err-s.ensures ∙ rw (sym c.in_ok-w.ensures, sym c.in_err-s.ensures)
 
-pub returns-in_default-d : goal.returns-in_default-d
+pub returns-in_err-d : goal.returns-in_err-d
 unfolding move
-returns-in_default-d c =
-    let a = c in
-    let w = a in
-    rw (
-      sym w.read_width-w.ensures ∙ w.in-At.is,
-      sym a.read_register-a.ensures ∙ a.in-At-a.is,
-      sym c.comma_register-d.ensures ∙ c.in_default-d.is,
-    )
+returns-in_err-d c = c.from_residual-in_err-d.ensures ∙ rw (sym c.in_ok-w.ensures, sym c.in_ok-s.ensures, sym c.in_err-d.ensures)
 
 pub returns : goal.returns
 unfolding move
-returns c =
-    let d = c in
-    let a = d in
-    let w = a in
-    rw (
-      sym w.read_width-w.ensures ∙ w.in-At.is,
-      sym a.read_register-a.ensures ∙ a.in-At-a.is,
-      sym d.comma_register-d.ensures ∙ d.in-At-d.is,
-    )
+returns c = rw (sym c.in_ok-w.ensures, sym c.in_ok-s.ensures, sym c.in_ok-d.ensures)

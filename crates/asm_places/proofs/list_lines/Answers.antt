@@ -1,14 +1,9 @@
 -- The loop's invariant: the list with the records of the lines still to be read stored from byte i on is the list that is promised,
 -- and there is room for them. A line's record is the first of those; after END, or the last line, there are none. Assumes nothing.
-use Prim.Native.Nat.{◌+◌, ◌-◌, ◌≤◌}
 use native.Mathlib.Omega.{arith}
-use mathlib.Core.Path.{◌≡◌, refl, ◌∙◌}
-use lib.ListN.{length, drop}
-use lib.Seq.{sets}
-use borrow.Author.Rules.{rules}
-use Rattle.text_lines.specs.Lines.{lines_of}
-use Rattle.asm_text.specs.Text.{look_up_at}
-use Rattle.asm_places.specs.Listing.{listed_from, listed_with, records_of}
+use mathlib.Core.Path.{refl, ◌∙◌}
+use lib.ListN.{length}
+use Rattle.asm_text.specs.Text.{values_in}
 use Rattle.asm_places.proofs.Laws.{list-room, list-end, list-more, list_left, list-last}
 use Rattle.asm_places.proofs.list_lines.Goals as goal
 
@@ -21,8 +16,8 @@ list_line-r-requires c =
     let start = c in
     let cut = c.line_at-l in
     let loop = c.loop-at in
-    let look = look_up_at start.args.source.now start.args.places.now start.args.keys.now start.args.values.now in
-    let room = list-room look start.args.source.now loop.at cut.result.stop cut.result.next loop.p cut.ensures
+    let look = values_in start.args.names.now in
+    let room = list-room look start.args.names.now.source.now loop.at cut.result.stop cut.result.next loop.p cut.ensures
     loop.i (length start.args.list.now) loop.invariant.2 in
     omega (arith, room, loop.invariant.1)
 
@@ -39,8 +34,8 @@ returns-then-r c =
     let at-loop = c in
     let done = c.list_line-r in
     let cut = at-line-at.line_at-l in
-    let look = look_up_at start.args.source.now start.args.places.now start.args.keys.now start.args.values.now in
-    list-end look start.args.source.now at-loop.loop-at.at cut.result.stop cut.result.next at-loop.loop-at.p cut.ensures
+    let look = values_in start.args.names.now in
+    list-end look start.args.names.now.source.now at-loop.loop-at.at cut.result.stop cut.result.next at-loop.loop-at.p cut.ensures
     at-loop.loop-at.list done.new.list at-loop.loop-at.i done.ensures.list_after done.result.end done.ensures.end_value c.if-r.true
     ∙ at-loop.loop-at.invariant.3
 
@@ -51,14 +46,14 @@ loop-at-preserved c =
     let at-loop = c in
     let done = c.list_line-r in
     let cut = at-line-at.line_at-l in
-    let look = look_up_at start.args.source.now start.args.places.now start.args.keys.now start.args.values.now in (
+    let look = values_in start.args.names.now in (
       omega arith,
       done.auto.list ∙ at-loop.loop-at.invariant.1,
-      list_left look start.args.source.now at-loop.loop-at.at cut.result.stop cut.result.next at-loop.loop-at.p
+      list_left look start.args.names.now.source.now at-loop.loop-at.at cut.result.stop cut.result.next at-loop.loop-at.p
           cut.ensures at-loop.loop-at.list done.new.list at-loop.loop-at.i done.ensures.list_after done.result.end
           done.ensures.end_value c.if-r.false done.result.place done.ensures.place_value done.result.at done.ensures.at_value
           (length start.args.list.now) at-loop.loop-at.invariant.2,
-      list-more look start.args.source.now at-loop.loop-at.at cut.result.stop cut.result.next at-loop.loop-at.p
+      list-more look start.args.names.now.source.now at-loop.loop-at.at cut.result.stop cut.result.next at-loop.loop-at.p
           cut.ensures at-loop.loop-at.list done.new.list at-loop.loop-at.i done.ensures.list_after done.result.end
           done.ensures.end_value c.if-r.false done.result.place done.ensures.place_value done.result.at done.ensures.at_value
           ∙ at-loop.loop-at.invariant.3,
@@ -71,15 +66,6 @@ pub returns : goal.returns
 returns c =
     let start = c in
     let loop = c.loop-at in
-    let look = look_up_at start.args.source.now start.args.places.now start.args.keys.now start.args.values.now in
-    list-last look start.args.source.now loop.at loop.p loop.list loop.i (omega arith)
+    let look = values_in start.args.names.now in
+    list-last look start.args.names.now.source.now loop.at loop.p loop.list loop.i (omega arith)
     ∙ loop.invariant.3
-
-pub line_at-l-requires : goal.line_at-l-requires
-line_at-l-requires c = omega arith
-
-pub slice_bounds-part-count : goal.slice_bounds-part-count
-slice_bounds-part-count c = omega arith
-
-pub loop-at-smaller : goal.loop-at-smaller
-loop-at-smaller c = omega arith

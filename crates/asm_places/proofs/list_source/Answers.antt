@@ -1,141 +1,77 @@
 -- The verdict is the assembler's, from the same sweeps. The third sweep stops at END, so where nothing is at fault its line is the
 -- number of records: fewer places than that is 22, else the records are listed with the names of the table. Assumes nothing.
-use native.Mathlib.Omega.{arith}
-use mathlib.Core.Path.{sym, ap}
-use lib.Seq.{length-take-le}
-use Rattle.asm_call.proofs.Laws.{verdict-found}
-use Rattle.asm_places.specs.Call.{Recorded}
-use Rattle.asm_places.proofs.Laws.{places-refused, places-short, places-accepted, found-count, found-short, found-room}
-use Rattle.asm_places.proofs.Laws.{held-room, found-list}
-use borrow.Author.Rules.{rules}
+use Rattle.std.proofs.Common.{◌≡◌, Ok, Err, refl, sym, ap, ◌∙◌, arith, rules}
+use Rattle.asm_sweeps.specs.Uses.{verdict_of}
+use Rattle.asm_call.proofs.Laws.{verdict-form, verdict-found}
+use Rattle.asm_places.proofs.Laws.{places-refused, places-short, places-accepted, buffer-kept, buffer-done}
+use Rattle.asm_places.proofs.Laws.{found-count, found-short, found-room, held-room, found-list}
 use Rattle.asm_places.proofs.list_source.Goals as goal
+use Rattle.asm_places.proofs.list_source.Goals.{After-decide}
 
-pub slice_bounds-uses-end : goal.slice_bounds-uses-end
-slice_bounds-uses-end c =
-    let collect = c.collect-t in
-    sym
-    (length-take-le collect.result.count collect.new.places
-    (omega (arith, collect.ensures.holds.within, collect.ensures.holds.places)))
+-- what the sweeps found
+found : (c : After-decide) → c.decide.result ≡ verdict_of c.args.source.now
+found c =
+    verdict-found c.args.source.now c.collect-t.new.list c.collect-t.result c.collect-t.ensures.holds c.collect-t.ensures.result_after
+    (sym c.form-f.ensures ∙ c.in_default.is) c.uses-u.result c.uses-u.ensures c.decide.result c.decide.ensures
 
-pub slice_bounds-uses-end-2 : goal.slice_bounds-uses-end-2
-slice_bounds-uses-end-2 c =
-    let at-collect = c in
-    let collect = at-collect.collect-t in
-    sym
-    (length-take-le collect.result.count collect.new.keys
-    (omega (arith, collect.ensures.holds.within, collect.ensures.holds.keys)))
+pub returns-in-Some-clause-verdict : goal.returns-in-Some-clause-verdict
+returns-in-Some-clause-verdict c =
+    places-refused c.args.source.now c.args.list.now _
+    (verdict-form c.args.source.now c.form-f.result c.in-Some.line c.form-f.ensures c.in-Some.is)
 
-pub slice_bounds-uses-end-3 : goal.slice_bounds-uses-end-3
-slice_bounds-uses-end-3 c =
-    let at-collect = c in
-    let collect = at-collect.collect-t in
-    sym
-    (length-take-le collect.result.count collect.new.values
-    (omega (arith, collect.ensures.holds.within, collect.ensures.holds.values)))
+pub returns-in-Some-clause-places : goal.returns-in-Some-clause-places
+returns-in-Some-clause-places c =
+    buffer-kept c.args.source.now c.args.list.now _
+    (places-refused c.args.source.now c.args.list.now _
+    (verdict-form c.args.source.now c.form-f.result c.in-Some.line c.form-f.ensures c.in-Some.is)) refl
 
-pub returns-then-v-ne0 : goal.returns-then-v-ne0
-returns-then-v-ne0 c =
-    let at-start = c in
-    let at-collect = c in
-    let if1 = c.if-v-ne0 in
-    let at-decide = c in
-    let at-uses = at-decide in
-    let collect = at-collect.collect-t in
-    let uses = at-uses.uses-u in
-    let decide = at-decide.decide-v in
-    let judged =
-    verdict-found at-start.args.source.now collect.new.places collect.new.keys collect.new.values collect.result
-    collect.ensures.holds collect.ensures.result_after at-start.requires uses.result uses.ensures
-    decide.result decide.ensures in
-    let e =
-    places-refused at-start.args.source.now at-start.args.list.now decide.result judged c.reply.result if1.true
-    c.reply.ensures in
-    record { reply = ap (λ (x : Recorded). x.reply) e; places = ap (λ (x : Recorded). x.places) e }
+pub returns-in_err-decide-clause-verdict : goal.returns-in_err-decide-clause-verdict
+returns-in_err-decide-clause-verdict c =
+    let e : c.from_residual.result ≡ Err c.in_err-decide.field-0.0 = search rules in
+    e ∙ places-refused c.args.source.now c.args.list.now c.in_err-decide.field-0.0
+    (sym c.in_err-decide.was ∙ found (goal.at.returns-in_err-decide-clause-verdict c).After-decide)
 
-pub returns-then-list-k : goal.returns-then-list-k
-returns-then-list-k c =
-    let at-start = c in
-    let at-collect = c in
-    let if1 = c.if-v-ne0 in
-    let at-decide = c in
-    let at-uses = at-decide in
-    let collect = at-collect.collect-t in
-    let uses = at-uses.uses-u in
-    let decide = at-decide.decide-v in
-    let judged =
-    verdict-found at-start.args.source.now collect.new.places collect.new.keys collect.new.values collect.result
-    collect.ensures.holds collect.ensures.result_after at-start.requires uses.result uses.ensures
-    decide.result decide.ensures in
-    let e =
-    places-short at-start.args.source.now at-start.args.list.now decide.result judged if1.false
-    (found-short at-start.args.source.now collect.new.places collect.new.keys collect.new.values collect.result
-    collect.ensures.holds collect.ensures.result_after at-start.requires uses.result uses.ensures at-start.args.list.now
-    (omega (arith, c.if-list-k.true))) in
-    record { reply = ap (λ (x : Recorded). x.reply) e; places = ap (λ (x : Recorded). x.places) e }
+pub returns-in_err-decide-clause-places : goal.returns-in_err-decide-clause-places
+returns-in_err-decide-clause-places c =
+    buffer-kept c.args.source.now c.args.list.now _
+    (places-refused c.args.source.now c.args.list.now c.in_err-decide.field-0.0
+    (sym c.in_err-decide.was ∙ found (goal.at.returns-in_err-decide-clause-places c).After-decide)) refl
 
-pub slice_bounds-list_lines-end : goal.slice_bounds-list_lines-end
-slice_bounds-list_lines-end c =
-    let at-collect = c in
-    let collect = at-collect.collect-t in
-    sym
-    (length-take-le collect.result.count collect.new.places
-    (omega (arith, collect.ensures.holds.within, collect.ensures.holds.places)))
+pub returns-then-list-k-clause-verdict : goal.returns-then-list-k-clause-verdict
+returns-then-list-k-clause-verdict c =
+    places-short c.args.source.now c.args.list.now
+    (sym c.in_ok-decide.was ∙ found (goal.at.returns-then-list-k-clause-verdict c).After-decide)
+    (found-short c.args.source.now c.collect-t.new.list c.collect-t.result c.collect-t.ensures.holds c.collect-t.ensures.result_after
+    (sym c.form-f.ensures ∙ c.in_default.is) c.uses-u.result c.uses-u.ensures c.args.list.now (omega (arith, c.if-list-k.true)))
 
-pub slice_bounds-list_lines-end-2 : goal.slice_bounds-list_lines-end-2
-slice_bounds-list_lines-end-2 c =
-    let at-collect = c in
-    let collect = at-collect.collect-t in
-    sym
-    (length-take-le collect.result.count collect.new.keys
-    (omega (arith, collect.ensures.holds.within, collect.ensures.holds.keys)))
-
-pub slice_bounds-list_lines-end-3 : goal.slice_bounds-list_lines-end-3
-slice_bounds-list_lines-end-3 c =
-    let at-collect = c in
-    let collect = at-collect.collect-t in
-    sym
-    (length-take-le collect.result.count collect.new.values
-    (omega (arith, collect.ensures.holds.within, collect.ensures.holds.values)))
+pub returns-then-list-k-clause-places : goal.returns-then-list-k-clause-places
+returns-then-list-k-clause-places c =
+    buffer-kept c.args.source.now c.args.list.now _
+    (places-short c.args.source.now c.args.list.now
+    (sym c.in_ok-decide.was ∙ found (goal.at.returns-then-list-k-clause-places c).After-decide)
+    (found-short c.args.source.now c.collect-t.new.list c.collect-t.result c.collect-t.ensures.holds c.collect-t.ensures.result_after
+    (sym c.form-f.ensures ∙ c.in_default.is) c.uses-u.result c.uses-u.ensures c.args.list.now (omega (arith, c.if-list-k.true)))) refl
 
 pub list_lines-requires : goal.list_lines-requires
 list_lines-requires c =
-    let at-start = c in
-    let at-uses = c in
-    let at-collect = c in
-    let if2 = c.if-list-k in
-    let collect = at-collect.collect-t in
-    let uses = at-uses.uses-u in
-    held-room at-start.args.source.now collect.new.places collect.new.keys collect.new.values collect.result
-    collect.ensures.holds collect.ensures.result_after at-start.requires uses.result uses.ensures at-start.args.list.now
-    (omega (arith, if2.false))
+    held-room c.args.source.now c.collect-t.new.list c.collect-t.result c.collect-t.ensures.holds c.collect-t.ensures.result_after
+    (sym c.form-f.ensures ∙ c.in_default.is) c.uses-u.result c.uses-u.ensures c.args.list.now (omega (arith, c.if-list-k.false))
 
-pub returns : goal.returns
-returns c =
-    let at-collect = c in
-    let at-start = c in
-    let at-if2 = c in
-    let at-if1 = at-if2 in
-    let at-decide = at-if1 in
-    let at-uses = at-decide in
-    let lines = c.list_lines in
-    let a = at-start.args in
-    let collect = at-collect.collect-t in
-    let uses = at-uses.uses-u in
-    let decide = at-decide.decide-v in
-    let judged =
-    verdict-found a.source.now collect.new.places collect.new.keys collect.new.values collect.result
-    collect.ensures.holds collect.ensures.result_after at-start.requires uses.result uses.ensures
-    decide.result decide.ensures in
-    let e =
-    places-accepted a.source.now a.list.now decide.result judged at-if1.if-v-ne0.false
-    (found-room a.source.now collect.new.places collect.new.keys collect.new.values collect.result
-    collect.ensures.holds collect.ensures.result_after at-start.requires uses.result uses.ensures a.list.now
-    (omega (arith, at-if2.if-list-k.false)))
-    uses.result.line c.reply-2.result lines.new.list
-    (found-count a.source.now collect.new.places collect.new.keys collect.new.values collect.result
-    collect.ensures.holds collect.ensures.result_after at-start.requires uses.result uses.ensures)
-    c.reply-2.ensures
-    (found-list a.source.now collect.new.places collect.new.keys collect.new.values collect.result
-    collect.ensures.holds collect.ensures.result_after at-start.requires uses.result uses.ensures a.list.now lines.new.list
-    lines.ensures) in
-    record { reply = ap (λ (x : Recorded). x.reply) e; places = ap (λ (x : Recorded). x.places) e }
+pub returns-clause-verdict : goal.returns-clause-verdict
+returns-clause-verdict c =
+    ap Ok (found-count c.args.source.now c.collect-t.new.list c.collect-t.result c.collect-t.ensures.holds
+    c.collect-t.ensures.result_after (sym c.form-f.ensures ∙ c.in_default.is) c.uses-u.result c.uses-u.ensures)
+    ∙ places-accepted c.args.source.now c.args.list.now
+    (sym c.in_ok-decide.was ∙ found (goal.at.returns-clause-verdict c).After-decide)
+    (found-room c.args.source.now c.collect-t.new.list c.collect-t.result c.collect-t.ensures.holds c.collect-t.ensures.result_after
+    (sym c.form-f.ensures ∙ c.in_default.is) c.uses-u.result c.uses-u.ensures c.args.list.now (omega (arith, c.if-list-k.false)))
+
+pub returns-clause-places : goal.returns-clause-places
+returns-clause-places c =
+    found-list c.args.source.now c.collect-t.new.list c.collect-t.result c.collect-t.ensures.holds c.collect-t.ensures.result_after
+    (sym c.form-f.ensures ∙ c.in_default.is) c.uses-u.result c.uses-u.ensures c.args.list.now c.list_lines.new.list c.list_lines.ensures
+    ∙ buffer-done c.args.source.now c.args.list.now _
+    (places-accepted c.args.source.now c.args.list.now
+    (sym c.in_ok-decide.was ∙ found (goal.at.returns-clause-places c).After-decide)
+    (found-room c.args.source.now c.collect-t.new.list c.collect-t.result c.collect-t.ensures.holds c.collect-t.ensures.result_after
+    (sym c.form-f.ensures ∙ c.in_default.is) c.uses-u.result c.uses-u.ensures c.args.list.now (omega (arith, c.if-list-k.false)))) refl

@@ -1,39 +1,17 @@
-use mathlib.Core.Path.{ap, ◌∙◌}
-use mathlib.Core.List.{List}
-use Prim.Native.Nat.{ℕ}
-use lib.ListN.{length, length-set}
-use lib.Seq.{length-sets}
+use Rattle.std.proofs.Common.{◌≡◌, ◌+◌, ◌-◌, ◌∷◌, [], List, ℕ, ap, ◌∙◌, arith, get_or}
+use borrow.Rule.Slice.PartMut.{put_mid}
+use mir.Val.{bool_byte}
 use Rattle.asm_places.specs.Listing.{eight_of}
 use Rattle.asm_places.proofs.Laws.{put-eight}
-use borrow.Author.Rules.{rules}
 use Rattle.asm_places.proofs.put.Goals as goal
 
-pub shape_of-list : goal.shape_of-list
-shape_of-list c =
-    let a = c.args in
-    ap (λ (l : List ℕ). length l) (put-eight a.list.now a.i a.n a.kind a.size a.named)
-    ∙ length-sets a.list.now a.i (eight_of a.n a.kind a.size a.named)
-
 pub returns : goal.returns
-returns c = let a = c.args in put-eight a.list.now a.i a.n a.kind a.size a.named
-
-pub bounds-list-i-2 : goal.bounds-list-i-2
-bounds-list-i-2 c = simp length-set (search rules)
-
-pub bounds-list-i-3 : goal.bounds-list-i-3
-bounds-list-i-3 c = simp length-set (search rules)
-
-pub bounds-list-i-4 : goal.bounds-list-i-4
-bounds-list-i-4 c = simp length-set (search rules)
-
-pub bounds-list-i-5 : goal.bounds-list-i-5
-bounds-list-i-5 c = simp length-set (search rules)
-
-pub bounds-list-i-6 : goal.bounds-list-i-6
-bounds-list-i-6 c = simp length-set (search rules)
-
-pub bounds-list-i-7 : goal.bounds-list-i-7
-bounds-list-i-7 c = simp length-set (search rules)
-
-pub bounds-list-i-8 : goal.bounds-list-i-8
-bounds-list-i-8 c = simp length-set (search rules)
+unfolding eight_of
+returns c =
+    let a = c.args in
+    let bytes : c.copy_from_slice.new.self ≡ eight_of a.n a.kind a.size a.named =
+    c.copy_from_slice.ensures.after
+    ∙ ap (λ (r : List ℕ). get_or r 0 0 ∷ get_or r 1 0 ∷ get_or r 2 0 ∷ get_or r 3 0 ∷ a.kind ∷ a.size ∷ bool_byte a.named ∷ 0 ∷ [])
+    c.to_le_bytes.ensures in
+    ap (put_mid a.i (a.i + 8 - a.i) a.list.now) bytes
+    ∙ put-eight a.list.now a.i a.n a.kind a.size a.named (a.i + 8 - a.i) (omega arith) c.requires

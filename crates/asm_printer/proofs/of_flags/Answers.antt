@@ -1,12 +1,9 @@
 use mathlib.Core.Path.{ap, ◌∙◌}
-use borrow.Author.Tests.{eq-eqb, ne_eqb}
+use borrow.Author.Tests.{ne_eqb}
 use Rattle.asm_print.specs.Print.{phrase}
 use Rattle.asm_printer.proofs.Laws.{one-operand}
 use Rattle.asm_spellings.specs.Spellings.{letters_of}
 use Rattle.asm_printer.proofs.of_flags.Goals as goal
-
-pub returns-then-f-eq0 : goal.returns-then-f-eq0
-returns-then-f-eq0 c = rw (eq-eqb _ 0 c.if-f-eq0.true) c.word.ensures
 
 pub returns : goal.returns
 returns c =

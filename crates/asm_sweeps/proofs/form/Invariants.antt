@@ -1,11 +1,6 @@
-use Rattle.asm_sweeps.proofs.Laws.{form-fault, form-end, form-more, form-last}
-use Rattle.asm_sweeps.specs.Form.{form_from, form_of}
+use Rattle.std.proofs.Common.{◌≡◌, ◌+◌, ◌-◌, ◌≤◌, length, drop}
 use Rattle.text_lines.specs.Lines.{lines_of}
-use lib.ListN.{length, drop}
-use borrow.Author.Rules.{rules}
-use native.Mathlib.Omega.{arith}
-use Prim.Native.Nat.{◌+◌, ◌-◌, ◌≤◌}
-use mathlib.Core.Path.{◌≡◌, refl, sym, ◌∙◌}
+use Rattle.asm_sweeps.specs.Form.{form_from, form_of}
 use Rattle.asm_sweeps.proofs.form.Given as goal
 
 abbrev pub invariant-loop-at : goal.invariant-loop-at

@@ -1,30 +1,26 @@
-use Rattle.asm_text.proofs.Laws.{both_true}
-use Rattle.asm_text.specs.Text.{digit_of}
 use native.Mathlib.Omega.{arith}
+use borrow.Author.Tests.{le-leb, lt-leb}
+use Rattle.asm_text.proofs.Laws.{digit-low, digit-high, digit-none}
 use Rattle.asm_text.proofs.digit.Goals as goal
 
-pub overflow_sub-result : goal.overflow_sub-result
-overflow_sub-result c = let h = both_true 48 c.args.b 57 c.if-b.true in h.0
+pub returns-in-48-to-57 : goal.returns-in-48-to-57
+returns-in-48-to-57 c = digit-low c.args.b (omega arith) (omega arith)
 
-pub overflow_cast-result : goal.overflow_cast-result
-overflow_cast-result c = let h = both_true 48 c.args.b 57 c.if-b.true in omega arith
+pub returns-in-65-to-70 : goal.returns-in-65-to-70
+returns-in-65-to-70 c = digit-high c.args.b (omega arith) (omega arith)
 
-pub returns-then-b : goal.returns-then-b
-unfolding digit_of
-returns-then-b c = let h = both_true 48 c.args.b 57 c.if-b.true in record { value = simp c.if-b.true; upper_bound = omega arith }
+pub returns-in_default : goal.returns-in_default
+returns-in_default c =
+    let b = c.args.b in
+    digit-none b (simp (lt-leb 48 b (omega arith))) (simp (lt-leb 65 b (omega arith)))
 
-pub overflow_sub-result-then-b-2 : goal.overflow_sub-result-then-b-2
-overflow_sub-result-then-b-2 c = let h = both_true 65 c.args.b 70 c.if-b-2.true in omega (arith, h.0)
+pub returns-in_default-2 : goal.returns-in_default-2
+returns-in_default-2 c =
+    let b = c.args.b in
+    digit-none b (simp (le-leb 48 b (omega arith), lt-leb b 57 (omega arith))) (simp (lt-leb 65 b (omega arith)))
 
-pub overflow_cast-result-then-b-2 : goal.overflow_cast-result-then-b-2
-overflow_cast-result-then-b-2 c = let h = both_true 65 c.args.b 70 c.if-b-2.true in omega arith
-
-pub returns-then-b-2 : goal.returns-then-b-2
-unfolding digit_of
-returns-then-b-2 c =
-    let c2 = c in
-    let h = both_true 65 c2.args.b 70 c.if-b-2.true in record { value = simp (c.if-b.false, c.if-b-2.true); upper_bound = omega arith }
-
-pub returns : goal.returns
-unfolding digit_of
-returns c = record { value = simp (c.if-b.false, c.if-b-2.false); upper_bound = omega arith }
+pub returns-in_default-3 : goal.returns-in_default-3
+returns-in_default-3 c =
+    let b = c.args.b in
+    digit-none b (simp (le-leb 48 b (omega arith), lt-leb b 57 (omega arith)))
+    (simp (le-leb 65 b (omega arith), lt-leb b 70 (omega arith)))

@@ -1,44 +1,6 @@
-use lib.ListN.{length}
-use Prim.Native.Nat.{◌-◌}
-use borrow.Author.Tests.{not-true, not-false}
-use Rattle.asm_text.proofs.Laws.{kind-in, after_more, after_stop, name-zero}
-use Rattle.asm_text.specs.Text.{after, name_byte?}
-use mathlib.Core.Path.{◌≡◌, refl, sym, ◌∙◌}
-use native.Mathlib.Omega.{arith}
-use borrow.Author.Rules.{rules}
+use Rattle.asm_text.specs.Text.{name_byte?}
+use Rattle.asm_text.proofs.Laws.{after-is}
 use Rattle.asm_text.proofs.name_end.Goals as goal
 
-pub returns-then-not-is_name_byte : goal.returns-then-not-is_name_byte
-returns-then-not-is_name_byte c =
-    let c2 = c in
-    let c3 = c2 in
-    let c5 = c3 in
-    sym (after_stop name_byte? c5.args.s.now c3.loop-at.i (sym ((rw c2.byte_at-b.ensures at c.is_name_byte.ensures))
-    ∙ not-true _ c.if-not-is_name_byte.true-raw)) ∙ c3.loop-at.invariant
-
-pub overflow_add-i : goal.overflow_add-i
-overflow_add-i c =
-    let c2 = c in
-    let c3 = c2 in
-    let c5 = c3 in
-    let h = kind-in name_byte? name-zero c5.args.s.now c3.loop-at.i
-    (sym ((rw c2.byte_at-b.ensures at c.is_name_byte.ensures)) ∙ not-false _ c.if-not-is_name_byte.false-raw) in omega arith
-
-pub loop-at-smaller : goal.loop-at-smaller
-loop-at-smaller c =
-    let c2 = c in
-    let c3 = c2 in
-    let c5 = c3 in
-    let h = kind-in name_byte? name-zero c5.args.s.now c3.loop-at.i
-    (sym ((rw c2.byte_at-b.ensures at c.is_name_byte.ensures)) ∙ not-false _ c.if-not-is_name_byte.false-raw) in omega arith
-
-pub loop-at-preserved : goal.loop-at-preserved
-loop-at-preserved c =
-    let c2 = c in
-    let c3 = c2 in
-    let c5 = c3 in
-    after_more name_byte? name-zero c5.args.s.now c3.loop-at.i
-    (sym ((rw c2.byte_at-b.ensures at c.is_name_byte.ensures)) ∙ not-false _ c.if-not-is_name_byte.false-raw) ∙ c3.loop-at.invariant
-
-pub loop-at-init : goal.loop-at-init
-loop-at-init c = refl
+pub returns : goal.returns
+returns c = let e = rw c.rest.ensures at c.name_bytes.ensures.value in after-is name_byte? c.args.s.now c.args.at _ e

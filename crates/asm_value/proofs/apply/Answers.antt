@@ -9,7 +9,6 @@ use Rattle.asm_value.proofs.Signed.{sfits_wide, sum_fits, difference-fits, produ
 use Rattle.asm_value.proofs.Signed.{back-on-wide, bits_pos, zero_bits, no-quotient, some-quotient}
 use mir.Syntax.{w32}
 use mir.ValLaws.{to_z-of_z}
-use borrow.Author.Rules.{rules}
 use Rattle.asm_value.proofs.apply.Goals as goal
 
 pub overflow_cast-x : goal.overflow_cast-x

@@ -4,7 +4,6 @@ use native.Mathlib.Omega.{arith}
 use mir.Syntax.{w64}
 use mir.ValLaws.{to_z_pos}
 use Rattle.asm_value.proofs.Signed.{minus-fits, sized}
-use borrow.Author.Rules.{rules}
 use Rattle.asm_value.proofs.number.Goals as goal
 
 pub overflow_sub-z : goal.overflow_sub-z

@@ -1,8 +1,7 @@
-use mathlib.Core.Path.{ap, ◌∙◌}
+use mathlib.Core.Path.{ap, sym, ◌∙◌}
 use Prim.Native.Nat.{◌+◌, ◌%◌}
 use native.Mathlib.Omega.{arith}
-use Rattle.asm_words.specs.Rows.{word_at}
-use Rattle.asm_words.proofs.Laws.{table, starts, group, start_fits, start-step, start-le, word-is}
+use Rattle.asm_words.proofs.Laws.{table, starts, group, start_fits, start-step, start-le, word-is, word_by}
 use Rattle.asm_words.proofs.find_word.Goals as goal
 
 pub offset_bounds-rows-from : goal.offset_bounds-rows-from
@@ -21,7 +20,11 @@ pub slice_bounds-row_number-end : goal.slice_bounds-row_number-end
 unfolding starts
 slice_bounds-row_number-end c = start-le (c.args.p % 61 + 1)
 
-pub returns : goal.returns
-unfolding group starts table
-returns c = λ t e.
-    c.word_at.ensures ∙ ap word_at c.row_number.ensures ∙ word-is c.args.p t e
+pub returns-in-Some : goal.returns-in-Some
+unfolding group starts table word_by
+returns-in-Some c = λ t e.
+    c.word_at.ensures ∙ ap word_by (sym c.in-Some.is ∙ c.row_number.ensures) ∙ word-is c.args.p t e
+
+pub returns-in-None : goal.returns-in-None
+unfolding group starts table word_by
+returns-in-None c = λ t e. ap word_by (sym c.in-None.is ∙ c.row_number.ensures) ∙ word-is c.args.p t e

@@ -1,6 +1,5 @@
 use Rattle.asm_write.specs.Written.{misplaced?}
 use mathlib.Core.Path.{refl}
-use borrow.Author.Rules.{rules}
 use Rattle.asm_write.proofs.misplaced.Goals as goal
 
 pub returns : goal.returns

@@ -1,4 +1,4 @@
-use Prim.Native.Nat.{◌+◌, ◌-◌}
+use Prim.Native.Nat.{◌+◌}
 use mathlib.Core.Path.{◌≡◌}
 use mathlib.Core.Bool.{Bool}
 use lib.ListN.{length}
@@ -11,11 +11,7 @@ use Rattle.devices.proofs.deliver.Given as goal
 
 abbrev pub invariant-loop-at : goal.invariant-loop-at
 invariant-loop-at l = record {
-  size : length l.mem ≡ length l.initial.mem;
   past : Behind l.events l.at (l.count + 1);
   delivered : (core : Core) (h : Bool) → deliver_at l.count (rest_from l.events l.at) (state_from core l.l h l.count l.mem)
       ≡ deliver_at l.count (events_of l.events) (state_from core l.initial.l h l.count l.initial.mem);
 }
-
-abbrev pub decreases-loop-at : goal.decreases-loop-at
-decreases-loop-at l = l.n - l.at

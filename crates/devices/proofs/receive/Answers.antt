@@ -5,10 +5,9 @@ use Rattle.devices.proofs.receive.Goals.{then-t-eq1, else-t-eq1}
 
 pub returns : goal.returns
 returns c =
-    λ k.
     let m = c.args.mem.now in
     let e = c.event_status.ensures in
     elim c.if-t-eq1.branch [
-      | then-t-eq1 w ↦ receive-input m c.args.device c.args.byte c.args.t e k w.if-t-eq1.true w.mem-is
-      | else-t-eq1 w ↦ receive-output m c.args.device c.args.byte c.args.t e k w.if-t-eq1.false w.mem-is
+      | then-t-eq1 w ↦ receive-input m c.args.e.device c.args.e.byte c.args.t e c.args.e.step w.if-t-eq1.true w.mem-is
+      | else-t-eq1 w ↦ receive-output m c.args.e.device c.args.e.byte c.args.t e c.args.e.step w.if-t-eq1.false w.mem-is
     ]

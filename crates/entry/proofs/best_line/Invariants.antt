@@ -3,7 +3,4 @@ use Rattle.machine.specs.Entry.{best_from}
 use Rattle.entry.proofs.best_line.Given as goal
 
 abbrev pub invariant-loop-d : goal.invariant-loop-d
-invariant-loop-d l = (l.d ≤ 8) × (l.e ≤ 8) × (l.e ≡ best_from (8 - l.d) l.d l.lines l.mem)
-
-abbrev pub decreases-loop-d : goal.decreases-loop-d
-decreases-loop-d l = l.d
+invariant-loop-d l = (l.e ≤ 8) × (l.e ≡ best_from (8 - l.d) l.d l.lines l.mem)

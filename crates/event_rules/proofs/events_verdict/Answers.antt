@@ -1,12 +1,12 @@
 -- Test by test, as in `verdict`: after k tests that were not met the answer is the first broken rule from the list's rule k on, and a
 -- test that is met gives its rule's verdict. Assumes nothing.
 use Prim.Native.Nat.{ℕ}
-use mathlib.Core.Bool.{Bool, true, false, not}
+use mathlib.Core.Bool.{Bool, true, not}
 use mathlib.Core.List.{List, []}
 use mathlib.Core.Path.{◌≡◌, refl, sym, ap, ◌∙◌}
 use lib.ListN.{length, drop}
 use Rattle.machine.specs.Events.{event_count}
-use Rattle.machine.specs.Refusal.{Rule, events_fit, events_fit_below, in_order_below, rules_of, first_broken}
+use Rattle.machine.specs.Refusal.{Rule, events_fit, events_fit_below, rules_of, first_broken}
 use Rattle.devices.specs.Cursor.{Ordered}
 use Rattle.event_rules.proofs.Laws.{holds, breaks, order-end, disorder-longer}
 use Rattle.event_rules.proofs.events_verdict.Goals as goal

@@ -1,6 +1,4 @@
 -- The invariant: every record passed fits. Assumes nothing.
-use Prim.Native.Nat.{◌-◌, ◌≤◌}
-use mathlib.Core.Bool.{true}
 use mathlib.Core.Path.{◌≡◌, sym, ◌∙◌, ap}
 use native.Mathlib.Omega.{arith}
 use native.Mathlib.Numerals.{add-one}
@@ -21,22 +19,13 @@ loop-k-preserved c =
     let b = at-start.args.events.now in
     let k = c.loop-k.k in
     let e = sym c.event_fits.ensures ∙ not-false _ c.if-not-event_fits.false-raw in
-    (omega arith, rw (add-one k) (fits_next b k c.loop-k.invariant.1 e))
+    rw (add-one k) (fits_next b k c.loop-k.invariant e)
 
 pub returns : goal.returns
 returns c =
     let a = c.args in
     let e : c.loop-k.k ≡ a.count = omega arith in
-    sym (ap (events_fit_below a.events.now) (sym e) ∙ c.loop-k.invariant.1)
+    sym (ap (events_fit_below a.events.now) (sym e) ∙ c.loop-k.invariant)
 
 pub loop-k-init : goal.loop-k-init
-loop-k-init c = (omega arith, fits-none _)
-
-pub event_fits-requires : goal.event_fits-requires
-event_fits-requires c = omega arith
-
-pub overflow_add-k : goal.overflow_add-k
-overflow_add-k c = omega arith
-
-pub loop-k-smaller : goal.loop-k-smaller
-loop-k-smaller c = omega arith
+loop-k-init c = fits-none _

@@ -1,15 +1,9 @@
 -- The loop's invariant is `Swept`, of a list in order: records of one step stand together, so the marks of the devices seen since the step
 -- began tell whether the record looked at has a twin before it. Assumes nothing.
-use Prim.Native.Nat.{◌+◌, ◌-◌, ◌*◌, ◌<◌}
 use mathlib.Core.Path.{sym, ◌∙◌}
-use native.Mathlib.Omega.{arith}
 use native.Mathlib.Numerals.{add-one}
-use borrow.Author.Rules.{rules}
-use Rattle.machine.specs.Memory.{byte_at}
-use Rattle.machine.specs.Events.{event_count}
-use Rattle.devices.specs.Cursor.{Ordered}
 use Rattle.devices.proofs.Laws.{device-lt}
-use Rattle.event_rules.proofs.Twins.{Swept, device_at, sweep-start, sweep-twin, sweep-next, sweep-end}
+use Rattle.event_rules.proofs.Twins.{device_at, sweep-start, sweep-twin, sweep-next, sweep-end}
 use Rattle.event_rules.proofs.has_twins.Goals as goal
 
 pub loop-k-init : goal.loop-k-init
@@ -47,21 +41,3 @@ pub returns : goal.returns
 returns c =
     let b = c.args.events.now in
     λ o. sweep-end b (c.loop-k.invariant o) c.loop-k-test.false
-
-pub step_at-step-requires : goal.step_at-step-requires
-step_at-step-requires c = omega arith
-
-pub overflow_mul-device : goal.overflow_mul-device
-overflow_mul-device c = omega arith
-
-pub overflow_add-device : goal.overflow_add-device
-overflow_add-device c = omega arith
-
-pub bounds-events-k : goal.bounds-events-k
-bounds-events-k c = omega arith
-
-pub overflow_add-k : goal.overflow_add-k
-overflow_add-k c = omega arith
-
-pub loop-k-smaller : goal.loop-k-smaller
-loop-k-smaller c = omega arith

@@ -1,5 +1,4 @@
 use native.Mathlib.Numerals.{add-one}
-use borrow.Author.Rules.{rules}
 use Rattle.machine.specs.Events.{event_at}
 use Rattle.machine.specs.Refusal.{in_order}
 use Rattle.event_rules.proofs.in_order.Goals as goal

@@ -1,6 +1,5 @@
 use mathlib.Core.Path.{ap, ◌∙◌}
 use lib.Bits.{bit_or}
-use borrow.Author.Rules.{rules}
 use Rattle.word.proofs.Laws.{or-bit}
 use Rattle.event_rules.proofs.Marks.{one_shifted}
 use Rattle.event_rules.proofs.mark.Goals as goal

@@ -1,5 +1,4 @@
 -- The invariant is `Risen`: every record passed fits, and is of a later step than those before it. Assumes nothing.
-use Prim.Native.Nat.{◌-◌, ◌≤◌}
 use mathlib.Core.Bool.{false≢true}
 use mathlib.Core.Path.{◌≡◌, sym, subst, ◌∙◌}
 use native.Mathlib.Omega.{arith}
@@ -17,8 +16,7 @@ loop-k-preserved c =
     let b = f.args.events.now in
     let fits = sym f.event_fits.ensures ∙ not-false _ s.if-not-event_fits.false-raw in (
       omega arith,
-      omega arith,
-      rw (add-one l.k) (risen-next b l.k l.least _ l.invariant.2 fits s.step_at-step.ensures
+      rw (add-one l.k) (risen-next b l.k l.least _ l.invariant.1 fits s.step_at-step.ensures
           c.if-step-least.false),
     )
 
@@ -26,33 +24,15 @@ pub returns : goal.returns
 returns c =
     let b = c.args.events.now in
     let l = c.loop-k in
-    let e : l.k ≡ event_count b = omega (arith, l.invariant.0) in
-    let r = subst (λ n. Risen b n l.least) e l.invariant.2 in
+    let e : l.k ≡ event_count b = omega arith in
+    let r = subst (λ n. Risen b n l.least) e l.invariant.1 in
     λ q. (r.fits, r.order, r.twins)
 
 pub loop-k-init : goal.loop-k-init
-loop-k-init c = (omega arith, omega arith, risen-none _)
-
-pub event_fits-requires : goal.event_fits-requires
-event_fits-requires c = omega arith
+loop-k-init c = (omega arith, risen-none _)
 
 pub returns-then-not-event_fits : goal.returns-then-not-event_fits
 returns-then-not-event_fits c q = absurd (false≢true q)
 
-pub step_at-step-requires : goal.step_at-step-requires
-step_at-step-requires c = omega arith
-
-pub overflow_cast-step : goal.overflow_cast-step
-overflow_cast-step c = omega arith
-
 pub returns-then-step-least : goal.returns-then-step-least
 returns-then-step-least c q = absurd (false≢true q)
-
-pub overflow_add-least : goal.overflow_add-least
-overflow_add-least c = omega arith
-
-pub overflow_add-k : goal.overflow_add-k
-overflow_add-k c = omega arith
-
-pub loop-k-smaller : goal.loop-k-smaller
-loop-k-smaller c = omega arith

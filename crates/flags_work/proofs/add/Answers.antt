@@ -2,8 +2,8 @@
 use Rattle.flags_work.proofs.Sums.{sum-value, sum-psw, over-lt}
 use Rattle.flags_work.proofs.add.Goals as goal
 
-pub placed-requires : goal.placed-requires
-placed-requires c =
+pub placed-kept-requires : goal.placed-kept-requires
+placed-kept-requires c =
     let at-start = c in
     let at-low-bits = c in
     let a = at-start.args in
@@ -21,5 +21,5 @@ returns c =
     let ea = at-low-bits.low_bits-a.ensures.0 in record {
       value = sum-value a.byte a.dst a.b a.carry ea at-low-bits2.low_bits.ensures.0 c.with_low.ensures;
       psw = sum-psw a.byte a.dst a.b a.carry ea at-start.requires.0 at-start.requires.1 at-placed.placed-k.ensures
-          at-placed2.placed.ensures a.last.now a.sum.now a.over.now;
+          at-placed2.placed-kept.ensures a.kept.now;
     }

@@ -45,5 +45,5 @@ returns c =
     let e : v ≡ halved w a.dst a.high =
     λ i. at-low-bits.low_bits.ensures.0 i / 2 + a.high * at_top.top.ensures i in record {
       value = (λ p. c.logic.ensures.value p ∙ ap (with_low w a.dst) e);
-      psw = shift-psw a.byte a.dst a.high e a.last.now a.sum.now c.logic.ensures.psw;
+      psw = shift-psw a.byte a.dst a.high e a.kept.now c.logic.ensures.psw;
     }

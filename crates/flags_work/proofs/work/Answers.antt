@@ -39,7 +39,7 @@ returns-in-Add c =
     let at-enum-told = c in
     let at-low-bits2 = c in
     let a = at-start.args in
-    let whole = adds a.byte a.d a.s a.last.now a.sum.now a.over.now at-enum-told.in-Add.is
+    let whole = adds a.byte a.d a.s a.kept.now at-enum-told.in-Add.is
     at-low-bits2.low_bits-b.ensures.0 (λ p. refl) (λ p. refl) c.add.ensures.value c.add.ensures.psw in record {
       value = whole.0;
       psw = whole.1;
@@ -52,8 +52,8 @@ returns-in-Addc c =
     let at-enum-told2 = c in
     let at-low-bits2 = c in
     let a = at-start.args in
-    let whole = adds a.byte a.d a.s a.last.now a.sum.now a.over.now at-enum-told2.in-Addc.is
-    at-low-bits2.low_bits-b.ensures.0 (held-carry-of a.last.now a.sum.now a.over.now) (λ p. refl) c.add-in-Addc.ensures.value
+    let whole = adds a.byte a.d a.s a.kept.now at-enum-told2.in-Addc.is
+    at-low-bits2.low_bits-b.ensures.0 (held-carry-of a.kept.now) (λ p. refl) c.add-in-Addc.ensures.value
     c.add-in-Addc.ensures.psw in record { value = whole.0; psw = whole.1 }
 
 pub returns-in-Sub : goal.returns-in-Sub
@@ -63,7 +63,7 @@ returns-in-Sub c =
     let at-enum-told3 = c in
     let at-turned-bits = c in
     let a = at-start.args in
-    let whole = adds a.byte a.d a.s a.last.now a.sum.now a.over.now at-enum-told3.in-Sub.is
+    let whole = adds a.byte a.d a.s a.kept.now at-enum-told3.in-Sub.is
     at-turned-bits.turned_bits.ensures.0 (λ p. refl) (λ p. refl) c.add-in-Sub.ensures.value c.add-in-Sub.ensures.psw in record
     { value = whole.0; psw = whole.1 }
 
@@ -74,8 +74,8 @@ returns-in-Subc c =
     let at-enum-told4 = c in
     let at-turned-bits2 = c in
     let a = at-start.args in
-    let whole = adds a.byte a.d a.s a.last.now a.sum.now a.over.now at-enum-told4.in-Subc.is
-    at-turned-bits2.turned_bits-in-Subc.ensures.0 (held-carry-of a.last.now a.sum.now a.over.now) (λ p. refl)
+    let whole = adds a.byte a.d a.s a.kept.now at-enum-told4.in-Subc.is
+    at-turned-bits2.turned_bits-in-Subc.ensures.0 (held-carry-of a.kept.now) (λ p. refl)
     c.add-in-Subc.ensures.value c.add-in-Subc.ensures.psw in record { value = whole.0; psw = whole.1 }
 
 pub returns-in-Cmp : goal.returns-in-Cmp
@@ -85,7 +85,7 @@ returns-in-Cmp c =
     let at-enum-told5 = c in
     let at-turned-bits3 = c in
     let a = at-start.args in
-    let whole = compares a.byte a.d a.s a.last.now a.sum.now a.over.now at-enum-told5.in-Cmp.is 1
+    let whole = compares a.byte a.d a.s a.kept.now at-enum-told5.in-Cmp.is 1
     at-turned-bits3.turned_bits-in-Cmp.ensures.0 (λ p. refl) c.add-in-Cmp.ensures.psw in record { value = whole.0; psw = whole.1 }
 
 pub returns-in-Dadd : goal.returns-in-Dadd
@@ -96,9 +96,9 @@ returns-in-Dadd c =
     let at-alu = c in
     let at-negative = c in
     let a = at-start.args in
-    let whole = sums a.byte a.d a.s a.last.now a.sum.now a.over.now c.marks.result
-    (c.marks.ensures.1 ∙ at-negative.negative.ensures) at-alu.alu-o.ensures refl at-enum-told6.in-Dadd.is
-    c.marks.ensures.0 in record { value = whole.0; psw = whole.1 }
+    let whole = sums a.byte a.d a.s a.kept.now c.marks-kept.result
+    (c.marks-kept.ensures.1 ∙ at-negative.negative.ensures) at-alu.alu-o.ensures refl at-enum-told6.in-Dadd.is
+    c.marks-kept.ensures.0 in record { value = whole.0; psw = whole.1 }
 
 pub returns-in-And : goal.returns-in-And
 unfolding alu_of
@@ -108,7 +108,7 @@ returns-in-And c =
     let at-low-bits = c in
     let at-low-bits2 = c in
     let a = at-start.args in
-    let whole = joins a.byte a.d a.s a.last.now a.sum.now a.over.now at-enum-told7.in-And.is
+    let whole = joins a.byte a.d a.s a.kept.now at-enum-told7.in-And.is
     (ap₂ bit_and at-low-bits.low_bits-a.ensures.0 at-low-bits2.low_bits-b.ensures.0) (λ p. refl) c.logic.ensures.value
     c.logic.ensures.psw in record { value = whole.0; psw = whole.1 }
 
@@ -120,7 +120,7 @@ returns-in-Or c =
     let at-low-bits = c in
     let at-low-bits2 = c in
     let a = at-start.args in
-    let whole = joins a.byte a.d a.s a.last.now a.sum.now a.over.now at-enum-told8.in-Or.is
+    let whole = joins a.byte a.d a.s a.kept.now at-enum-told8.in-Or.is
     (ap₂ bit_or at-low-bits.low_bits-a.ensures.0 at-low-bits2.low_bits-b.ensures.0) (λ p. refl) c.logic-in-Or.ensures.value
     c.logic-in-Or.ensures.psw in record { value = whole.0; psw = whole.1 }
 
@@ -132,7 +132,7 @@ returns-in-Xor c =
     let at-low-bits = c in
     let at-low-bits2 = c in
     let a = at-start.args in
-    let whole = joins a.byte a.d a.s a.last.now a.sum.now a.over.now at-enum-told9.in-Xor.is
+    let whole = joins a.byte a.d a.s a.kept.now at-enum-told9.in-Xor.is
     (ap₂ bit_xor at-low-bits.low_bits-a.ensures.0 at-low-bits2.low_bits-b.ensures.0) (λ p. refl) c.logic-in-Xor.ensures.value
     c.logic-in-Xor.ensures.psw in record { value = whole.0; psw = whole.1 }
 
@@ -144,7 +144,7 @@ returns-in-Bit c =
     let at-low-bits = c in
     let at-low-bits2 = c in
     let a = at-start.args in
-    let whole = looks a.byte a.d a.s a.last.now a.sum.now a.over.now at-enum-told10.in-Bit.is
+    let whole = looks a.byte a.d a.s a.kept.now at-enum-told10.in-Bit.is
     (ap₂ bit_and at-low-bits.low_bits-a.ensures.0 at-low-bits2.low_bits-b.ensures.0) (λ p. refl) c.logic-in-Bit.ensures.psw in record
     { value = whole.0; psw = whole.1 }
 
@@ -157,9 +157,9 @@ returns-in-Bic c =
     let at-low-bits3 = c in
     let at-negative2 = c in
     let a = at-start.args in
-    let whole = clears a.byte a.d a.s a.last.now a.sum.now a.over.now c.marks-in-Bic.result
-    (c.marks-in-Bic.ensures.1 ∙ at-negative2.negative-in-Bic.ensures) at-alu2.alu-o-in-Bic.ensures at-enum-told11.in-Bic.is
-    at-low-bits3.low_bits.ensures.0 c.marks-in-Bic.ensures.0 in record { value = whole.0; psw = whole.1 }
+    let whole = clears a.byte a.d a.s a.kept.now c.marks-kept-in-Bic.result
+    (c.marks-kept-in-Bic.ensures.1 ∙ at-negative2.negative-in-Bic.ensures) at-alu2.alu-o-in-Bic.ensures at-enum-told11.in-Bic.is
+    at-low-bits3.low_bits.ensures.0 c.marks-kept-in-Bic.ensures.0 in record { value = whole.0; psw = whole.1 }
 
 pub returns-in-Bis : goal.returns-in-Bis
 unfolding alu_of
@@ -169,9 +169,9 @@ returns-in-Bis c =
     let at-alu3 = c in
     let at-negative3 = c in
     let a = at-start.args in
-    let whole = raises a.byte a.d a.s a.last.now a.sum.now a.over.now c.marks-in-Bis.result
-    (c.marks-in-Bis.ensures.1 ∙ at-negative3.negative-in-Bis.ensures) at-alu3.alu-o-in-Bis.ensures at-enum-told12.in-Bis.is
-    c.marks-in-Bis.ensures.0 in record { value = whole.0; psw = whole.1 }
+    let whole = raises a.byte a.d a.s a.kept.now c.marks-kept-in-Bis.result
+    (c.marks-kept-in-Bis.ensures.1 ∙ at-negative3.negative-in-Bis.ensures) at-alu3.alu-o-in-Bis.ensures at-enum-told12.in-Bis.is
+    c.marks-kept-in-Bis.ensures.0 in record { value = whole.0; psw = whole.1 }
 
 pub returns-in-Sra : goal.returns-in-Sra
 unfolding alu_of
@@ -182,7 +182,7 @@ returns-in-Sra c =
     let at_flag = c in
     let at-low-bits = c in
     let a = at-start.args in
-    let whole = shifts a.byte a.d a.s a.last.now a.sum.now a.over.now at-enum-told13.in-Sra.is
+    let whole = shifts a.byte a.d a.s a.kept.now at-enum-told13.in-Sra.is
     (λ p. at_flag.flag.ensures.0 ∙ λ i. bit (leb (at_top.top.ensures i) (at-low-bits.low_bits-a.ensures.0 i))) (λ p. refl)
     c.shift.ensures.value c.shift.ensures.psw in record { value = whole.0; psw = whole.1 }
 
@@ -192,8 +192,8 @@ returns-in-Rrc c =
     let at-start = c in
     let at-enum-told14 = c in
     let a = at-start.args in
-    let whole = shifts a.byte a.d a.s a.last.now a.sum.now a.over.now at-enum-told14.in-Rrc.is
-    (held-carry-of a.last.now a.sum.now a.over.now) (λ p. refl) c.shift-in-Rrc.ensures.value c.shift-in-Rrc.ensures.psw in record
+    let whole = shifts a.byte a.d a.s a.kept.now at-enum-told14.in-Rrc.is
+    (held-carry-of a.kept.now) (λ p. refl) c.shift-in-Rrc.ensures.value c.shift-in-Rrc.ensures.psw in record
     { value = whole.0; psw = whole.1 }
 
 pub returns-in-Comp : goal.returns-in-Comp
@@ -203,7 +203,7 @@ returns-in-Comp c =
     let at-enum-told15 = c in
     let at-turned-bits4 = c in
     let a = at-start.args in
-    let whole = joins a.byte a.d a.s a.last.now a.sum.now a.over.now at-enum-told15.in-Comp.is
+    let whole = joins a.byte a.d a.s a.kept.now at-enum-told15.in-Comp.is
     at-turned-bits4.turned_bits-in-Comp.ensures.0 (λ p. refl) c.logic-in-Comp.ensures.value c.logic-in-Comp.ensures.psw in record
     { value = whole.0; psw = whole.1 }
 
@@ -213,7 +213,7 @@ returns-in-Swpb c =
     let at-start = c in
     let at-enum-told16 = c in
     let a = at-start.args in
-    let whole = swaps a.byte a.d a.s a.last.now a.sum.now a.over.now c.alu.ensures at-enum-told16.in-Swpb.is in record {
+    let whole = swaps a.byte a.d a.s a.kept.now c.alu.ensures at-enum-told16.in-Swpb.is in record {
       value = whole.0;
       psw = whole.1;
     }
@@ -224,5 +224,5 @@ returns-in-Sxt c =
     let at-start = c in
     let at-enum-told17 = c in
     let a = at-start.args in
-    let whole = extends a.byte a.d a.s a.last.now a.sum.now a.over.now c.alu-in-Sxt.ensures
+    let whole = extends a.byte a.d a.s a.kept.now c.alu-in-Sxt.ensures
     at-enum-told17.in-Sxt.is in record { value = whole.0; psw = whole.1 }

@@ -1,18 +1,12 @@
-use Prim.Native.Nat.{◌+◌, ◌-◌, ◌*◌, ◌/◌, ◌≤◌}
-use mathlib.Core.Bool.{true}
-use mathlib.Core.Path.{◌≡◌, refl}
-use mir.Val.{bool_byte}
-use native.Mathlib.Omega.{arith}
+use Prim.Native.Nat.{◌+◌, ◌-◌, ◌/◌, ◌≤◌}
+use mathlib.Core.Path.{◌≡◌}
 use lib.ListN.{length}
-use borrow.Author.Rules.{rules}
-use Rattle.machine_laws.proofs.Cases.{and_left}
 use Rattle.stretch_memory.specs.Served.{running}
 use Rattle.free_run.specs.Free.{Goes}
-use Rattle.free_run.proofs.Free.{tried-fits, tried-opened, goes_none, goes-stretch, goes-tried, turn-less, turn_last, taken-le}
 use Rattle.free_run.proofs.run_free.Given as goal
 
-abbrev pub invariant-loop-t : goal.invariant-loop-t
-invariant-loop-t l = record {
+abbrev pub invariant-loop-left : goal.invariant-loop-left
+invariant-loop-left l = record {
   some : l.left ≤ l.n;
   size : length l.mem ≡ length l.initial.mem;
   long : length l.log ≡ length l.initial.log;
@@ -23,5 +17,5 @@ invariant-loop-t l = record {
       (running l.regs l.t.psw l.t.cex l.lines (l.count + (l.n - l.left)) l.mem) l.t.depth l.t.added l.log (l.n - l.left);
 }
 
-abbrev pub decreases-loop-t : goal.decreases-loop-t
-decreases-loop-t l = 2 * l.left + bool_byte l.t.taken
+abbrev pub decreases-loop-left : goal.decreases-loop-left
+decreases-loop-left l = l.left

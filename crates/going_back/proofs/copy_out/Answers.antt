@@ -1,5 +1,5 @@
 -- `going_back::copy_out` meets its contract. Assumes nothing.
-use Rattle.std.proofs.Common.{◌+◌, ◌*◌, ap, ◌∙◌, rules}
+use Rattle.std.proofs.Common.{◌+◌, ◌*◌, ap, ◌∙◌}
 use lib.Seq.{slice}
 use Rattle.machine.specs.Memory.{commit}
 use Rattle.journal.specs.Record.{placed}

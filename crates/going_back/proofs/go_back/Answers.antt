@@ -1,72 +1,51 @@
 -- The loop's invariant: the steps left, gone back from what is held, give what all steps give from what was lent. A turn copies out the
 -- record before the next place, which is one step of `back_of`; with none left, what is held is the answer. Assumes nothing.
-use Rattle.std.proofs.Common.{◌≡◌, ◌<◌, ◌≤◌, length, sym, refl, ◌∙◌, arith, rules}
-use Rattle.journal.specs.Ring.{journal_of, places_of}
+use Rattle.std.proofs.Common.{◌≡◌, ◌+◌, ◌-◌, sym, ◌∙◌, arith}
+use Rattle.journal.specs.Ring.{journal_of}
 use Rattle.journal.specs.Back.{lent_of, back_of}
 use Rattle.going_back.proofs.Laws.{back-turn, back_end}
 use Rattle.going_back.proofs.go_back.Goals as goal
 
-pub loop-left-init : goal.loop-left-init
-loop-left-init c = let s = c in record {
-  whole = s.requires.0;
-  record-whole = s.requires.1;
-  inside = s.requires.3;
-  few = s.requires.4;
-  same = refl;
-}
+pub loop-init : goal.loop-init
+loop-init c =
+    let a = c.args in
+    let z : a.k - 0 ≡ a.k = omega arith in
+    let y : a.r.kept - 0 ≡ a.r.kept = omega arith in
+    record {
+      inside = c.requires.3;
+      same = λ i. back_of (z i) (lent_of a.memory.now a.state.now (journal_of a.journal.now (y i) a.r.place));
+    }
+
+pub place_before-p-requires : goal.place_before-p-requires
+place_before-p-requires c = c.loop.invariant.inside
 
 pub copy_out-requires : goal.copy_out-requires
 copy_out-requires c =
-    let l = c.loop-left in
     let q = c.place_before-p.ensures.1 in
-    (l.invariant.whole, l.invariant.record-whole, omega arith)
+    (omega (arith, c.requires.0, c.loop.auto.memory), omega (arith, c.requires.1, c.loop.auto.state), omega (arith, q))
 
-pub loop-left-preserved : goal.loop-left-preserved
-loop-left-preserved c =
-    let at-place-before = c in
-    let at-loop-test = c in
-    let at-loop = c in
-    let s = at-loop in
-    let l = at-loop.loop-left in
-    let t = at-loop-test.loop-left-test.true in
-    let q = at-place-before.place_before-p in
-    let o = c.copy_out in record {
-      whole = o.auto.memory ∙ l.invariant.whole;
-      record-whole = o.auto.state ∙ l.invariant.record-whole;
+pub loop-preserved : goal.loop-preserved
+loop-preserved c =
+    let a = c.args in
+    let l = c.loop in
+    let q = c.place_before-p in
+    let o = c.copy_out in
+    let left = a.k - l.counter in
+    let kept = a.r.kept - l.counter in
+    let e : a.k - (l.counter + 1) ≡ left - 1 = omega arith in
+    let f : a.r.kept - (l.counter + 1) ≡ kept - 1 = omega arith in
+    record {
       inside = q.ensures.1;
-      few = omega arith;
-      same = back-turn l.memory l.state s.args.journal.now l.c l.p l.left q.result _ _ t q.ensures.0
-          o.ensures.memory o.ensures.state ∙ l.invariant.same;
+      same = (λ i. back_of (e i) (lent_of o.new.memory o.new.state (journal_of a.journal.now (f i) q.result)))
+          ∙ back-turn l.memory l.state a.journal.now kept l.p left q.result _ _ (omega arith) q.ensures.0 o.ensures.memory o.ensures.state
+          ∙ l.invariant.same;
     }
-
-pub shape_of-memory : goal.shape_of-memory
-shape_of-memory c =
-    let at-start = c in
-    c.loop-left.invariant.whole ∙ sym at-start.requires.0
-
-pub shape_of-state : goal.shape_of-state
-shape_of-state c =
-    let at-start = c in
-    c.loop-left.invariant.record-whole ∙ sym at-start.requires.1
 
 pub returns : goal.returns
 returns c =
-    let s = c in
-    let l = c.loop-left in
-    sym (back_end (lent_of l.memory l.state (journal_of s.args.journal.now l.c l.p)) l.left
-    (omega (arith, c.loop-left-test.false))) ∙ l.invariant.same
-
-pub overflow_cast-places : goal.overflow_cast-places
-overflow_cast-places c = omega arith
-
-pub overflow_cast-p : goal.overflow_cast-p
-overflow_cast-p c = omega arith
-
-pub overflow_sub-c : goal.overflow_sub-c
-overflow_sub-c c = omega arith
-
-pub overflow_sub-left : goal.overflow_sub-left
-overflow_sub-left c = omega arith
-
-pub loop-left-smaller : goal.loop-left-smaller
-loop-left-smaller c = omega arith
+    let a = c.args in
+    let l = c.loop in
+    let e : a.k ≡ l.counter = omega arith in
+    (λ i. lent_of l.memory l.state (journal_of a.journal.now (a.r.kept - e i) l.p))
+    ∙ sym (back_end (lent_of l.memory l.state (journal_of a.journal.now (a.r.kept - l.counter) l.p)) (a.k - l.counter) (omega arith))
+    ∙ l.invariant.same

@@ -1,11 +1,11 @@
 -- `going_back::put_bytes` meets its contract. The loop's invariant: what is left to copy, copied, gives what the whole does.
 -- Assumes nothing.
-use Rattle.std.proofs.Common.{◌≡◌, ◌+◌, ◌-◌, ◌%◌, ◌≤◌, length, sym, refl, ap, ◌∙◌, arith, length-set, rules}
+use Rattle.std.proofs.Common.{◌≡◌, sym, refl, ap, ◌∙◌, arith, length-set}
 use Rattle.going_back.proofs.Laws.{rest, bytes-start, bytes-turn, bytes-end}
 use Rattle.going_back.proofs.put_bytes.Goals as goal
 
 pub loop-i-init : goal.loop-i-init
-loop-i-init c = let s = c in record { size = s.requires.0; few = omega arith; wraps = omega arith; left = refl }
+loop-i-init c = let s = c in record { size = s.requires.0; wraps = omega arith; left = refl }
 
 pub loop-i-preserved : goal.loop-i-preserved
 loop-i-preserved c =
@@ -15,8 +15,7 @@ loop-i-preserved c =
     let t = c.loop-i-test.true in
     let w = l.invariant in record {
       size = simp length-set w.size;
-      few = omega arith;
-      wraps = omega (arith, w.wraps, c.wrapping_add_u16-at.ensures);
+      wraps = omega (arith, w.wraps);
       left = bytes-turn l.memory b s.args.from s.args.a s.args.n l.i l.at s.requires.1 t w.wraps ∙ w.left;
     }
 
@@ -28,7 +27,7 @@ returns c =
     let s = c in
     let l = c.loop-i in
     let b = s.args.journal.now in
-    let e : l.i ≡ s.args.n = omega (arith, l.invariant.few, c.loop-i-test.false) in
+    let e : l.i ≡ s.args.n = omega arith in
     sym (ap (rest l.memory b s.args.from s.args.a s.args.n) e
     ∙ bytes-end l.memory b s.args.from s.args.a s.args.n)
     ∙ l.invariant.left ∙ bytes-start s.args.memory.now b s.args.from s.args.a s.args.n

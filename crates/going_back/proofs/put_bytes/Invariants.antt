@@ -1,14 +1,10 @@
-use Rattle.std.proofs.Common.{◌≡◌, ◌+◌, ◌-◌, ◌%◌, ◌≤◌, length, sym, refl, ap, ◌∙◌, arith, length-set, rules}
-use Rattle.going_back.proofs.Laws.{rest, bytes-start, bytes-turn, bytes-end}
+use Rattle.std.proofs.Common.{◌≡◌, ◌+◌, ◌%◌, length}
+use Rattle.going_back.proofs.Laws.{rest}
 use Rattle.going_back.proofs.put_bytes.Given as goal
 
 abbrev pub invariant-loop-i : goal.invariant-loop-i
 invariant-loop-i l = record {
   size : length l.memory ≡ 65536;
-  few : l.i ≤ l.n;
   wraps : l.at ≡ (l.a + l.i) % 65536;
   left : rest l.memory l.journal l.from l.a l.n l.i ≡ rest l.initial.memory l.journal l.from l.a l.n 0;
 }
-
-abbrev pub decreases-loop-i : goal.decreases-loop-i
-decreases-loop-i l = l.n - l.i

@@ -1,10 +1,10 @@
-use Rattle.std.proofs.Common.{◌≡◌, sym, subst, arith}
+use Rattle.std.proofs.Common.{◌≡◌, refl, sym, subst, arith}
 use Rattle.journal.specs.Record.{bytes_from}
 use Rattle.journal_record.proofs.Laws.{between, eight-wrapped}
 use Rattle.journal_record.proofs.eight_before.Goals as goal
 
 pub eight_at-requires : goal.eight_at-requires
-eight_at-requires c = let b = between c.args.a c.if-a.true in (c.requires, b.0, b.1)
+eight_at-requires c = let b = between c.args.a c.if-a.true in (b.0, b.1)
 
 pub returns-then-a : goal.returns-then-a
 returns-then-a c b w = c.eight_at.ensures b _ w
@@ -16,10 +16,10 @@ pub returns : goal.returns
 returns c b w =
     eight-wrapped b c.args.a _ _ _ _ _ _ _ _ _ _ _ _ _ _ _ (omega arith)
     (c.byte_before.ensures b w)
-    c.wrapping_add_u16.ensures.value (c.byte_before-2.ensures b w)
-    c.wrapping_add_u16-2.ensures.value (c.byte_before-3.ensures b w)
-    c.wrapping_add_u16-3.ensures.value (c.byte_before-4.ensures b w)
-    c.wrapping_add_u16-4.ensures.value (c.byte_before-5.ensures b w)
-    c.wrapping_add_u16-5.ensures.value (c.byte_before-6.ensures b w)
-    c.wrapping_add_u16-6.ensures.value (c.byte_before-7.ensures b w)
-    c.wrapping_add_u16-7.ensures.value (c.byte_before-8.ensures b w)
+    refl (c.byte_before-2.ensures b w)
+    refl (c.byte_before-3.ensures b w)
+    refl (c.byte_before-4.ensures b w)
+    refl (c.byte_before-5.ensures b w)
+    refl (c.byte_before-6.ensures b w)
+    refl (c.byte_before-7.ensures b w)
+    refl (c.byte_before-8.ensures b w)

@@ -7,11 +7,11 @@ use Rattle.journal_record.proofs.fill.Goals as goal
 
 pub slice_bounds-write_record-end-2 : goal.slice_bounds-write_record-end-2
 slice_bounds-write_record-end-2 c =
-    sym (length-take-le 32 c.args.e.now (omega (arith, c.requires.0)))
+    sym (length-take-le 32 c.args.e.now (omega (arith, c.requires)))
 
 pub write_record-requires : goal.write_record-requires
 write_record-requires c =
-    length-take-le 32 c.args.e.now (omega (arith, c.requires.0))
+    length-take-le 32 c.args.e.now (omega (arith, c.requires))
 
 pub returns : goal.returns
 returns c b w =
@@ -33,5 +33,5 @@ returns c b w =
     (at-put-two.put_two.ensures
     ∙ ap (λ x. two_put x 48 a)
     (at-put-bytes.put_bytes.ensures ∙ ap (λ r. sets (r ++ drop 32 e) 32 d) (at-write-record.write_record.ensures b))))
-    ∙ filled-before (state_of s.args.m b) b d s.args.mem.now (drop 32 e) g.result a w (omega (arith, s.requires.0))
+    ∙ filled-before (state_of s.args.m b) b d s.args.mem.now (drop 32 e) g.result a w (omega (arith, s.requires))
     (g.ensures b w)

@@ -11,33 +11,27 @@ use Rattle.journal_record.proofs.keep_step.Goals as goal
 pub returns-then-journal-eq0 : goal.returns-then-journal-eq0
 returns-then-journal-eq0 c = let s = c in record {
   kept = (λ b k w q. none_kept s.args.journal.now s.args.r _ c.if-journal-eq0.true);
-  lends = s.requires.1;
+  lends = s.requires;
 }
 
 pub overflow_cast-places : goal.overflow_cast-places
 overflow_cast-places c =
     let s = c in
-    let f = s.requires.1 (omega (arith, c.if-journal-eq0.false)) in
+    let f = s.requires (omega (arith, c.if-journal-eq0.false)) in
     omega (arith, f.small)
-
-pub put_record-requires : goal.put_record-requires
-put_record-requires c =
-    let s = c in
-    let f = s.requires.1 (omega (arith, c.if-journal-eq0.false)) in
-    (omega (arith, f.whole, f.place), s.requires.0)
 
 pub one_more-requires : goal.one_more-requires
 one_more-requires c =
     let at-if1 = c in
     let s = c in
-    let f = s.requires.1 (omega (arith, at-if1.if-journal-eq0.false)) in
+    let f = s.requires (omega (arith, at-if1.if-journal-eq0.false)) in
     f.kept
 
 pub place_after-requires : goal.place_after-requires
 place_after-requires c =
     let at-if1 = c in
     let s = c in
-    let f = s.requires.1 (omega (arith, at-if1.if-journal-eq0.false)) in
+    let f = s.requires (omega (arith, at-if1.if-journal-eq0.false)) in
     f.place
 
 pub returns : goal.returns
@@ -45,7 +39,7 @@ returns c =
     let at-address-of = c in
     let at-if1 = c in
     let s = c in
-    let f = s.requires.1 (omega (arith, at-if1.if-journal-eq0.false)) in
+    let f = s.requires (omega (arith, at-if1.if-journal-eq0.false)) in
     let j = s.args.journal.now in
     let p = c.put_record in
     let k = c.one_more.ensures in

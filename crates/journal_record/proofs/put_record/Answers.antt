@@ -10,4 +10,4 @@ returns c b w =
     let e = c.fill.ensures b w in
     let j = s.args.journal.now in
     let l = ap length e ∙ fields-whole (state_of s.args.m b) b s.args.a in
-    part-put j c.fill.new.e (64 * s.args.p) s.requires.0 l ∙ ap (λ x. sets j (64 * s.args.p) x) e
+    part-put j c.fill.new.e (64 * s.args.p) s.requires l ∙ ap (λ x. sets j (64 * s.args.p) x) e

@@ -3,7 +3,6 @@ use Rattle.machine.specs.State.{state_with}
 use Rattle.machine.specs.Events.{events_of}
 use Rattle.soundness.specs.Judge.{judged_run}
 use Rattle.turn.specs.Due.{Awaits}
-use Rattle.open_frames.specs.Open.{Places}
 use Rattle.judge.specs.Taken.{watch_with}
 use Rattle.judge.specs.Reached.{Reaches}
 use Rattle.judge.proofs.judge_run.Given as goal
@@ -17,12 +16,11 @@ invariant-loop-done l =
     × Reaches (state_with l.initial.regs l.initial.t l.initial.memory) l.start
     (judged_run (events_of l.events) (state_with l.initial.regs l.initial.t l.initial.memory) l.done)
     (state_with l.regs l.t l.memory) l.done
-    (watch_with l.o l.kept l.opened l.vectors l.writers) l.findings false
+    (watch_with l.frames l.writers) l.findings false
     × (l.deep ≡ false)
     × (length l.devices ≡ 16)
-    × Places l.kept l.opened l.vectors
-    × (l.o.held ≤ 256)
-    × (l.o.owns ≤ l.done)
+    × (l.frames.open.held ≤ 256)
+    × (l.frames.open.owns ≤ l.done)
     × (length l.writers ≡ length l.initial.writers)
     × (length l.findings ≡ length l.initial.findings)
 

@@ -14,21 +14,19 @@ returns-clause-step c b er em el ec ep =
     let q = c.perform-t in
     let t = state_with q.new.regs q.result q.new.mem in
     let m = a.memory.now in
-    let l = a.kept.now in
-    let o = a.opened.now in
-    let v = a.vectors.now in
+    let f = a.frames.now in
     let w = a.writers.now in
-    let y = c.watch_after-f in
+    let y = c.watch_after in
     let x = y.ensures in
-    let z = seen_by (plan_of b).act b t (watch_with a.o l o v w) in
-    let g = begins-law b a.done a.o a.before.now a.regs.now m l o v w a.p a.lines a.count er em el ec ep t in
-    let k = c.looked-l.ensures o v a.o.owns z g in
+    let z = seen_by (plan_of b).act b t (watch_with f w) in
+    let g = begins-law b a.done f a.before.now a.regs.now m w a.p a.lines a.count er em el ec ep t in
+    let k = c.looked-l.ensures z g in
     record {
-      leaves = leaves-law b a.done a.o a.before.now a.regs.now m l o v w a.p a.lines a.count er em el ec ep t q.ensures;
-      watched = watched-law b a.done a.o a.before.now a.regs.now m l o v w a.p a.lines a.count er em el ec ep t
-          y.result y.new.kept y.new.opened y.new.vectors c.mark_writes.new.writers
+      leaves = leaves-law b a.done f a.before.now a.regs.now m w a.p a.lines a.count er em el ec ep t q.ensures;
+      watched = watched-law b a.done f a.before.now a.regs.now m w a.p a.lines a.count er em el ec ep t
+          y.new.f c.mark_writes.new.writers
           c.looked-l.result.mine c.writer.result x.owns.0 (x.devices.1 t refl refl) x.oldest k.is_mine c.writer.ensures
           (c.mark_writes.ensures (core_of a.regs.now a.p.psw a.p.cex) a.lines refl);
       told = λ f e. c.tell_step.ensures f z e
-          (c.shown-x.ensures a.before.now m l o v w z g refl refl c.requires.2 k) (sym (c.runs-h.ensures l));
+          (c.shown-x.ensures a.before.now m w z g refl refl k) (sym c.runs-h.ensures);
     }

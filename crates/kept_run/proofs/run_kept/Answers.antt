@@ -2,9 +2,8 @@
 -- the index awaits the next event, the depth is the one carried over them, and the journal is the one that they leave. A turn's step
 -- keeps it, and its free run, if it has one, keeps it again.
 -- Assumes nothing.
-use Prim.Native.Nat.{ℕ, ◌+◌, ◌-◌, ◌/◌, ◌<◌, ◌≤◌}
+use Prim.Native.Nat.{◌+◌, ◌/◌, ◌≤◌}
 use mathlib.Core.Bool.{false, cond, not, ◌&&◌}
-use mathlib.Core.List.{[]}
 use mathlib.Core.Path.{◌≡◌, refl, sym, ap, subst, ◌∙◌}
 use native.Mathlib.Omega.{arith}
 use lib.Dec.{eqb, ltb, leb}
@@ -42,45 +41,19 @@ loop-done-init c = record {
   some = omega arith;
   size = refl;
   counts = omega arith;
-  awaits = awaits-from _ _ _ _ _ c.requires.4 c.awaiting-at.ensures;
+  awaits = awaits-from _ _ _ _ _ c.requires.3 c.awaiting-at.ensures;
   reached = reached-start _ _ _ _;
   sixteen = refl;
   deep = sym (depth-start _ _ _);
   kept = kept-start _ _ _ _;
-  lends = c.requires.6;
+  lends = c.requires.5;
 }
 
-pub slice_bounds-keep-end : goal.slice_bounds-keep-end
-slice_bounds-keep-end c = omega (arith, c.loop-done.invariant.sixteen)
-
-pub keep-requires : goal.keep-requires
-keep-requires c = (omega (arith, c.requires.0, c.loop-done.invariant.size), omega (arith, c.loop-done.invariant.sixteen))
-
-pub deliver_due-d-requires : goal.deliver_due-d-requires
-deliver_due-d-requires c =
-    let i = c.loop-done.invariant in
-    (omega (arith, c.requires.0, i.size), i.awaits, c.requires.2, c.requires.3)
-
--- a turn that is begun is of a machine not halted, with steps to do
-pub plan-p-requires : goal.plan-p-requires
-plan-p-requires c =
-    let l = c.loop-done in (
-      omega (arith, c.requires.0, l.invariant.size, c.deliver_due-d.auto.memory),
-      (goes_on l.t.halted l.done c.args.n c.loop-done-test.true).0,
-    )
-
 pub shown_by-shown-requires : goal.shown_by-shown-requires
-shown_by-shown-requires c = omega (arith, c.requires.0, c.loop-done.invariant.size, c.deliver_due-d.auto.memory)
+shown_by-shown-requires c = omega (arith, c.told-memory, c.loop-done.invariant.size, c.deliver_due-d.auto.memory)
 
 pub lacks_room-requires : goal.lacks_room-requires
 lacks_room-requires c = added-fit _ _ _ _ _ _ _ _ c.loop-done.invariant.reached
-
-pub slice_bounds-put_back-end : goal.slice_bounds-put_back-end
-slice_bounds-put_back-end c = omega (arith, c.keep.ensures.size)
-
-pub put_back-requires : goal.put_back-requires
-put_back-requires c =
-    (omega (arith, c.requires.0, c.loop-done.invariant.size, c.deliver_due-d.auto.memory), omega (arith, c.keep.ensures.size))
 
 pub add-added-requires : goal.add-added-requires
 add-added-requires c =
@@ -92,20 +65,7 @@ add-added-requires c =
 pub moved-depth-requires : goal.moved-depth-requires
 moved-depth-requires c =
     let l = c.loop-done in
-    opened-fits _ _ _ _ _ c.args.n l.invariant.deep (goes_on l.t.halted l.done c.args.n c.loop-done-test.true).1 c.requires.5
-
-pub keep_step-ring-requires : goal.keep_step-ring-requires
-keep_step-ring-requires c =
-    (omega (arith, c.requires.0, c.loop-done.invariant.size, c.deliver_due-d.auto.memory), c.loop-done.invariant.lends)
-
-pub perform-t-requires : goal.perform-t-requires
-perform-t-requires c =
-    let l = c.loop-done in
-    let on = goes_on l.t.halted l.done c.args.n c.loop-done-test.true in (
-      omega (arith, c.requires.0, l.invariant.size, c.deliver_due-d.auto.memory),
-      omega (arith, on.1, l.invariant.counts, c.requires.1),
-      c.plan-p.ensures.within,
-    )
+    opened-fits _ _ _ _ _ c.args.n l.invariant.deep (goes_on l.t.halted l.done c.args.n c.loop-done-test.true).1 c.requires.4
 
 -- a step that is taken keeps the invariant
 stepped : (c : After-perform-t) → record {
@@ -137,7 +97,7 @@ stepped c =
     let n = l.t.count in
     let on = goes_on l.t.halted l.done a.n c.loop-done-test.true in
     let one : q.result.count ≡ n + 1 = ap (λ (z : State). z.count) q.ensures in
-    let size : length d.new.memory ≡ 65536 = omega (arith, c.requires.0, l.invariant.size, d.auto.memory) in
+    let size : length d.new.memory ≡ 65536 = omega (arith, c.told-memory, l.invariant.size, d.auto.memory) in
     let b₀ = a.journal.now in
     let lent = not (eqb (length b₀) 0) in
     let full = eqb l.added (length a.log.now / 8) && leb l.at.due n in
@@ -145,11 +105,11 @@ stepped c =
     step-taken _ _ _ _ _ _ _ _ _ _ l.invariant.reached on.0 _ _ d.ensures.state _ c.plan-p.ensures.plan
     c.shown_by-shown.result c.shown_by-shown.ensures _ c.lacks_room.ensures
     _ q.ensures c.if-lacks_room.false _ c.add-added.ensures.added _ c.add-added.ensures.log _ _ _ l.invariant.deep c.moved-depth.ensures
-    (of-devices b c.requires.3) (omega (arith, c.requires.0, l.invariant.size)) b₀ a.begins lent full c.wants-wanted.result refl
+    (of-devices b c.requires.2) (omega (arith, c.told-memory, l.invariant.size)) b₀ a.begins lent full c.wants-wanted.result refl
     c.wants-wanted.ensures _ c.keep.ensures.bytes _ _ l.invariant.kept _
     (c.keep_step-ring.ensures.kept _ _ (before-kept _ _ c.keep.ensures.size size) refl) in record {
       some = omega (arith, on.1);
-      size = omega (arith, size, c.requires.0, q.auto.mem);
+      size = omega (arith, size, c.told-memory, q.auto.mem);
       counts = omega (arith, one, l.invariant.counts);
       awaits = awaits-later b d.result.at.next d.result.at.due (n + 1) d.ensures.awaits _ (omega (arith, one));
       reached = w.0;
@@ -170,9 +130,8 @@ go_free-q-requires c =
     let h = stepped (goal.at.go_free-q-requires c).After-perform-t in
     let few = c.at_once-u.ensures.0 in
     let room = room-now _ _ _ _ _ _ _ h.reached in (
-      omega (arith, h.size, c.requires.0),
-      omega (arith, few, h.some, h.counts, c.requires.1),
-      opened-left _ _ _ _ _ _ c.args.n h.deep (omega (arith, few, h.some)) c.requires.5,
+      omega (arith, few, h.some, h.counts, c.requires.0),
+      opened-left _ _ _ _ _ _ c.args.n h.deep (omega (arith, few, h.some)) c.requires.4,
       omega (arith, added-fit _ _ _ _ _ _ _ _ h.reached, room),
     )
 
@@ -212,7 +171,7 @@ loop-done-preserved-then-u-gt0 c =
     (c.loop-done.done + 1 + j) =
     free-along (events_of b) _ _ _ _ q.new.regs q.result q.new.mem _ _ _ _ (record { reached = h.reached; depth = h.deep })
     z.result d.at.due c.if-u-gt0.true (halts-none lent q.result.halted z.result z.ensures.2)
-    (undisturbed b d.at.next d.at.due q.result.count h.awaits c.requires.2) z.ensures.1
+    (undisturbed b d.at.next d.at.due q.result.count h.awaits c.requires.1) z.ensures.1
     (room-now _ _ _ _ _ _ _ h.reached) g.new.regs g.new.memory g.new.log _ _ j _ _ g.ensures.goes
     g.result.rest g.ensures.rest in record {
       some = within at_end.After-go_free-q h.some;
@@ -257,13 +216,10 @@ exits c =
           let back =
           undone b _ _ _ _ _ _ _ _ _ l.invariant.reached more.0 _ _ w.deliver_due-d.ensures.state _ w.plan-p.ensures.plan
           w.shown_by-shown.result w.shown_by-shown.ensures _ w.lacks_room.ensures w.if-lacks_room.true l.at.next l.at.due
-          l.invariant.awaits c.requires.2 c.requires.3
-          (omega (arith, c.requires.0, l.invariant.size)) lent _ w.wants-wanted.ensures _ w.keep.ensures.bytes a.n more.1 in
+          l.invariant.awaits c.requires.1 c.requires.2
+          (omega (arith, c.told-memory, l.invariant.size)) lent _ w.wants-wanted.ensures _ w.keep.ensures.bytes a.n more.1 in
           carried (w.memory-is ∙ w.put_back.ensures ∙ back.0) w.regs-is w.loop-done-test.true back.1
     ]
-
-pub shape_of-memory : goal.shape_of-memory
-shape_of-memory c = omega (arith, c.loop-done.invariant.size, c.loop-done-test.auto.memory)
 
 pub shape_of-log : goal.shape_of-log
 shape_of-log c = log-size _ _ _ _ _ _ _ _ c.loop-done.invariant.reached

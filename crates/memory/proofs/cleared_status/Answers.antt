@@ -1,7 +1,6 @@
 -- `memory::cleared_status` meets its contract. Assumes nothing.
 use Rattle.memory.proofs.Laws.{cleared-law}
 use mathlib.Core.Path.{◌∙◌}
-use borrow.Author.Rules.{rules}
 use Rattle.memory.proofs.cleared_status.Goals as goal
 
 pub returns : goal.returns

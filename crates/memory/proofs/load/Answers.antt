@@ -1,6 +1,5 @@
 -- `memory::load` meets its contract. Assumes nothing.
 use Rattle.memory.proofs.Laws.{load_value, load_word}
-use borrow.Author.Rules.{rules}
 use Rattle.memory.proofs.load.Goals as goal
 
 pub returns-then-byte : goal.returns-then-byte

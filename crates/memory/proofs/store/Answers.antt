@@ -1,6 +1,5 @@
 -- `memory::store` meets its contract. Assumes nothing.
 use Rattle.memory.proofs.Laws.{store-even}
-use borrow.Author.Rules.{rules}
 use Rattle.memory.proofs.store.Goals as goal
 
 pub returns-then-byte : goal.returns-then-byte

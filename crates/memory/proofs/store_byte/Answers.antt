@@ -1,7 +1,6 @@
 -- `memory::store_byte` meets its contract. Assumes nothing.
 use Rattle.memory.proofs.Laws.{store-plain}
 use mathlib.Core.Path.{◌∙◌}
-use borrow.Author.Rules.{rules}
 use Rattle.memory.proofs.store_byte.Goals as goal
 
 pub returns : goal.returns

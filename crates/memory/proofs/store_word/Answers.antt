@@ -1,19 +1,15 @@
 -- `memory::store_word` meets its contract. Assumes nothing.
+use Rattle.std.proofs.Common.{◌≡◌, rules, get_or}
+use Rattle.machine.specs.Memory.{low_byte, high_byte}
 use Rattle.memory.proofs.Laws.{store-above, store_two}
-use borrow.Author.Rules.{rules}
 use Rattle.memory.proofs.store_word.Goals as goal
 
 pub returns-then-w-ge8 : goal.returns-then-w-ge8
-returns-then-w-ge8 c =
-    let s = c in
-    let i = c.if-w-ge8.true in
-    store-above s.args.mem.now s.args.w.0 s.args.v i c.write_word.ensures
+returns-then-w-ge8 c = store-above c.args.mem.now c.args.w.0 c.args.v c.if-w-ge8.true c.write_word.ensures
 
 pub returns : goal.returns
 returns c =
-    let at-store-byte = c in
-    let at-byte-of = c in
-    let s = c in
-    let a = at-byte-of.byte_of-a.ensures in
-    let e = at-store-byte.store_byte.ensures in
-    store_two s.args.mem.now s.args.w.0 s.args.v a e c.store_byte-2.ensures
+    let low : get_or c.to_le_bytes.result 0 0 ≡ low_byte c.args.v = search rules in
+    let high : get_or c.to_le_bytes.result 1 0 ≡ high_byte c.args.v = search rules in
+    store_two c.args.mem.now c.args.w.0 c.args.v c.byte_of-a.ensures
+    (rw low at c.store_byte.ensures) (rw high at c.store_byte-2.ensures)

@@ -1,6 +1,5 @@
 -- `memory::touch` meets its contract. Assumes nothing.
 use Rattle.memory.proofs.Laws.{touch-status, touch-data, touch_plain}
-use borrow.Author.Rules.{rules}
 use Rattle.memory.proofs.touch.Goals as goal
 
 pub returns-then-i-eq0 : goal.returns-then-i-eq0

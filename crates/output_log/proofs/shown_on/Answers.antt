@@ -1,4 +1,3 @@
-use borrow.Author.Rules.{rules}
 use Rattle.output_log.proofs.Laws.{shown-far, shown-hidden, shown-seen}
 use Rattle.output_log.proofs.shown_on.Goals as goal
 

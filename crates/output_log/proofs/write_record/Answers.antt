@@ -10,8 +10,8 @@ returns c =
     let at-start = c in
     let a = at-start.args in
     let i = 8 * a.k in
-    ap (λ l. set (set (set (set l (i + 4) a.device) (i + 5) a.value) (i + 6) 0) (i + 7) 0) c.put_four.ensures
-    ∙ record_bytes a.log.now i a.step a.device a.value
+    ap (λ l. set (set (set (set l (i + 4) a.x.device) (i + 5) a.x.value) (i + 6) 0) (i + 7) 0) c.put_four.ensures
+    ∙ record_bytes a.log.now i a.step a.x.device a.x.value
 
 pub bounds-log-i-2 : goal.bounds-log-i-2
 bounds-log-i-2 c = simp length-set (search rules)

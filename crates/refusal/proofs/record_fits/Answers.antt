@@ -5,7 +5,6 @@ use mathlib.Core.Bool.{◌&&◌, and-false}
 use mathlib.Core.Path.{ap, sym, ◌∙◌}
 use lib.Dec.{eqb, ltb}
 use borrow.Author.Tests.{eq-eqb, ne_eqb, lt-ltb, le-ltb}
-use borrow.Author.Rules.{rules}
 use Rattle.machine.specs.Record.{two_at}
 use Rattle.machine.specs.Refusal.{record_fits}
 use Rattle.refusal.proofs.record_fits.Goals as goal

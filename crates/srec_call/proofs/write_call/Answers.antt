@@ -7,20 +7,20 @@ use Rattle.srec_call.proofs.write_call.Goals as goal
 pub returns-then-memory-ne65536 : goal.returns-then-memory-ne65536
 returns-then-memory-ne65536 c = let s = c.args in
     let e = write-short s.memory.now s.start s.size s.pc s.text.now c.if-memory-ne65536.true in
-    record { reply = ap (λ (x : Written). x.reply) e; text = ap (λ (x : Written). x.text) e }
+    record { reply = c.from.ensures ∙ ap (λ (x : Written). x.reply) e; text = ap (λ (x : Written). x.text) e }
 
 pub returns-then-a-n-gt65536 : goal.returns-then-a-n-gt65536
 returns-then-a-n-gt65536 c =
     let s = c.args in
     let e = write-past s.memory.now s.start s.size s.pc s.text.now c.if-memory-ne65536.false c.if-a-n-gt65536.true in
-    record { reply = ap (λ (x : Written). x.reply) e; text = ap (λ (x : Written). x.text) e }
+    record { reply = c.from-then-a-n-gt65536.ensures ∙ ap (λ (x : Written). x.reply) e; text = ap (λ (x : Written). x.text) e }
 
 pub returns-then-text-need : goal.returns-then-text-need
 returns-then-text-need c =
     let s = c.args in
     let e =
     write-small s.memory.now s.start s.size s.pc s.text.now c.if-memory-ne65536.false c.if-a-n-gt65536.false c.if-text-need.true in
-    record { reply = ap (λ (x : Written). x.reply) e; text = ap (λ (x : Written). x.text) e }
+    record { reply = c.from-then-text-need.ensures ∙ ap (λ (x : Written). x.reply) e; text = ap (λ (x : Written). x.text) e }
 
 pub returns : goal.returns
 returns c =

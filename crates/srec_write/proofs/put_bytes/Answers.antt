@@ -1,32 +1,23 @@
-use mathlib.Core.Path.{refl, sym, ◌∙◌}
-use native.Mathlib.Omega.{arith}
-use lib.ListN.{length-set}
+use Rattle.std.proofs.Common.{refl, sym, ◌∙◌, arith, length-set}
 use Rattle.srec_write.proofs.Laws.{digits_more, digits-end}
 use Rattle.srec_write.proofs.put_bytes.Goals as goal
 
-pub loop-i-preserved : goal.loop-i-preserved
-loop-i-preserved c =
-    let p = c.loop-i in (
+pub loop-b-preserved : goal.loop-b-preserved
+loop-b-preserved c =
+    let p = c.loop-b in (
       omega arith,
-      omega arith,
-      simp length-set p.invariant.2,
-      digits_more p.text c.args.bytes.now p.next p.i _ _ (omega arith) c.digit.ensures c.digit-in-loop-i.ensures
-          ∙ p.invariant.3,
+      simp length-set p.invariant.1,
+      digits_more p.text c.args.bytes.now p.next p.b-index _ _ (omega arith) c.digit.ensures c.digit-in-loop-b.ensures
+          ∙ p.invariant.2,
     )
 
 pub returns : goal.returns
 returns c =
-    let p = c.loop-i in
-    (sym (digits-end p.text c.args.bytes.now p.next p.i (omega arith)) ∙ p.invariant.3, omega arith)
+    let p = c.loop-b in
+    (sym (digits-end p.text c.args.bytes.now p.next p.b-index (omega arith)) ∙ p.invariant.2, omega arith)
 
-pub loop-i-init : goal.loop-i-init
-loop-i-init c = (omega arith, omega arith, refl, refl)
+pub loop-b-init : goal.loop-b-init
+loop-b-init c = (omega arith, refl, refl)
 
-pub overflow_cast-b : goal.overflow_cast-b
-overflow_cast-b c = omega (arith, c.type_inv.bytes c.loop-i.i)
-
-pub digit-requires : goal.digit-requires
-digit-requires c = omega (arith, c.type_inv.bytes c.loop-i.i)
-
-pub bounds-text-next-in-loop-i : goal.bounds-text-next-in-loop-i
-bounds-text-next-in-loop-i c = simp length-set (omega arith)
+pub bounds-text-next-in-loop-b : goal.bounds-text-next-in-loop-b
+bounds-text-next-in-loop-b c = simp length-set (omega arith)

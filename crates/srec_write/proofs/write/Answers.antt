@@ -10,7 +10,7 @@ use Rattle.srec_write.proofs.write.Goals as goal
 pub put_line-at-requires : goal.put_line-at-requires
 put_line-at-requires c =
     let p = c.loop-left in
-    let s = c.at_most_16-size.result in
+    let s = c.min-size.result in
     let l = part_length c.args.memory.now p.a (p.a + s - p.a) (omega arith) in
     (omega arith, omega arith, omega arith)
 
@@ -18,8 +18,8 @@ pub loop-left-preserved : goal.loop-left-preserved
 loop-left-preserved c =
     let p = c.loop-left in
     let m = c.args.memory.now in
-    let s = c.at_most_16-size.result in
-    let es = c.at_most_16-size.ensures in
+    let s = c.min-size.result in
+    let es = c.min-size.ensures in
     let l = part_length m p.a (p.a + s - p.a) (omega arith) in
     let put = c.put_line-at.ensures in
     let kept = c.put_line-at.auto in record {

@@ -12,8 +12,13 @@ returns-then-refused c =
 pub sum_above-requires : goal.sum_above-requires
 sum_above-requires c =
     let a = c.args in
+    (fits a.vectors.now a.uses.now a.p (sym c.refused.ensures ∙ c.if-refused.false)).uses-fit
+
+pub invariant_of-h : goal.invariant_of-h
+invariant_of-h c =
+    let a = c.args in
     let f = fits a.vectors.now a.uses.now a.p (sym c.refused.ensures ∙ c.if-refused.false) in
-    record { vectors_len = f.vectors-length; uses_len = f.uses-length; uses_value = f.uses-fit }
+    record { vectors_len = f.vectors-length; uses_len = f.uses-length }
 
 pub overflow_mul-result : goal.overflow_mul-result
 overflow_mul-result c =

@@ -2,7 +2,6 @@ use Prim.Native.Nat.{◌/◌, ◌%◌}
 use mathlib.Core.List.{[]}
 use mathlib.Core.Path.{ap, ◌∙◌}
 use lib.Seq.{sets}
-use borrow.Author.Rules.{rules}
 use Rattle.state_record.specs.Bytes.{two, four}
 use Rattle.state_record.proofs.Laws.{halves}
 use Rattle.state_record.proofs.put_counts.Goals as goal

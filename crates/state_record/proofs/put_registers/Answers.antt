@@ -1,4 +1,3 @@
-use borrow.Author.Rules.{rules}
 use Rattle.state_record.proofs.put_registers.Goals as goal
 
 pub returns : goal.returns

@@ -1,4 +1,3 @@
-use borrow.Author.Rules.{rules}
 use Rattle.machine.specs.Record.{state_in}
 use Rattle.state_record.proofs.read_record.Goals as goal
 

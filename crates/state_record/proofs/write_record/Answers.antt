@@ -1,4 +1,3 @@
-use borrow.Author.Rules.{rules}
 use Rattle.state_record.proofs.Laws.{whole-record}
 use Rattle.state_record.proofs.write_record.Goals as goal
 

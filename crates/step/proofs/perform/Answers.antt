@@ -16,42 +16,42 @@ use Rattle.step.proofs.perform.Goals as goal
 pub chain-psw-requires : goal.chain-psw-requires
 chain-psw-requires c =
     let s = c in
-    let h = subst Within c.in-Chain.is s.requires.2 in
-    (s.requires.0, omega (arith, h))
+    let h = subst Within c.in-Chain.is s.requires.1 in
+    (omega (arith, h))
 
 pub fall-requires : goal.fall-requires
 fall-requires c =
     let s = c in
-    subst Within c.in-Chain.is s.requires.2
+    subst Within c.in-Chain.is s.requires.1
 
 pub enter-psw-requires : goal.enter-psw-requires
 enter-psw-requires c =
     let s = c in
-    let h = subst Within c.in-Accept.is s.requires.2 in
-    (s.requires.0, omega (arith, h))
+    let h = subst Within c.in-Accept.is s.requires.1 in
+    (omega (arith, h))
 
 pub fall-requires-in-Accept : goal.fall-requires-in-Accept
 fall-requires-in-Accept c =
     let at-a2 = c in
     let s = c in
-    subst Within at-a2.in-Accept.is s.requires.2
+    subst Within at-a2.in-Accept.is s.requires.1
 
 pub enter-psw-requires-in-Fault : goal.enter-psw-requires-in-Fault
 enter-psw-requires-in-Fault c =
     let s = c in
-    let h = subst Within c.in-Fault.is s.requires.2 in
-    (s.requires.0, omega (arith, h))
+    let h = subst Within c.in-Fault.is s.requires.1 in
+    (omega (arith, h))
 
 pub enter-psw-requires-in-Trap : goal.enter-psw-requires-in-Trap
 enter-psw-requires-in-Trap c =
     let s = c in
-    let h = subst Within c.in-Trap.is s.requires.2 in
-    (s.requires.0, omega (arith, h))
+    let h = subst Within c.in-Trap.is s.requires.1 in
+    (omega (arith, h))
 
 pub load-cex-requires : goal.load-cex-requires
 load-cex-requires c =
     let s = c in
-    (s.requires.0, subst Within c.in-Loads.is s.requires.2)
+    (subst Within c.in-Loads.is s.requires.1)
 
 pub returns-in-Stopped : goal.returns-in-Stopped
 unfolding perform commit

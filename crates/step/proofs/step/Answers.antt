@@ -7,25 +7,11 @@ use mathlib.Core.Path.{sym, ap, ◌∙◌}
 use native.Mathlib.Omega.{arith}
 use Rattle.step.proofs.step.Goals as goal
 
-pub plan-p-requires : goal.plan-p-requires
-plan-p-requires c =
-    let k = c in
-    let s = c in
-    let at-if1 = c in
-    (k.deliver-due.auto.mem ∙ s.requires.0, at-if1.if-t.false)
-
-pub perform-rest-requires : goal.perform-rest-requires
-perform-rest-requires c =
-    let k = c in
-    let s = c in
-    let at-plan = c in
-    (k.deliver-due.auto.mem ∙ s.requires.0, s.requires.1, at-plan.plan-p.ensures.within)
-
 pub returns-then-t : goal.returns-then-t
 returns-then-t c =
     let s = c in
     let a = s.args in
-    let b = s.requires.2 in
+    let b = s.requires.1 in
     let same = step-halted (events_of a.events.now) (state_of a.m a.memory.now) c.if-t.true in
     record { state = sym same; behind = (b.0, λ j h. omega (arith, b.1 j h)) }
 
@@ -45,10 +31,8 @@ returns c =
       behind = d.ensures.behind;
     }
 
-pub deliver-due-requires : goal.deliver-due-requires
-deliver-due-requires c = let s = c in record {
-  mem_len = s.requires.0;
-  behind_2 = s.requires.2;
-  ordered = s.requires.3;
-  events_value = s.requires.4;
-}
+pub plan-p-requires : goal.plan-p-requires
+plan-p-requires c = c.if-t.false
+
+pub perform-rest-requires : goal.perform-rest-requires
+perform-rest-requires c = (c.requires.0, c.plan-p.ensures.within)

@@ -6,11 +6,6 @@ use Rattle.step_plan.specs.Planned.{Asked}
 use Rattle.step_plan.proofs.Laws.{allowed-nothing, allowed-load, allowed-store, allowed-fault, allowed-trap, allowed-low}
 use Rattle.step_plan.proofs.grant.Goals as goal
 
-pub priority_of-requires : goal.priority_of-requires
-priority_of-requires c =
-    let s = c in
-    (s.requires.0, subst Asked c.in-Trap.is s.requires.1)
-
 pub returns-then-current_priority-priority_of : goal.returns-then-current_priority-priority_of
 returns-then-current_priority-priority_of c =
     let at-start = c in

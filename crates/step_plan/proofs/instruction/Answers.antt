@@ -1,10 +1,10 @@
 -- The points of a step from sleep on, in order: asleep, PC odd, skipped, an odd word access, or what the access grants. Each way out is a
 -- law with the tests before it as premises (entry's Quiet, instruction-asleep to instruction-runs). Assumes nothing.
-use Rattle.std.proofs.Common.{ℕ, List, set, sym, refl, ap, ◌∙◌, subst}
+use Rattle.std.proofs.Common.{ℕ, ◌+◌, List, get_or, set, sym, refl, ap, ◌∙◌, subst}
 use lib.Seq.{set-get_or}
 use Rattle.isa.specs.Fields.{Fields}
 use Rattle.isa.proofs.Laws.{decode-fields}
-use Rattle.machine.specs.State.{core_of}
+use Rattle.machine.specs.State.{core_of, wrap}
 use Rattle.machine.specs.Effect.{Effect, effect_of}
 use Rattle.machine.specs.Step.{faulting, executed}
 use Rattle.machine_laws.proofs.Plans.{granted-even}
@@ -37,8 +37,7 @@ returns-then-skips c =
     let x = core_of a.regs.now a.psw a.cex in
     let awake = sym r.asleep.ensures ∙ r.if-asleep.false in
     let skipped = sym c.skips.ensures ∙ c.if-skips.true in
-    let next = c.wrapping_add_u16-next.ensures.value in
-    skip-law a.regs.now a.psw a.cex _ _ next r.lower-left.ensures
+    skip-law a.regs.now a.psw a.cex _ _ refl r.lower-left.ensures
     ∙ sym (instruction-skips x a.mem.now awake c.if-pc-eq1.false skipped)
 
 pub execute-d-requires : goal.execute-d-requires
@@ -55,24 +54,17 @@ returns-then-odd c =
     let at-start = r in
     let a = at-start.args in
     let x = core_of a.regs.now a.psw a.cex in
-    let y = core_of (set a.regs.now 7 b.wrapping_add_u16-next.result) a.psw r.lower-left.result in
+    let y = core_of (set a.regs.now 7 (wrap (get_or a.regs.now 7 0 + 2))) a.psw r.lower-left.result in
     let e =
     fetched a.regs.now a.mem.now a.psw a.cex _ _ _ _ _ b.word_of.ensures.0 b.read_word-w.ensures
-    b.wrapping_add_u16-next.ensures.value r.lower-left.ensures
+    refl r.lower-left.ensures
     (o.execute-d.ensures ∙ ap (effect_of y) d.decode.ensures) in
     let awake = sym r.asleep.ensures ∙ r.if-asleep.false in
     let taken = sym b.skips.ensures ∙ b.if-skips.false in
-    odd-law a.regs.now a.mem.now a.psw a.cex _ _ _ b.wrapping_add_u16-next.ensures.value
+    odd-law a.regs.now a.mem.now a.psw a.cex _ _ _ refl
     r.lower-left.ensures (sym o.odd.ensures ∙ c.if-odd.true) c.faulted-then-odd.ensures
     ∙ ap (λ (z : Effect). executed x z a.mem.now) e
     ∙ sym (instruction-runs x a.mem.now awake at-if2.if-pc-eq1.false taken)
-
-pub grant-requires : goal.grant-requires
-grant-requires c =
-    let b = c in
-    let s = b in
-    let f = subst Fields (sym b.decode.ensures) (decode-fields _) in
-    (s.requires, subst (λ (e : Effect). Asked e.access) (sym c.execute-d.ensures) (effect-within _ _ f))
 
 pub returns : goal.returns
 returns c =
@@ -84,10 +76,10 @@ returns c =
     let at-start = r in
     let a = at-start.args in
     let x = core_of a.regs.now a.psw a.cex in
-    let y = core_of (set a.regs.now 7 b.wrapping_add_u16-next.result) a.psw r.lower-left.result in
+    let y = core_of (set a.regs.now 7 (wrap (get_or a.regs.now 7 0 + 2))) a.psw r.lower-left.result in
     let e =
     fetched a.regs.now a.mem.now a.psw a.cex _ _ _ _ _ b.word_of.ensures.0 b.read_word-w.ensures
-    b.wrapping_add_u16-next.ensures.value r.lower-left.ensures
+    refl r.lower-left.ensures
     (o.execute-d.ensures ∙ ap (effect_of y) d.decode.ensures) in
     let awake = sym r.asleep.ensures ∙ r.if-asleep.false in
     let taken = sym b.skips.ensures ∙ b.if-skips.false in
@@ -95,3 +87,8 @@ returns c =
     ∙ sym (granted-even x _ _ a.mem.now (sym o.odd.ensures ∙ c.if-odd.false))
     ∙ ap (λ (z : Effect). executed x z a.mem.now) e
     ∙ sym (instruction-runs x a.mem.now awake at-if2.if-pc-eq1.false taken)
+
+pub grant-requires : goal.grant-requires
+grant-requires c =
+    let f = subst Fields (sym c.decode.ensures) (decode-fields _) in
+    subst (λ (e : Effect). Asked e.access) (sym c.execute-d.ensures) (effect-within _ _ f)

@@ -1,5 +1,5 @@
 -- `step_plan::plan` meets its contract. Assumes nothing.
-use Rattle.std.proofs.Common.{sym, refl, subst}
+use Rattle.std.proofs.Common.{sym, refl, subst, arith}
 use Rattle.machine.specs.State.{State, core_with}
 use Rattle.devices.specs.Cursor.{state_from}
 use Rattle.machine.specs.Step.{Plan}
@@ -20,17 +20,17 @@ returns-then-asleep-regs c =
     let a = s.args in
     let r = returns_is (core_with a.regs.now a.t) c.asleep.ensures c.if-asleep-regs.true in
     let e = c.leave.ensures in
-    record { plan = due-leaves (begun s) s.requires.1 r (e.plan a.regs.now); within = e.within }
+    record { plan = due-leaves (begun s) s.requires r (e.plan a.regs.now); within = e.within }
 
-pub returns-then-d-lt8 : goal.returns-then-d-lt8
-returns-then-d-lt8 c =
+pub returns-in-Some : goal.returns-in-Some
+returns-in-Some c =
     let k = c in
     let s : Start = search in
     let a = s.args in
     let r = returns_is (core_with a.regs.now a.t) k.asleep.ensures k.if-asleep-regs.false in
-    let d = c.line_above-d.ensures.0 in
+    let d = c.in-Some.ensures in
     let q = c.current_priority.ensures.0 in
-    record { plan = due-accepts (begun s) s.requires.1 _ _ r q d c.if-d-lt8.true refl; within = c.if-d-lt8.true }
+    record { plan = due-accepts (begun s) s.requires _ _ r q (sym d.1) d.0 refl; within = d.0 }
 
 pub returns : goal.returns
 returns c =
@@ -38,9 +38,9 @@ returns c =
     let s : Start = search in
     let a = s.args in
     let r = returns_is (core_with a.regs.now a.t) k.asleep.ensures k.if-asleep-regs.false in
-    let d = c.line_above-d.ensures.0 in
+    let d = c.in_default.ensures in
     let q = c.current_priority.ensures.0 in
     let e = c.instruction.ensures in record {
-      plan = due-runs (begun s) s.requires.1 _ _ r q d c.if-d-lt8.false e;
+      plan = due-runs (begun s) s.requires _ _ r q (sym d) (omega arith) e;
       within = subst (λ (p : Plan). Within p.act) (sym e) (instruction-within _ _);
     }

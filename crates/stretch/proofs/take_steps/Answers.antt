@@ -1,8 +1,8 @@
 -- The loop's invariant: the steps taken so far lead from the start to where it is, PC being in `pc`. A word that was left alone adds
 -- none, any other one more. Assumes nothing.
 use Rattle.stretch.proofs.Steps.{awake-set, walked_start, walked_on, walked-back, walked-last, stays-shut}
-use Rattle.flags.specs.Kept.{held}
-use Rattle.std.proofs.Common.{◌≡◌, ℕ, ◌+◌, ◌-◌, ◌%◌, ◌≤◌, refl, arith}
+use Rattle.flags.specs.Kept.{held_in}
+use Rattle.std.proofs.Common.{◌≡◌, ℕ, ◌+◌, ◌-◌, ◌%◌, ◌≤◌, arith}
 use Rattle.stretch.proofs.take_steps.Goals as goal
 use Rattle.stretch.proofs.take_steps.Goals.{At-loop-left, Start}
 
@@ -13,13 +13,11 @@ more n k s h g = omega arith
 pub loop-left-init : goal.loop-left-init
 loop-left-init c =
     let a = c.args in
-    let (size, table, fetching, few) = c.requires in
-    let e = c.reg-pc.ensures in
+    let (table, fetching, few) = c.requires in
     let even = fetching.0 in
     let none : a.n - a.n ≡ 0 = omega arith in
     record {
       within = omega arith;
-      size = refl;
       table = table;
       awake = fetching.1;
       even = omega arith;
@@ -27,22 +25,17 @@ loop-left-init c =
       few = few;
       walked =
           rw none (walked_start a.free a.regs.now a.mem.now
-          (held a.psw.now a.last.now a.sum.now a.over.now) a.cex a.regs.now _ refl e (omega arith));
+          (held_in a.psw.now a.kept.now) a.cex (omega arith));
       shut = λ h. h;
     }
 
-pub take_step-r-requires : goal.take_step-r-requires
-take_step-r-requires c =
-    let i = c.loop-left.invariant in
-    (omega arith, i.table, i.even, i.awake)
-
 -- the PSW of the loop
 abbrev kept : At-loop-left → ℕ
-kept c = let l = c.loop-left in held l.psw l.last l.sum l.over
+kept c = let l = c.loop-left in held_in l.psw l.kept
 
 -- and that before it
 abbrev first : Start → ℕ
-first c = let a = c.args in held a.psw.now a.last.now a.sum.now a.over.now
+first c = let a = c.args in held_in a.psw.now a.kept.now
 
 pub returns-then-r-eq-LEFT_ALONE : goal.returns-then-r-eq-LEFT_ALONE
 returns-then-r-eq-LEFT_ALONE c =
@@ -54,11 +47,9 @@ returns-then-r-eq-LEFT_ALONE c =
     let g = c.take_step-r.ensures in
     let some = c.loop-left-test.true in
     let w = walked-back a.free a.regs.now a.mem.now (first at-start) a.cex l.regs l.mem _ _ (kept at-loop) l.x _ _
-    l.pc _ (a.n - l.left) a.n i.awake i.walked i.few (omega (arith, i.within)) g _ c.reg.result
-    c.wrapping_add_u16-back.result c.if-r-eq-LEFT_ALONE.true c.reg.ensures c.wrapping_add_u16-back.ensures.value
-    c.set_reg.ensures in
+    l.pc _ (a.n - l.left) a.n i.awake i.walked i.few (omega (arith, i.within)) g c.if-r-eq-LEFT_ALONE.true in
     let still = stays-shut a.free l.regs l.mem _ _ (kept at-loop) l.x _ _ l.pc _ g in
-    record { walked = w.0; left = (i.within, omega arith, w.1); shut = (λ h. still (i.shut h)) }
+    record { walked = w.0; left = (i.within, w.1); shut = (λ h. still (i.shut h)) }
 
 pub returns-then-r-ge-LEFT_ALONE : goal.returns-then-r-ge-LEFT_ALONE
 returns-then-r-ge-LEFT_ALONE c =
@@ -70,11 +61,10 @@ returns-then-r-ge-LEFT_ALONE c =
     let g = c.take_step-r.ensures in
     let some = c.loop-left-test.true in
     let w = walked-last a.free a.regs.now a.mem.now (first at-start) a.cex l.regs l.mem _ _ (kept at-loop) l.x _ _
-    l.pc _ (a.n - l.left) a.n i.awake i.walked i.few (omega (arith, i.within)) g _ c.if-r-eq-LEFT_ALONE.false
-    c.set_reg-then-r-ge-LEFT_ALONE.ensures in
+    l.pc _ (a.n - l.left) a.n i.awake i.walked i.few (omega (arith, i.within)) g c.if-r-eq-LEFT_ALONE.false in
     let still = stays-shut a.free l.regs l.mem _ _ (kept at-loop) l.x _ _ l.pc _ g in record {
       walked = rw (more a.n l.left 1 (omega arith) i.within) w.0;
-      left = (omega (arith, i.within), omega arith, w.1);
+      left = (omega (arith, i.within), w.1);
       shut = (λ h. still (i.shut h));
     }
 
@@ -92,7 +82,6 @@ loop-left-preserved c =
     l.pc _ (a.n - l.left) a.n i.awake i.walked i.few (omega arith) g c.if-r-ge-LEFT_ALONE.false in
     record {
       within = omega arith;
-      size = omega arith;
       table = i.table;
       awake = w.0;
       even = w.1;
@@ -107,5 +96,9 @@ returns c =
     let at-loop : At-loop-left = search in
     let l = at-loop.loop-left in
     let i = l.invariant in
-    rw c.set_reg-2.ensures
-    (record { walked = i.walked; left = (i.within, omega arith, awake-set l.regs (kept at-loop) (l.pc % 65536) i.awake); shut = i.shut })
+    record { walked = i.walked; left = (i.within, awake-set l.regs (kept at-loop) (l.pc % 65536) i.awake); shut = i.shut }
+
+pub take_step-r-requires : goal.take_step-r-requires
+take_step-r-requires c =
+    let i = c.loop-left.invariant in
+    (i.table, i.even, i.awake)

@@ -3,7 +3,7 @@
 use Rattle.std.proofs.Common.{◌≡◌, ℕ, ◌+◌, ◌-◌, ◌%◌, ◌<◌, ◌≤◌, eqb, ◌⊎◌, sym, refl, ap, ◌∙◌, subst, inl, inr, arith}
 use mathlib.Core.Bool.{false≢true}
 use borrow.Author.Tests.{eqb-false}
-use Rattle.flags.specs.Kept.{held}
+use Rattle.flags.specs.Kept.{held_in}
 use Rattle.machine_laws.proofs.Cases.{bool_cases, eq_of}
 use Rattle.entry.proofs.Quiet.{shut_none}
 use Rattle.stretch.proofs.Steps.{goes-join, lowered-shut, walked-free, walked_one, walked_none, walked-left}
@@ -12,23 +12,22 @@ use Rattle.stretch.proofs.turn.Goals.{Start}
 
 -- the PSW before the turn
 abbrev first : Start → ℕ
-first c = let a = c.args in held a.psw.now a.last.now a.sum.now a.over.now
+first c = let a = c.args in held_in a.psw.now a.kept.now
 
 -- steps that the block skips
 pub skipping-requires : goal.skipping-requires
 skipping-requires c =
-    let (_, _, fetching, some) = c.requires in
-    (fetching.0, fetching.1.1, c.covered-c.ensures.skips.0 c.if-c-eq0.true, some)
+    let (_, fetching, some) = c.requires in
+    (fetching.0, c.covered-c.ensures.skips.0 c.if-c-eq0.true, some)
 
 pub returns-then-c-eq0 : goal.returns-then-c-eq0
 returns-then-c-eq0 c =
     let s : Start = search in
-    let (size, _, fetching, _) = c.requires in
+    let (_, fetching, _) = c.requires in
     let h = c.skipping.ensures in
-    let less = h.left.0 in
     record {
       goes = λ l none. h.goes l (first s) c.args.mem.now fetching.1.0;
-      left = (omega (arith, less), (λ e. less), size, (fetching.1.0, h.left.1));
+      left = (omega (arith, h.left), (λ e. h.left), (fetching.1.0, omega (arith, c.skipping.array_long)));
     }
 
 -- where no block is open, or for one step
@@ -41,8 +40,7 @@ pub take_steps-a-requires : goal.take_steps-a-requires
 take_steps-a-requires c =
     let k = c.covered-c in
     let x = c.args.cex in
-    let (_, table, fetching, _) = c.requires in (
-      omega arith,
+    let (table, fetching, _) = c.requires in (
       table,
       fetching,
       few k.result.left c.args.left x k.result.cex k.ensures.one (λ h. k.ensures.lowers ∙ (shut_none x h).1),
@@ -56,20 +54,16 @@ returns-then-a-eq0 c =
     let k = c.covered-c.ensures in
     let w = c.take_steps-a.ensures in
     let o = w.left in
-    let t = c.comes_to.ensures in
-    rw (t.0, t.1, t.2)
-    (record {
+    record {
       goes =
           walked-free a.free a.regs.now a.mem.now _ _ (first s) a.cex _ _ _ _ a.left _ 0 k.lowers k.shut c.if-a-eq0.true
           c.if-cex-eq0.true w.walked;
-      left = (omega arith, (λ e. absurd (false≢true e)), o.1, o.2);
-    })
+      left = (omega arith, (λ e. absurd (false≢true e)), o.1);
+    }
 
 pub control-requires : goal.control-requires
 control-requires c =
     let o = c.take_steps-a.ensures in (
-      omega arith,
-      o.left.2.1,
       o.shut (lowered-shut c.args.cex _ c.covered-c.ensures.lowers c.if-cex-eq0.true),
       omega (arith, c.if-a-eq0.false),
     )
@@ -94,8 +88,12 @@ returns-then-cex-eq0 c =
           rw e
           (goes-join l a.regs.now a.mem.now (first s) a.cex _ _ _ _ _ _ _ _ _ _
           (walked-free a.free a.regs.now a.mem.now _ _ (first s) a.cex _ _ _ _ a.left r r k.lowers k.shut refl z w.walked l none)
-          (p.goes l _ o.2.0));
-      left = (omega (arith, le, p.left.0), (λ m. let g = p.left.1 m in omega (arith, le, g)), o.1, (o.2.0, p.left.2));
+          (p.goes l _ o.1.0));
+      left = (
+        omega (arith, le, p.left.0),
+        (λ m. let g = p.left.1 m in omega (arith, le, g)),
+        (o.1.0, omega (arith, c.control.array_long)),
+      );
     }
 
 -- one step may be taken in an open block
@@ -109,11 +107,10 @@ returns-then-a-eq1 c =
     let j : k.result.left - c.take_steps-a.result.left ≡ 0 = omega (arith, n, c.if-a-eq1.true) in
     let z : a.left - a.left ≡ 0 = omega arith in
     let u = walked-left a.free a.regs.now a.mem.now _ _ (first s) _ _ _ _ w.walked j in
-    let t = c.comes_to-then-a-eq1.ensures in
-    rw (t.0, t.1, t.2, u.1, z)
+    rw (u.1, z)
     (record {
       goes = λ l none. walked_none a.free a.regs.now a.mem.now _ _ (first s) _ _ _ _ w.walked l a.cex j;
-      left = (omega arith, (λ e. absurd (false≢true e)), w.left.1, rw (sym u.1) w.left.2);
+      left = (omega arith, (λ e. absurd (false≢true e)), rw (sym u.1) w.left.1);
     })
 
 pub returns : goal.returns
@@ -125,17 +122,15 @@ returns c =
     let w = c.take_steps-a.ensures in
     let some : 0 < k.result.left = omega (arith, c.if-c-eq0.false) in
     let n = k.ensures.one c.if-cex-eq0.false in
-    let lt = c.requires.3 in
+    let lt = c.requires.2 in
     let none : r ≡ 0 = omega (arith, w.left.0, n, c.if-a-eq1.false) in
     let e : a.left - (a.left - 1) ≡ k.result.left - r = omega (arith, lt, some, n, none) in
     let all : k.result.left - r ≡ 0 → ⊥ = λ z. omega (arith, z, some, none) in
-    let t = c.comes_to-2.ensures in
-    rw (t.0, t.1, t.2)
-    (record {
+    record {
       goes =
           λ l free.
           rw e
           (walked_one a.free a.regs.now a.mem.now _ _ (first s) _ _ _ _ w.walked l a.cex free (k.ensures.skips.1 some)
           (sym k.ensures.lowers) all);
-      left = (omega (arith, lt), (λ m. omega (arith, lt)), w.left.1, w.left.2);
-    })
+      left = (omega (arith, lt), (λ m. omega (arith, lt)), w.left.1);
+    }

@@ -4,7 +4,7 @@ use mathlib.Core.Path.{◌≡◌, refl, sym, ap, ◌∙◌}
 use Rattle.machine.specs.State.{moved, doubled}
 use Rattle.machine.specs.Effect.{taken_of}
 use Rattle.word.specs.Offset.{signed_of}
-use Rattle.flags.specs.Kept.{held}
+use Rattle.flags.specs.Kept.{held_in}
 use Rattle.stretch_registers.proofs.Laws.{jumps, stays, near, handed}
 use Rattle.stretch_formats.proofs.Laws.{branches}
 use Rattle.stretch_formats.proofs.branch_row.Goals as goal
@@ -20,7 +20,7 @@ returns-then-not-taken c =
     let w = a.w in
     let x = a.cex.now in
     λ free l m psw past.
-    let p = held psw a.last a.sum a.over in
+    let p = held_in psw a.kept.now in
     let t = ap (λ (n : ℕ). taken_of n p) (number w a.row e) ∙ sym (c.taken.ensures psw) ∙ c.if-not-taken.true in
     branches w free a.row l m p x e lo hi (stays l p x a.pc past (signed_of 512 (w % 1024)) (w / 1024 % 8) t)
 
@@ -37,7 +37,7 @@ returns c =
     let x = a.cex.now in
     let z = handed 512 (w % 1024) (omega arith) (omega arith) c.offset.ensures in
     λ free l m psw past.
-    let p = held psw a.last a.sum a.over in
+    let p = held_in psw a.kept.now in
     let t = ap (λ (n : ℕ). taken_of n p) (number w a.row e) ∙ sym (c.taken.ensures psw) ∙ c.if-not-taken.false in
     branches w free a.row l m p x e lo hi
     (jumps l p x a.pc past (signed_of 512 (w % 1024)) (c.target.ensures.0 ∙ ap (λ y. moved (a.pc % 65536) (doubled y)) z)

@@ -1,7 +1,7 @@
 use mathlib.Core.Logic.{inr}
 use Rattle.stretch_formats.proofs.Laws.{means, decode-link}
 use native.Mathlib.Omega.{arith}
-use Rattle.flags.specs.Kept.{held}
+use Rattle.flags.specs.Kept.{held_in}
 use Rattle.stretch_formats.proofs.jump_word.Goals as goal
 
 -- BL
@@ -9,7 +9,7 @@ pub returns-in_default : goal.returns-in_default
 returns-in_default c =
     let a = c.args in
     λ free m psw.
-    let p = held psw a.last a.sum a.over in
+    let p = held_in psw a.kept.now in
     means free _ a.w a.regs.now m _ p _ p _ _
     (decode-link a.w (omega arith)) (inr (c.link_word.ensures p))
 

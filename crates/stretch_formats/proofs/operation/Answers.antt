@@ -3,11 +3,10 @@ use mathlib.Core.Bool.{Bool, cond}
 use mathlib.Core.List.{List}
 use mathlib.Core.Path.{◌≡◌, refl, sym, ap, ◌∙◌}
 use lib.Dec.{eqb}
-use borrow.Author.Tests.{eq-eqb, ne_eqb}
 use lib.ListN.{get_or}
 use Rattle.machine.specs.Effect.{constant_of}
 use Rattle.stretch_formats.proofs.Laws.{computing, testing}
-use Rattle.flags.specs.Kept.{held}
+use Rattle.flags.specs.Kept.{held_in}
 use Rattle.stretch_formats.proofs.operation.Goals as goal
 
 -- the operand, by what the row says of it
@@ -22,24 +21,15 @@ returns-then-n c =
     let a = c.args in
     let (past, _, e, lo, hi, k) = c.requires in
     λ free m psw cex.
-    let p = held psw a.last.now a.sum.now a.over.now in
+    let p = held_in psw a.kept.now in
     testing a.w a.row e lo hi free a.regs.now m p cex a.pc past _ _ (sym c.binary-op.ensures) refl
-    (named a.w a.row a.regs.now k c.operand-s.ensures) c.if-n.true c.reg.ensures (c.work.ensures.psw psw)
-
-pub returns-then-byte : goal.returns-then-byte
-returns-then-byte c =
-    let a = c.args in
-    let (past, _, e, lo, hi, k) = c.requires in
-    λ free m psw cex.
-    let p = held psw a.last.now a.sum.now a.over.now in
-    computing a.w a.row e lo hi free a.regs.now m p cex a.pc past _ _ (sym c.binary-op.ensures) (eq-eqb _ _ c.if-byte.true)
-    (named a.w a.row a.regs.now k c.operand-s.ensures) c.if-n.false (c.compute.ensures psw)
+    (named a.w a.row a.regs.now k c.operand-s.ensures) c.if-n.true refl (c.work.ensures.psw psw)
 
 pub returns : goal.returns
 returns c =
     let a = c.args in
     let (past, _, e, lo, hi, k) = c.requires in
     λ free m psw cex.
-    let p = held psw a.last.now a.sum.now a.over.now in
-    computing a.w a.row e lo hi free a.regs.now m p cex a.pc past _ _ (sym c.binary-op.ensures) (ne_eqb _ _ c.if-byte.false)
-    (named a.w a.row a.regs.now k c.operand-s.ensures) c.if-n.false (c.compute-2.ensures psw)
+    let p = held_in psw a.kept.now in
+    computing a.w a.row e lo hi free a.regs.now m p cex a.pc past _ _ (sym c.binary-op.ensures) refl
+    (named a.w a.row a.regs.now k c.operand-s.ensures) c.if-n.false (c.compute.ensures psw)

@@ -5,4 +5,4 @@ pub returns-then-dec-inc : goal.returns-then-dec-inc
 returns-then-dec-inc c = rw (eq-eqb _ _ c.if-dec-inc.true) refl
 
 pub returns : goal.returns
-returns c = rw (ne_eqb _ _ c.if-dec-inc.false) c.set_reg.ensures
+returns c = rw (ne_eqb _ _ c.if-dec-inc.false) refl

@@ -1,4 +1,4 @@
-use Rattle.std.proofs.Common.{ℕ, List, get_or, sym, ap, ◌∙◌, arith, rules}
+use Rattle.std.proofs.Common.{refl, sym, arith, rules}
 use Rattle.machine_laws.specs.Bounds.{Bytes}
 use Rattle.machine_laws.proofs.Loads.{value-lt, load-law}
 use Rattle.stretch_registers.proofs.Laws.{pc-set, cex-set}
@@ -15,8 +15,8 @@ returns c =
     let a = c.args in record {
       core = (λ psw cex.
           load-law a.regs.now _ a.mem.now psw cex cex a.byte a.at a.dst _ _ _
-          c.load-v.ensures.value (omega arith) c.reg.ensures c.with_low-w.ensures c.set_reg.ensures
-          (sym (cex-set a.dst cex c.requires.1)));
+          c.load-v.ensures.value (omega arith) refl c.with_low-w.ensures refl
+          (sym (cex-set a.dst cex c.requires)));
       memory = c.load-v.ensures.memory;
-      pc = ap (λ (l : List ℕ). get_or l 7 0) c.set_reg.ensures ∙ pc-set a.regs.now a.dst _ c.requires.1;
+      pc = pc-set a.regs.now a.dst _ c.requires;
     }

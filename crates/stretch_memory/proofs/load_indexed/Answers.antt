@@ -18,12 +18,12 @@ returns c =
     let r = a.row in
     let o = c.load.ensures in
     let l = a.regs.now in
-    let (_, past, e, lo, hi) = c.requires in
+    let (past, e, lo, hi) = c.requires in
     let stays = c.if-dec-inc.false in
     λ free psw cex.
     rw (decode-load a.w r e lo hi)
     (inr
     (served-load free _ l _ a.mem.now psw cex a.pc past _ _ _ _ _
-    (load-effect l _ psw cex (r / 8 % 2) (r / 4 % 2) (r / 2 % 2) (r % 2) (a.w / 8 % 8) stays c.reg-a.ensures c.adjusted_by-b.ensures
+    (load-effect l _ psw cex (r / 8 % 2) (r / 4 % 2) (r / 2 % 2) (r % 2) (a.w / 8 % 8) stays refl c.adjusted_by-b.ensures
     c.address-at.ensures c.adjust.ensures (a.w % 8)) (sym c.aligned.ensures ∙ c.if-not-aligned.false) o.core o.memory
     (o.pc ∙ pc-adjusted (moves? (r / 4 % 2) (r / 2 % 2)) l _ (a.w / 8 % 8) _ (omega arith) stays c.adjust.ensures)))

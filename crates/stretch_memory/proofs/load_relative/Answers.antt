@@ -15,6 +15,6 @@ returns c =
     let l = a.regs.now in
     λ free psw cex.
     inr
-    (served-load free _ l l a.mem.now psw cex a.pc c.requires.1 _ _ _ _ _
-    (load-relative-effect l psw cex a.wb (a.w / 8 % 8) _ c.reg-base.ensures c.relative-from.ensures (a.w % 8))
+    (served-load free _ l l a.mem.now psw cex a.pc c.requires _ _ _ _ _
+    (load-relative-effect l psw cex a.wb (a.w / 8 % 8) _ refl c.relative-from.ensures (a.w % 8))
     (sym c.aligned.ensures ∙ c.if-not-aligned.false) o.core o.memory o.pc)

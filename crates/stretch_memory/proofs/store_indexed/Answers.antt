@@ -16,13 +16,13 @@ returns c =
     let a = c.args in
     let r = a.row in
     let l = a.regs.now in
-    let (_, past, e, lo, hi) = c.requires in
+    let (past, e, lo, hi) = c.requires in
     let stays = c.if-dec-inc.false in
     let o = c.store.ensures.stored c.if-not-store.false in
     λ free psw cex.
     rw (decode-store a.w r e lo hi)
     (inr
     (served-store free _ l _ a.mem.now psw cex a.pc past _ _ _ _
-    (store-effect l _ psw cex (r / 8 % 2) (r / 4 % 2) (r / 2 % 2) (r % 2) (a.w % 8) stays c.reg-a.ensures c.adjusted_by-b.ensures
-    c.address-at.ensures c.adjust.ensures (a.w / 8 % 8) c.reg-value.ensures) o.0 o.1
+    (store-effect l _ psw cex (r / 8 % 2) (r / 4 % 2) (r / 2 % 2) (r % 2) (a.w % 8) stays refl c.adjusted_by-b.ensures
+    c.address-at.ensures c.adjust.ensures (a.w / 8 % 8) refl) o.0 o.1
     (pc-adjusted (moves? (r / 4 % 2) (r / 2 % 2)) l _ (a.w % 8) _ (omega arith) stays c.adjust.ensures)))

@@ -14,7 +14,7 @@ returns c =
     let o = c.store.ensures.stored c.if-not-store.false in
     λ free psw cex.
     inr
-    (served-store free _ l l a.mem.now psw cex a.pc c.requires.1 _ _ _ _
-    (store-relative-effect l psw cex a.wb (a.w % 8) _ c.reg.ensures c.relative-at.ensures (a.w / 8 % 8) c.reg-v.ensures) o.0
+    (served-store free _ l l a.mem.now psw cex a.pc c.requires _ _ _ _
+    (store-relative-effect l psw cex a.wb (a.w % 8) _ refl c.relative-at.ensures (a.w / 8 % 8) refl) o.0
     o.1
     refl)

@@ -3,7 +3,7 @@ use mathlib.Core.Logic.{inl, inr}
 use native.Mathlib.Omega.{arith}
 use Prim.Native.Nat.{◌%◌, ◌/◌}
 use borrow.Author.Tests.{lt-ltb, le-ltb}
-use Rattle.flags.specs.Kept.{held}
+use Rattle.flags.specs.Kept.{held_in}
 use Rattle.stretch_registers.proofs.Laws.{sets-flags, clears-flags}
 use Rattle.stretch_registers.proofs.flags_word.Goals as goal
 
@@ -32,7 +32,7 @@ returns-then-w-lt19936 c =
       lt-ltb w 0x4DE0 c.if-w-lt19936.true,
     )
     (inr
-    (sets-flags l (held psw a.last.now a.sum.now a.over.now) x a.pc (w % 32) past (omega arith) slp
+    (sets-flags l (held_in psw a.kept.now) x a.pc (w % 32) past (omega arith) slp
     (c.set.ensures psw)))
 
 pub returns : goal.returns
@@ -49,5 +49,5 @@ returns c =
       le-ltb w 0x4DE0 c.if-w-lt19936.false,
     )
     (inr
-    (clears-flags l (held psw a.last.now a.sum.now a.over.now) x a.pc (w % 32) past (omega arith) slp
+    (clears-flags l (held_in psw a.kept.now) x a.pc (w % 32) past (omega arith) slp
     (c.clear.ensures psw)))

@@ -11,5 +11,4 @@ pub returns : goal.returns
 returns c =
     λ psw cex.
     inr
-    (moves-byte c.args.regs.now psw cex _ c.requires _ _ _ (omega arith) c.reg.ensures c.immediate-v.ensures
-    c.set_reg.ensures)
+    (moves-byte c.args.regs.now psw cex _ c.requires _ _ _ (omega arith) c.immediate-v.ensures)

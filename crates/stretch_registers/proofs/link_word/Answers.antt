@@ -18,4 +18,4 @@ returns c =
     let z = handed 4096 (w % 8192) (omega arith) (omega arith) c.signed.ensures in
     λ psw.
     links a.regs.now psw a.cex.now a.pc c.requires (signed_of 4096 (w % 8192))
-    (c.target.ensures.0 ∙ ap (λ y. moved (a.pc % 65536) (doubled y)) z) c.target.ensures.1 refl c.set_reg.ensures
+    (c.target.ensures.0 ∙ ap (λ y. moved (a.pc % 65536) (doubled y)) z) c.target.ensures.1 refl

@@ -12,11 +12,11 @@ returns-then-dst-eq7 c =
     λ psw wb e.
     inr
     (moves-to-pc c.args.regs.now psw _ _ c.requires wb _ _ (sym c.if-byte.false ∙ e) c.if-dst-eq7.true (omega arith)
-    c.reg-v.ensures c.move_to_pc.ensures)
+    c.move_to_pc.ensures)
 
 pub returns : goal.returns
 returns c =
     λ psw wb e.
     inr
-    (moves c.args.regs.now psw _ _ c.requires c.args.byte wb _ _ e (omega arith) c.reg-v.ensures
-    c.reg.ensures c.low_bits.ensures.0 c.with_low-r.ensures c.set_reg.ensures)
+    (moves c.args.regs.now psw _ _ c.requires c.args.byte wb _ _ e (omega arith) c.low_bits.ensures.0
+    c.with_low-r.ensures)

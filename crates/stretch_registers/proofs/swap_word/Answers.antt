@@ -19,5 +19,4 @@ returns c =
     let (hs, hd) = (or-eq-false-eq-eq-false-and-eq-false (eqb src 7) (eqb dst 7)).0 c.if-src-dst.false in
     λ psw cex b.
     inr
-    (swaps a.regs.now psw cex _ c.requires src dst b (omega (arith, eqb-false src 7 hs)) (omega (arith, eqb-false dst 7 hd))
-    c.reg-s.ensures c.reg-d.ensures c.set_reg.ensures c.set_reg-2.ensures)
+    (swaps a.regs.now psw cex _ c.requires src dst b (omega (arith, eqb-false src 7 hs)) (omega (arith, eqb-false dst 7 hd)))

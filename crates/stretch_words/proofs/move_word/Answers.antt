@@ -2,33 +2,33 @@ use Rattle.stretch_formats.proofs.Laws.{means}
 use Rattle.stretch_words.proofs.Laws.{lowers, decode-move, decode-control}
 use mathlib.Core.Path.{refl}
 use native.Mathlib.Omega.{arith}
-use Rattle.flags.specs.Kept.{held}
+use Rattle.flags.specs.Kept.{held_in}
 use Rattle.stretch_words.proofs.move_word.Goals as goal
 
 pub returns-in-304 : goal.returns-in-304
 returns-in-304 c =
     let a = c.args in
-    let p = held a.psw.now a.last.now a.sum.now a.over.now in
+    let p = held_in a.psw.now a.kept.now in
     means a.free _ a.w a.regs.now a.mem.now _ p a.cex.now p _ _
     (decode-move a.w 0 (omega arith) c.in-304.is) (c.move_word.ensures p 0 refl)
 
 pub returns-in-305 : goal.returns-in-305
 returns-in-305 c =
     let a = c.args in
-    let p = held a.psw.now a.last.now a.sum.now a.over.now in
+    let p = held_in a.psw.now a.kept.now in
     means a.free _ a.w a.regs.now a.mem.now _ p a.cex.now p _ _
     (decode-move a.w 1 (omega arith) c.in-305.is) (c.move_word-in-305.ensures p 1 refl)
 
 pub returns-in-310 : goal.returns-in-310
 returns-in-310 c =
     let a = c.args in
-    lowers a.w a.regs.now a.mem.now a.psw.now a.last.now a.sum.now a.over.now a.cex.now a.free
+    lowers a.w a.regs.now a.mem.now a.psw.now a.kept.now a.cex.now a.free
     a.pc _ _ c.requires.0 c.priority_word.ensures
 
 pub returns-in-311 : goal.returns-in-311
 returns-in-311 c =
     let a = c.args in
-    let p = held a.psw.now a.last.now a.sum.now a.over.now in
+    let p = held_in a.psw.now a.kept.now in
     let key = c.in-311.is in
     means a.free _ a.w a.regs.now a.mem.now _ p a.cex.now _ a.cex.now _
     (decode-control a.w (omega arith) (omega arith)) (c.flags_word.ensures a.regs.now a.psw.now a.cex.now c.requires.0)

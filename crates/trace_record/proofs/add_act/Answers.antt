@@ -1,7 +1,6 @@
 use Rattle.trace_record.proofs.Laws.{act-none, act-fits, act-one, added_is, stored-none, stored_one}
 use mathlib.Core.Path.{refl, sym, ◌∙◌}
 use native.Mathlib.Nat.{add-zero}
-use borrow.Author.Rules.{rules}
 use Rattle.trace_record.proofs.add_act.Goals as goal
 
 pub returns-then-not-asks : goal.returns-then-not-asks

@@ -1,5 +1,4 @@
 use mathlib.Core.Path.{refl}
-use borrow.Author.Rules.{rules}
 use Rattle.trace_record.proofs.operand.Goals as goal
 
 pub returns-then-byte : goal.returns-then-byte

@@ -1,8 +1,5 @@
 use Rattle.trace_record.specs.Written.{seen_of}
-use Rattle.machine_laws.proofs.Acts.{of-these}
-use mathlib.Core.List.{[], ◌∷◌}
-use mathlib.Core.Path.{refl, sym, ap, ◌∙◌}
-use borrow.Author.Rules.{rules}
+use mathlib.Core.Path.{sym, ap, ◌∙◌}
 use Rattle.trace_record.proofs.seen_by.Goals as goal
 
 pub returns-in-Loads : goal.returns-in-Loads

@@ -1,10 +1,8 @@
 -- Act by act, as `told_of` has it: in each arm what `telling` answers is what the definition gives for that constructor, and of a
 -- store the value is the operand that `operand` answers. Assumes nothing.
 use Rattle.trace_record.specs.Written.{told, told_of}
-use Rattle.machine_laws.proofs.Acts.{of-these}
-use mathlib.Core.List.{[], ◌∷◌}
-use mathlib.Core.Path.{refl, sym, ap, ◌∙◌}
-use borrow.Author.Rules.{rules}
+use Rattle.trace_record.proofs.Laws.{told-entry}
+use mathlib.Core.Path.{sym, ap, ◌∙◌}
 use Rattle.trace_record.proofs.tell.Goals as goal
 
 pub returns-in-Pull : goal.returns-in-Pull
@@ -12,20 +10,8 @@ returns-in-Pull c = let a = c.args in c.telling.ensures ∙ ap (λ x. told_of x 
     c.in-Pull.is)
 
 pub returns-in-Chain : goal.returns-in-Chain
-returns-in-Chain c = let a = c.args in c.telling-in-Chain.ensures ∙ ap (λ x. told_of x a.seen a.pc a.psw) (sym
-    c.in-Chain.is)
-
-pub returns-in-Accept : goal.returns-in-Accept
-returns-in-Accept c = let a = c.args in c.telling-in-Accept.ensures ∙ ap (λ x. told_of x a.seen a.pc a.psw) (sym
-    c.in-Accept.is)
-
-pub returns-in-Fault : goal.returns-in-Fault
-returns-in-Fault c = let a = c.args in c.telling-in-Fault.ensures ∙ ap (λ x. told_of x a.seen a.pc a.psw) (sym
-    c.in-Fault.is)
-
-pub returns-in-Trap : goal.returns-in-Trap
-returns-in-Trap c = let a = c.args in c.telling-in-Trap.ensures ∙ ap (λ x. told_of x a.seen a.pc a.psw) (sym
-    c.in-Trap.is)
+returns-in-Chain c =
+    let a = c.args in c.telling-in-Chain.ensures ∙ told-entry a.a c.in-Chain.v a.seen a.pc a.psw c.in-Chain.is
 
 pub returns-in-Loads : goal.returns-in-Loads
 returns-in-Loads c = let a = c.args in c.telling-in-Loads.ensures ∙ ap (λ x. told_of x a.seen a.pc a.psw)

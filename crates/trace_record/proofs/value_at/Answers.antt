@@ -1,5 +1,4 @@
 use Rattle.memory.proofs.Laws.{load_value}
-use borrow.Author.Rules.{rules}
 use Rattle.trace_record.proofs.value_at.Goals as goal
 
 pub returns-then-byte : goal.returns-then-byte

@@ -13,14 +13,13 @@ use Rattle.trace.specs.Traced.{run_traced}
 use Rattle.trace_run.specs.Reached.{Reached}
 use Rattle.trace_run.proofs.Laws.{reached-start, added-fit, trace-size, reached-stretch, reached-left, turn_on, turn-off, turn-kept}
 use Rattle.trace_run.proofs.Laws.{carried, awaits-quiet, sparse_of, asked-sparse}
-use Rattle.trace_run.proofs.run_traced.Goals.{else-loop-done-test, then-loop-done-test+then-x}
+use Rattle.trace_run.proofs.run_traced.Goals.{else-loop-done-test, then-loop-done-test+in_default}
 use Rattle.trace_run.proofs.run_traced.Goals as goal
 
 pub loop-done-init : goal.loop-done-init
 loop-done-init c =
     record {
       some = omega arith;
-      size = refl;
       counts = omega arith;
       awaits = awaits-from _ _ _ _ _ (behind-none _ _) c.awaiting-at.ensures;
       reached = reached-start _ _ _ _ _;
@@ -28,14 +27,13 @@ loop-done-init c =
     }
 
 -- a turn that is begun is of a machine not halted, with steps to do
-pub step_traced-x-requires : goal.step_traced-x-requires
-step_traced-x-requires c =
+pub step_traced-requires : goal.step_traced-requires
+step_traced-requires c =
     let s = c.requires in
     let l = c.loop-done in
     let i = l.invariant in
     let on = goes_on l.t.halted l.done c.args.n c.loop-done-test.true in
     record {
-      size = omega (arith, s.size, i.size);
       live = on.0;
       counts = omega (arith, s.counts, i.counts, on.1);
       starts = c.start_of-b.ensures;
@@ -51,9 +49,9 @@ pub gone_on-t-requires : goal.gone_on-t-requires
 gone_on-t-requires c =
     let l = c.loop-done in
     let on = goes_on l.t.halted l.done c.args.n c.loop-done-test.true in
-    let q = c.step_traced-x in
-    let n : q.result.rest.count ≡ l.t.count + 1 =
-    ap (λ (z : State). z.count) (q.ensures.turn.taken c.if-x.false)
+    let q = c.in-Some in
+    let n : q.x.rest.count ≡ l.t.count + 1 =
+    ap (λ (z : State). z.count) (q.ensures.0.taken refl)
     ∙ step_count (events_of c.args.events.now) (state_with l.regs l.t l.memory) on.0 in
     (c.stretch-q.ensures.left, omega (arith, n, on.1, l.invariant.counts, c.requires.counts, c.at_once-j.ensures.0))
 
@@ -63,16 +61,14 @@ loop-done-preserved c =
     let l = c.loop-done in
     let i = l.invariant in
     let on = goes_on l.t.halted l.done c.args.n c.loop-done-test.true in
-    let q = c.step_traced-x in
-    let x = q.ensures.turn in
-    let n : q.result.rest.count ≡ l.t.count + 1 =
-    ap (λ (z : State). z.count) (x.taken c.if-x.false) ∙ step_count (events_of c.args.events.now) (state_with l.regs l.t l.memory) on.0 in
+    let x = c.in-Some.ensures.0 in
+    let n : c.in-Some.x.rest.count ≡ l.t.count + 1 =
+    ap (λ (z : State). z.count) (x.taken refl) ∙ step_count (events_of c.args.events.now) (state_with l.regs l.t l.memory) on.0 in
     record {
       some = omega (arith, on.1);
-      size = omega (arith, i.size, q.auto.memory);
       counts = omega (arith, n, i.counts);
-      awaits = q.ensures.awaits;
-      reached = turn_on _ _ _ _ _ _ _ _ _ i.reached on.0 _ _ _ _ x c.if-x.false;
+      awaits = c.in-Some.ensures.1;
+      reached = turn_on _ _ _ _ _ _ _ _ _ i.reached on.0 _ _ _ _ x refl;
       whole = i.whole;
     }
 
@@ -82,35 +78,34 @@ loop-done-preserved-then-j-gt0 c =
     let l = c.loop-done in
     let i = l.invariant in
     let on = goes_on l.t.halted l.done c.args.n c.loop-done-test.true in
-    let q = c.step_traced-x in
-    let x = q.ensures.turn in
+    let q = c.step_traced in
+    let x = c.in-Some.ensures.0 in
     let quiet = c.sparse-quiet in
     let z = c.at_once-j in
     let f = c.stretch-q in
     let g = c.gone_on-t in
     let b = c.args.events.now in
-    let r = q.result in
+    let r = c.in-Some.x in
     let j = z.result - f.result.left in
     let m : r.rest.count ≡ l.t.count + 1 =
-    ap (λ (y : State). y.count) (x.taken c.if-x.false) ∙ step_count (events_of b) (state_with l.regs l.t l.memory) on.0 in
+    ap (λ (y : State). y.count) (x.taken refl) ∙ step_count (events_of b) (state_with l.regs l.t l.memory) on.0 in
     let n : g.result.count ≡ r.rest.count + j = ap (λ (y : Rest). y.count) g.ensures in
     let more : 0 < z.result = c.if-j-gt0.true in
     let sparse = asked-sparse quiet.result r.rest.halted z.result z.ensures.2 more in
     let e : Passes (events_of b) (state_with q.new.regs r.rest q.new.memory) (state_with f.new.regs g.result f.new.mem) j =
     stretch-passes (events_of b) q.new.regs r.rest q.new.memory f.new.regs f.result f.new.mem z.result r.at.due
     (halts-none (not quiet.result) r.rest.halted z.result z.ensures.2)
-    (undisturbed b r.at.next r.at.due r.rest.count q.ensures.awaits c.requires.ordered) z.ensures.1
+    (undisturbed b r.at.next r.at.due r.rest.count c.in-Some.ensures.1 c.requires.ordered) z.ensures.1
     f.ensures.passes g.result g.ensures in
     record {
       some = omega (arith, on.1, z.ensures.0);
-      size = omega (arith, i.size, q.auto.memory, f.auto.mem);
       counts = omega (arith, n, m, i.counts);
-      awaits = awaits-later b r.at.next r.at.due r.rest.count q.ensures.awaits _ (omega (arith, n));
+      awaits = awaits-later b r.at.next r.at.due r.rest.count c.in-Some.ensures.1 _ (omega (arith, n));
       reached =
-          reached-stretch _ _ _ _ _ _ _ _ _ (turn_on _ _ _ _ _ _ _ _ _ i.reached on.0 _ _ _ _ x c.if-x.false) _ _ e.0 e.1
+          reached-stretch _ _ _ _ _ _ _ _ _ (turn_on _ _ _ _ _ _ _ _ _ i.reached on.0 _ _ _ _ x refl) _ _ e.0 e.1
           (sparse_of c.args.kinds (sym quiet.ensures ∙ sparse))
           (λ k a h.
-          awaits-quiet b r.at.next r.at.due r.rest.count q.ensures.awaits c.requires.ordered k a (omega (arith, h, z.ensures.1)));
+          awaits-quiet b r.at.next r.at.due r.rest.count c.in-Some.ensures.1 c.requires.ordered k a (omega (arith, h, z.ensures.1)));
       whole = i.whole;
     }
 
@@ -129,12 +124,12 @@ exits c =
       | else-loop-done-test w ↦
           carried w.memory-is w.regs-is w.trace-is (w.short-is ∙ i.whole)
           (reached-left _ _ _ _ _ _ _ _ _ i.reached a.n i.some (all_done l.t.halted l.done a.n i.some w.loop-done-test.false))
-      | then-loop-done-test+then-x w ↦
+      | then-loop-done-test+in_default w ↦
           let go = goes_on l.t.halted l.done a.n w.loop-done-test.true in
-          let x = w.step_traced-x.ensures.turn in
-          let same = turn-kept _ _ _ _ _ _ _ _ _ i.reached go.0 _ _ _ _ x w.if-x.true in
+          let x = w.in_default.ensures in
+          let same = turn-kept _ _ _ _ _ _ _ _ _ i.reached go.0 _ _ _ _ x refl in
           carried (w.memory-is ∙ same.0) w.regs-is (w.trace-is ∙ same.1) w.short-is
-          (turn-off _ _ _ _ _ _ _ _ _ i.reached go.0 _ _ _ _ x w.if-x.true a.n go.1)
+          (turn-off _ _ _ _ _ _ _ _ _ i.reached go.0 _ _ _ _ x refl a.n go.1)
     ]
 
 pub returns : goal.returns

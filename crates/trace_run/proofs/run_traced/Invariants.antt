@@ -10,7 +10,6 @@ abbrev pub invariant-loop-done : goal.invariant-loop-done
 invariant-loop-done l =
     record {
       some : l.done ≤ l.n;
-      size : length l.memory ≡ length l.initial.memory;
       counts : l.t.count ≡ l.initial.t.count + l.done;
       awaits : Awaits l.events l.at.next l.at.due l.t.count;
       reached :

@@ -1,17 +1,17 @@
 -- The loop's invariant: what is added and what is still to be added from `at` on are all, as a number and as bytes.
 -- Assumes nothing.
-use Prim.Native.Nat.{ℕ, ◌+◌, ◌-◌, ◌*◌, ◌≤◌, ◌<◌}
+use Prim.Native.Nat.{ℕ, ◌+◌, ◌*◌, ◌<◌}
 use native.Mathlib.Omega.{arith}
-use mathlib.Core.Path.{◌≡◌, refl, sym, ap, ◌∙◌}
+use mathlib.Core.Path.{◌≡◌, refl, sym, ap, subst, ◌∙◌}
 use lib.ListN.{length}
 use lib.Seq.{sets}
-use Rattle.machine.specs.Events.{event_at, events_of, event_count}
+use Rattle.machine.specs.Events.{Event, event_at, events_of, event_count}
 use Rattle.devices.proofs.Laws.{step_at, rest_from, device-lt}
-use Rattle.trace.specs.Trace.{trace_bytes}
+use Rattle.trace.specs.Trace.{entry_bytes, trace_bytes, event_entry}
 use Rattle.trace.specs.Before.{events_before}
 use Rattle.trace_step.specs.Steps.{as_seen}
 use Rattle.trace_step.proofs.Index as index
-use Rattle.trace_step.proofs.add_events.Goals.{then-step-b, else-step-b}
+use Rattle.trace_step.proofs.add_events.Goals.{then-e-b, else-e-b}
 use Rattle.trace_step.proofs.add_events.Goals as goal
 
 pub loop-at-init : goal.loop-at-init
@@ -32,15 +32,18 @@ add_event-requires c =
     let l = c.loop-at in
     let t = c.loop-at-test.true in
     let r = index.room-due (as_seen a.b a.devices.now a.lines) a.events.now a.b.step l.at l.added a.k (length l.trace) t
-    (sym c.step_at-step.ensures ∙ c.if-step-b.true) l.invariant.counted (omega (arith, l.invariant.size, c.requires.4)) in
-    (r, omega arith, device-lt a.events.now (event_count a.events.now) l.at c.requires.2 t, c.requires.3)
+    (sym (ap (λ x. x.step) c.event_at-e.ensures) ∙ c.if-e-b.true) l.invariant.counted (omega (arith, l.invariant.size, c.requires.3)) in
+    let d : c.event_at-e.result.device < 8 =
+    subst (λ (x : Event). x.device < 8) (sym c.event_at-e.ensures)
+    (device-lt a.events.now (event_count a.events.now) l.at c.requires.2 t) in
+    (r, d)
 
 pub overflow_add-added : goal.overflow_add-added
 overflow_add-added c =
     let a = c.args in
     let l = c.loop-at in
     let r = index.room-due (as_seen a.b a.devices.now a.lines) a.events.now a.b.step l.at l.added a.k (length l.trace) c.loop-at-test.true
-    (sym c.step_at-step.ensures ∙ c.if-step-b.true) l.invariant.counted (omega (arith, l.invariant.size, c.requires.4)) in
+    (sym (ap (λ x. x.step) c.event_at-e.ensures) ∙ c.if-e-b.true) l.invariant.counted (omega (arith, l.invariant.size, c.requires.3)) in
     omega (arith, r, l.invariant.size)
 
 pub loop-at-preserved : goal.loop-at-preserved
@@ -53,20 +56,22 @@ loop-at-preserved c =
     let k = a.b.step in
     let u = as_seen a.b a.devices.now a.lines in
     let l = o.loop-at in
-    let e : c.step_at-step.result ≡ step_at b l.at = c.step_at-step.ensures in
+    let e : c.event_at-e.result.step ≡ step_at b l.at = ap (λ x. x.step) c.event_at-e.ensures in
     let t : l.at < event_count b = at-loop-test.loop-at-test.true in
     let all = sets a.trace.now (16 * a.k) (trace_bytes (events_before u k (events_of b))) in
     let left = events_before u k (rest_from b (l.at + 1)) in
-    elim c.if-step-b.branch [
-      | then-step-b w ↦
-          let q = sym e ∙ w.if-step-b.true in record {
+    elim c.if-e-b.branch [
+      | then-e-b w ↦
+          let q = sym e ∙ w.if-e-b.true in record {
             size = ap length w.trace-is ∙ w.add_event.auto.trace ∙ l.invariant.size;
             counted = ap (λ (d : ℕ). d + length left) w.added-is ∙ index.count-due u b k l.at l.added _ t q l.invariant.counted;
             stored = (λ i. sets (w.trace-is i) (16 * w.added-is i) (trace_bytes left))
-                ∙ index.write-due u b k l.trace _ all l.added l.at t q w.add_event.ensures l.invariant.stored;
+                ∙ index.write-due u b k l.trace _ all l.added l.at t q
+                (w.add_event.ensures ∙ ap (λ x. sets l.trace (16 * l.added) (entry_bytes (event_entry u u x))) c.event_at-e.ensures)
+                l.invariant.stored;
           }
-      | else-step-b w ↦
-          let q : step_at b l.at ≡ k → ⊥ = λ p. w.if-step-b.false (e ∙ p) in record {
+      | else-e-b w ↦
+          let q : step_at b l.at ≡ k → ⊥ = λ p. w.if-e-b.false (e ∙ p) in record {
             size = ap length w.trace-is ∙ l.invariant.size;
             counted = ap (λ (d : ℕ). d + length left) w.added-is ∙ index.count-early u b k l.at l.added _ t q l.invariant.counted;
             stored = (λ i. sets (w.trace-is i) (16 * w.added-is i) (trace_bytes left))
@@ -74,11 +79,8 @@ loop-at-preserved c =
           }
     ]
 
-pub shape_of-trace-after-loop-at : goal.shape_of-trace-after-loop-at
-shape_of-trace-after-loop-at c = c.loop-at.invariant.size
-
-pub returns-after-loop-at : goal.returns-after-loop-at
-returns-after-loop-at c =
+pub returns : goal.returns
+returns c =
     let s = c in
     let a = s.args in
     let b = a.events.now in
@@ -92,32 +94,23 @@ returns-after-loop-at c =
           l.invariant.stored;
     }
 
-pub shape_of-trace-then-b-step : goal.shape_of-trace-then-b-step
-shape_of-trace-then-b-step c = c.loop-at.invariant.size
+pub shape_of-trace-then-b-e : goal.shape_of-trace-then-b-e
+shape_of-trace-then-b-e c = c.loop-at.invariant.size
 
-pub returns-then-b-step : goal.returns-then-b-step
-returns-then-b-step c =
+pub returns-then-b-e : goal.returns-then-b-e
+returns-then-b-e c =
     let s = c in
     let a = s.args in
     let b = a.events.now in
     let k = a.b.step in
     let u = as_seen a.b a.devices.now a.lines in
     let l = c.loop-at in
-    let h = c.step_at-step.ensures in
+    let h = ap (λ x. x.step) c.event_at-e.ensures in
     let t = c.loop-at-test.true in
-    let later : k < step_at b l.at = omega (arith, h, c.if-b-step.true) in
+    let later : k < step_at b l.at = omega (arith, h, c.if-b-e.true) in
     let e = index.index-later u b k l.at s.requires.1 t later in
     record {
       added = omega (arith, l.invariant.counted, ap length e);
       trace = index.write-end u b k l.trace _ l.added l.at e
           l.invariant.stored;
     }
-
-pub step_at-step-requires : goal.step_at-step-requires
-step_at-step-requires c = omega arith
-
-pub overflow_add-at : goal.overflow_add-at
-overflow_add-at c = omega arith
-
-pub loop-at-smaller : goal.loop-at-smaller
-loop-at-smaller c = omega arith

@@ -1,11 +1,9 @@
-use Prim.Native.Nat.{ℕ, ◌+◌, ◌-◌, ◌*◌, ◌≤◌, ◌<◌}
-use native.Mathlib.Omega.{arith}
-use mathlib.Core.Logic.{⊎_elim}
-use mathlib.Core.Path.{◌≡◌, refl, sym, ap, ◌∙◌}
+use Prim.Native.Nat.{◌+◌, ◌*◌}
+use mathlib.Core.Path.{◌≡◌}
 use lib.ListN.{length}
 use lib.Seq.{sets}
-use Rattle.machine.specs.Events.{event_at, events_of, event_count}
-use Rattle.devices.proofs.Laws.{step_at, rest_from, device-lt}
+use Rattle.machine.specs.Events.{events_of}
+use Rattle.devices.proofs.Laws.{rest_from}
 use Rattle.trace.specs.Trace.{trace_bytes}
 use Rattle.trace.specs.Before.{events_before}
 use Rattle.trace_step.specs.Steps.{as_seen}
@@ -20,6 +18,3 @@ invariant-loop-at l = record {
   stored : sets l.trace (16 * l.added) (trace_bytes (events_before (as_seen l.b l.devices l.lines) l.b.step (rest_from l.events l.at)))
       ≡ sets l.initial.trace (16 * l.k) (trace_bytes (events_before (as_seen l.b l.devices l.lines) l.b.step (events_of l.events)));
 }
-
-abbrev pub decreases-loop-at : goal.decreases-loop-at
-decreases-loop-at l = l.n - l.at

@@ -11,7 +11,6 @@ use lib.ListN.{length}
 use mathlib.Core.Path.{ap, ◌∙◌}
 use native.Mathlib.Omega.{arith}
 use Prim.Native.Nat.{◌+◌, ◌*◌}
-use borrow.Author.Rules.{rules}
 use Rattle.trace_step.proofs.add_step.Goals as goal
 
 pub add_events-j-requires : goal.add_events-j-requires
@@ -22,7 +21,7 @@ add_events-j-requires c =
     c.if-wanted-asks.true in
     let xs = events_before (as_seen a.b a.devices.now a.lines) a.b.step (events_of a.events.now) in
     let ys = act_written a.b a.kinds a.a a.seen a.pc a.psw in
-    (s.requires.0, s.requires.1, s.requires.2, s.requires.3, first_fits a.k _ xs ys _ e s.requires.4)
+    (s.requires.0, s.requires.1, s.requires.2, first_fits a.k _ xs ys _ e s.requires.3)
 
 pub add_act-requires : goal.add_act-requires
 add_act-requires c =
@@ -35,7 +34,7 @@ add_act-requires c =
     let xs = events_before (as_seen a.b a.devices.now a.lines) a.b.step (events_of a.events.now) in
     let ys = act_written a.b a.kinds a.a a.seen a.pc a.psw in
     let f = c.add_events-j in
-    joined-fits a.k f.result _ xs ys _ e f.ensures.added (omega (arith, s.requires.4, f.auto))
+    joined-fits a.k f.result _ xs ys _ e f.ensures.added (omega (arith, s.requires.3, f.auto))
 
 pub returns-then-wanted-asks : goal.returns-then-wanted-asks
 returns-then-wanted-asks c =
@@ -64,7 +63,7 @@ add_act-requires-2 c =
     c.if-wanted-asks.false in
     let xs = events_before (as_seen a.b a.devices.now a.lines) a.b.step (events_of a.events.now) in
     let ys = act_written a.b a.kinds a.a a.seen a.pc a.psw in
-    omega (arith, ap length e, s.requires.4)
+    omega (arith, ap length e, s.requires.3)
 
 pub returns : goal.returns
 returns c =

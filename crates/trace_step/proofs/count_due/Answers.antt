@@ -1,11 +1,10 @@
 -- The loop's invariant: what is counted and what is still to be counted from `at` on are all that are due. A record counts where its
 -- step is the count, an earlier one is passed over, and from a later one on none is due. Assumes nothing.
-use Prim.Native.Nat.{ℕ, ◌+◌, ◌-◌, ◌≤◌, ◌<◌}
+use Prim.Native.Nat.{ℕ, ◌+◌, ◌<◌}
 use native.Mathlib.Omega.{arith}
 use mathlib.Core.Path.{◌≡◌, sym, ap, ◌∙◌}
 use lib.ListN.{length}
-use Rattle.machine.specs.State.{State}
-use Rattle.machine.specs.Events.{events_of, event_count}
+use Rattle.machine.specs.Events.{event_count}
 use Rattle.devices.proofs.Laws.{step_at, rest_from}
 use Rattle.trace.specs.Before.{events_before}
 use Rattle.trace_step.proofs.Index as index
@@ -46,8 +45,8 @@ loop-at-preserved c =
       }
     ]
 
-pub returns-after-loop-at : goal.returns-after-loop-at
-returns-after-loop-at c =
+pub returns : goal.returns
+returns c =
     let s = c in
     let b = s.args.events.now in
     let l = c.loop-at in (
@@ -67,12 +66,3 @@ returns-then-count-step c =
       omega
           (arith, l.invariant.few, l.invariant.inside),
     )
-
-pub step_at-step-requires : goal.step_at-step-requires
-step_at-step-requires c = omega arith
-
-pub overflow_add-at : goal.overflow_add-at
-overflow_add-at c = omega arith
-
-pub loop-at-smaller : goal.loop-at-smaller
-loop-at-smaller c = omega arith

@@ -1,11 +1,9 @@
-use Prim.Native.Nat.{ℕ, ◌+◌, ◌-◌, ◌≤◌, ◌<◌}
-use native.Mathlib.Omega.{arith}
-use mathlib.Core.Logic.{⊎_elim}
-use mathlib.Core.Path.{◌≡◌, sym, ap, ◌∙◌}
+use Prim.Native.Nat.{◌+◌, ◌≤◌}
+use mathlib.Core.Path.{◌≡◌}
 use lib.ListN.{length}
 use Rattle.machine.specs.State.{State}
 use Rattle.machine.specs.Events.{events_of, event_count}
-use Rattle.devices.proofs.Laws.{step_at, rest_from}
+use Rattle.devices.proofs.Laws.{rest_from}
 use Rattle.trace.specs.Before.{events_before}
 use Rattle.trace_step.proofs.Index as index
 use Rattle.trace_step.proofs.count_due.Given as goal
@@ -17,6 +15,3 @@ invariant-loop-at l = record {
   counted : (s : State) → l.due + length (events_before s l.count (rest_from l.events l.at))
       ≡ length (events_before s l.count (events_of l.events));
 }
-
-abbrev pub decreases-loop-at : goal.decreases-loop-at
-decreases-loop-at l = l.n - l.at

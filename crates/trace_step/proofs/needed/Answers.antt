@@ -6,7 +6,6 @@ use Rattle.machine.specs.Events.{events_of}
 use lib.ListN.{length}
 use mathlib.Core.Path.{sym, ap, ◌∙◌}
 use native.Mathlib.Omega.{arith}
-use borrow.Author.Rules.{rules}
 use Rattle.trace_step.proofs.needed.Goals as goal
 
 pub overflow_add-result : goal.overflow_add-result

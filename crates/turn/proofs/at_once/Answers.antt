@@ -4,7 +4,6 @@ use mathlib.Core.Bool.{Bool, false, true≢false, ◌||◌}
 use mathlib.Core.Path.{◌≡◌, sym, ◌∙◌}
 use lib.Dec.{leb}
 use native.Mathlib.Omega.{arith}
-use borrow.Author.Rules.{rules}
 use Rattle.machine_laws.proofs.Cases.{gt-of}
 use Rattle.run_laws.proofs.Room.{neither}
 use Rattle.turn.proofs.at_once.Goals as goal

@@ -1,13 +1,12 @@
 use mathlib.Core.Path.{sym}
 use native.Mathlib.Omega.{arith}
-use borrow.Author.Rules.{rules}
 use Rattle.turn.proofs.Laws.{awaits-from, undisturbed, awaits-later}
 use Rattle.turn.proofs.deliver_due.Goals as goal
 
 pub returns-then-count-at : goal.returns-then-count-at
 returns-then-count-at c =
-    let a = c.requires.1 in
-    let o = c.requires.2 in
+    let a = c.requires.0 in
+    let o = c.requires.1 in
     record {
       state = λ k h. sym (undisturbed _ _ _ _ a o _ (omega arith) c.if-count-at.true _);
       awaits = awaits-later _ _ _ _ a _ (omega arith);

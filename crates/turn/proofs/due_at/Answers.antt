@@ -1,5 +1,4 @@
 use borrow.Author.Tests.{lt-ltb, le-ltb}
-use borrow.Author.Rules.{rules}
 use Rattle.turn.specs.Due.{due_of}
 use Rattle.turn.proofs.due_at.Goals as goal
 

@@ -1,5 +1,5 @@
 use mathlib.Core.Path.{◌∙◌, ap, sym}
-use Rattle.isa.specs.declared.Encoded.TheVariants.{Word, Refused}
+use Rattle.std.specs.Prelude.{Some, None}
 use Rattle.isa.specs.Encode.{encode_of}
 use Rattle.isa_number.specs.Number.{number_of}
 use Rattle.isa_number.proofs.Laws.{reply-other, reply-encoded}
@@ -12,16 +12,16 @@ returns-then-number-instruction c = record {
       (c.number.ensures ∙ ap number_of c.from_number-i.ensures) c.if-number-instruction.true);
 }
 
-pub returns-in-Word : goal.returns-in-Word
-returns-in-Word c = record {
+pub returns-in-Some : goal.returns-in-Some
+returns-in-Some c = record {
   reply = sym (reply-encoded c.args.instruction c.number.result
-      (c.number.ensures ∙ ap number_of c.from_number-i.ensures) (Word c.in-Word.w) c.if-number-instruction.false
-      (ap encode_of (sym c.from_number-i.ensures) ∙ sym c.encode.ensures ∙ c.in-Word.is));
+      (c.number.ensures ∙ ap number_of c.from_number-i.ensures) (Some c.in-Some.w) c.if-number-instruction.false
+      (ap encode_of (sym c.from_number-i.ensures) ∙ sym c.encode.ensures ∙ c.in-Some.is));
 }
 
-pub returns-in-Refused : goal.returns-in-Refused
-returns-in-Refused c = record {
+pub returns-in-None : goal.returns-in-None
+returns-in-None c = record {
   reply = sym (reply-encoded c.args.instruction c.number.result
-      (c.number.ensures ∙ ap number_of c.from_number-i.ensures) Refused c.if-number-instruction.false
-      (ap encode_of (sym c.from_number-i.ensures) ∙ sym c.encode.ensures ∙ c.in-Refused.is));
+      (c.number.ensures ∙ ap number_of c.from_number-i.ensures) None c.if-number-instruction.false
+      (ap encode_of (sym c.from_number-i.ensures) ∙ sym c.encode.ensures ∙ c.in-None.is));
 }

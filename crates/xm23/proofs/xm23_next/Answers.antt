@@ -3,10 +3,10 @@ use Rattle.isa_card.specs.Words.{found_reply, next_reply}
 use borrow.Author.Rules.{rules}
 use Rattle.xm23.proofs.xm23_next.Goals as goal
 
-pub returns-in-Found : goal.returns-in-Found
+pub returns-in-Some : goal.returns-in-Some
 unfolding next_reply
-returns-in-Found c = record { reply = sym (ap found_reply (sym c.next_of.ensures ∙ c.in-Found.is)) }
+returns-in-Some c = record { reply = sym (ap found_reply (sym c.next_of.ensures ∙ c.in-Some.is)) }
 
-pub returns-in-Nothing : goal.returns-in-Nothing
+pub returns-in-None : goal.returns-in-None
 unfolding next_reply
-returns-in-Nothing c = record { reply = sym (ap found_reply (sym c.next_of.ensures ∙ c.in-Nothing.is)) }
+returns-in-None c = record { reply = sym (ap found_reply (sym c.next_of.ensures ∙ c.in-None.is)) }

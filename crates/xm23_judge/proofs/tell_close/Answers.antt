@@ -1,7 +1,6 @@
 use Rattle.xm23_judge.proofs.Laws.{close-none, close-some}
 use Rattle.open_frames.specs.Open.{handler_of}
 use mathlib.Core.Path.{sym, ◌∙◌}
-use borrow.Author.Rules.{rules}
 use Rattle.xm23_judge.proofs.tell_close.Goals as goal
 
 pub returns-then-none : goal.returns-then-none

@@ -3,8 +3,6 @@ use Rattle.open_frames.specs.Open.{handler_of}
 use Rattle.machine.specs.State.{state_of}
 use lib.ListN.{length}
 use mathlib.Core.Path.{refl, sym, ap, ◌∙◌}
-use native.Mathlib.Omega.{arith}
-use borrow.Author.Rules.{rules}
 use Rattle.xm23_judge.proofs.tell_start.Goals as goal
 
 pub returns-then-x-eq0 : goal.returns-then-x-eq0
@@ -12,8 +10,7 @@ returns-then-x-eq0 c mem =
     start_none c.args.m.rest.count (state_of c.args.m mem) _ c.requires (sym (c.start_faults-x.ensures mem) ∙ c.if-x-eq0.true)
 
 pub note-requires : goal.note-requires
-note-requires c =
-    (ap length c.requires, omega arith)
+note-requires c = ap length c.requires
 
 pub returns : goal.returns
 returns c mem =

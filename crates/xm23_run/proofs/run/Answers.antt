@@ -1,6 +1,6 @@
 -- A stretch first: where it does all the steps, the run is that stretch; else its steps are before those of the run that is kept
 -- nowhere, which goes on from the state that they reach. Assumes nothing.
-use Prim.Native.Nat.{ℕ, ◌+◌, ◌-◌, ◌≤◌}
+use Prim.Native.Nat.{◌+◌, ◌-◌, ◌≤◌}
 use mathlib.Core.Bool.{cond, not, ◌&&◌}
 use mathlib.Core.Path.{◌≡◌, sym, ap, subst, ◌∙◌}
 use native.Mathlib.Omega.{arith}
@@ -46,11 +46,11 @@ passed c =
     let z = c.at_once-u in
     let d = c.due_at in
     stretch-passes (events_of b) a.m.regs t a.memory.now f.new.regs f.result f.new.mem z.result d.result
-    z.ensures.2 (undisturbed b a.from d.result t.count (c.requires.4, d.ensures) c.requires.2) z.ensures.1 f.ensures.passes
+    z.ensures.2 (undisturbed b a.from d.result t.count (c.requires.3, d.ensures) c.requires.1) z.ensures.1 f.ensures.passes
     c.gone_on-s.result c.gone_on-s.ensures
 
 pub gone_on-s-requires : goal.gone_on-s-requires
-gone_on-s-requires c = (c.stretch-p.ensures.left, omega (arith, c.at_once-u.ensures.0, c.requires.1))
+gone_on-s-requires c = (c.stretch-p.ensures.left, omega (arith, c.at_once-u.ensures.0, c.requires.0))
 
 -- a stretch alone
 pub returns-then-done-n : goal.returns-then-done-n
@@ -73,7 +73,7 @@ returns-then-done-n c =
       steps = ap (λ (y : Logged). y.steps) x;
       added = ap (λ (y : Logged). length y.records) x;
       log = ap (log_after a.log.now) x;
-      next = behind-later b a.from a.m.rest.count _ (omega (arith, count-on i)) c.requires.4;
+      next = behind-later b a.from a.m.rest.count _ (omega (arith, count-on i)) c.requires.3;
       depth = sym (passed-depth (events_of b) s₀ v a.n p (room_of a.log.now) a.begun)
           ∙ ap (λ (y : Logged). depth_from (events_of b) s₀ a.begun y.steps) x;
     }
@@ -82,12 +82,11 @@ pub run_kept-r-requires : goal.run_kept-r-requires
 run_kept-r-requires c =
     let i = (goal.at.run_kept-r-requires c).After-gone_on-s in
     let a = c.args in (
-      omega (arith, c.requires.0, c.stretch-p.auto.mem),
-      omega (arith, count-on i, few i, c.requires.1),
+      omega (arith, count-on i, few i, c.requires.0),
+      c.requires.1,
       c.requires.2,
-      c.requires.3,
-      behind-later a.events.now a.from a.m.rest.count _ (omega (arith, count-on i)) c.requires.4,
-      omega (arith, c.requires.5),
+      behind-later a.events.now a.from a.m.rest.count _ (omega (arith, count-on i)) c.requires.3,
+      omega (arith, c.requires.4),
       search rules,
     )
 
@@ -98,10 +97,7 @@ overflow_add-r c =
     let r = c.run_kept-r in
     let k = c.args.n - (c.at_once-u.result - c.stretch-p.result.left) in
     let l : r.result.steps ≤ k = subst (λ j. j ≤ k) (sym r.ensures.run.steps) (logged-le _ _ _ _) in
-    omega (arith, l, few i, c.requires.1)
-
-pub shape_of-memory : goal.shape_of-memory
-shape_of-memory c = omega (arith, c.run_kept-r.auto.memory, c.stretch-p.auto.mem)
+    omega (arith, l, few i, c.requires.0)
 
 -- a stretch, and the run that goes on from it
 pub returns : goal.returns

@@ -1,12 +1,6 @@
-use mathlib.Core.List.{append_assoc}
-use native.Mathlib.Omega.{arith}
-use Rattle.text.proofs.Laws.{kept-twice}
+use Rattle.std.proofs.Common.{arith}
+use Rattle.text.proofs.Laws.{puts-then}
 use Rattle.line_text.proofs.fields.put_field.Goals as goal
 
 pub returns : goal.returns
-returns c =
-    let kept =
-    kept-twice c.put-next.result c.put_hex.result
-    c.args.out.now c.put-next.new.out c.put_hex.new.out (omega arith)
-    c.put-next.ensures.2 c.put_hex.ensures.2 in
-    (rw (c.put_hex.ensures.0, c.put-next.ensures.0, append_assoc), omega arith, kept)
+returns c = (puts-then c.put-next.ensures.0 c.put_hex.ensures.0, omega arith)

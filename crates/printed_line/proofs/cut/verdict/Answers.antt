@@ -1,4 +1,3 @@
-use borrow.Author.Rules.{rules}
 use borrow.Author.Tests.{lt-ltb, le-ltb}
 use Rattle.printed_line.specs.Sheet.{input_verdict}
 use Rattle.printed_line.proofs.Inputs.{verdict-of-parts}

@@ -1,19 +1,11 @@
 -- The loop's invariant: the machine, the memory and the steps done are those of the run of as many steps, the index is not past
 -- the events to come, and the depth is the one carried over them. Assumes nothing.
-use Prim.Native.Nat.{◌-◌, ◌≤◌}
-use mathlib.Core.Path.{◌≡◌, refl, sym, ap, ◌∙◌}
+use mathlib.Core.Path.{refl, sym, ap, ◌∙◌}
 use native.Mathlib.Omega.{arith}
 use lib.ListN.{length}
 use lib.Seq.{length-sets}
-use borrow.Author.Rules.{rules}
-use borrow.Author.Tests.{not-true, not-false}
 use Rattle.machine.specs.declared.Depth.{Depth}
-use Rattle.machine.specs.State.{state_of}
-use Rattle.machine.specs.Events.{events_of}
-use Rattle.machine.specs.Run.{ran, run_of}
 use Rattle.machine.specs.Log.{log_bytes}
-use Rattle.machine.specs.Depth.{depth, depth_from}
-use Rattle.devices.specs.Cursor.{Behind}
 use Rattle.turn.proofs.Laws.{behind-none}
 use Rattle.printed_line.proofs.Sliced.{slices-start, slices-count, slices-full, slice-le, slice-on, slice-some, slice-ends}
 use Rattle.printed_line.proofs.Sliced.{depth-begins, depth-few, slice-depth}
@@ -22,7 +14,6 @@ use Rattle.printed_line.proofs.slices.run_whole.Goals as goal
 pub loop-done-init : goal.loop-done-init
 loop-done-init c = record {
   some = omega arith;
-  size = refl;
   short = refl;
   behind = behind-none _ _;
   reached = slices-start _ _;
@@ -31,18 +22,6 @@ loop-done-init c = record {
 
 pub slice_bounds-run-end : goal.slice_bounds-run-end
 slice_bounds-run-end c = omega (arith, c.loop-done.invariant.short)
-
-pub run-r-requires : goal.run-r-requires
-run-r-requires c =
-    let l = c.loop-done in
-    let k = slices-count _ _ _ _ l.invariant.reached in (
-      omega (arith, c.requires.0, l.invariant.size),
-      omega (arith, c.requires.1, k, l.invariant.some),
-      c.requires.2,
-      c.requires.3,
-      l.invariant.behind,
-      omega (arith, depth-few _ _ l.depth _ _ l.invariant.deep l.invariant.some, c.requires.1),
-    )
 
 pub overflow_add-done : goal.overflow_add-done
 overflow_add-done c =
@@ -66,15 +45,11 @@ loop-done-preserved c =
     let l = c.loop-done in
     let i = slice-le _ _ _ _ l.invariant.reached _ _ _ _ _ r.state r.reason r.steps in record {
       some = omega (arith, i, l.invariant.some);
-      size = omega (arith, l.invariant.size);
       short = ap length r.log ∙ length-sets _ 0 (log_bytes _) ∙ l.invariant.short;
       behind = r.next;
       reached = slice-on _ _ _ _ l.invariant.reached _ _ _ _ _ r.state r.reason r.steps;
       deep = slice-depth _ _ _ _ l.invariant.reached _ _ _ _ _ r.state r.reason r.steps _ _ l.invariant.deep r.depth;
     }
-
-pub shape_of-memory-after-loop-done : goal.shape_of-memory-after-loop-done
-shape_of-memory-after-loop-done c = c.loop-done.invariant.size
 
 pub returns-after-loop-done : goal.returns-after-loop-done
 returns-after-loop-done c =
@@ -83,11 +58,6 @@ returns-after-loop-done c =
       run = slices-full _ _ _ _ l.invariant.reached _ l.invariant.some c.loop-done-test.false;
       deepest = ap (λ (p : Depth). p.deepest) l.invariant.deep;
     }
-
-pub shape_of-memory-then-not-out_of_room : goal.shape_of-memory-then-not-out_of_room
-shape_of-memory-then-not-out_of_room c =
-    let l = c.loop-done in
-    omega (arith, l.invariant.size)
 
 pub returns-then-not-out_of_room : goal.returns-then-not-out_of_room
 returns-then-not-out_of_room c =
@@ -102,3 +72,14 @@ returns-then-not-out_of_room c =
 
 pub overflow_sub-n : goal.overflow_sub-n
 overflow_sub-n c = omega arith
+
+pub run-r-requires : goal.run-r-requires
+run-r-requires c =
+    let l = c.loop-done in
+    let k = slices-count _ _ _ _ l.invariant.reached in (
+      omega (arith, c.requires.0, k, l.invariant.some),
+      c.requires.1,
+      c.requires.2,
+      l.invariant.behind,
+      omega (arith, depth-few _ _ l.depth _ _ l.invariant.deep l.invariant.some, c.requires.0),
+    )

@@ -1,26 +1,16 @@
 use Prim.Native.Nat.{◌-◌, ◌≤◌}
-use mathlib.Core.Path.{◌≡◌, refl, sym, ap, ◌∙◌}
-use native.Mathlib.Omega.{arith}
+use mathlib.Core.Path.{◌≡◌}
 use lib.ListN.{length}
-use lib.Seq.{length-sets}
-use borrow.Author.Rules.{rules}
-use borrow.Author.Tests.{not-true, not-false}
-use Rattle.machine.specs.declared.Depth.{Depth}
 use Rattle.machine.specs.State.{state_of}
 use Rattle.machine.specs.Events.{events_of}
 use Rattle.machine.specs.Run.{ran, run_of}
-use Rattle.machine.specs.Log.{log_bytes}
 use Rattle.machine.specs.Depth.{depth, depth_from}
 use Rattle.devices.specs.Cursor.{Behind}
-use Rattle.turn.proofs.Laws.{behind-none}
-use Rattle.printed_line.proofs.Sliced.{slices-start, slices-count, slices-full, slice-le, slice-on, slice-some, slice-ends}
-use Rattle.printed_line.proofs.Sliced.{depth-begins, depth-few, slice-depth}
 use Rattle.printed_line.proofs.slices.run_whole.Given as goal
 
 abbrev pub invariant-loop-done : goal.invariant-loop-done
 invariant-loop-done l = record {
   some : l.done ≤ l.n;
-  size : length l.memory ≡ length l.initial.memory;
   short : length l.log ≡ 512;
   behind : Behind l.events l.next l.machine.rest.count;
   reached : ran (state_of l.machine l.memory) l.done ≡ run_of (events_of l.events) (state_of l.initial.machine l.initial.memory) l.done;

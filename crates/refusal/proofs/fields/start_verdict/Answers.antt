@@ -7,7 +7,8 @@ use mathlib.Core.Path.{◌≡◌, sym, ap, ◌∙◌}
 use lib.ListN.{length, drop}
 use borrow.Author.Tests.{eq-eqb, ne_eqb, lt-ltb, le-ltb}
 use Rattle.machine.specs.declared.Rest.{Rest}
-use Rattle.machine.specs.declared.Verdict.{Verdict}
+use Rattle.std.specs.Prelude.{Result}
+use Rattle.machine.specs.declared.Refusal.{Refusal}
 use Rattle.machine.specs.State.{state_of}
 use Rattle.machine.specs.Record.{record_of}
 use Rattle.machine.specs.Refusal.{Rule, first_broken, verdict_of}
@@ -16,7 +17,7 @@ use Rattle.refusal.proofs.Own.{field_rules, fields-verdict}
 use Rattle.refusal.proofs.fields.start_verdict.Goals as goal
 
 -- of the verdict `v`: the first broken rule is the first from rule k on
-module _ (v : Verdict) (r : Rest) (memory events : List ℕ) (n : ℕ) where
+module _ (v : Result (Unit {0}) Refusal) (r : Rest) (memory events : List ℕ) (n : ℕ) where
   abbrev in_order : List Rule
   in_order = field_rules r memory events n
 

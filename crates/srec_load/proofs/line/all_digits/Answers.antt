@@ -1,29 +1,19 @@
-use Prim.Native.Nat.{◌+◌}
-use mathlib.Core.Path.{refl, sym, ap, ◌∙◌}
-use mathlib.Core.Bool.{◌&&◌, Bool}
-use native.Mathlib.Omega.{arith}
-use lib.ListN.{drop}
-use Rattle.srec.specs.Digits.{all_digits}
-use Rattle.srec_load.proofs.Laws.{digits-here, digits-end}
+use Rattle.std.proofs.Common.{◌≡◌, ℕ, ◌&&◌, List, [], ◌∷◌, drop, refl, ap, ◌∙◌, rules, arith}
+use Rattle.std.specs.List.{list_all}
+use Rattle.std.proofs.lemmas.List.{take_all, length-drop}
+use Rattle.std.proofs.lemmas.Iterator.{YieldsList-from_slice}
+use Rattle.std.proofs.lemmas.Iterator.Search.{all_from_yields_List}
+use Rattle.srec.specs.Digits.{is_digit, all_digits}
 use Rattle.srec_load.proofs.line.all_digits.Goals as goal
 
-pub returns-then-not-is_digit : goal.returns-then-not-is_digit
-returns-then-not-is_digit c =
-    let l = c.args.line.now in
-    let i = c.loop-i.i in
-    let b = sym c.is_digit.ensures ∙ c.if-not-is_digit.true in
-    sym (ap (λ (x : Bool). x && all_digits (drop (i + 1) l)) b) ∙ sym (digits-here l i (omega arith)) ∙ c.loop-i.invariant.1
-
-pub loop-i-preserved : goal.loop-i-preserved
-loop-i-preserved c =
-    let l = c.args.line.now in
-    let i = c.loop-i.i in
-    let b = sym c.is_digit.ensures ∙ c.if-not-is_digit.false in
-    (omega arith, sym (ap (λ (x : Bool). x && all_digits (drop (i + 1) l)) b) ∙ sym (digits-here l i (omega arith)) ∙ c.loop-i.invariant.1)
+each : (s : List ℕ) → list_all is_digit s ≡ all_digits s
+unfolding all_digits
+each [] = refl
+each (b ∷ t) = ap (λ r. is_digit b && r) (each t)
 
 pub returns : goal.returns
 returns c =
-    sym (digits-end c.args.line.now c.loop-i.i (omega arith)) ∙ c.loop-i.invariant.1
-
-pub loop-i-init : goal.loop-i-init
-loop-i-init c = (omega arith, refl)
+    let s = drop 2 c.args.line.now in
+    let whole = c.iter.ensures.rest ∙ take_all _ _ (simp length-drop (omega arith)) in
+    all_from_yields_List is_digit _ _ _ c.all.ensures.ran (YieldsList-from_slice s whole) (λ x b q k. search rules)
+    ∙ each s

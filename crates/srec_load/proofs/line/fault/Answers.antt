@@ -20,10 +20,6 @@ returns-then-sum-ne255 c = grind (arith, nat_tests)
 pub kind-requires : goal.kind-requires
 kind-requires c = let h = shaped-facts _ _ (sym c.if-not-shaped.ensures) in omega arith
 
-pub returns-then-kind-ne49 : goal.returns-then-kind-ne49
-unfolding fault_of
-returns-then-kind-ne49 c = grind (arith, nat_tests)
-
 pub address-requires : goal.address-requires
 address-requires c = let h = shaped-facts _ _ (sym c.if-not-shaped.ensures) in omega arith
 

@@ -8,7 +8,7 @@ loop-k-preserved c =
     let l = c.args.line.now in
     let n = bytes-length l _ c.requires in
     let h = sum-here (bytes_of l) c.loop-k.k (omega arith) in
-    (omega arith, omega arith, omega arith)
+    (omega arith, omega arith)
 
 pub returns : goal.returns
 returns c = let l = c.args.line.now in
@@ -17,4 +17,4 @@ returns c = let l = c.args.line.now in
     omega arith
 
 pub loop-k-init : goal.loop-k-init
-loop-k-init c = (omega arith, omega arith, omega arith)
+loop-k-init c = (omega arith, omega arith)

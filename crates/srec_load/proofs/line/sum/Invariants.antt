@@ -1,4 +1,4 @@
-use Prim.Native.Nat.{◌≤◌, ◌-◌, ◌+◌, ◌*◌}
+use Prim.Native.Nat.{◌≤◌, ◌+◌, ◌*◌}
 use mathlib.Core.Path.{◌≡◌}
 use lib.ListN.{drop}
 use Rattle.srec.specs.Digits.{sum_of}
@@ -6,7 +6,4 @@ use Rattle.srec.specs.Record.{bytes_of}
 use Rattle.srec_load.proofs.line.sum.Given as goal
 
 abbrev pub invariant-loop-k : goal.invariant-loop-k
-invariant-loop-k l = (l.k ≤ l.n + 1) × (l.s ≤ 255 * l.k) × (l.s + sum_of (drop l.k (bytes_of l.line)) ≡ sum_of (bytes_of l.line))
-
-abbrev pub decreases-loop-k : goal.decreases-loop-k
-decreases-loop-k l = l.n + 1 - l.k
+invariant-loop-k l = (l.s ≤ 255 * l.k) × (l.s + sum_of (drop l.k (bytes_of l.line)) ≡ sum_of (bytes_of l.line))

@@ -1,8 +1,0 @@
-use borrow.Author.Tests.{eq-eqb, ne_eqb}
-use Rattle.event_rules.proofs.events_fit.Goals as goal
-
-pub returns-then-n-ne0 : goal.returns-then-n-ne0
-returns-then-n-ne0 c = simp (ne_eqb _ _ c.if-n-ne0.true)
-
-pub returns : goal.returns
-returns c = simp (eq-eqb _ _ c.if-n-ne0.false)

@@ -2,7 +2,8 @@
 """No array above 128 elements in the decoder (document 02 §4), nor anywhere in a run: tables.py [ARCHIVE].
 
 In source: the .rt files of the crates that the four calls below are made of, and of those below them. An array is a
-type [T; N], or a list or string of that length.
+type [T; N], or a list or string of that length; a type of numbers behind a reference, &mut [u8; N], is what a caller
+lends, and no array of the program's.
 In the archive: every section that the calls reach through relocations. A read-only byte belongs to a jump table if a
 relocation puts the place of an instruction there; a table begins where code refers to one, and may have no more than
 128 places. All other read-only bytes are data, and data that stands together, or one constant of a section of such, is
@@ -55,8 +56,10 @@ def brackets(text):
 
 
 def arrays(source):
-    """The length of each array of a source text, None where it is no plain number; contracts are no code."""
+    """The length of each array of a source text, None where it is no plain number; contracts are no code, and what a
+    caller lends is no array."""
     code = re.sub(r"//.*|(?s:⌜.*?⌝)|ghost use .*", "", source)
+    code = re.sub(r"&(?:mut )?\[[ui](?:8|16|32|64|size); [0-9]+\]", "", code)
     lengths = [len(text) for text in re.findall(r'"((?:[^"\\]|\\.)*)"', code)]
     for text in brackets(re.sub(r'"(?:[^"\\]|\\.)*"', "", code)):
         _, semicolon, count = text.rpartition(";")

@@ -56,6 +56,8 @@ def main():
         "a length that is no number": arrays("fn f(a: [u16; MANY]) {}") == [None],
         "a list": arrays("const A: [u8; 3] = [f(1, 2), 2, 3,];") == [3, 3],
         "a list of 129": arrays("let a = [" + "1, " * 129 + "];") == [129],
+        "arrays that a caller lends": arrays("fn f(a: &mut [u8; 65536], b: &[u16; 200]) {}") == [],
+        "a list of zeros that is lent": arrays("f(&[0u8; 200], &mut [0; 300]);") == [200, 300],
         "a string": arrays('let a = "' + "x" * 129 + '";') == [129],
         "an array in a comment or a contract": arrays("// [u8; 999]\nensures { λ r. ⌜ r ≡ [1; 999] ⌝ }\n") == [],
         "an array of arrays": sorted(arrays("let a: [[u8; 2]; 200];")) == [2, 200],

@@ -28,6 +28,10 @@ unfoldable pub upper_bits : ℕ → ℕ
 upper_bits n = 4294967296 * min n 4294967295
 
 -- The reply as one number: bits 7-0 the refusal (0: none), 63-32 the line at fault. [02 §12; 01 Which shape goes where]
+abbrev pub reply_of : (number line : ℕ) → ℕ
+reply_of n line = n + upper_bits line
+
+-- The same of a refusal. [02 §12; 01 Which shape goes where]
 abbrev pub refusal_reply : Refusal → ℕ
 refusal_reply r = refusal_number r.kind + upper_bits r.line
 

@@ -261,9 +261,9 @@ on x b = table b.names b.values (placed_at b.tally (next_of b.tally.place (layou
 abbrev value_on : Statement → Table → Result ℤ Lack
 value_on x b = name_value b.tally.place (layout_of x)
 
--- a line with a name, or none
+-- a line with a name, or none; where it starts does not matter here
 abbrev with : Option ℕ → Statement → Line
-with name x = record { name = name; statement = x }
+with name x = record { start = 0; name = name; statement = x }
 
 line-names : (l : List ℕ) (r : Option Line) (b : Table) (m : List ℕ) → Up (look b m) (look (line_after l r b) m)
 line-names l None b m z e = e
@@ -420,7 +420,7 @@ module _ (f : List ℕ → Result ℤ Lack) (l : List ℕ) (ls : List (List ℕ)
   step None (Some y) a c up = absurd a
   step (Some x) None a c up = absurd a
   step (Some x) (Some y) a c up =
-      subst (λ (t : Option ℕ). AllValued f (names (Some (with t y.statement)))) a.0 (both x.name x.statement y.statement a.1 c up)
+      subst (λ (t : Option ℕ). AllValued f (names (Some (with t y.statement)))) a.1 (both x.name x.statement y.statement a.2 c up)
 
 all-valued : (f : List ℕ → Result ℤ Lack) (ls : List (List ℕ)) (b : Table) (p : ℕ) → Even b → b.tally.place ≡ p
     → Clean (table_from ls b).tally → ((n : List ℕ) → Up (look (table_from ls b) n) (f n)) → AllValued f (given_from f ls p)

@@ -56,7 +56,7 @@ module _ (U : Result ℤ Lack → Result ℤ Lack → Type 0) (O : Statement →
   AlikeLines None None = Unit
   AlikeLines None (Some y) = ⊥
   AlikeLines (Some x) None = ⊥
-  AlikeLines (Some x) (Some y) = (x.name ≡ y.name) × O x.statement y.statement
+  AlikeLines (Some x) (Some y) = (x.start ≡ y.start) × (x.name ≡ y.name) × O x.statement y.statement
 
   alike-cond : (b : Bool) (x y x' y' : Option (Read Statement)) → Alike x x' → Alike y y' → Alike (cond b x y) (cond b x' y')
   alike-cond true x y x' y' f g = f
@@ -171,33 +171,35 @@ module _ (U : Result ℤ Lack → Result ℤ Lack → Type 0) (O : Statement →
     statement-alike named Reserved i = tt
     statement-alike named (Begins k) i = with-alike named k i
 
-    alike-ended : (name : Option ℕ) (x y : Option (Read Statement)) → Alike x y → AlikeLines (ended s name x) (ended s name y)
-    alike-ended name None None e = tt
-    alike-ended name None (Some y) e = absurd e
-    alike-ended name (Some x) None e = absurd e
-    alike-ended name (Some x) (Some y) e =
-        subst (λ (k : ℕ). AlikeLines (ended s name (Some x)) (ended s name (found y.value k))) e.0
-        (alike-lines-cond (over? s (after blank? s x.next)) (line_with name x.value) None (line_with name y.value) None (refl, e.1) tt)
+    alike-ended : (start : ℕ) (name : Option ℕ) (x y : Option (Read Statement)) → Alike x y
+        → AlikeLines (ended s start name x) (ended s start name y)
+    alike-ended start name None None e = tt
+    alike-ended start name None (Some y) e = absurd e
+    alike-ended start name (Some x) None e = absurd e
+    alike-ended start name (Some x) (Some y) e =
+        subst (λ (k : ℕ). AlikeLines (ended s start name (Some x)) (ended s start name (found y.value k))) e.0
+        (alike-lines-cond (over? s (after blank? s x.next)) (line_with start name x.value) None (line_with start name y.value) None
+        (refl, refl, e.1) tt)
 
-    alike-statement : (name : Option ℕ) (named : Bool) (i : ℕ)
-        → AlikeLines (ended s name (statement_at f s named i)) (ended s name (statement_at f' s named i))
+    alike-statement : (start : ℕ) (name : Option ℕ) (named : Bool) (i : ℕ)
+        → AlikeLines (ended s start name (statement_at f s named i)) (ended s start name (statement_at f' s named i))
     unfolding statement_at
-    alike-statement name named i =
+    alike-statement start name named i =
         let m = word_of (word (drop i s)) in
         let k = after name_byte? s i in
-        alike-ended name (statement_of f s named m k) (statement_of f' s named m k) (statement-alike named m k)
+        alike-ended start name (statement_of f s named m k) (statement_of f' s named m k) (statement-alike named m k)
 
-    nothing-alike : (name : Option ℕ) → AlikeLines (line_with name st.Nothing) (line_with name st.Nothing)
-    nothing-alike name = (refl, R.itself st.Nothing)
+    nothing-alike : (start : ℕ) (name : Option ℕ) → AlikeLines (line_with start name st.Nothing) (line_with start name st.Nothing)
+    nothing-alike start name = (refl, refl, R.itself st.Nothing)
 
     alike-after : (q i : ℕ) → AlikeLines (after_name f s q i) (after_name f' s q i)
     unfolding after_name
-    alike-after q i = alike-lines-cond (over? s i) _ _ _ _ (nothing-alike (Some q)) (alike-statement (Some q) true i)
+    alike-after q i = alike-lines-cond (over? s i) _ _ _ _ (nothing-alike q (Some q)) (alike-statement q (Some q) true i)
 
     alike_from : (q : ℕ) → AlikeLines (line_from f s q) (line_from f' s q)
     unfolding line_from
-    alike_from q = alike-lines-cond (over? s q) _ _ _ _ (nothing-alike None)
-        (alike-lines-cond (not (free? (word_of (word (drop q s))))) _ _ _ _ (alike-statement None false q)
+    alike_from q = alike-lines-cond (over? s q) _ _ _ _ (nothing-alike q None)
+        (alike-lines-cond (not (free? (word_of (word (drop q s))))) _ _ _ _ (alike-statement q None false q)
         (alike-lines-cond (letter? (byte_at s q)) _ _ _ _ (alike-after q (after blank? s (after name_byte? s q))) tt))
 
     pub line-related : AlikeLines (line_of f s) (line_of f' s)

@@ -300,25 +300,25 @@ module _ (look : List ℕ → Result ℤ Lack) (s : List ℕ) where
   line-cond true x y f g = f refl
   line-cond false x y f g = g refl
 
-  ended-lawful : (name : Option ℕ) (x : Option (Read Statement)) → Holds x → LawfulLine (ended s name x)
-  ended-lawful name None h = tt
-  ended-lawful name (Some x) h = line-cond (over? s (after blank? s x.next)) _ _ (λ q. h) (λ q. tt)
+  ended-lawful : (start : ℕ) (name : Option ℕ) (x : Option (Read Statement)) → Holds x → LawfulLine (ended s start name x)
+  ended-lawful start name None h = tt
+  ended-lawful start name (Some x) h = line-cond (over? s (after blank? s x.next)) _ _ (λ q. h) (λ q. tt)
 
-  statement-lawful : (name : Option ℕ) (named : Bool) (i : ℕ) → LawfulLine (ended s name (statement_at look s named i))
+  statement-lawful : (start : ℕ) (name : Option ℕ) (named : Bool) (i : ℕ) → LawfulLine (ended s start name (statement_at look s named i))
   unfolding statement_at
-  statement-lawful name named i =
+  statement-lawful start name named i =
       let m = word_of (word (drop i s)) in
       let k = after name_byte? s i in
-      ended-lawful name (statement_of look s named m k) (statement-holds named m k (word-within (word (drop i s))))
+      ended-lawful start name (statement_of look s named m k) (statement-holds named m k (word-within (word (drop i s))))
 
-  after-lawful : (name i : ℕ) → LawfulLine (after_name look s name i)
+  after-lawful : (start i : ℕ) → LawfulLine (after_name look s start i)
   unfolding after_name
-  after-lawful name i = line-cond (over? s i) _ _ (λ q. tt) (λ q. statement-lawful (Some name) true i)
+  after-lawful start i = line-cond (over? s i) _ _ (λ q. tt) (λ q. statement-lawful start (Some start) true i)
 
   from-lawful : (q : ℕ) → LawfulLine (line_from look s q)
   unfolding line_from
   from-lawful q = line-cond (over? s q) _ _ (λ z. tt)
-      (λ z. line-cond (not (free? (word_of (word (drop q s))))) _ _ (λ z. statement-lawful None false q)
+      (λ z. line-cond (not (free? (word_of (word (drop q s))))) _ _ (λ z. statement-lawful q None false q)
       (λ z. line-cond (letter? (byte_at s q)) _ _ (λ z. after-lawful q (after blank? s (after name_byte? s q))) (λ z. tt)))
 
   pub line-lawful : LawfulLine (line_of look s)

@@ -17,11 +17,11 @@ use Rattle.asm_line.specs.Statement.{statement_of}
 use Rattle.asm_line.specs.Line.{line_with, ended, statement_at, after_name, line_from}
 
 -- ---- the end of a line
-module _ (s : List ℕ) (name : Option ℕ) (x : Read Statement) where
-  pub end-yes : over? s (after blank? s x.next) ≡ true → line_with name x.value ≡ ended s name (Some x)
+module _ (s : List ℕ) (start : ℕ) (name : Option ℕ) (x : Read Statement) where
+  pub end-yes : over? s (after blank? s x.next) ≡ true → line_with start name x.value ≡ ended s start name (Some x)
   end-yes h = rw h
 
-  pub end-no : over? s (after blank? s x.next) ≡ false → None ≡ ended s name (Some x)
+  pub end-no : over? s (after blank? s x.next) ≡ false → None ≡ ended s start name (Some x)
   end-no h = rw h
 
 -- ---- a statement whose word stands at i
@@ -34,20 +34,20 @@ statement-there look s named i m j x em ej ex =
 
 -- ---- a line from its first byte on that is no blank
 module _ (look : List ℕ → Result ℤ Lack) (s : List ℕ) (q : ℕ) where
-  pub name-alone : (i : ℕ) → over? s i ≡ true → line_with (Some q) Nothing ≡ after_name look s q i
+  pub name-alone : (i : ℕ) → over? s i ≡ true → line_with q (Some q) Nothing ≡ after_name look s q i
   unfolding after_name
   name-alone i h = rw h
 
-  pub name-statement : (i : ℕ) → over? s i ≡ false → ended s (Some q) (statement_at look s true i) ≡ after_name look s q i
+  pub name-statement : (i : ℕ) → over? s i ≡ false → ended s q (Some q) (statement_at look s true i) ≡ after_name look s q i
   unfolding after_name
   name-statement i h = rw h
 
-  pub line-empty : over? s q ≡ true → line_with None Nothing ≡ line_from look s q
+  pub line-empty : over? s q ≡ true → line_with q None Nothing ≡ line_from look s q
   unfolding line_from
   line-empty h = rw h
 
   module _ (h : over? s q ≡ false) (m : Bool) (e : m ≡ free? (word_of (word (drop q s)))) where
-    pub line_word : m ≡ false → ended s None (statement_at look s false q) ≡ line_from look s q
+    pub line_word : m ≡ false → ended s q None (statement_at look s false q) ≡ line_from look s q
     unfolding line_from
     line_word k = rw (h, sym e ∙ k)
 

@@ -11,14 +11,15 @@ use Rattle.asm_text.specs.declared.Read.{Read}
 use Rattle.asm_operands.specs.Operands.{over?}
 use Rattle.asm_line.specs.Statement.{statement_of}
 
--- a line with a name, which stands at a place, or with none, and a statement
-abbrev pub line_with : Option ℕ → Statement → Option Line
-line_with name x = Some (record { name = name; statement = x })
+-- a line whose first byte that is no blank stands at a place, with a name, which stands at a place, or with none, and a
+-- statement
+abbrev pub line_with : (start : ℕ) → Option ℕ → Statement → Option Line
+line_with start name x = Some (record { start = start; name = name; statement = x })
 
 -- a line with a statement, if the line is over after it, else 17. [02 §12]
-abbrev pub ended : List ℕ → Option ℕ → Option (Read Statement) → Option Line
-ended s name None = None
-ended s name (Some r) = cond (over? s (after blank? s r.next)) (line_with name r.value) None
+abbrev pub ended : List ℕ → (start : ℕ) → Option ℕ → Option (Read Statement) → Option Line
+ended s start name None = None
+ended s start name (Some r) = cond (over? s (after blank? s r.next)) (line_with start name r.value) None
 
 -- a statement whose word stands at i
 unfoldable pub statement_at : (List ℕ → Result ℤ Lack) → List ℕ → Bool → ℕ → Option (Read Statement)
@@ -26,16 +27,17 @@ statement_at look s named i = statement_of look s named (word_of (word (drop i s
 
 -- what follows a name at q that ends before i
 unfoldable pub after_name : (List ℕ → Result ℤ Lack) → List ℕ → (q i : ℕ) → Option Line
-after_name look s q i = cond (over? s i) (line_with (Some q) Nothing) (ended s (Some q) (statement_at look s true i))
+after_name look s q i = cond (over? s i) (line_with q (Some q) Nothing) (ended s q (Some q) (statement_at look s true i))
 
 -- a line whose first byte that is no blank stands at q
 unfoldable pub line_from : (List ℕ → Result ℤ Lack) → List ℕ → ℕ → Option Line
 line_from look s q =
-    cond (over? s q) (line_with None Nothing)
-    (cond (not (free? (word_of (word (drop q s))))) (ended s None (statement_at look s false q))
+    cond (over? s q) (line_with q None Nothing)
+    (cond (not (free? (word_of (word (drop q s))))) (ended s q None (statement_at look s false q))
     (cond (letter? (byte_at s q)) (after_name look s q (after blank? s (after name_byte? s q)))
     None))
 
--- the line: its name's place in the line, if it has one, and its statement or Nothing; None is 17. [02 §12]
+-- the line: the place of its first byte that is no blank, its name's place in the line, if it has one, and its statement
+-- or Nothing; None is 17. [02 §12]
 unfoldable pub line_of : (List ℕ → Result ℤ Lack) → List ℕ → Option Line
 line_of look s = line_from look s (after blank? s 0)

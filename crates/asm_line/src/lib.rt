@@ -77,9 +77,11 @@ pub enum Statement {
     },
 }
 
-// A line: the place of its name, if it has one, and its statement.
+// A line: the place of its first byte that is no blank (its end, where it has none), where its name
+// stands if it has one; the place of its name, if it has one; and its statement.
 #[derive(Clone, Copy)]
 pub struct Line {
+    pub start: usize,
     pub name: Option<usize>,
     pub statement: Statement,
 }
@@ -426,49 +428,61 @@ fn read_statement(
 }
 
 // A line with its statement, if it is over after it.
-fn end_line(line: &[u8], name: Option<usize>, x: Read<Statement>) -> Option<Line>
-    ensures { result ≡ ended line.now name (Some x) }
+fn end_line(line: &[u8], start: usize, name: Option<usize>, x: Read<Statement>) -> Option<Line>
+    ensures { result ≡ ended line.now start name (Some x) }
 {
     if !asm_operands::is_over(line, asm_text::skip_blanks(line, x.next)) {
         return None;
     }
     let statement = x.value;
-    Some(Line { name, statement })
+    Some(Line {
+        start,
+        name,
+        statement,
+    })
 }
 
-// What follows the name at `name`, from `at` on.
-fn after_name(names: &Names<'_>, line: &[u8], name: usize, at: usize) -> Option<Line>
-    ensures { result ≡ after_name (values_in names.now) line.now name at }
+// What follows the name at `start`, from `at` on.
+fn after_name(names: &Names<'_>, line: &[u8], start: usize, at: usize) -> Option<Line>
+    ensures { result ≡ after_name (values_in names.now) line.now start at }
 {
-    let name = Some(name);
+    let name = Some(start);
     if asm_operands::is_over(line, at) {
         let statement = Statement::Nothing;
-        return Some(Line { name, statement });
+        return Some(Line {
+            start,
+            name,
+            statement,
+        });
     }
     let t = asm_text::read_word(line, at);
     let w = asm_words::find_word(t.value.spelled);
     let x = read_statement(names, line, true, w, t.next)?;
-    end_line(line, name, x)
+    end_line(line, start, name, x)
 }
 
 // The line, with the values of the names; none where it fits no statement (17).
 pub fn read_line(names: &Names<'_>, line: &[u8]) -> Option<Line>
     ensures { result ≡ line_of (values_in names.now) line.now }
 {
-    let q = asm_text::skip_blanks(line, 0);
-    if asm_operands::is_over(line, q) {
+    let start = asm_text::skip_blanks(line, 0);
+    if asm_operands::is_over(line, start) {
         let statement = Statement::Nothing;
         let name = None;
-        return Some(Line { name, statement });
+        return Some(Line {
+            start,
+            name,
+            statement,
+        });
     }
-    let t = asm_text::read_word(line, q);
+    let t = asm_text::read_word(line, start);
     let w = asm_words::find_word(t.value.spelled);
     if !asm_words::is_free(w) {
         let x = read_statement(names, line, false, w, t.next)?;
-        return end_line(line, None, x);
+        return end_line(line, start, None, x);
     }
-    if asm_text::is_letter(asm_text::byte_at(line, q)) {
-        return after_name(names, line, q, asm_text::skip_blanks(line, t.next));
+    if asm_text::is_letter(asm_text::byte_at(line, start)) {
+        return after_name(names, line, start, asm_text::skip_blanks(line, t.next));
     }
     None
 }

@@ -173,7 +173,7 @@ fn list_source(source: &[u8], list: &mut [u8]) -> Result<u64, Refusal>
 fn reply(v: Result<u64, Refusal>) -> u64
     ensures { result ≡ places_reply v }
 {
-    v.map_or_else(asm_call::refusal_reply, asm_call::upper_bits)
+    v.map_or_else(asm_call::refusal_reply, |k| asm_call::reply(0, k))
 }
 
 // The lines of a source, a record each, into the list lent. Refused, it stays as it was.

@@ -337,7 +337,8 @@ named-one p l None = refl
 named-one p l (Some y) = go y.name
   where
     go : (q : Option ℕ)
-        → named_all (listed_at p (Some record { name = q; statement = y.statement })) ≡ given_all (named_at p l q y.statement)
+        → named_all (listed_at p (Some record { start = y.start; name = q; statement = y.statement }))
+        ≡ given_all (named_at p l q y.statement)
     go None = refl
     go (Some q) = refl
 

@@ -52,13 +52,13 @@ use Rattle.asm_print_laws.proofs.Formats.{text_says, text-plain}
 abbrev pub ending : List ℕ
 ending = ascii "END"
 
-pub origin-reads : (look : List ℕ → Result ℤ Lack) (p : ℕ) → p < 65536 → line_of look (origin_text p) ≡ line_with None (Org (Ok (pos p)))
+pub origin-reads : (look : List ℕ → Result ℤ Lack) (p : ℕ) → p < 65536 → line_of look (origin_text p) ≡ line_with 0 None (Org (Ok (pos p)))
 unfolding origin_text statement_of statement_with with_value
 origin-reads look p h =
     (line_read look (ascii "ORG") (32 ∷ hex_text 4 p) (key.Value val.Org) (Org (Ok (pos p))) mnemonics.org (omega arith)
     (λ s i b. one-hex look s i val.Org p h b)).0
 
-pub end_reads : (look : List ℕ → Result ℤ Lack) → line_of look ending ≡ line_with None End
+pub end_reads : (look : List ℕ → Result ℤ Lack) → line_of look ending ≡ line_with 0 None End
 unfolding statement_of statement_with
 end_reads look =
     (line_read look ending [] key.End End mnemonics.end (omega arith) (λ s i b. record { place = i; is = refl; here = b })).0

@@ -240,7 +240,7 @@ not-over s h n =
 
 -- a line without a name whose statement is x, and that it begins with no blank
 abbrev pub Reads : (List ℕ → Result ℤ Lack) → List ℕ → Statement → Type 0
-Reads look l x = (line_of look l ≡ line_with None x) × (after blank? l 0 ≡ 0)
+Reads look l x = (line_of look l ≡ line_with 0 None x) × (after blank? l 0 ≡ 0)
 
 -- a word of the language, and what its statement is read from
 pub line_read : (look : List ℕ → Result ℤ Lack) (l t : List ℕ) (k : Keyword) (x : Statement) → Spells word_of l (Begins k) → Ends t

@@ -17,7 +17,7 @@ use Rattle.asm_print.specs.Print.{text_at, origin_text}
 -- gives. [call text]
 pub record Says (look : List ℕ → Result ℤ Lack) (p w : ℕ) (l : List ℕ) : Type 0 where
   pub statement : Statement
-  pub reads : line_of look l ≡ line_with None statement
+  pub reads : line_of look l ≡ line_with 0 None statement
   pub starts : after blank? l 0 ≡ 0
   pub layout : layout_of statement ≡ Bytes 2
   pub number : number_of p statement ≡ Ok w

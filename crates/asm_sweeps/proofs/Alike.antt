@@ -52,7 +52,7 @@ alike-form : (r s : Option Line) → AlikeLines AnyValues Stops r s → (faulty?
 alike-form None None h = (refl, refl)
 alike-form None (Some y) h = absurd h
 alike-form (Some x) None h = absurd h
-alike-form (Some x) (Some y) h = (refl, h.1)
+alike-form (Some x) (Some y) h = (refl, h.2)
 
 pub form-alike : (f g : List ℕ → Result ℤ Lack) (l : List ℕ)
     → (faulty? (line_of f l) ≡ faulty? (line_of g l)) × (end? (line_of f l) ≡ end? (line_of g l))

@@ -50,21 +50,21 @@ module _ (s : List ℕ) where
   either true r t f g = f refl
   either false r t f g = g refl
 
-  ended-in : (name : Option ℕ) → Below s name → (x : Option (Read Statement)) → InLine s (ended s name x)
-  ended-in name h None = tt
-  ended-in name h (Some r) = either (over? s (after blank? s r.next)) (line_with name r.value) None (λ e. h) (λ e. tt)
+  ended-in : (start : ℕ) (name : Option ℕ) → Below s name → (x : Option (Read Statement)) → InLine s (ended s start name x)
+  ended-in start name h None = tt
+  ended-in start name h (Some r) = either (over? s (after blank? s r.next)) (line_with start name r.value) None (λ e. h) (λ e. tt)
 
   line-in : (look : List ℕ → Result ℤ Lack) (q : ℕ) → InLine s (line_from look s q)
   unfolding line_from after_name
   line-in look q =
-      either (over? s q) (line_with None Nothing) _ (λ e. unnamed s)
-      (λ e. either (not (free? (word_of (word (drop q s))))) (ended s None (statement_at look s false q)) _
-      (λ e. ended-in None (unnamed s) (statement_at look s false q))
+      either (over? s q) (line_with q None Nothing) _ (λ e. unnamed s)
+      (λ e. either (not (free? (word_of (word (drop q s))))) (ended s q None (statement_at look s false q)) _
+      (λ e. ended-in q None (unnamed s) (statement_at look s false q))
       (λ e. either (letter? (byte_at s q)) (after_name look s q (after blank? s (after name_byte? s q))) None
       (λ k. let h = named s q (kind-in letter? letter-zero s q k) in
-      either (over? s (after blank? s (after name_byte? s q))) (line_with (Some q) Nothing)
-      (ended s (Some q) (statement_at look s true (after blank? s (after name_byte? s q)))) (λ d. h)
-      (λ d. ended-in (Some q) h (statement_at look s true (after blank? s (after name_byte? s q))))) (λ k. tt)))
+      either (over? s (after blank? s (after name_byte? s q))) (line_with q (Some q) Nothing)
+      (ended s q (Some q) (statement_at look s true (after blank? s (after name_byte? s q)))) (λ d. h)
+      (λ d. ended-in q (Some q) h (statement_at look s true (after blank? s (after name_byte? s q))))) (λ k. tt)))
 
 pub line-named : (look : List ℕ → Result ℤ Lack) (l : List ℕ) (y : Line) (q : ℕ) → line_of look l ≡ Some y → y.name ≡ Some q → q < length l
 unfolding line_of

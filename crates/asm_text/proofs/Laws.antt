@@ -1,6 +1,6 @@
 -- Laws of the text: what stands at a place decides what stands from there on. Assumes nothing.
 use mathlib.Core.Path.{◌≡◌, refl, sym, ap, ◌∙◌, fun_ext}
-use mathlib.Core.Bool.{Bool, true, false, cond, ◌&&◌}
+use mathlib.Core.Bool.{Bool, true, false, cond, ◌&&◌, not}
 use mathlib.Core.List.{List, [], ◌∷◌, map}
 use Prim.Native.Nat.{ℕ, ◌+◌, ◌-◌, ◌*◌, ◌%◌, ◌<◌, ◌≤◌, min}
 use native.Mathlib.Nat.{mul-le-mul_right}
@@ -9,7 +9,6 @@ use native.Mathlib.Omega.{arith}
 use lib.Dec.{ltb, leb, eqb}
 use lib.ListN.{length, get_or, drop, drop_of_length-le, get_or-eq_default}
 use lib.Seq.{drop-cons}
-use lib.Pointwise.{pointwise}
 use Rattle.std.proofs.lemmas.List.Sums.{take_while-cons}
 use borrow.Author.Tests.{leb-true, lt-ltb, le-ltb, le-leb, lt-leb, ltb-true, ltb-false, eq-eqb, ne_eqb, eqb-true}
 use Rattle.word.proofs.Laws.{bool_cases}
@@ -195,7 +194,36 @@ module _ (w : List ℕ) (k n : ℕ) where
   unfolding key_from
   key-stop h = rw (drop_of_length-le w h)
 
--- ---- two words
+-- ---- two words, byte by byte
+pub word_more : (s : List ℕ) (i : ℕ) → name_byte? (byte_at s i) ≡ true → word (drop i s) ≡ byte_at s i ∷ word (drop (i + 1) s)
+unfolding word
+word_more s i h =
+    let k : i < length s = kind-in name_byte? name-zero s i h in
+    rw (add-one i, drop-cons s i 0 k, h)
+
+pub word-stop : (s : List ℕ) (i : ℕ) → name_byte? (byte_at s i) ≡ false → word (drop i s) ≡ []
+unfolding word
+word-stop s i h = place-cases s i
+    (λ k. rw (drop-cons s i 0 k, h)) (λ k. rw (drop_of_length-le s k))
+
+module _ (t : List ℕ) (i : ℕ) (s : List ℕ) (j : ℕ) where
+  pub same_stop : name_byte? (byte_at t i) ≡ false → same (word (drop i t)) (word (drop j s)) ≡ not (name_byte? (byte_at s j))
+  unfolding same
+  same_stop h = bool_cases (name_byte? (byte_at s j))
+      (λ q. rw (word-stop t i h, word_more s j q, q)) (λ q. rw (word-stop t i h, word-stop s j q, q))
+
+  pub same-other : name_byte? (byte_at t i) ≡ true → (byte_at t i ≡ byte_at s j → ⊥) → same (word (drop i t)) (word (drop j s)) ≡ false
+  unfolding same
+  same-other h d = bool_cases (name_byte? (byte_at s j))
+      (λ q. rw (word_more t i h, word_more s j q, ne_eqb (byte_at t i) (byte_at s j) d)) (λ q. rw (word_more t i h, word-stop s j q))
+
+  pub same_more : name_byte? (byte_at t i) ≡ true → byte_at t i ≡ byte_at s j
+      → same (word (drop (i + 1) t)) (word (drop (j + 1) s)) ≡ same (word (drop i t)) (word (drop j s))
+  unfolding same
+  same_more h e =
+      let k : name_byte? (byte_at s j) ≡ true = sym (ap name_byte? e) ∙ h in
+      rw (word_more t i h, word_more s j k, eq-eqb (byte_at t i) (byte_at s j) e)
+
 pub and_parts : (a b : Bool) → a && b ≡ true → (a ≡ true) × (b ≡ true)
 and_parts true b e = (refl, e)
 and_parts false b e = clash e refl
@@ -208,17 +236,6 @@ same-is (x ∷ a) [] e = clash e refl
 same-is (x ∷ a) (y ∷ b) e =
     let p = and_parts (eqb x y) (same a b) e in
     ap (λ z. z ∷ a) (eqb-true x y p.0) ∙ ap (λ l. y ∷ l) (same-is a b p.1)
-
--- two lists that the code found equal or not
-pointwise-same : (a b : List ℕ) → pointwise eqb a b ≡ same a b
-unfolding same
-pointwise-same [] [] = refl
-pointwise-same [] (y ∷ b) = refl
-pointwise-same (x ∷ a) [] = refl
-pointwise-same (x ∷ a) (y ∷ b) = ap (λ t. eqb x y && t) (pointwise-same a b)
-
-pub words-same : (a b m n : List ℕ) (r : Bool) → a ≡ m → b ≡ n → r ≡ pointwise eqb a b → same m n ≡ r
-words-same a b m n r e f h = sym (h ∙ pointwise-same a b ∙ ap (λ x. same x b) e ∙ ap (same m) f)
 
 -- ---- the table of names
 and_no : (a : Bool) → a && false ≡ false

@@ -6,7 +6,7 @@ ghost use Rattle.std.specs.Prelude.{◌≡◌, ◌+◌, ◌-◌, ◌*◌, ◌%�
 ghost use Rattle.std.specs.List.{prefix_len};
 ghost use Rattle.asm_text.specs.Text.{byte_at, blank?, letter?, name_byte?};
 ghost use Rattle.asm_text.specs.Text.{digit_of, after, digit?, numeral};
-ghost use Rattle.asm_text.specs.Text.{word, spelled, key_of, values_in};
+ghost use Rattle.asm_text.specs.Text.{word, same, spelled, key_of, values_in};
 
 use asm_value::{Lack, Value};
 
@@ -189,14 +189,34 @@ pub struct Names<'a> {
     pub list: &'a [Name],
 }
 
+// The word of t at p and the word of s at q are the same.
+// Kept: a loop over both, which ends at the first byte that differs; names of one key may be long.
+fn same_word(t: &[u8], p: usize, s: &[u8], q: usize) -> bool
+    ensures { result ≡ same (word (drop p t.now)) (word (drop q s.now)) }
+{
+    let mut i = p;
+    let mut j = q;
+    loop {
+        let a = byte_at(t, i);
+        let b = byte_at(s, j);
+        if !is_name_byte(a) {
+            return !is_name_byte(b);
+        }
+        if a != b {
+            return false;
+        }
+        i += 1;
+        j += 1;
+    }
+}
+
 // The value of the name of s at `at`, whose key is `key`.
 pub fn look_up(names: &Names<'_>, s: &[u8], at: usize, key: u32) -> Value
     requires { key ≡ key_of (word (drop at s.now)) }
     ensures { result ≡ values_in names.now (word (drop at s.now)) }
 {
-    let w = word(s, at);
     for n in names.list {
-        if n.key == key && word(names.source, n.place) == w {
+        if n.key == key && same_word(names.source, n.place, s, at) {
             return Ok(n.value);
         }
     }

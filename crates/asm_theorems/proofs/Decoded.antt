@@ -240,4 +240,4 @@ not_refused p (st.Str v wb src dst) l = coded_by (offset_fit v) _
     )))
 
 pub never-refused : NeverRefused
-never-refused look l name x e p = not_refused p x (subst LawfulLine e (line-lawful look l))
+never-refused look l start name x e p = not_refused p x (subst LawfulLine e (line-lawful look l))

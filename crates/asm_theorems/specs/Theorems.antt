@@ -163,7 +163,8 @@ NotRefused p (Str v wb src dst) = Coded (offset_fit v) (λ (n : ℕ). i.Str (sig
 -- a statement that does not fit is 19 by its values alone: `encode` refuses nothing that a line says. [02 §12]
 abbrev pub NeverRefused : Type 0
 NeverRefused =
-    (look : List ℕ → Result ℤ Lack) (l : List ℕ) (name : Option ℕ) (x : Statement) → line_of look l ≡ line_with name x
+    (look : List ℕ → Result ℤ Lack) (l : List ℕ) (start : ℕ) (name : Option ℕ) (x : Statement)
+    → line_of look l ≡ line_with start name x
     → (p : ℕ) → NotRefused p x
 
 -- ---- an example that meets the premises

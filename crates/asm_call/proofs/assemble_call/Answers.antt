@@ -4,4 +4,4 @@ use Rattle.asm_call.proofs.assemble_call.Goals as goal
 
 pub returns-clause-reply : goal.returns-clause-reply
 unfolding assemble_call_of
-returns-clause-reply c = c.reply.ensures ∙ ap assemble_reply c.assemble.ensures.verdict
+returns-clause-reply c = c.verdict_reply.ensures ∙ ap assemble_reply c.assemble.ensures.verdict

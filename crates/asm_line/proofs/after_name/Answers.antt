@@ -9,7 +9,7 @@ use Rattle.asm_line.proofs.after_name.Goals as goal
 
 pub returns-then-is_over : goal.returns-then-is_over
 returns-then-is_over c =
-    name-alone (values_in c.args.names.now) c.args.line.now c.args.name c.args.at (sym c.is_over.ensures ∙ c.if-is_over.true)
+    name-alone (values_in c.args.names.now) c.args.line.now c.args.start c.args.at (sym c.is_over.ensures ∙ c.if-is_over.true)
 
 pub returns-in_err-x : goal.returns-in_err-x
 returns-in_err-x c =
@@ -19,8 +19,8 @@ returns-in_err-x c =
     let e = c.find_word-w.ensures (drop a.at s) c.read_word-t.ensures.spelled_value in
     let x = statement-there f s true a.at c.find_word-w.result c.read_word-t.result.next _ e
     c.read_word-t.ensures.next_value c.in_err-x.ensures in
-    c.from_residual.ensures ∙ ap (ended s (Some a.name)) x
-    ∙ name-statement f s a.name a.at (sym c.is_over.ensures ∙ c.if-is_over.false)
+    c.from_residual.ensures ∙ ap (ended s a.start (Some a.start)) x
+    ∙ name-statement f s a.start a.at (sym c.is_over.ensures ∙ c.if-is_over.false)
 
 pub returns : goal.returns
 returns c =
@@ -30,5 +30,5 @@ returns c =
     let e = c.find_word-w.ensures (drop a.at s) c.read_word-t.ensures.spelled_value in
     let x = statement-there f s true a.at c.find_word-w.result c.read_word-t.result.next _ e
     c.read_word-t.ensures.next_value c.in_ok-x.ensures in
-    c.end_line.ensures ∙ ap (ended s (Some a.name)) x
-    ∙ name-statement f s a.name a.at (sym c.is_over.ensures ∙ c.if-is_over.false)
+    c.end_line.ensures ∙ ap (ended s a.start (Some a.start)) x
+    ∙ name-statement f s a.start a.at (sym c.is_over.ensures ∙ c.if-is_over.false)

@@ -16,8 +16,8 @@ unfolding line_of
 returns-then-is_over c =
     let s = c.args.line.now in
     let f = values_in c.args.names.now in
-    let q = c.skip_blanks-q.result in
-    let z = ap (line_from f s) c.skip_blanks-q.ensures in
+    let q = c.skip_blanks-start.result in
+    let z = ap (line_from f s) c.skip_blanks-start.ensures in
     line-empty f s q (sym c.is_over.ensures ∙ c.if-is_over.true) ∙ z
 
 pub returns-in_err-x : goal.returns-in_err-x
@@ -25,13 +25,13 @@ unfolding line_of
 returns-in_err-x c =
     let s = c.args.line.now in
     let f = values_in c.args.names.now in
-    let q = c.skip_blanks-q.result in
-    let z = ap (line_from f s) c.skip_blanks-q.ensures in
+    let q = c.skip_blanks-start.result in
+    let z = ap (line_from f s) c.skip_blanks-start.ensures in
     let h : over? s q ≡ false = sym c.is_over.ensures ∙ c.if-is_over.false in
     let w = c.find_word-w.ensures (drop q s) c.read_word-t.ensures.spelled_value in
     let x = statement-there f s false q c.find_word-w.result c.read_word-t.result.next _ w c.read_word-t.ensures.next_value
     c.in_err-x.ensures in
-    c.from_residual.ensures ∙ ap (ended s None) x
+    c.from_residual.ensures ∙ ap (ended s q None) x
     ∙ line_word f s q h c.is_free.result (c.is_free.ensures ∙ ap free? w) c.if-not-is_free.true ∙ z
 
 pub returns-then-not-is_free : goal.returns-then-not-is_free
@@ -39,13 +39,13 @@ unfolding line_of
 returns-then-not-is_free c =
     let s = c.args.line.now in
     let f = values_in c.args.names.now in
-    let q = c.skip_blanks-q.result in
-    let z = ap (line_from f s) c.skip_blanks-q.ensures in
+    let q = c.skip_blanks-start.result in
+    let z = ap (line_from f s) c.skip_blanks-start.ensures in
     let h : over? s q ≡ false = sym c.is_over.ensures ∙ c.if-is_over.false in
     let w = c.find_word-w.ensures (drop q s) c.read_word-t.ensures.spelled_value in
     let x = statement-there f s false q c.find_word-w.result c.read_word-t.result.next _ w c.read_word-t.ensures.next_value
     c.in_ok-x.ensures in
-    c.end_line.ensures ∙ ap (ended s None) x
+    c.end_line.ensures ∙ ap (ended s q None) x
     ∙ line_word f s q h c.is_free.result (c.is_free.ensures ∙ ap free? w) c.if-not-is_free.true ∙ z
 
 pub returns-then-is_letter : goal.returns-then-is_letter
@@ -53,8 +53,8 @@ unfolding line_of
 returns-then-is_letter c =
     let s = c.args.line.now in
     let f = values_in c.args.names.now in
-    let q = c.skip_blanks-q.result in
-    let z = ap (line_from f s) c.skip_blanks-q.ensures in
+    let q = c.skip_blanks-start.result in
+    let z = ap (line_from f s) c.skip_blanks-start.ensures in
     let h : over? s q ≡ false = sym c.is_over.ensures ∙ c.if-is_over.false in
     let w = c.find_word-w.ensures (drop q s) c.read_word-t.ensures.spelled_value in
     let l : letter? (byte_at s q) ≡ true = sym (rw c.byte_at.ensures at c.is_letter.ensures) ∙ c.if-is_letter.true in
@@ -67,8 +67,8 @@ unfolding line_of
 returns c =
     let s = c.args.line.now in
     let f = values_in c.args.names.now in
-    let q = c.skip_blanks-q.result in
-    let z = ap (line_from f s) c.skip_blanks-q.ensures in
+    let q = c.skip_blanks-start.result in
+    let z = ap (line_from f s) c.skip_blanks-start.ensures in
     let h : over? s q ≡ false = sym c.is_over.ensures ∙ c.if-is_over.false in
     let w = c.find_word-w.ensures (drop q s) c.read_word-t.ensures.spelled_value in
     let l : letter? (byte_at s q) ≡ false = sym (rw c.byte_at.ensures at c.is_letter.ensures) ∙ c.if-is_letter.false in

@@ -47,6 +47,7 @@ use native.Mathlib.Nat.{add-mul-mod_self_right}
 use lib.Seq.{sets, sets-eq, set-get_or}
 use Rattle.stores.proofs.Laws.{sets-before, sets-past}
 use Rattle.word.specs.Width.{bit}
+use mathlib.Core.Bool.{◌&&◌, ◌||◌, true≢false}
 use Rattle.machine_laws.proofs.Cases.{bool_cases}
 use Rattle.std.specs.Option.{MatchOption}
 use Rattle.std.proofs.lemmas.Option.{MatchOption-at_some, MatchOption-at_none}
@@ -54,8 +55,9 @@ use Rattle.std.proofs.lemmas.Slice.{put_mid-paste}
 use Rattle.std.proofs.lemmas.List.Edits.{paste_all}
 use borrow.Rule.Slice.PartMut.{put_mid}
 use Rattle.soundness.specs.Findings.{Kind, Handler, Finding, Seen, nothing, finding, finding_of, find_after, breaks?, detail_of, address_of}
+use Rattle.soundness.specs.Findings.{started, faulted, unopened, trapped, unclosed, changed, slept, device, foreign}
 use Rattle.findings.specs.declared.Breach.{Breach}
-use Rattle.findings.specs.Told.{breach_of}
+use Rattle.findings.specs.Told.{breach_of, first?, tells?, told_after}
 use Rattle.machine.specs.Record.{count_byte}
 use Rattle.soundness.specs.Judge.{four_bytes, finding_bytes, findings_bytes}
 use Rattle.soundness.proofs.Blocks.{joined, Sixteen, joined_at, blocks, block-sixteen, blocks-sixteen, joined-blocks}
@@ -110,21 +112,26 @@ tell-block c x broke y =
 
 -- ---- the blocks of what is found
 
-bit-set : (b : Bool) → bit (not (eqb (bit b) 0)) ≡ bit b
+bit-set : (b : Bool) → not (eqb (bit b) 0) ≡ b
 bit-set true = refl
 bit-set false = refl
 
 -- byte 8 of block i says whether the kind is found
-pub flag-law : (c : ℕ) (f : Kind → Finding) (l : List ℕ) → l ≡ findings_bytes c f
+pub found-law : (c : ℕ) (f : Kind → Finding) (l : List ℕ) → l ≡ findings_bytes c f
     → (i : ℕ) (x : Finding) → i < 9 → get_or (blocks c f) i [] ≡ finding_bytes c x
-    → (r : ℕ) → r ≡ bit (not (eqb (get_or l (16 * i + 8) 0) 0)) → r ≡ bit x.found
-flag-law c f l e i x h at r p =
+    → not (eqb (get_or l (16 * i + 8) 0) 0) ≡ x.found
+found-law c f l e i x h at =
     let same : get_or l (16 * i + 8) 0 ≡ bit x.found =
     ap (λ z. get_or z (16 * i + 8) 0) (e ∙ joined-blocks c f)
     ∙ joined_at (blocks c f) (blocks-sixteen c f) i 8 (omega arith) h
     ∙ ap (λ z. get_or z 8 0) at
     ∙ block-flag c x in
-    p ∙ ap (λ n. bit (not (eqb n 0))) same ∙ bit-set x.found
+    ap (λ n. not (eqb n 0)) same ∙ bit-set x.found
+
+pub flag-law : (c : ℕ) (f : Kind → Finding) (l : List ℕ) → l ≡ findings_bytes c f
+    → (i : ℕ) (x : Finding) → i < 9 → get_or (blocks c f) i [] ≡ finding_bytes c x
+    → (r : ℕ) → r ≡ bit (not (eqb (get_or l (16 * i + 8) 0) 0)) → r ≡ bit x.found
+flag-law c f l e i x h at r p = p ∙ ap bit (found-law c f l e i x h at)
 
 -- ---- one kind told in its block
 
@@ -201,6 +208,45 @@ kind-law c l l' bs g i n x κ k z h q at m e told =
     (λ t j. finding k (detail_of κ z) (address_of κ z) (sym q j))
     (told-by m (breaks? κ z) w e l l'
     (λ b. cond (eqb (get_or l (16 * i + 8) 0) 0) (sets l (16 * i) (finding_bytes c (finding k b.detail b.address h))) l) told)
+
+-- ---- a step of which nothing is told
+
+kind_stays' : (c : ℕ) (b broke : Bool) (k x a : ℕ) (h : Handler) (y : Finding) → (broke && not b) ≡ false
+    → let z : Finding = record { found = b; step = k; detail = x; address = a; by = h } in
+    finding_bytes c z ≡ finding_bytes c (cond b z (cond broke y nothing))
+kind_stays' c true true k x a h y e = refl
+kind_stays' c true false k x a h y e = refl
+kind_stays' c false true k x a h y e = absurd (true≢false e)
+kind_stays' c false false k x a h y e = refl
+
+kind_stays : (c k : ℕ) (κ : Kind) (z : Seen) (x : Finding) → (breaks? κ z && not x.found) ≡ false
+    → finding_bytes c x ≡ finding_bytes c (find_after κ k z x)
+kind_stays c k κ z x e = kind_stays' c x.found (breaks? κ z) x.step x.detail x.address x.by (finding_of κ k z) e
+
+neither_left : (a b : Bool) → a || b ≡ false → a ≡ false
+neither_left true b e = absurd (true≢false e)
+neither_left false b e = refl
+
+neither_right : (a b : Bool) → a || b ≡ false → b ≡ false
+neither_right true b e = absurd (true≢false e)
+neither_right false b e = e
+
+-- all that is found stays
+pub all_stay : (c k : ℕ) (z : Seen) (f : Kind → Finding) → tells? z f ≡ false → findings_bytes c f ≡ findings_bytes c (told_after k z f)
+all_stay c k z f e =
+    let e1 = neither_left _ (first? foreign z f) e in
+    let e2 = neither_left _ (first? device z f) e1 in
+    let e3 = neither_left _ (first? slept z f) e2 in
+    let e4 = neither_left _ (first? changed z f) e3 in
+    let e5 = neither_left _ (first? trapped z f) e4 in
+    let p1 = kind_stays c k faulted z (f faulted) (neither_left _ (first? unopened z f) e5) in
+    let p2 = kind_stays c k unopened z (f unopened) (neither_right (first? faulted z f) _ e5) in
+    let p3 = kind_stays c k trapped z (f trapped) (neither_right _ (first? trapped z f) e4) in
+    let p5 = kind_stays c k changed z (f changed) (neither_right _ (first? changed z f) e3) in
+    let p6 = kind_stays c k slept z (f slept) (neither_right _ (first? slept z f) e2) in
+    let p7 = kind_stays c k device z (f device) (neither_right _ (first? device z f) e1) in
+    let p8 = kind_stays c k foreign z (f foreign) (neither_right _ (first? foreign z f) e) in
+    λ i. finding_bytes c (f started) ++ p1 i ++ p2 i ++ p3 i ++ finding_bytes c (f unclosed) ++ p5 i ++ p6 i ++ p7 i ++ p8 i
 
 -- ---- sixteen bytes copied
 

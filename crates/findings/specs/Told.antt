@@ -1,6 +1,6 @@
 -- What code is told of a step, and the findings after it (document 01, "Resumption"; document 02, §13).
 -- Assumes nothing.
-use Rattle.std.specs.Prelude.{◌≡◌, ℕ, cond, Option, Some, None}
+use Rattle.std.specs.Prelude.{◌≡◌, ℕ, Bool, cond, not, ◌&&◌, ◌||◌, Option, Some, None}
 use Rattle.soundness.specs.Findings.{Kind, started, faulted, unopened, trapped, unclosed, changed, slept, device}
 use Rattle.soundness.specs.Findings.{foreign}
 use Rattle.soundness.specs.Findings.{Finding, Seen, breaks?, detail_of, address_of, find_after}
@@ -34,6 +34,16 @@ pub record Shows (x : Shown) (z : Seen) : Type 0 where
   pub is_slept : x.slept ≡ breach_of slept z
   pub is_device : x.device ≡ breach_of device z
   pub is_foreign : x.«foreign» ≡ breach_of foreign z
+
+-- The step that shows z makes a breach of this kind, and none was found before it; of one of the kinds that are a step's.
+-- [01 Resumption; call judge]
+abbrev pub first? : Kind → Seen → (Kind → Finding) → Bool
+first? κ z f = breaks? κ z && not (f κ).found
+
+abbrev pub tells? : Seen → (Kind → Finding) → Bool
+tells? z f =
+    first? faulted z f || first? unopened z f || first? trapped z f || first? changed z f || first? slept z f || first? device z f
+    || first? foreign z f
 
 -- What is found after step k, which shows z, of the kinds that are a step's. [01 Resumption]
 abbrev pub told_after : (k : ℕ) → Seen → (Kind → Finding) → Kind → Finding

@@ -17,19 +17,19 @@ use machine::Act;
 pub struct Row {
     pub registers: [u16; 5],
     pub stack: u16,
-    pub frame: [u8; 8],
+    pub frame: [u16; 8],
 }
 
 // Byte j of the frame at p.
-fn frame_byte(mem: &[u8], p: u16, j: u16) -> u8
+fn frame_byte(mem: &[u8], p: u16, j: u16) -> u16
     requires { length mem.now ≡ 65536 }
     ensures { result ≡ frame_byte mem.now p j }
 {
-    mem[(p / 2 * 2).wrapping_add(j) as usize]
+    mem[(p / 2 * 2).wrapping_add(j) as usize] as u16
 }
 
 // The eight bytes of the frame at p.
-fn frame_at(mem: &[u8], p: u16) -> [u8; 8]
+fn frame_at(mem: &[u8], p: u16) -> [u16; 8]
     requires { length mem.now ≡ 65536 }
     ensures { result ≡ bytes_at mem.now p }
 {

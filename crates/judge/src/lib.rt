@@ -1,17 +1,21 @@
 // A judged run: the steps of a run, each watched, and the whole judge call on its raw buffers.
 #![tactic(auto)]
 
-ghost use Rattle.std.specs.Prelude.{◌≡◌, true, false, cond, ◌&&◌, ◌+◌, ◌<◌, ◌≤◌, eqb, length, replicate};
+ghost use Rattle.std.specs.Prelude.{◌≡◌, true, false, cond, List, ℕ, ◌&&◌, ◌+◌, ◌<◌, ◌≤◌, eqb, length, replicate, get_or};
 ghost use Rattle.machine.specs.State.{State, state_of, state_with};
 ghost use Rattle.machine.specs.Events.{events_of, event_count};
 ghost use Rattle.machine.specs.Refusal.{events_fit_below};
 ghost use Rattle.machine.specs.Step.{plan_of};
 ghost use Rattle.step_plan.specs.Planned.{plan_with, Within};
 ghost use Rattle.devices.specs.Cursor.{Ordered};
+ghost use Rattle.soundness.specs.Findings.{Kind, Finding, Seen};
 ghost use Rattle.soundness.specs.Judge.{holds?, begun, judged_run, findings_bytes};
+ghost use Rattle.findings.specs.Told.{told_after};
+ghost use Rattle.judge_step.specs.Look.{Begins, Looks};
 ghost use Rattle.judge.specs.Taken.{watch_with, TakenIs};
 ghost use Rattle.judge.specs.Reached.{told_by, JudgedIs};
 
+use judge_step::Look;
 use machine::{Act, Lines, Machine, Rest};
 use open_frames::{Frames, Open};
 use step_plan::Planned;
@@ -21,6 +25,32 @@ fn writer(mine: bool) -> u8
     ensures { result ≡ cond mine 1 2 }
 {
     if mine { 1 } else { 2 }
+}
+
+// The breaches of step `done`, which begins at `from` and leaves this PSW, told; of most there are
+// none.
+fn tell(
+    findings: &mut [u8],
+    l: Look,
+    act: Act,
+    f: &Frames,
+    psw: u16,
+    from: u16,
+    start: u32,
+    done: u32,
+)
+    requires { (length findings.old ≡ 144) × (f.now.open.held ≤ 256) }
+    ensures { (regs mem w : List ℕ) (z : Seen)
+        → Begins act regs mem f.now w z → get_or regs 7 0 ≡ from
+        → z.leaves.core.psw ≡ psw → Looks l z → (x : Kind → Finding)
+        → findings.old ≡ findings_bytes start x
+        → findings.new ≡ findings_bytes start (told_after done z x) }
+{
+    if judge_step::tells(findings, l, act, f, psw) {
+        let h = open_frames::runs(f);
+        let x = judge_step::shown(l, act, f, psw, from);
+        findings::tell_step(findings, x, start, done, h);
+    }
 }
 
 // Step `done` of a judged run, planned from the registers `before`, taken: looked at, marked, done,
@@ -53,12 +83,10 @@ fn take(
         × (frames.new.open.owns ≤ frames.old.open.owns + 1) }
 {
     let act = p.act;
-    let h = open_frames::runs(frames);
     let l = judge_step::looked(frames, writers, act, before, memory);
     writers::mark_writes(writers, memory, act, regs[6], writer(l.mine));
     let t = step::perform(regs, memory, lines, count, p);
-    let x = judge_step::shown(l, act, frames, t.psw, before[7]);
-    findings::tell_step(findings, x, start, done, h);
+    tell(findings, l, act, frames, t.psw, before[7], start, done);
     open_frames::watch_after(frames, act, done, regs, memory);
     t
 }

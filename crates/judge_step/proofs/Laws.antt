@@ -8,12 +8,30 @@ use mathlib.Core.Path.{◌≡◌, refl, sym, ap, ◌∙◌}
 use lib.Dec.{eqb}
 use Rattle.std.proofs.Common.{Option, Some, None}
 use Rattle.std.specs.Bool.{then_some}
+use Rattle.std.specs.Option.{is_some}
 use Rattle.machine_laws.proofs.Cases.{bool_cases, not-eq, eq_of, neq-of}
 use Rattle.soundness.specs.Findings.{some?, first_of}
 use Rattle.writers.specs.First.{first_in}
-use Rattle.writers.proofs.Found.{first_is}
+use Rattle.writers.proofs.Found.{first_is, is_found}
 use Rattle.findings.specs.declared.Breach.{Breach}
 use Rattle.judge_step.specs.Look.{read_amiss}
+
+-- ---- whether there is a breach
+
+pub not-found : {a b : Bool} → not a ≡ b → a ≡ not b
+not-found {a} {b} e = sym (twice a) ∙ ap not e
+  where
+    twice : (x : Bool) → not (not x) ≡ x
+    twice true = refl
+    twice false = refl
+
+pub changed-any : (p : Bool) (x : ℕ) → not (eqb (cond p x 0) 0) ≡ (p && not (eqb x 0))
+changed-any true x = refl
+changed-any false x = refl
+
+pub read-any : (q : ℕ → Bool) (l : List ℕ) (m : Bool) → is_some (cond m (first_in q l) None) ≡ (m && some? q l)
+read-any q l true = is_found q l
+read-any q l false = refl
 
 -- ---- what is shown
 

@@ -5,7 +5,7 @@ use Rattle.judge.specs.Taken.{watch_with}
 use Rattle.soundness.specs.Watch.{seen_by}
 use Rattle.machine.specs.Step.{plan_of}
 use Rattle.machine.specs.State.{core_of, state_with}
-use Rattle.std.proofs.Common.{refl, sym}
+use Rattle.std.proofs.Common.{refl}
 use Rattle.judge.proofs.take.Goals as goal
 
 pub returns-clause-step : goal.returns-clause-step
@@ -27,6 +27,5 @@ returns-clause-step c b er em el ec ep =
           y.new.f c.mark_writes.new.writers
           c.looked-l.result.mine c.writer.result x.owns.0 (x.devices.1 t refl refl) x.oldest k.is_mine c.writer.ensures
           (c.mark_writes.ensures (core_of a.regs.now a.p.psw a.p.cex) a.lines refl);
-      told = λ f e. c.tell_step.ensures f z e
-          (c.shown-x.ensures a.before.now m w z g refl refl k) (sym c.runs-h.ensures);
+      told = c.tell.ensures a.before.now m w z g refl refl k;
     }

@@ -41,6 +41,8 @@ fn misc_block(operation: u32) -> Block
 }
 
 // The words of an operation, the first ones of SRA to SXT.
+// Kept: laid into its callers: as a call it makes a count or a next word a third dearer.
+#[inline(always)]
 fn block_of(operation: u32) -> Block
     requires le_operation { 1 ≤ operation }
     requires operation_bound { operation < 42 }

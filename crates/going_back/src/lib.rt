@@ -95,7 +95,7 @@ pub fn back_call(
         (journal_of journal.now kept.old place.old))).lent }
 {
     if let Err(refused) = journal_rules::back_verdict(memory, state, journal, *kept, *place, k) {
-        return refusal::refusal_number(refused) as u32;
+        return refusal::refusal_number(Err(refused)) as u32;
     }
     let r = Ring {
         kept: *kept,

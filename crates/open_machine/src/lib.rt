@@ -34,7 +34,7 @@ pub fn advance_by_value(
     if let Err(refused) = refusal::fields::advance_verdict(m, memory, events, log, n) {
         return Advanced {
             machine: m,
-            reply: refusal::refusal_number(refused),
+            reply: refusal::refusal_number(Err(refused)),
         };
     }
     let none = Depth {
@@ -59,7 +59,7 @@ pub fn step_by_value(m: Machine, memory: &mut [u8], events: &[u8]) -> Advanced
     if let Err(refused) = refusal::fields::start_verdict(m, memory, events, 1) {
         return Advanced {
             machine: m,
-            reply: refusal::refusal_number(refused),
+            reply: refusal::refusal_number(Err(refused)),
         };
     }
     let whole = memory.as_mut_array().unwrap();

@@ -35,7 +35,7 @@ pub fn sheet(input: &[u8], memory: &mut [u8; 65536], out: &mut [u8; 80]) -> usiz
     ensures fits { (result ≤ 80) × (length out.new ≡ 80) }
 {
     if let Err(refused) = cut::verdict(input) {
-        return line_text::put_refusal(out, refusal::refusal_number(refused));
+        return line_text::put_refusal(out, refusal::refusal_number(Err(refused)));
     }
     put_run(input, memory, out)
 }

@@ -63,11 +63,14 @@ pub fn verdict(memory: &[u8], state: &[u8], events: &[u8], n: u64) -> Verdict
     event_rules::events_verdict(events)
 }
 
-// The papers' number of a refusal.
-pub fn refusal_number(refused: Refusal) -> u64
-    ensures { (result ≡ refusal_number (Err refused)) × (result ≤ 255) }
+// The papers' number of a verdict; 0 stands for none.
+pub fn refusal_number(v: Verdict) -> u64
+    ensures { (result ≡ refusal_number v) × (result ≤ 255) }
 {
-    refused as u64
+    match v {
+        Ok(()) => 0,
+        Err(refused) => refused as u64,
+    }
 }
 
 // The first rule of a run call that is broken: those of its start, and then that of its log.

@@ -147,7 +147,7 @@ fn refusal_of(
         × (k ≢ 0)) }
 {
     if let Err(refused) = refusal::verdict(memory, state, events, n) {
-        return Err(refusal::refusal_number(refused));
+        return Err(refusal::refusal_number(Err(refused)));
     }
     if writers.len() != 65536 {
         return Err(20);

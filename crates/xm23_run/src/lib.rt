@@ -82,7 +82,7 @@ pub fn xm23_run(
         events.now log.old n memory.new state.new }
 {
     if let Err(refused) = refusal::call_verdict(memory, state, events, log, n) {
-        return refusal::refusal_number(refused);
+        return refusal::refusal_number(Err(refused));
     }
     let m = state_record::read_record(state);
     let none = Depth {

@@ -90,7 +90,7 @@ pub extern "C" fn xm23_run_journal(
         place: *place,
     };
     if let Err(refused) = journal_verdict(memory, state, events, log, journal, begins, n) {
-        return refusal::refusal_number(refused);
+        return refusal::refusal_number(Err(refused));
     }
     let m = state_record::read_record(state);
     let none = Depth {

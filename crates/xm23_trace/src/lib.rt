@@ -26,7 +26,7 @@ fn refusal_of(
         (λ k. (k ≡ refusal_of memory.now state.now events.now trace.now kinds n) × (k ≢ 0)) }
 {
     if let Err(refused) = refusal::verdict(memory, state, events, n) {
-        return Err(refusal::refusal_number(refused));
+        return Err(refusal::refusal_number(Err(refused)));
     }
     if trace.len() % 16 != 0 {
         return Err(21);

@@ -24,7 +24,8 @@ fn nth_block(n: u32, first: u32, size: u32) -> Block
     }
 }
 
-// MOV to CLRCC.
+// MOV to CLRCC; laid into block_of, as that is into its callers.
+#[inline(always)]
 fn misc_block(operation: u32) -> Block
     requires le_operation { 22 ≤ operation }
     requires operation_bound { operation < 33 }
